@@ -1,0 +1,44 @@
+-- A text that is written a piece at a time.
+use Rattle.std.proofs.Common.{◌≡◌, ℕ, List, [], ◌++◌, Option, None, Some, refl, sym, ap, ◌∙◌, append_assoc, append-nil, take, drop, subst, take-append-drop}
+use Rattle.std.specs.Io.KnownBytes.{Appends, Keeps}
+use Rattle.std.proofs.KnownBytes.{Appends-nil, Appends-trans}
+use Rattle.outside_io.specs.Pieces.{IsBeginning, AppendsBeginning}
+
+-- of the text a front was taken, and this rest is still to be written
+pub record IsSent (old new : Option (List ℕ)) (text rest : List ℕ) : Type 0 where
+  pub front : List ℕ
+  pub joined : text ≡ front ++ rest
+  pub appended : Appends old new front
+
+-- nothing is sent yet
+pub none_sent : (taken : Option (List ℕ)) (text : List ℕ) → IsSent taken taken text text
+none_sent taken text = record { front = []; joined = refl; appended = Appends-nil taken }
+
+-- one more piece is sent
+pub more_sent : (old mid new : Option (List ℕ)) (text rest : List ℕ) (count : ℕ)
+    → IsSent old mid text rest → Appends mid new (take count rest) → (after : List ℕ) → after ≡ drop count rest → IsSent old new text after
+more_sent old mid new text rest count sent took after is_after = subst (IsSent old new text) (sym is_after) (record {
+  front = sent.front ++ take count rest;
+  joined = sent.joined ∙ ap (λ l. sent.front ++ l) (sym (take-append-drop count rest)) ∙ sym (append_assoc sent.front (take count rest) (drop count rest));
+  appended = Appends-trans old mid new sent.front (take count rest) sent.appended took;
+})
+
+-- all is sent
+pub all_sent : (old new : Option (List ℕ)) (text : List ℕ) → IsSent old new text [] → Appends old new text
+all_sent old new text sent = subst (Appends old new) (sym (sent.joined ∙ append-nil sent.front)) sent.appended
+
+-- what was appended stays where a call takes nothing
+kept_appended : (old mid new : Option (List ℕ)) (front : List ℕ) → Appends old mid front → Keeps mid new → Appends old new front
+kept_appended None mid new front took kept = tt
+kept_appended (Some x) None new front took kept = absurd took
+kept_appended (Some x) (Some y) None front took kept = absurd kept
+kept_appended (Some x) (Some y) (Some z) front took kept = kept ∙ took
+
+-- a call that takes nothing leaves a beginning
+pub beginning_sent : (old mid new : Option (List ℕ)) (text rest : List ℕ)
+    → IsSent old mid text rest → Keeps mid new → AppendsBeginning old new text
+beginning_sent old mid new text rest sent kept = record {
+  front = sent.front;
+  is_beginning = record { rest = rest; joined = sent.joined };
+  appended = kept_appended old mid new sent.front sent.appended kept;
+}

@@ -1,0 +1,94 @@
+//! A source in memory whose calls fail where a test says so.
+
+ghost use Rattle.std.specs.Prelude.{◌≡◌, ◌≤◌, ◌++◌, [], length, take, drop, is_err, IfOk, OnErr, None, Some};
+ghost use Rattle.std.specs.Io.KnownBytes.{ReadConsumes};
+ghost use Rattle.outside_io.specs.Faults.{FailsByFault};
+ghost use Rattle.outside_io.specs.MemorySource.{fails_next, given, after_fault, after_bytes};
+
+use crate::{Failed, Source};
+use std::marker::Model;
+
+/// Bytes in memory. Call number k, from 0, fails exactly where k is one of the numbers that fail. Any
+/// other call gives the least of the step, the room asked and the bytes left.
+#[derive(Debug, Drop)]
+pub struct MemorySource {
+    bytes: Vec<u8>,
+    place: usize,
+    fails: Vec<u64>,
+    step: usize,
+    calls: u64,
+    faults: u64,
+}
+
+impl Model for MemorySource {
+    ghost use Rattle.std.specs.Prelude.{◌≤◌, drop, vec_len};
+    ghost use Rattle.outside_io.specs.MemorySourceState.{MemorySourceState};
+
+    ghost Value = { MemorySourceState };
+
+    ghost view = { λ s. record {
+      left = drop s.place s.bytes.items;
+      fails = s.fails.items;
+      step = s.step;
+      calls = s.calls;
+      faults = s.faults;
+    } };
+
+    ghost invariant = { λ s. (s.place ≤ vec_len s.bytes) × (1 ≤ s.step) };
+}
+
+impl MemorySource {
+    /// A source of these bytes that no call has read. `step` is the most bytes that one call gives.
+    pub fn new(bytes: Vec<u8>, fails: Vec<u64>, step: usize) -> MemorySource
+        requires { 1 ≤ step }
+        ensures { result ≡ record { left = bytes.items; fails = fails.items; step = step; calls = 0; faults = 0 } }
+    {
+        MemorySource {
+            bytes,
+            place: 0,
+            fails,
+            step,
+            calls: 0,
+            faults: 0,
+        }
+    }
+}
+
+impl Source for MemorySource {
+    ghost left = { λ s. Some s.left };
+
+    ghost faults = { λ s. s.faults };
+
+    fn read(&mut self, into: &mut [u8]) -> Result<usize, Failed>
+        ensures fits { IfOk result (λ count. count ≤ length into.old) }
+        ensures later_places { IfOk result (λ count. drop count into.new ≡ drop count into.old) }
+        ensures first_bytes { ReadConsumes (Some self.old.left) (Some self.new.left) result into.new }
+        ensures cause { FailsByFault self.old.faults self.new.faults result }
+
+        ensures fails { is_err result ≡ fails_next self.old }
+        ensures failed { OnErr result (self.new ≡ after_fault self.old) }
+        ensures count { IfOk result (λ count. count ≡ given self.old (length into.old)) }
+        ensures gave { IfOk result (λ count. self.new ≡ after_bytes self.old count) }
+    {
+        let fails = self.fails.contains(&self.calls);
+        self.calls = self.calls.saturating_add(1);
+        if fails {
+            self.faults = self.faults.saturating_add(1);
+            return Err(Failed);
+        }
+        let (_, left) = self.bytes.split_at(self.place);
+        let count = self.step.min(into.len()).min(left.len());
+        copy_front(left, into, count);
+        self.place += count;
+        Ok(count)
+    }
+}
+
+fn copy_front(from: &[u8], into: &mut [u8], count: usize)
+    requires in_from { count ≤ length from.now }
+    requires in_into { count ≤ length into.old }
+    ensures { into.new ≡ take count from.now ++ drop count into.old }
+{
+    let (front, _) = from.split_at(count);
+    into[..count].copy_from_slice(front);
+}

@@ -1,0 +1,22 @@
+//! Writing a whole text to a sink that takes a piece at a time.
+
+ghost use Rattle.std.specs.Prelude.{OnOk, OnErr};
+ghost use Rattle.std.specs.Io.KnownBytes.{Appends};
+ghost use Rattle.outside_io.specs.Faults.{FailsByFault};
+ghost use Rattle.outside_io.specs.Pieces.{AppendsBeginning};
+
+use crate::{Failed, Sink};
+
+/// Writes all the bytes. After `Failed` the sink took a beginning of them.
+pub fn write_all<K: Sink>(sink: &mut K, bytes: &[u8]) -> Result<(), Failed>
+    ensures whole { OnOk result (Appends (K.taken sink.old) (K.taken sink.new) bytes.now) }
+    ensures beginning { OnErr result (AppendsBeginning (K.taken sink.old) (K.taken sink.new) bytes.now) }
+    ensures cause { FailsByFault (K.faults sink.old) (K.faults sink.new) result }
+{
+    let mut rest = bytes;
+    while !rest.is_empty() {
+        let count = sink.write(rest)?;
+        (_, rest) = rest.split_at(count);
+    }
+    Ok(())
+}

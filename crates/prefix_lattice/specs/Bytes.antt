@@ -1,0 +1,31 @@
+-- An IPv4 address and its leading bytes.
+use Rattle.std.specs.Prelude.{ℕ, ◌+◌, ◌-◌, ◌*◌, ◌/◌, ◌%◌, ◌^◌, ◌<◌, ◌≤◌, ◌==◌, ◌&&◌, Bool, true, false, zero, suc, List, [], ◌∷◌, ◌++◌, length, slice_index}
+
+-- the lowest digits of a number, that many of them, the most significant first
+abbrev pub digits : ℕ → ℕ → ℕ → List ℕ
+digits base zero number = []
+digits base (suc count) number = digits base count (number / base) ++ number % base ∷ []
+
+-- the number that begins with the number `high` and goes on with these digits
+abbrev pub number_from : ℕ → ℕ → List ℕ → ℕ
+number_from base high [] = high
+number_from base high (digit ∷ rest) = number_from base (high * base + digit) rest
+
+-- the four bytes of an address, in the order of the network (RFC 791)
+abbrev pub address_bytes : ℕ → List ℕ
+address_bytes address = digits 256 4 address
+
+-- the address that begins with these bytes and has zeros after them
+abbrev pub address_of : List ℕ → ℕ
+address_of bytes = number_from 256 0 bytes * 256 ^ (4 - length bytes)
+
+-- whether a list of bytes begins with another
+abbrev pub begins_with : List ℕ → List ℕ → Bool
+begins_with bytes [] = true
+begins_with [] (first ∷ front) = false
+begins_with (byte ∷ bytes) (first ∷ front) = byte == first && begins_with bytes front
+
+-- leading bytes of an address: at most four numbers below 256
+pub record AreLeadingBytes (front : List ℕ) : Type 0 where
+  pub few : length front ≤ 4
+  pub bytes : (place : ℕ) → slice_index front place < 256

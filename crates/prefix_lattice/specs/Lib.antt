@@ -1,0 +1,5 @@
+pub mod Bytes
+pub mod RecordValue
+pub mod NodeValue
+pub mod PrefixValue
+pub mod Prefix

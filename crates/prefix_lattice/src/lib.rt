@@ -1,0 +1,6 @@
+//! Prefixes.
+#![tactic(auto)]
+
+mod record;
+
+pub use record::Record;
