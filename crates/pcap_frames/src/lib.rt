@@ -1,13 +1,15 @@
-// A library with one function.
+//! The frames of a packet capture.
 #![tactic(auto)]
 
-ghost use Rattle.std.specs.Prelude.{◌≡◌};
-ghost use Rattle.pcap_frames.specs.Echo.{echo_of};
+mod capture_fault;
+mod frame;
+mod frame_layout;
+mod read_refusal;
+mod reading;
+mod visitor;
 
-// The `ensures` clause is the contract: what `echo` returns is `echo_of` of its argument, a definition
-// in `specs/Echo.antt`, which a caller's clause can cite too.
-pub fn echo(x: usize) -> usize
-    ensures { result ≡ echo_of x }
-{
-    x
-}
+pub use capture_fault::{CaptureFault, FaultKind};
+pub use frame::Frame;
+pub use read_refusal::ReadRefusal;
+pub use reading::read_frames;
+pub use visitor::FrameVisitor;

@@ -1,8 +1,8 @@
 -- Digits of a number and the number that digits spell.
 use Rattle.std.proofs.Common.{◌≡◌, ℕ, ◌+◌, ◌-◌, ◌*◌, ◌/◌, ◌%◌, ◌^◌, ◌<◌, ◌≤◌, eqb, Bool, true, false, zero, suc, List, [], ◌∷◌, ◌++◌, length, take, get_or, refl, sym, ap, ◌∙◌, arith, subst, length-append, take_all}
 use Rattle.std.proofs.lemmas.List.{take-append-le}
-use Rattle.std.proofs.lemmas.Nat.{div-add-mod'}
-use Rattle.std.proofs.Math.Nat.{pow-zero, pow-suc, pow-succ', div-one, div-div-eq-div-mul, div-lt_iff_lt-mul}
+use Rattle.std.proofs.lemmas.Nat.{div-add-mod', div-mul-add}
+use Rattle.std.proofs.Math.Nat.{pow-zero, pow-suc, pow-succ', div-one, div-div-eq-div-mul, div-lt_iff_lt-mul, mul-le-mul_right, mul_assoc}
 use Rattle.prefix_lattice.specs.Bytes.{digits, number_from, begins_with}
 
 -- as many digits as asked
@@ -38,3 +38,44 @@ take-digits base n (suc k) number =
     ∙ take-append-le n (digits base (n + k) (number / base)) (number % base ∷ []) (omega (arith, length-digits base (n + k) (number / base)))
     ∙ take-digits base n k (number / base)
     ∙ ap (digits base n) higher
+
+-- a bound on each of some numbers and on one more
+push_small : (bound y : ℕ) (xs : List ℕ) (place : ℕ) → 0 < bound → ((k : ℕ) → get_or xs k 0 < bound) → y < bound → get_or (xs ++ y ∷ []) place 0 < bound
+push_small bound y [] zero has_bound small y_small = y_small
+push_small bound y [] (suc place) has_bound small y_small = has_bound
+push_small bound y (x ∷ xs) zero has_bound small y_small = small 0
+push_small bound y (x ∷ xs) (suc place) has_bound small y_small = push_small bound y xs place has_bound (λ k. small (suc k)) y_small
+
+-- each digit is below the base
+pub digits_small : (base count number place : ℕ) → 0 < base → get_or (digits base count number) place 0 < base
+digits_small base zero number place has_base = has_base
+digits_small base (suc count) number place has_base =
+    push_small base (number % base) (digits base count (number / base)) place has_base (λ k. digits_small base count (number / base) k has_base) (omega arith)
+
+-- digits below the base, as many of them, spell one number in one way
+pub same_digits : (base high other : ℕ) (xs ys : List ℕ) → length xs ≡ length ys
+    → ((place : ℕ) → get_or xs place 0 < base) → ((place : ℕ) → get_or ys place 0 < base)
+    → number_from base high xs ≡ number_from base other ys → (high ≡ other) × (xs ≡ ys)
+same_digits base high other [] [] same_length xs_small ys_small same = (same, refl)
+same_digits base high other [] (y ∷ ys) same_length xs_small ys_small same = absurd (omega arith)
+same_digits base high other (x ∷ xs) [] same_length xs_small ys_small same = absurd (omega arith)
+same_digits base high other (x ∷ xs) (y ∷ ys) same_length xs_small ys_small same =
+    let rest : (high * base + x ≡ other * base + y) × (xs ≡ ys) =
+    same_digits base (high * base + x) (other * base + y) xs ys (omega arith) (λ place. xs_small (suc place)) (λ place. ys_small (suc place)) same in
+    let x_small : x < base = xs_small 0 in
+    let y_small : y < base = ys_small 0 in
+    let same_high : high ≡ other = sym (div-mul-add high base x x_small) ∙ ap (λ n. n / base) rest.0 ∙ div-mul-add other base y y_small in
+    let same_first : x ≡ y = omega (arith, rest.0, ap (λ h. h * base) same_high) in
+    (same_high, ap (λ d. d ∷ xs) same_first ∙ ap (λ l. y ∷ l) rest.1)
+
+-- digits below the base spell a number below a power of it
+pub number_small : (base high : ℕ) (xs : List ℕ) → ((place : ℕ) → get_or xs place 0 < base) → number_from base high xs < (high + 1) * base ^ length xs
+number_small base high [] small = subst (λ unit. high < (high + 1) * unit) (sym (pow-zero base)) (omega arith)
+number_small base high (x ∷ xs) small =
+    let rest : number_from base (high * base + x) xs < (high * base + x + 1) * base ^ length xs = number_small base (high * base + x) xs (λ place. small (suc place)) in
+    let x_small : x < base = small 0 in
+    let step : high * base + x + 1 ≤ (high + 1) * base = omega arith in
+    let wider : (high * base + x + 1) * base ^ length xs ≤ (high + 1) * base * base ^ length xs = mul-le-mul_right (base ^ length xs) step in
+    let regrouped : (high + 1) * base ^ suc (length xs) ≡ (high + 1) * base * base ^ length xs =
+    ap (λ p. (high + 1) * p) (pow-succ' base (length xs)) ∙ sym (mul_assoc (high + 1) base (base ^ length xs)) in
+    omega (arith, rest, wider, regrouped)

@@ -3,3 +3,4 @@ pub mod RecordValue
 pub mod NodeValue
 pub mod PrefixValue
 pub mod Prefix
+pub mod PrefixText

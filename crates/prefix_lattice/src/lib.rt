@@ -1,6 +1,21 @@
-//! Prefixes.
+//! The lattice of prefixes over the source and destination addresses of records.
 #![tactic(auto)]
 
+mod decimal;
+mod kept_bytes;
+mod node;
+mod prefix;
+mod prefix_fault;
+mod prefix_text;
 mod record;
+mod record_list;
 
+pub use decimal::number_of;
+pub use node::Node;
+pub use prefix::Prefix;
+pub use prefix_fault::{PrefixFault, Side};
 pub use record::Record;
+pub use record_list::RecordList;
+
+#[cfg(test)]
+mod tests;

@@ -40,4 +40,3 @@ impl Record {
         Some(Record { src, dst, weight })
     }
 }
-

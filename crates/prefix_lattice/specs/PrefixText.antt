@@ -1,0 +1,70 @@
+-- The text of a prefix: how it is spelled, and what is wrong with a text that spells none.
+use Rattle.std.specs.Prelude.{ℕ, ◌≡◌, ◌≢◌, ◌+◌, ◌-◌, ◌*◌, ◌^◌, ◌%◌, ◌<◌, ◌≤◌, ◌⊎◌, ◌==◌, List, ◌∷◌, ◌++◌, length, map, decimal}
+use Rattle.std.specs.List.{join_with_byte, before_first}
+use Rattle.prefix_lattice.specs.Bytes.{address_bytes, address_of, AreLeadingBytes}
+use Rattle.prefix_lattice.specs.PrefixValue.{PrefixValue}
+use Rattle.prefix_lattice.specs.declared.prefix_fault.Side.{Side}
+use Rattle.prefix_lattice.specs.declared.prefix_fault.Side.TheVariants.{Source, Dest}
+use Rattle.prefix_lattice.specs.declared.prefix_fault.PrefixFault.{PrefixFault}
+use Rattle.prefix_lattice.specs.declared.prefix_fault.PrefixFault.TheVariants.{BadAddress, BadLength, LooseBits}
+
+-- the byte `.`, which joins the four numbers of an address
+abbrev pub dot : ℕ
+dot = 46
+
+-- the byte `/`, which stands between an address and a length
+abbrev pub slash : ℕ
+slash = 47
+
+-- an address as its four bytes in decimal, joined by dots
+abbrev pub address_text : ℕ → List ℕ
+address_text address = join_with_byte dot (map decimal (address_bytes address))
+
+-- an address, a slash and the number of bits that are kept
+abbrev pub side_text_of : ℕ → ℕ → List ℕ
+side_text_of address bytes = address_text address ++ slash ∷ decimal (8 * bytes)
+
+-- how one side of a prefix is spelled: zeros stand for what is not kept
+abbrev pub side_text : List ℕ → List ℕ
+side_text front = side_text_of (address_of front) (length front)
+
+-- the text spells this side of a prefix
+pub record SpellsSide (text front : List ℕ) : Type 0 where
+  pub leading : AreLeadingBytes front
+  pub spelled : text ≡ side_text front
+
+-- the text is an address: four numbers from 0 to 255 without leading zeros
+abbrev pub IsAddressText : List ℕ → Type 0
+IsAddressText text = (address : ℕ) × (address < 2 ^ 32) × (text ≡ address_text address)
+
+-- what stands before the first slash of a text, or all of it where there is none
+abbrev pub before_slash : List ℕ → List ℕ
+before_slash text = before_first (λ byte. byte == slash) text
+
+-- after its first slash the text has one of the five lengths
+abbrev pub HasLength : List ℕ → Type 0
+HasLength text = (bytes : ℕ) × (bytes ≤ 4) × (text ≡ before_slash text ++ slash ∷ decimal (8 * bytes))
+
+-- the text is an address and a length, and a bit past the length is set
+pub record HasLooseBits (text : List ℕ) : Type 0 where
+  pub address : ℕ
+  pub bytes : ℕ
+  pub is_address : address < 2 ^ 32
+  pub is_length : bytes ≤ 4
+  pub spelled : text ≡ side_text_of address bytes
+  pub loose : address % 256 ^ (4 - bytes) ≢ 0
+
+-- what is wrong with the text of one side
+abbrev pub HasSideFault : Side → List ℕ → PrefixFault → Type 0
+HasSideFault side text (BadAddress at) = (at ≡ side) × ¬ IsAddressText (before_slash text)
+HasSideFault side text (BadLength at) = (at ≡ side) × IsAddressText (before_slash text) × ¬ HasLength text
+HasSideFault side text (LooseBits at) = (at ≡ side) × HasLooseBits text
+
+-- the two texts spell the prefix
+pub record SpellsPrefix (source_text dest_text : List ℕ) (prefix : PrefixValue) : Type 0 where
+  pub source : SpellsSide source_text prefix.source
+  pub dest : SpellsSide dest_text prefix.dest
+
+-- what is wrong with the two texts: the source is looked at wholly before the destination
+abbrev pub HasPrefixFault : List ℕ → List ℕ → PrefixFault → Type 0
+HasPrefixFault source dest fault = HasSideFault Source source fault ⊎ (((front : List ℕ) × SpellsSide source front) × HasSideFault Dest dest fault)

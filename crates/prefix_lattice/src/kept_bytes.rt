@@ -1,0 +1,92 @@
+//! One half of a prefix: some leading bytes of an address.
+
+ghost use Rattle.std.specs.Prelude.{◌≡◌, ◌≢◌, ◌≤◌, ◌-◌, ◌*◌, ◌/◌, ◌%◌, ◌^◌, length, take, IfSome, IfNone};
+ghost use Rattle.prefix_lattice.specs.Bytes.{address_bytes, address_of, begins_with, AreLeadingBytes};
+
+use std::marker::Model;
+
+/// The first bytes of an address, 0 to 4 of them. Contracts see their list.
+#[derive(Clone, Copy, Debug, PartialEq, Eq)]
+pub struct KeptBytes {
+    address: u32,
+    bytes: u8,
+}
+
+impl Model for KeptBytes {
+    ghost use Rattle.std.specs.Prelude.{◌≡◌, ◌<◌, ◌≤◌, ◌^◌, ℕ, List, take, length};
+    ghost use Rattle.prefix_lattice.specs.Bytes.{address_bytes, address_of};
+
+    ghost Value = { List ℕ };
+
+    ghost view = { λ k. take k.bytes (address_bytes k.address) };
+
+    // The bytes that are not kept are zero.
+    ghost invariant = { λ k. (k.bytes ≤ 4) × (k.address < 2 ^ 32)
+        × (address_of (take k.bytes (address_bytes k.address)) ≡ k.address) };
+
+    ghost inverse = { λ front. record { address = address_of front; bytes = length front } };
+}
+
+impl KeptBytes {
+    /// The first bytes of this address.
+    pub fn of(address: u32, bytes: u8) -> KeptBytes
+        requires { bytes ≤ 4 }
+        ensures { result ≡ take bytes (address_bytes address) }
+    {
+        KeptBytes {
+            address: masked(address, bytes),
+            bytes,
+        }
+    }
+
+    /// The first bytes of this address, if all that follows them is zero.
+    pub fn exact(address: u32, bytes: u8) -> Option<KeptBytes>
+        requires { bytes ≤ 4 }
+        ensures some { IfSome result (λ kept. (kept ≡ take bytes (address_bytes address)) × (address_of kept ≡ address)) }
+        ensures none { IfNone result (address % 256 ^ (4 - bytes) ≢ 0) }
+    {
+        let kept = KeptBytes::of(address, bytes);
+        if kept.address() == address {
+            Some(kept)
+        } else {
+            None
+        }
+    }
+
+    /// How many bytes are kept.
+    pub fn len(&self) -> u8
+        ensures len { result ≡ length self.now }
+        ensures leading { AreLeadingBytes self.now }
+    {
+        self.bytes
+    }
+
+    /// The address that begins with these bytes and has zeros after them.
+    pub fn address(&self) -> u32
+        ensures address { result ≡ address_of self.now }
+        ensures leading { AreLeadingBytes self.now }
+    {
+        self.address
+    }
+
+    /// Whether an address begins with these bytes.
+    pub fn begin(&self, address: u32) -> bool
+        ensures { result ≡ begins_with (address_bytes address) self.now }
+    {
+        masked(address, self.bytes) == self.address
+    }
+}
+
+// The address with all but its first bytes set to zero.
+fn masked(address: u32, bytes: u8) -> u32
+    requires { bytes ≤ 4 }
+    ensures { result ≡ address / 256 ^ (4 - bytes) * 256 ^ (4 - bytes) }
+{
+    match bytes {
+        0 => 0,
+        1 => address & 0xff00_0000,
+        2 => address & 0xffff_0000,
+        3 => address & 0xffff_ff00,
+        _ => address,
+    }
+}

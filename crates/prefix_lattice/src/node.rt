@@ -1,0 +1,57 @@
+//! The nodes of the lattice.
+
+ghost use Rattle.std.specs.Prelude.{◌≡◌, ◌<◌, ◌≤◌, ◌↔◌, ◌⊎◌, IsNone, IfSome};
+
+use std::marker::Model;
+
+/// A node of the lattice: how many leading bytes a prefix keeps of each address, 0 to 4.
+#[derive(Clone, Copy, Debug, PartialEq, Eq)]
+pub struct Node {
+    source_bytes: u8,
+    dest_bytes: u8,
+}
+
+impl Model for Node {
+    ghost use Rattle.std.specs.Prelude.{◌≤◌};
+    ghost use Rattle.prefix_lattice.specs.NodeValue.{NodeValue};
+
+    ghost Value = { NodeValue };
+
+    ghost view = { λ n. record { source_bytes = n.source_bytes; dest_bytes = n.dest_bytes } };
+
+    ghost invariant = { λ n. (n.source_bytes ≤ 4) × (n.dest_bytes ≤ 4) };
+
+    ghost inverse = { λ v. record { source_bytes = v.source_bytes; dest_bytes = v.dest_bytes } };
+}
+
+impl Node {
+    /// `None` exactly where one of the numbers of bytes is above 4.
+    pub fn new(source_bytes: u8, dest_bytes: u8) -> Option<Node>
+        ensures none { IsNone result ↔ ((4 < source_bytes) ⊎ (4 < dest_bytes)) }
+        ensures some { IfSome result (λ node. node ≡ record { source_bytes = source_bytes; dest_bytes = dest_bytes }) }
+    {
+        if source_bytes > 4 || dest_bytes > 4 {
+            return None;
+        }
+        Some(Node {
+            source_bytes,
+            dest_bytes,
+        })
+    }
+
+    /// How many leading bytes of the source are kept.
+    pub fn source_bytes(self) -> u8
+        ensures value { result ≡ self.source_bytes }
+        ensures few { result ≤ 4 }
+    {
+        self.source_bytes
+    }
+
+    /// How many leading bytes of the destination are kept.
+    pub fn dest_bytes(self) -> u8
+        ensures value { result ≡ self.dest_bytes }
+        ensures few { result ≤ 4 }
+    {
+        self.dest_bytes
+    }
+}

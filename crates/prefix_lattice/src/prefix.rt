@@ -1,0 +1,93 @@
+//! Prefixes of pairs of addresses.
+
+ghost use Rattle.std.specs.Prelude.{◌≡◌, ◌==◌, ◌↔◌, true, IfOk, IfErr};
+ghost use Rattle.prefix_lattice.specs.PrefixValue.{PrefixValue, IsPrefix};
+ghost use Rattle.prefix_lattice.specs.PrefixText.{SpellsPrefix, HasPrefixFault};
+ghost use Rattle.prefix_lattice.specs.declared.prefix_fault.PrefixFault.{PrefixFault};
+ghost use Rattle.prefix_lattice.specs.Prefix.{covers, node_of, prefix_at, key_of};
+
+use crate::kept_bytes::KeptBytes;
+use crate::prefix_text::parse_side;
+use crate::{Node, PrefixFault, Record, Side};
+use std::marker::Model;
+
+/// A prefix: the leading bytes of a source and of a destination address, 0 to 4 of each.
+#[derive(Clone, Copy, Debug, PartialEq, Eq)]
+pub struct Prefix {
+    source: KeptBytes,
+    dest: KeptBytes,
+}
+
+impl Model for Prefix {
+    ghost use Rattle.prefix_lattice.specs.PrefixValue.{PrefixValue};
+
+    ghost Value = { PrefixValue };
+
+    ghost view = { λ p. record { source = p.source; dest = p.dest } };
+
+    ghost inverse = { λ v. record { source = v.source; dest = v.dest } };
+}
+
+impl Prefix {
+    /// Reads the texts of the source and of the destination, as `10.0.0.0/8` and `20.1.0.0/16`: an
+    /// address without leading zeros, a slash, and 0, 8, 16, 24 or 32. The source is looked at wholly
+    /// before the destination.
+    pub fn parse(source: &[u8], dest: &[u8]) -> Result<Prefix, PrefixFault>
+        ensures ok { (prefix : PrefixValue) → (result ≡ Ok prefix) ↔ SpellsPrefix source.now dest.now prefix }
+        ensures fault { (fault : PrefixFault) → (result ≡ Err fault) ↔ HasPrefixFault source.now dest.now fault }
+    {
+        parse_sides(source, dest)
+    }
+
+    /// The one prefix of the node that covers the record.
+    pub fn of(rec: &Record, node: Node) -> Prefix
+        ensures value { result ≡ prefix_at node rec.now }
+        ensures node { node_of result ≡ node }
+        ensures covers { covers result rec.now ≡ true }
+        ensures only { (other : PrefixValue) → node_of other ≡ node → covers other rec.now ≡ true → other ≡ result }
+    {
+        Prefix {
+            source: KeptBytes::of(rec.src, node.source_bytes()),
+            dest: KeptBytes::of(rec.dst, node.dest_bytes()),
+        }
+    }
+
+    /// The node of the prefix.
+    pub fn node(&self) -> Node
+        ensures { result ≡ node_of self.now }
+    {
+        Node::new(self.source.len(), self.dest.len()).unwrap()
+    }
+
+    /// Both addresses, with zeros for what is not kept, as one number: the source in the high half.
+    /// Two prefixes of one node have different keys.
+    pub fn key(&self) -> u64
+        ensures value { result ≡ key_of self.now }
+        ensures prefix { IsPrefix self.now }
+    {
+        u64::from(self.source.address()) << 32 | u64::from(self.dest.address())
+    }
+
+    /// Whether the record's addresses begin with the bytes of the prefix.
+    pub fn covers(&self, rec: &Record) -> bool
+        ensures { result ≡ covers self.now rec.now }
+    {
+        self.source.begin(rec.src) && self.dest.begin(rec.dst)
+    }
+}
+
+// Reads one side after the other.
+fn parse_sides(source: &[u8], dest: &[u8]) -> Result<Prefix, PrefixFault>
+    ensures ok { IfOk result (SpellsPrefix source.now dest.now) }
+    ensures fault { IfErr result (HasPrefixFault source.now dest.now) }
+{
+    let source = parse_side(source, Side::Source)?;
+    let dest = parse_side(dest, Side::Dest)?;
+    Ok(Prefix { source, dest })
+}
+
+/// A law of keys: a prefix covers a record exactly where the record's prefix of that node has its key.
+pub fn keys_tell_covering()
+    ensures { (prefix : PrefixValue) (rec : _) → IsPrefix prefix
+        → covers prefix rec ≡ (key_of (prefix_at (node_of prefix) rec) == key_of prefix) }
+{}

@@ -1,0 +1,128 @@
+//! Reading one side of the text of a prefix.
+
+ghost use Rattle.std.specs.Prelude.{◌≡◌, ◌≢◌, ◌==◌, ◌<◌, ◌≤◌, ◌*◌, ◌^◌, ◌++◌, ◌∷◌, ℕ, length, position, decimal, IfSome, IfNone, IfOk, IfErr};
+ghost use Rattle.std.specs.List.{before_first};
+ghost use Rattle.prefix_lattice.specs.PrefixText.{address_text, SpellsSide, HasSideFault};
+
+use crate::kept_bytes::KeptBytes;
+use crate::{PrefixFault, Side, number_of};
+
+/// Reads an address, a slash and a length in bits.
+pub fn parse_side(text: &[u8], side: Side) -> Result<KeptBytes, PrefixFault>
+    ensures ok { IfOk result (SpellsSide text.now) }
+    ensures fault { IfErr result (HasSideFault side text.now) }
+{
+    let Some(cut) = cut_at(text, b'/') else {
+        return Err(without_length(text, side));
+    };
+    let Some(address) = address_of_text(cut.before) else {
+        return Err(PrefixFault::BadAddress(side));
+    };
+    let Some(bytes) = kept_by(cut.after) else {
+        return Err(PrefixFault::BadLength(side));
+    };
+    match KeptBytes::exact(address, bytes) {
+        Some(kept) => Ok(kept),
+        None => Err(PrefixFault::LooseBits(side)),
+    }
+}
+
+// What is wrong with a text that has no slash.
+fn without_length(text: &[u8], side: Side) -> PrefixFault
+    requires { before_first (λ byte. byte == 47) text.now ≡ text.now }
+    ensures { HasSideFault side text.now result }
+{
+    match address_of_text(text) {
+        Some(_) => PrefixFault::BadLength(side),
+        None => PrefixFault::BadAddress(side),
+    }
+}
+
+// The address that a text spells: four numbers from 0 to 255, joined by dots.
+fn address_of_text(text: &[u8]) -> Option<u32>
+    ensures some { IfSome result (λ address. (address < 2 ^ 32) × (text.now ≡ address_text address)) }
+    ensures none { IfNone result ((address : ℕ) → address < 2 ^ 32 → text.now ≢ address_text address) }
+{
+    let Some(first) = cut_at(text, b'.') else {
+        return None
+    };
+    let Some(second) = cut_at(first.after, b'.') else {
+        return None
+    };
+    let Some(third) = cut_at(second.after, b'.') else {
+        return None
+    };
+    let Some(a) = byte_of(first.before) else {
+        return None
+    };
+    let Some(b) = byte_of(second.before) else {
+        return None
+    };
+    let Some(c) = byte_of(third.before) else {
+        return None
+    };
+    let Some(d) = byte_of(third.after) else {
+        return None
+    };
+    Some(u32::from_be_bytes([a, b, c, d]))
+}
+
+fn byte_of(text: &[u8]) -> Option<u8>
+    ensures some { IfSome result (λ byte. text.now ≡ decimal byte) }
+    ensures none { IfNone result ((byte : ℕ) → byte < 256 → text.now ≢ decimal byte) }
+{
+    let Some(number) = number_of(text) else {
+        return None
+    };
+    if number < 256 {
+        Some(number as u8)
+    } else {
+        None
+    }
+}
+
+// How many bytes a length in bits keeps.
+fn kept_by(text: &[u8]) -> Option<u8>
+    ensures some { IfSome result (λ bytes. (bytes ≤ 4) × (text.now ≡ decimal (8 * bytes))) }
+    ensures none { IfNone result ((bytes : ℕ) → bytes ≤ 4 → text.now ≢ decimal (8 * bytes)) }
+{
+    let Some(bits) = number_of(text) else {
+        return None
+    };
+    if bits > 32 {
+        return None;
+    }
+    if bits % 8 != 0 {
+        return None;
+    }
+    Some((bits / 8) as u8)
+}
+
+/// A text cut at the first of some byte.
+#[derive(Clone, Copy)]
+struct Cut<'a> {
+    before: &'a [u8],
+    after: &'a [u8],
+}
+
+// The text up to the first such byte, and the text after it.
+fn cut_at(text: &[u8], at: u8) -> Option<Cut<'_>>
+    ensures before { IfSome result (λ cut. cut.before.now ≡ before_first (λ byte. byte == at) text.now) }
+    ensures joined { IfSome result (λ cut. text.now ≡ cut.before.now ++ at ∷ cut.after.now) }
+    ensures none { IfNone result (before_first (λ byte. byte == at) text.now ≡ text.now) }
+{
+    match place_of(text, at) {
+        Some(place) => {
+            let (before, rest) = text.split_at(place);
+            let (_, after) = rest.split_at(1);
+            Some(Cut { before, after })
+        }
+        None => None,
+    }
+}
+
+fn place_of(text: &[u8], at: u8) -> Option<usize>
+    ensures { result ≡ position (λ byte. byte == at) text.now }
+{
+    text.iter().position(|byte| *byte == at)
+}

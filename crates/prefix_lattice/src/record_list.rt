@@ -1,0 +1,70 @@
+//! Records in their order.
+
+ghost use Rattle.std.specs.Prelude.{◌≡◌, ◌==◌, ◌<◌, ◌++◌, [], ◌∷◌, length, OnOk, OnErr, slice_get, Some};
+
+use crate::Record;
+use std::alloc::{AllocError, Global};
+use std::marker::Model;
+
+/// A list of records, in the order in which they were pushed.
+#[derive(Debug, Drop)]
+pub struct RecordList {
+    records: Vec<Record>,
+}
+
+impl Model for RecordList {
+    ghost use Rattle.std.specs.Prelude.{List};
+    ghost use Rattle.prefix_lattice.specs.RecordValue.{RecordValue};
+
+    ghost Value = { List RecordValue };
+
+    ghost view = { λ l. l.records.items };
+}
+
+impl RecordList {
+    /// An empty list. It takes no memory.
+    pub fn new(alloc: Global) -> RecordList
+        ensures { result ≡ [] }
+    {
+        RecordList {
+            records: Vec::new(alloc),
+        }
+    }
+
+    /// Appends a record. After an `Err` the list is as before.
+    pub fn push(&mut self, rec: Record) -> Result<(), AllocError>
+        ensures ok { OnOk result (self.new ≡ self.old ++ rec ∷ []) }
+        ensures err { OnErr result (self.new ≡ self.old) }
+    {
+        Ok(self.records.push(rec)?)
+    }
+
+    /// How many records there are.
+    pub fn len(&self) -> usize
+        ensures { result ≡ length self.now }
+    {
+        self.records.len()
+    }
+
+    /// Whether there is no record.
+    pub fn is_empty(&self) -> bool
+        ensures { result ≡ (length self.now == 0) }
+    {
+        self.records.is_empty()
+    }
+
+    /// The record at a place below the length.
+    pub fn at(&self, place: usize) -> &Record
+        requires { place < length self.now }
+        ensures { slice_get self.now place ≡ Some result.now }
+    {
+        &self.records[place]
+    }
+
+    /// The records in their order.
+    pub fn as_slice(&self) -> &[Record]
+        ensures { result.now ≡ self.now }
+    {
+        self.records.as_slice()
+    }
+}
