@@ -1,0 +1,14 @@
+use Rattle.std.proofs.Common.{◌≤◌, [], length, sym, subst}
+use Rattle.frame_records.proofs.Keeping.{exact_counts}
+use Rattle.frame_records.proofs.reading.read_weighed.Goals as goal
+
+pub returns-in-Ok-clause-records : goal.returns-in-Ok-clause-records
+returns-in-Ok-clause-records g c =
+    let read = c.in-Ok.ensures.read in
+    let few : length read.frames ≤ 16777216 = subst (λ n. n ≤ 16777216) (sym read.counted) read.few in
+    record {
+      frames = read.frames;
+      few = few;
+      told = read.told;
+      are = exact_counts _ read.frames _ few (read.seen [] c.new-visitor.ensures);
+    }

@@ -1,0 +1,3 @@
+pub mod FrameRecord
+pub mod Reading
+pub mod Kept

@@ -1,0 +1,89 @@
+//! The record of a frame.
+
+ghost use Rattle.std.specs.Prelude.{◌≡◌, ◌≤◌, ◌+◌, min, length};
+ghost use Rattle.byteorder.specs.Endian.{big_from};
+ghost use Rattle.pcap_frames.specs.Frame.{content_of};
+ghost use Rattle.frame_records.specs.FrameRecord.{record_of, has_tag_at, tag_bytes, begins_ipv4};
+
+use crate::{Skip, Weigh};
+use byteorder::{BigEndian, ByteOrder};
+use pcap_frames::Frame;
+use prefix_lattice::Record;
+
+// The types of an Ethernet frame that are told apart.
+const VLAN_TAG: u16 = 0x8100;
+const SERVICE_TAG: u16 = 0x88a8;
+const IPV4: u16 = 0x0800;
+
+/// The record of a frame: the addresses of its IPv4 header, behind up to two VLAN tags, and its weight.
+pub fn record_of(frame: &Frame<'_>, weigh: Weigh) -> Result<Record, Skip>
+    ensures { result ≡ record_of weigh (content_of frame.now) }
+{
+    let head = frame.head;
+    let place = 14 + tag_bytes(frame);
+    if head.len() < place {
+        return Err(Skip::Short);
+    }
+    if type_at(head, place - 2) != IPV4 {
+        return Err(Skip::NotIpv4);
+    }
+    if head.len() < place + 20 {
+        return Err(Skip::Short);
+    }
+    if !begins_ipv4(head[place]) {
+        return Err(Skip::BadHeader);
+    }
+    Ok(Record {
+        src: address_at(head, place + 12),
+        dst: address_at(head, place + 16),
+        weight: weigh.of(frame),
+    })
+}
+
+// How many bytes of VLAN tags stand before the type: two tags at most.
+fn tag_bytes(frame: &Frame<'_>) -> usize
+    ensures tags { result ≡ tag_bytes (content_of frame.now) }
+    ensures few { result ≤ 8 }
+{
+    if !has_tag_at(frame, 12) {
+        return 0;
+    }
+    if !has_tag_at(frame, 16) {
+        return 4;
+    }
+    8
+}
+
+fn has_tag_at(frame: &Frame<'_>, place: usize) -> bool
+    requires { place ≤ 16 }
+    ensures { result ≡ has_tag_at place (content_of frame.now) }
+{
+    if frame.head.len() < place + 2 {
+        return false;
+    }
+    let kind = type_at(frame.head, place);
+    kind == VLAN_TAG || kind == SERVICE_TAG
+}
+
+// The type of a frame that stands at a place, in the order of the network.
+fn type_at(head: &[u8], place: usize) -> u16
+    requires { place + 2 ≤ length head.now }
+    ensures { result ≡ big_from place 2 head.now }
+{
+    BigEndian::read_u16(&head[place..])
+}
+
+// The address that stands at a place, in the order of the network.
+fn address_at(head: &[u8], place: usize) -> u32
+    requires { place + 4 ≤ length head.now }
+    ensures { result ≡ big_from place 4 head.now }
+{
+    BigEndian::read_u32(&head[place..])
+}
+
+// Whether a byte begins an IPv4 header: version 4, and at least five words of header.
+fn begins_ipv4(byte: u8) -> bool
+    ensures { result ≡ begins_ipv4 byte }
+{
+    byte / 16 == 4 && byte % 16 >= 5
+}

@@ -1,0 +1,15 @@
+//! The records of a capture's frames.
+#![tactic(auto)]
+
+mod frame_record;
+mod reading;
+mod record_visitor;
+mod records;
+mod skip;
+mod weigh;
+
+pub use frame_record::record_of;
+pub use reading::read_records;
+pub use records::Records;
+pub use skip::Skip;
+pub use weigh::Weigh;

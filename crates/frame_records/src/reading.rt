@@ -1,0 +1,60 @@
+//! Reading the records of a capture.
+
+ghost use Rattle.std.specs.Prelude.{◌≤◌, ◌<◌, vec_len, length, IfOk, IfErr, OnOk};
+ghost use Rattle.std.specs.Io.KnownBytes.{IsAtEnd};
+ghost use Rattle.pcap_frames.specs.Reading.{HasRefused};
+ghost use Rattle.frame_records.specs.Reading.{HasRecords};
+ghost use Rattle.frame_records.specs.Kept.{weigh_by};
+
+use crate::record_visitor::RecordVisitor;
+use crate::{Records, Weigh};
+use outside_io::Source;
+use pcap_frames::{ReadRefusal, read_frames};
+use std::alloc::{AllocError, Global};
+
+/// Reads a capture to its end by way of a buffer of 65,536 bytes, and answers the records of its
+/// frames in their order, weighed so, with the numbers of all frames and of those skipped. No frame
+/// is kept.
+///
+/// Each refusal is that of reading the frames. After `OutOfMemory` the source may have been read in
+/// part.
+pub fn read_records<S: Source>(
+    alloc: Global,
+    source: &mut S,
+    weigh: Weigh,
+) -> Result<Records, ReadRefusal>
+    ensures records { IfOk result (HasRecords weigh (S.left source.old)) }
+    ensures at_end { OnOk result (IsAtEnd (S.left source.new)) }
+    ensures refused { IfErr result (HasRefused (S.left source.old) (S.faults source.old) (S.faults source.new)) }
+    ensures later { S.faults source.old ≤ S.faults source.new }
+{
+    let mut buffer = read_buffer(alloc)?;
+    match weigh {
+        Weigh::Bytes => read_weighed::<S, false>(alloc, source, &mut buffer),
+        Weigh::Packets => read_weighed::<S, true>(alloc, source, &mut buffer),
+    }
+}
+
+fn read_weighed<S: Source, const PACKETS: bool>(
+    alloc: Global,
+    source: &mut S,
+    buffer: &mut [u8],
+) -> Result<Records, ReadRefusal>
+    requires { 0 < length buffer.old }
+    ensures records { IfOk result (HasRecords (weigh_by PACKETS) (S.left source.old)) }
+    ensures at_end { OnOk result (IsAtEnd (S.left source.new)) }
+    ensures refused { IfErr result (HasRefused (S.left source.old) (S.faults source.old) (S.faults source.new)) }
+    ensures later { S.faults source.old ≤ S.faults source.new }
+{
+    let mut visitor = RecordVisitor::<PACKETS>::new(alloc);
+    match read_frames(alloc, source, &mut visitor, buffer) {
+        Ok(_) => Ok(visitor.records),
+        Err(refusal) => Err(refusal),
+    }
+}
+
+fn read_buffer(alloc: Global) -> Result<Vec<u8>, AllocError>
+    ensures { IfOk result (λ buffer. 0 < vec_len buffer) }
+{
+    vec![in alloc; 0; 65_536]
+}

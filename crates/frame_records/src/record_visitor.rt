@@ -1,0 +1,48 @@
+//! A visitor that keeps the records of the frames that it saw.
+
+ghost use Rattle.std.specs.Prelude.{◌≡◌, [], ◌∷◌, OnOk, OnErr};
+ghost use Rattle.pcap_frames.specs.Frame.{content_of};
+ghost use Rattle.pcap_frames.specs.Visitor.{Sees};
+ghost use Rattle.frame_records.specs.Kept.{KeepsRecordsOf, weigh_by};
+
+use crate::{Records, Weigh, record_of};
+use pcap_frames::{Frame, FrameVisitor};
+use prefix_lattice::RecordList;
+use std::alloc::{AllocError, Global};
+
+/// Keeps the records of frames, weighed by packets or by bytes, and counts the frames.
+#[derive(Debug, Drop)]
+pub struct RecordVisitor<const PACKETS: bool> {
+    pub records: Records,
+}
+
+impl<const PACKETS: bool> RecordVisitor<PACKETS> {
+    /// A visitor that saw no frame.
+    pub fn new(alloc: Global) -> Self
+        ensures { KeepsRecordsOf (weigh_by PACKETS) [] result.records }
+    {
+        RecordVisitor {
+            records: Records {
+                list: RecordList::new(alloc),
+                frames: 0,
+                not_ipv4: 0,
+                short: 0,
+                bad_header: 0,
+            },
+        }
+    }
+
+    fn weigh() -> Weigh
+        ensures { result ≡ weigh_by PACKETS }
+    {
+        if PACKETS { Weigh::Packets } else { Weigh::Bytes }
+    }
+}
+
+impl<const PACKETS: bool> FrameVisitor for RecordVisitor<PACKETS> {
+    ghost stands_for = { λ v frames. KeepsRecordsOf (weigh_by PACKETS) frames v.records };
+
+    fn frame(&mut self, frame: &Frame<'_>) -> Result<(), AllocError> {
+        self.records.take(record_of(frame, Self::weigh()))
+    }
+}

@@ -1,0 +1,44 @@
+//! The records of a capture, and how many frames had none.
+
+
+use crate::Skip;
+use prefix_lattice::{Record, RecordList};
+use std::alloc::AllocError;
+
+/// The records of a capture in their order, and the numbers of all frames and of those skipped.
+#[derive(Debug, Drop)]
+pub struct Records {
+    pub list: RecordList,
+    pub frames: u64,
+    pub not_ipv4: u64,
+    pub short: u64,
+    pub bad_header: u64,
+}
+
+impl Records {
+    ghost use Rattle.std.specs.Prelude.{◌≡◌, OnOk, OnErr};
+    ghost use Rattle.frame_records.specs.Kept.{after_frame, counted};
+
+    /// Takes the record of the next frame, or why it has none. After an `Err` all is as before.
+    pub(crate) fn take(&mut self, outcome: Result<Record, Skip>) -> Result<(), AllocError>
+        ensures taken { OnOk result (self.new ≡ after_frame outcome self.old) }
+        ensures err { OnErr result (self.new ≡ self.old) }
+    {
+        match outcome {
+            Ok(rec) => self.list.push(rec)?,
+            Err(skip) => self.count(skip),
+        }
+        self.frames = self.frames.saturating_add(1);
+        Ok(())
+    }
+
+    fn count(&mut self, skip: Skip)
+        ensures { self.new ≡ counted skip self.old }
+    {
+        match skip {
+            Skip::NotIpv4 => self.not_ipv4 = self.not_ipv4.saturating_add(1),
+            Skip::Short => self.short = self.short.saturating_add(1),
+            Skip::BadHeader => self.bad_header = self.bad_header.saturating_add(1),
+        }
+    }
+}

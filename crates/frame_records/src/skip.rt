@@ -1,0 +1,12 @@
+//! Why a frame has no record.
+
+/// Why a frame has no record.
+#[derive(Clone, Copy, Debug, PartialEq, Eq)]
+pub enum Skip {
+    /// Its type, behind up to two VLAN tags, is another than IPv4.
+    NotIpv4,
+    /// It ends inside its Ethernet header, a tag or its IPv4 header.
+    Short,
+    /// Its IPv4 header has another version than 4, or a header length below five words.
+    BadHeader,
+}

@@ -1,0 +1,28 @@
+//! What a frame weighs.
+
+ghost use Rattle.std.specs.Prelude.{◌≡◌};
+ghost use Rattle.frame_records.specs.FrameRecord.{weight_of_frame};
+ghost use Rattle.pcap_frames.specs.Frame.{content_of};
+
+use pcap_frames::Frame;
+
+/// How traffic is weighed.
+#[derive(Clone, Copy, Debug, PartialEq, Eq)]
+pub enum Weigh {
+    /// By the greater of a frame's captured and original lengths, in bytes.
+    Bytes,
+    /// By the number of frames.
+    Packets,
+}
+
+impl Weigh {
+    /// What a frame weighs.
+    pub fn of(self, frame: &Frame<'_>) -> u32
+        ensures { result ≡ weight_of_frame self (content_of frame.now) }
+    {
+        match self {
+            Weigh::Bytes => frame.captured.max(frame.original),
+            Weigh::Packets => 1,
+        }
+    }
+}

@@ -1,0 +1,89 @@
+-- Space-Saving with weights (Metwally, Agrawal, El Abbadi 2005): a table of a few entries, one step for each
+-- weight that is added for a key, and the interval that the table then gives for a key.
+use Rattle.std.specs.Prelude.{ℕ, ◌+◌, ◌-◌, ◌==◌, nat_lt, nat_le, if◌then◌else◌, List, [], ◌∷◌, length, filter, fold, sum_by, Option, None, Some}
+use Rattle.space_saving.specs.declared.entry.Entry.{Entry}
+
+-- one weight that is added for one key
+pub record Add : Type 0 where
+  pub key : ℕ
+  pub weight : ℕ
+
+-- a table: how many entries it may hold, and those that it holds, counts ascending
+pub record TableValue : Type 0 where
+  pub capacity : ℕ
+  pub entries : List Entry
+
+-- the entries after one more is put in, after every entry whose count is at most its own
+abbrev pub put : Entry → List Entry → List Entry
+put entry [] = entry ∷ []
+put entry (first ∷ rest) = if nat_le first.count entry.count then first ∷ put entry rest else entry ∷ first ∷ rest
+
+-- the entry of a key
+abbrev pub entry_of : ℕ → List Entry → Option Entry
+entry_of key [] = None
+entry_of key (first ∷ rest) = if first.key == key then Some first else entry_of key rest
+
+-- the entries after the first one of a key is taken out
+abbrev pub without : ℕ → List Entry → List Entry
+without key [] = []
+without key (first ∷ rest) = if first.key == key then rest else first ∷ without key rest
+
+-- the entries after the head is replaced: its count becomes the error of the new entry
+abbrev pub replace_head : List Entry → Add → List Entry
+replace_head [] add = []
+replace_head (head ∷ rest) add = put (record { key = add.key; count = head.count + add.weight; error = head.count }) rest
+
+-- the entries after an add of a key that has no entry: the new entry takes free room, or replaces the head
+abbrev pub enter : ℕ → List Entry → Add → List Entry
+enter capacity entries add =
+    if nat_lt (length entries) capacity
+    then put (record { key = add.key; count = add.weight; error = 0 }) entries
+    else replace_head entries add
+
+-- the entries after an add, by the entry that its key has: that entry is taken out and put in with the weight more
+abbrev pub step_from : Option Entry → ℕ → List Entry → Add → List Entry
+step_from None capacity entries add = enter capacity entries add
+step_from (Some entry) capacity entries add = put (record entry { count = entry.count + add.weight }) (without add.key entries)
+
+-- the entries of a table of this capacity after an add
+abbrev pub step : ℕ → List Entry → Add → List Entry
+step capacity entries add = step_from (entry_of add.key entries) capacity entries add
+
+-- the entries of a table of this capacity after these adds, begun with none
+abbrev pub table_of : ℕ → List Add → List Entry
+table_of capacity adds = fold (step capacity) [] adds
+
+-- the sum of the counts
+abbrev pub total_count : List Entry → ℕ
+total_count entries = sum_by (λ entry. entry.count) entries
+
+-- the least and the greatest weight that a key can have had
+pub record Interval : Type 0 where
+  pub low : ℕ
+  pub high : ℕ
+
+-- the count of the head
+abbrev pub least_count : List Entry → ℕ
+least_count [] = 0
+least_count (head ∷ rest) = head.count
+
+-- the interval of a key by its entry, if it has one: a key that is missing may have had the least count where no room is left
+abbrev pub interval_from : Option Entry → TableValue → Interval
+interval_from None table = record { low = 0; high = if nat_lt (length table.entries) table.capacity then 0 else least_count table.entries }
+interval_from (Some entry) table = record { low = entry.count - entry.error; high = entry.count }
+
+-- the interval of a key in a table
+abbrev pub interval_in : TableValue → ℕ → Interval
+interval_in table key = interval_from (entry_of key table.entries) table
+
+-- the interval of a key in a table of this capacity after these adds
+abbrev pub interval_after : ℕ → List Add → ℕ → Interval
+interval_after capacity adds key = interval_in (record { capacity = capacity; entries = table_of capacity adds }) key
+
+-- the weight that was added for a key
+abbrev pub weight_of_key : ℕ → List Add → ℕ
+weight_of_key key adds = sum_by (λ add. add.weight) (filter (λ add. add.key == key) adds)
+
+-- the weight that was added for all keys
+abbrev pub total_added : List Add → ℕ
+total_added adds = sum_by (λ add. add.weight) adds

@@ -1,0 +1,143 @@
+//! A table as plain entries.
+
+ghost use Rattle.std.specs.Prelude.{◌≡◌, ◌+◌, ◌-◌, ◌*◌, ◌^◌, ◌<◌, ◌≤◌, ◌↔◌, [], length, slice_get, vec_capacity, IfOk, IfSome, IsSome};
+ghost use Rattle.space_saving.specs.Table.{step, total_count, interval_in};
+ghost use Rattle.space_saving.specs.TableFacts.{AreEntries};
+
+use crate::Entry;
+use crate::facts::{is_table, total_of};
+use crate::places::place_of;
+use crate::steps::add_weight;
+use std::alloc::{AllocError, Global};
+use std::marker::Model;
+
+/// A table of Space-Saving as plain entries, counts ascending, in memory that was reserved for as many as
+/// the capacity says.
+#[derive(Debug, Drop)]
+pub struct Flat {
+    capacity: u32,
+    entries: Vec<Entry>,
+    total: u64,
+}
+
+impl Model for Flat {
+    ghost use Rattle.std.specs.Prelude.{vec_capacity};
+    ghost use Rattle.space_saving.specs.Table.{TableValue};
+    ghost use Rattle.space_saving.specs.TableFacts.{IsKept};
+
+    ghost Value = { TableValue };
+
+    ghost view = { λ t. record { capacity = t.capacity; entries = t.entries.items } };
+
+    ghost invariant = { λ t. IsKept t.capacity (vec_capacity t.entries) t.total t.entries.items };
+}
+
+impl Flat {
+    /// An empty table with memory for `capacity` entries.
+    pub fn with_room(alloc: Global, capacity: u32) -> Result<Flat, AllocError>
+        requires least { 2 ≤ capacity }
+        requires most { capacity ≤ 4096 }
+        ensures { IfOk result (λ table. table ≡ record { capacity = capacity; entries = [] }) }
+    {
+        Ok(Flat {
+            capacity,
+            entries: Vec::with_capacity(alloc, capacity as usize)?,
+            total: 0,
+        })
+    }
+
+    /// The table of these entries. `None` comes exactly where they are no table of this capacity: more
+    /// entries than it, falling counts, a key twice, an error that isn't below its count or, times the
+    /// capacity, is above the total, or a total of 2^56 or more.
+    pub fn from_entries(capacity: u32, entries: Vec<Entry>) -> Option<Flat>
+        requires least { 2 ≤ capacity }
+        requires most { capacity ≤ 4096 }
+        requires reserved { capacity ≤ vec_capacity entries }
+        ensures accepted { IsSome result ↔ AreEntries capacity entries.items }
+        ensures content { IfSome result (λ table. table ≡ record { capacity = capacity; entries = entries.items }) }
+    {
+        let total = total_of(&entries)?;
+        if !is_table(capacity, total, &entries) {
+            return None;
+        }
+        Some(Flat {
+            capacity,
+            entries,
+            total,
+        })
+    }
+
+    /// The least and the greatest weight that the key can have had.
+    pub fn interval(&self, key: u64) -> (u64, u64)
+        ensures low { result.0 ≡ (interval_in self.now key).low }
+        ensures high { result.1 ≡ (interval_in self.now key).high }
+        ensures ordered { result.0 ≤ result.1 }
+        ensures within_total { result.1 ≤ total_count self.now.entries }
+        ensures narrow { (result.1 - result.0) * self.now.capacity ≤ total_count self.now.entries }
+    {
+        match place_of(&self.entries, key) {
+            Some(place) => {
+                let entry = self.entries[place];
+                (entry.count - entry.error, entry.count)
+            }
+            None if self.entries.len() < self.capacity as usize => (0, 0),
+            None => (0, self.entries[0].count),
+        }
+    }
+
+    /// The entry at this place, from 0, in the order of rising counts.
+    pub fn entry(&self, place: usize) -> Entry
+        requires { place < length self.now.entries }
+        ensures { slice_get self.now.entries place ≡ Some result }
+    {
+        self.entries[place]
+    }
+
+    /// How many entries there are.
+    pub fn len(&self) -> usize
+        ensures length { result ≡ length self.now.entries }
+        ensures within_capacity { result ≤ self.now.capacity }
+    {
+        self.entries.len()
+    }
+
+    /// How many entries there can be.
+    pub fn capacity(&self) -> u32
+        ensures capacity { result ≡ self.now.capacity }
+        ensures least { 2 ≤ result }
+        ensures most { result ≤ 4096 }
+    {
+        self.capacity
+    }
+
+    /// The sum of the counts, which is the weight that was added.
+    pub fn total(&self) -> u64
+        ensures total { result ≡ total_count self.now.entries }
+        ensures bounded { result < 2 ^ 56 }
+        ensures kept { AreEntries self.now.capacity self.now.entries }
+    {
+        self.total
+    }
+
+    /// Adds a weight for a key, by one step of Space-Saving. It takes no memory.
+    pub(crate) fn add(&mut self, key: u64, weight: u32)
+        requires weighs { 1 ≤ weight }
+        requires room { total_count self.old.entries + weight < 2 ^ 56 }
+        ensures stepped { self.new ≡ record self.old { entries = step self.old.capacity self.old.entries (record { key = key; weight = weight }) } }
+        ensures grew { total_count self.new.entries ≡ total_count self.old.entries + weight }
+    {
+        let weight = u64::from(weight);
+        add_weight(&mut self.entries, self.capacity as usize, key, weight);
+        self.total += weight;
+    }
+
+    /// Makes the other table, of the same capacity, equal to this one. It takes no memory.
+    pub(crate) fn copy_into(&self, into: &mut Flat)
+        requires { into.old.capacity ≡ self.now.capacity }
+        ensures { into.new ≡ self.now }
+    {
+        into.entries.clear();
+        into.entries.extend_from_slice(&self.entries).unwrap();
+        into.total = self.total;
+    }
+}

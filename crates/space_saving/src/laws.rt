@@ -1,0 +1,62 @@
+//! The laws of Space-Saving over any list of adds, each the contract of a function that does nothing.
+
+ghost use Rattle.std.specs.Prelude.{◌≡◌, ℕ, ◌+◌, ◌-◌, ◌*◌, ◌≤◌, ◌++◌, List, length, fold};
+ghost use Rattle.space_saving.specs.declared.entry.Entry.{Entry};
+ghost use Rattle.space_saving.specs.Table.{Add, step, table_of, entry_of, total_count, least_count, interval_in, interval_after, weight_of_key, total_added};
+ghost use Rattle.space_saving.specs.TableFacts.{AreWeighed, IsTable};
+
+/// The interval of each key holds the weight that was added for it, and its width is at most the whole
+/// weight divided by the capacity (Metwally, Agrawal, El Abbadi 2005).
+pub fn intervals_hold()
+    ensures low { (capacity : ℕ) (adds : List Add) (key : ℕ) → 1 ≤ capacity → AreWeighed adds
+        → (interval_after capacity adds key).low ≤ weight_of_key key adds }
+    ensures high { (capacity : ℕ) (adds : List Add) (key : ℕ) → 1 ≤ capacity → AreWeighed adds
+        → weight_of_key key adds ≤ (interval_after capacity adds key).high }
+    ensures width { (capacity : ℕ) (adds : List Add) (key : ℕ) → 1 ≤ capacity → AreWeighed adds
+        → ((interval_after capacity adds key).high - (interval_after capacity adds key).low) * capacity ≤ total_added adds }
+{}
+
+/// A key that is missing in a full table has at most the least count as its weight, and that count is at
+/// most the whole weight divided by the capacity.
+pub fn missing_keys_are_light()
+    ensures light { (capacity : ℕ) (adds : List Add) (key : ℕ) → 1 ≤ capacity → AreWeighed adds
+        → entry_of key (table_of capacity adds) ≡ None → length (table_of capacity adds) ≡ capacity
+        → weight_of_key key adds ≤ least_count (table_of capacity adds) }
+    ensures least { (capacity : ℕ) (adds : List Add) → 1 ≤ capacity → AreWeighed adds
+        → length (table_of capacity adds) ≡ capacity → least_count (table_of capacity adds) * capacity ≤ total_added adds }
+{}
+
+/// What adds leave has at most so many entries as the capacity says, distinct keys, ascending counts and
+/// small errors, and its counts add up to the whole weight.
+pub fn adds_leave_a_table()
+    ensures table { (capacity : ℕ) (adds : List Add) → 1 ≤ capacity → AreWeighed adds → IsTable capacity (table_of capacity adds) }
+    ensures total { (capacity : ℕ) (adds : List Add) → 1 ≤ capacity → total_count (table_of capacity adds) ≡ total_added adds }
+{}
+
+/// Adds may come in parts: the later ones go on from the table that the earlier ones left.
+pub fn adds_go_on()
+    ensures { (capacity : ℕ) (earlier later : List Add)
+        → table_of capacity (earlier ++ later) ≡ fold (step capacity) (table_of capacity earlier) later }
+{}
+
+/// A step leaves a table where one was, and adds its weight to the sum of the counts.
+pub fn steps_leave_a_table()
+    ensures table { (capacity : ℕ) (entries : List Entry) (add : Add) → 1 ≤ capacity → 1 ≤ add.weight
+        → IsTable capacity entries → IsTable capacity (step capacity entries add) }
+    ensures total { (capacity : ℕ) (entries : List Entry) (add : Add) → 1 ≤ capacity
+        → total_count (step capacity entries add) ≡ total_count entries + add.weight }
+{}
+
+/// In every table an interval has its ends in order and within the sum of the counts, and its width is at
+/// most that sum divided by the capacity.
+pub fn intervals_are_narrow()
+    ensures ordered { (capacity : ℕ) (entries : List Entry) (key : ℕ) → IsTable capacity entries
+        → (interval_in (record { capacity = capacity; entries = entries }) key).low
+        ≤ (interval_in (record { capacity = capacity; entries = entries }) key).high }
+    ensures within_total { (capacity : ℕ) (entries : List Entry) (key : ℕ) → IsTable capacity entries
+        → (interval_in (record { capacity = capacity; entries = entries }) key).high ≤ total_count entries }
+    ensures narrow { (capacity : ℕ) (entries : List Entry) (key : ℕ) → IsTable capacity entries
+        → ((interval_in (record { capacity = capacity; entries = entries }) key).high
+        - (interval_in (record { capacity = capacity; entries = entries }) key).low) * capacity
+        ≤ total_count entries }
+{}

@@ -1,0 +1,44 @@
+//! One step of Space-Saving on a list of entries.
+
+ghost use Rattle.std.specs.Prelude.{◌≡◌, ◌+◌, ◌^◌, ◌<◌, ◌≤◌, vec_capacity};
+ghost use Rattle.space_saving.specs.Table.{step, total_count};
+ghost use Rattle.space_saving.specs.TableFacts.{IsTable};
+
+use crate::Entry;
+use crate::places::{place_for, place_of, settle};
+
+/// Adds a weight for a key: its entry moves up, or a new entry takes free room, or the head is replaced.
+pub(crate) fn add_weight(entries: &mut Vec<Entry>, capacity: usize, key: u64, weight: u64)
+    requires some { 1 ≤ capacity }
+    requires reserved { capacity ≤ vec_capacity entries.old }
+    requires table { IsTable capacity entries.old.items }
+    requires room { total_count entries.old.items + weight < 2 ^ 56 }
+    ensures stepped { entries.new.items ≡ step capacity entries.old.items (record { key = key; weight = weight }) }
+    ensures still_reserved { capacity ≤ vec_capacity entries.new }
+{
+    match place_of(entries, key) {
+        Some(place) => {
+            let entry = entries[place];
+            let count = entry.count + weight;
+            settle(entries, place, Entry { count, ..entry });
+        }
+        None if entries.len() < capacity => {
+            let entry = Entry {
+                key,
+                count: weight,
+                error: 0,
+            };
+            let place = place_for(entries, &entry);
+            entries.insert(place, entry).unwrap();
+        }
+        None => {
+            let least = entries[0].count;
+            let entry = Entry {
+                key,
+                count: least + weight,
+                error: least,
+            };
+            settle(entries, 0, entry);
+        }
+    }
+}

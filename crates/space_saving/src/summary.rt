@@ -1,0 +1,73 @@
+//! A table of Space-Saving, whatever it keeps its entries in.
+
+ghost use Rattle.std.specs.Prelude.{◌≡◌, ◌+◌, ◌^◌, ◌<◌, ◌≤◌, ◌↔◌, [], length, slice_get, IfOk, IsTrue, Some};
+ghost use Rattle.space_saving.specs.Table.{TableValue, step, total_count, interval_in};
+ghost use Rattle.space_saving.specs.TableFacts.{AreEntries};
+
+use crate::{Entry, Flat};
+use std::alloc::{AllocError, Global};
+
+/// A table of Space-Saving with weights (Metwally, Agrawal, El Abbadi 2005): at most so many keys as its
+/// capacity says, each with the interval that holds the weight that was added for it.
+pub trait Summary: Sized {
+    /// The capacity, and the entries with counts ascending. Where counts are equal, the entry that was
+    /// put in later stands later.
+    ghost content: { Self → TableValue };
+
+    /// An empty table. All memory is taken here.
+    fn with_capacity(alloc: Global, capacity: u32) -> Result<Self, AllocError>
+        requires least { 2 ≤ capacity }
+        requires most { capacity ≤ 4096 }
+        ensures { IfOk result (λ table. content table ≡ record { capacity = capacity; entries = [] }) };
+
+    /// A table with this content. All memory is taken here.
+    fn restore(alloc: Global, flat: &Flat) -> Result<Self, AllocError>
+        ensures { IfOk result (λ table. content table ≡ flat.now) };
+
+    /// Adds a weight for a key, by one step of Space-Saving. It takes no memory.
+    fn add(&mut self, key: u64, weight: u32)
+        requires weighs { 1 ≤ weight }
+        requires room { total_count (content self.old).entries + weight < 2 ^ 56 }
+        ensures stepped { content self.new ≡ record (content self.old) {
+          entries = step (content self.old).capacity (content self.old).entries (record { key = key; weight = weight });
+        } }
+        ensures grew { total_count (content self.new).entries ≡ total_count (content self.old).entries + weight };
+
+    /// The least and the greatest weight that the key can have had.
+    fn interval(&self, key: u64) -> (u64, u64)
+        ensures low { result.0 ≡ (interval_in (content self.now) key).low }
+        ensures high { result.1 ≡ (interval_in (content self.now) key).high }
+        ensures ordered { result.0 ≤ result.1 }
+        ensures within_total { result.1 ≤ total_count (content self.now).entries };
+
+    /// The entry at this place, from 0, in the order of rising counts.
+    fn entry(&self, place: usize) -> Entry
+        requires { place < length (content self.now).entries }
+        ensures { slice_get (content self.now).entries place ≡ Some result };
+
+    /// How many entries there are.
+    fn len(&self) -> usize
+        ensures length { result ≡ length (content self.now).entries }
+        ensures within_capacity { result ≤ (content self.now).capacity };
+
+    /// How many entries there can be.
+    fn capacity(&self) -> u32
+        ensures capacity { result ≡ (content self.now).capacity }
+        ensures least { 2 ≤ result }
+        ensures most { result ≤ 4096 };
+
+    /// The sum of the counts, which is the weight that was added.
+    fn total(&self) -> u64
+        ensures total { result ≡ total_count (content self.now).entries }
+        ensures bounded { result < 2 ^ 56 }
+        ensures kept { AreEntries (content self.now).capacity (content self.now).entries };
+
+    /// Whether there are as many entries as there can be.
+    fn full(&self) -> bool
+        ensures { IsTrue result ↔ (length (content self.now).entries ≡ (content self.now).capacity) };
+
+    /// Makes a flat table, of the same capacity, equal to this one. It takes no memory.
+    fn copy_into(&self, into: &mut Flat)
+        requires { into.old.capacity ≡ (content self.now).capacity }
+        ensures { into.new ≡ content self.now };
+}
