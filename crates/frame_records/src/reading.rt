@@ -24,6 +24,7 @@ pub fn read_records<S: Source>(
     weigh: Weigh,
 ) -> Result<Records, ReadRefusal>
     ensures records { IfOk result (HasRecords weigh (S.left source.old)) }
+    ensures few { IfOk result (λ records. length records.list ≤ 16777216) }
     ensures at_end { OnOk result (IsAtEnd (S.left source.new)) }
     ensures refused { IfErr result (HasRefused (S.left source.old) (S.faults source.old) (S.faults source.new)) }
     ensures later { S.faults source.old ≤ S.faults source.new }
@@ -42,6 +43,7 @@ fn read_weighed<S: Source, const PACKETS: bool>(
 ) -> Result<Records, ReadRefusal>
     requires { 0 < length buffer.old }
     ensures records { IfOk result (HasRecords (weigh_by PACKETS) (S.left source.old)) }
+    ensures few { IfOk result (λ records. length records.list ≤ 16777216) }
     ensures at_end { OnOk result (IsAtEnd (S.left source.new)) }
     ensures refused { IfErr result (HasRefused (S.left source.old) (S.faults source.old) (S.faults source.new)) }
     ensures later { S.faults source.old ≤ S.faults source.new }

@@ -1,13 +1,15 @@
-// A library with one function.
+//! The top call of the program.
 #![tactic(auto)]
 
-ghost use Rattle.std.specs.Prelude.{◌≡◌};
-ghost use Rattle.hhh_engine.specs.Echo.{echo_of};
+mod decimal_text;
+mod status;
+mod status_line;
+mod top_call;
+mod weighing;
+mod words;
+mod words_kind;
 
-// The `ensures` clause is the contract: what `echo` returns is `echo_of` of its argument, a definition
-// in `specs/Echo.antt`, which a caller's clause can cite too.
-pub fn echo(x: usize) -> usize
-    ensures { result ≡ echo_of x }
-{
-    x
-}
+pub use status::Status;
+pub use status_line::fault_line;
+pub use top_call::run;
+pub use words_kind::WordsKind;

@@ -1,6 +1,6 @@
 //! Prefixes of pairs of addresses.
 
-ghost use Rattle.std.specs.Prelude.{◌≡◌, ◌==◌, ◌↔◌, true, IfOk, IfErr};
+ghost use Rattle.std.specs.Prelude.{◌≡◌, ◌==◌, ◌↔◌, ℕ, List, true, IfOk, IfErr};
 ghost use Rattle.prefix_lattice.specs.PrefixValue.{PrefixValue, IsPrefix};
 ghost use Rattle.prefix_lattice.specs.PrefixText.{SpellsPrefix, HasPrefixFault};
 ghost use Rattle.prefix_lattice.specs.declared.prefix_fault.PrefixFault.{PrefixFault};
@@ -91,3 +91,14 @@ pub fn keys_tell_covering()
     ensures { (prefix : PrefixValue) (rec : _) → IsPrefix prefix
         → covers prefix rec ≡ (key_of (prefix_at (node_of prefix) rec) == key_of prefix) }
 {}
+
+/// A law of texts: two texts spell one prefix, or have one fault, and never both.
+pub fn prefix_texts_have_one_reading()
+    ensures one_prefix { (source dest : List ℕ) (prefix other : PrefixValue)
+        → SpellsPrefix source dest prefix → SpellsPrefix source dest other → prefix ≡ other }
+    ensures no_fault { (source dest : List ℕ) (prefix : PrefixValue) (fault : PrefixFault)
+        → SpellsPrefix source dest prefix → HasPrefixFault source dest fault → ⊥ }
+    ensures one_fault { (source dest : List ℕ) (fault other : PrefixFault)
+        → HasPrefixFault source dest fault → HasPrefixFault source dest other → fault ≡ other }
+{
+}

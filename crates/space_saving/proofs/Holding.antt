@@ -1,11 +1,11 @@
 -- The interval of a key holds the weight that was added for it.
-use Rattle.std.proofs.Common.{◌≡◌, ℕ, ◌+◌, ◌-◌, ◌*◌, ◌<◌, ◌≤◌, Bool, true, false, cond, eqb, ltb, List, [], ◌∷◌, length, Option, None, Some, refl, sym, ap, subst, ◌∙◌, inl, inr, ⊎_elim, arith}
+use Rattle.std.proofs.Common.{◌≡◌, ℕ, ◌+◌, ◌-◌, ◌<◌, ◌≤◌, true, false, cond, eqb, ltb, List, [], ◌∷◌, length, Option, None, Some, refl, sym, ap, subst, ◌∙◌, ⊎_elim, arith}
 use Rattle.std.proofs.lemmas.Bool.{ltb-true, ltb-false, eqb-true, eqb-false, eq-eqb, ne_eqb, cond-true, cond-false, cond_both, cases_eq}
 use Rattle.space_saving.specs.declared.entry.Entry.{Entry}
-use Rattle.space_saving.specs.Table.{Add, TableValue, put, without, entry_of, step, least_count, Interval, interval_from, interval_in}
-use Rattle.space_saving.specs.TableFacts.{RisesFrom, AreApart, IsTable}
+use Rattle.space_saving.specs.Table.{Add, put, without, entry_of, step, least_count, interval_from, interval_in}
+use Rattle.space_saving.specs.TableFacts.{RisesFrom, IsTable}
 use Rattle.space_saving.proofs.Putting.{length-put, entry_of-put_same, entry_of-put_other, RisesFrom-put}
-use Rattle.space_saving.proofs.Taking.{length-without, key-entry_of, count-entry_of, RisesFrom-less, RisesFrom-without, entry_of-without_other, entry_of-without_same}
+use Rattle.space_saving.proofs.Taking.{length-without, key-entry_of, count-entry_of, RisesFrom-without, entry_of-without_other, entry_of-without_same}
 use Rattle.space_saving.proofs.Stepping.{raised, fresh, heir, step_cases}
 
 -- the weight is within the interval of a key with this entry, or with none

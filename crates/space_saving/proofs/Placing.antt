@@ -1,5 +1,5 @@
 -- Where an entry stands and where it is put, by places.
-use Rattle.std.proofs.Common.{◌≡◌, ℕ, ◌+◌, ◌<◌, ◌≤◌, Bool, true, false, cond, eqb, leb, List, [], ◌∷◌, ◌++◌, length, get_or, set, take, drop, zero, suc, Option, None, Some, refl, sym, ap, subst, ◌∙◌, arith, add-one, drop-cons}
+use Rattle.std.proofs.Common.{◌≡◌, ℕ, ◌+◌, ◌<◌, ◌≤◌, true, eqb, leb, List, [], ◌∷◌, ◌++◌, length, get_or, set, take, drop, zero, suc, Some, refl, sym, ap, subst, ◌∙◌, arith, drop-cons}
 use Rattle.std.proofs.lemmas.Bool.{eq-eqb, cond-true, cond-false, lt-leb, le-leb}
 use Rattle.std.proofs.lemmas.List.{set_split, drop_more, drop_all}
 use Rattle.std.proofs.lemmas.Option.{slice_get-get_or}

@@ -1,15 +1,15 @@
 -- What the laws say after any list of adds, by induction on the list.
-use Rattle.std.proofs.Common.{◌≡◌, ℕ, ◌+◌, ◌-◌, ◌*◌, ◌<◌, ◌≤◌, Bool, true, false, cond, eqb, ltb, List, [], ◌∷◌, ◌++◌, length, filter, fold, Option, None, Some, refl, sym, ap, subst, ◌∙◌, arith}
+use Rattle.std.proofs.Common.{◌≡◌, ℕ, ◌+◌, ◌-◌, ◌*◌, ◌≤◌, true, false, cond, eqb, ltb, List, [], ◌∷◌, ◌++◌, length, filter, fold, None, subst, arith}
 use Rattle.std.specs.List.{AllByRecursion}
-use Rattle.std.proofs.lemmas.Bool.{le-ltb, cond-false, cond_both}
+use Rattle.std.proofs.lemmas.Bool.{le-ltb, cond-false}
 use Rattle.std.proofs.lemmas.List.Elements.{recursion_from_All}
 use Rattle.std.proofs.lemmas.List.Sums.{sum_by-cons, fold-append}
 use Rattle.space_saving.specs.declared.entry.Entry.{Entry}
-use Rattle.space_saving.specs.Table.{Add, entry_of, step, table_of, total_count, least_count, interval_from, interval_in, interval_after, weight_of_key, total_added}
+use Rattle.space_saving.specs.Table.{Add, entry_of, step, table_of, total_count, least_count, interval_from, interval_after, weight_of_key, total_added}
 use Rattle.space_saving.specs.TableFacts.{IsTable, AreWeighed}
 use Rattle.space_saving.proofs.Stepping.{total_count-step, IsTable-step, IsTable-nil}
 use Rattle.space_saving.proofs.Holding.{Holds, Holds-step, Holds-nil}
-use Rattle.space_saving.proofs.Widths.{IsNarrow, interval_is_narrow, least_count-times-capacity}
+use Rattle.space_saving.proofs.Widths.{interval_is_narrow, least_count-times-capacity}
 
 -- the weight of an add is at least 1
 abbrev IsWeighed : Add → Type 0

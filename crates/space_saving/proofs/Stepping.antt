@@ -1,13 +1,13 @@
 -- A step keeps what is true of every table.
-use Rattle.std.proofs.Common.{◌≡◌, ℕ, ◌+◌, ◌-◌, ◌*◌, ◌^◌, ◌<◌, ◌≤◌, Bool, true, false, cond, ltb, List, [], ◌∷◌, length, All, Option, None, Some, refl, sym, ap, subst, ◌∙◌, arith}
+use Rattle.std.proofs.Common.{◌≡◌, ℕ, ◌+◌, ◌*◌, ◌^◌, ◌<◌, ◌≤◌, ltb, List, [], ◌∷◌, length, All, None, Some, refl, sym, ap, subst, ◌∙◌, arith}
 use Rattle.std.specs.List.{AllByRecursion}
 use Rattle.std.proofs.lemmas.Bool.{ltb-true, ltb-false, cond_both}
 use Rattle.std.proofs.lemmas.List.Elements.{All-from_recursion, recursion_from_All}
 use Rattle.space_saving.specs.declared.entry.Entry.{Entry}
-use Rattle.space_saving.specs.Table.{Add, put, without, entry_of, enter, replace_head, step, step_from, total_count}
+use Rattle.space_saving.specs.Table.{Add, put, without, entry_of, replace_head, step, step_from, total_count}
 use Rattle.space_saving.specs.TableFacts.{RisesFrom, AreApart, HasSmallError, IsTable, IsKept}
 use Rattle.space_saving.proofs.Putting.{total_count-cons, length-put, total_count-put, RisesFrom-put, AreApart-put, missing_from_first, all-put}
-use Rattle.space_saving.proofs.Taking.{length-without, total_count-without, all-entry_of, key-entry_of, RisesFrom-less, count-entry_of, RisesFrom-without, entry_of-without_same, AreApart-without, all-without}
+use Rattle.space_saving.proofs.Taking.{length-without, total_count-without, all-entry_of, key-entry_of, RisesFrom-less, RisesFrom-without, entry_of-without_same, AreApart-without, all-without}
 
 -- the entry with this weight more
 abbrev pub raised : Entry → ℕ → Entry

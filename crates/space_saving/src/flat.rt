@@ -46,15 +46,16 @@ impl Flat {
         })
     }
 
-    /// The table of these entries. `None` comes exactly where they are no table of this capacity: more
-    /// entries than it, falling counts, a key twice, an error that isn't below its count or, times the
-    /// capacity, is above the total, or a total of 2^56 or more.
+    /// The table of these entries, in their order. `None`, which drops them, comes exactly where they are
+    /// no table of this capacity: more entries than it, falling counts, a key twice, an error that isn't
+    /// below its count or, times the capacity, is above the total, or a total of 2^56 or more.
     pub fn from_entries(capacity: u32, entries: Vec<Entry>) -> Option<Flat>
         requires least { 2 ≤ capacity }
         requires most { capacity ≤ 4096 }
         requires reserved { capacity ≤ vec_capacity entries }
         ensures accepted { IsSome result ↔ AreEntries capacity entries.items }
-        ensures content { IfSome result (λ table. table ≡ record { capacity = capacity; entries = entries.items }) }
+        ensures content { IfSome result (λ table.
+            table ≡ record { capacity = capacity; entries = entries.items }) }
     {
         let total = total_of(&entries)?;
         if !is_table(capacity, total, &entries) {
@@ -123,7 +124,9 @@ impl Flat {
     pub(crate) fn add(&mut self, key: u64, weight: u32)
         requires weighs { 1 ≤ weight }
         requires room { total_count self.old.entries + weight < 2 ^ 56 }
-        ensures stepped { self.new ≡ record self.old { entries = step self.old.capacity self.old.entries (record { key = key; weight = weight }) } }
+        ensures stepped { self.new ≡ record self.old {
+          entries = step self.old.capacity self.old.entries (record { key = key; weight = weight });
+        } }
         ensures grew { total_count self.new.entries ≡ total_count self.old.entries + weight }
     {
         let weight = u64::from(weight);

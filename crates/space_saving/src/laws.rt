@@ -1,6 +1,6 @@
 //! The laws of Space-Saving over any list of adds, each the contract of a function that does nothing.
 
-ghost use Rattle.std.specs.Prelude.{◌≡◌, ℕ, ◌+◌, ◌-◌, ◌*◌, ◌≤◌, ◌++◌, List, length, fold};
+ghost use Rattle.std.specs.Prelude.{◌≡◌, ℕ, ◌+◌, ◌-◌, ◌*◌, ◌≤◌, ◌++◌, ◌∷◌, [], List, length, fold};
 ghost use Rattle.space_saving.specs.declared.entry.Entry.{Entry};
 ghost use Rattle.space_saving.specs.Table.{Add, step, table_of, entry_of, total_count, least_count, interval_in, interval_after, weight_of_key, total_added};
 ghost use Rattle.space_saving.specs.TableFacts.{AreWeighed, IsTable};
@@ -13,7 +13,8 @@ pub fn intervals_hold()
     ensures high { (capacity : ℕ) (adds : List Add) (key : ℕ) → 1 ≤ capacity → AreWeighed adds
         → weight_of_key key adds ≤ (interval_after capacity adds key).high }
     ensures width { (capacity : ℕ) (adds : List Add) (key : ℕ) → 1 ≤ capacity → AreWeighed adds
-        → ((interval_after capacity adds key).high - (interval_after capacity adds key).low) * capacity ≤ total_added adds }
+        → ((interval_after capacity adds key).high - (interval_after capacity adds key).low) * capacity
+        ≤ total_added adds }
 {}
 
 /// A key that is missing in a full table has at most the least count as its weight, and that count is at
@@ -23,20 +24,25 @@ pub fn missing_keys_are_light()
         → entry_of key (table_of capacity adds) ≡ None → length (table_of capacity adds) ≡ capacity
         → weight_of_key key adds ≤ least_count (table_of capacity adds) }
     ensures least { (capacity : ℕ) (adds : List Add) → 1 ≤ capacity → AreWeighed adds
-        → length (table_of capacity adds) ≡ capacity → least_count (table_of capacity adds) * capacity ≤ total_added adds }
+        → length (table_of capacity adds) ≡ capacity
+        → least_count (table_of capacity adds) * capacity ≤ total_added adds }
 {}
 
 /// What adds leave has at most so many entries as the capacity says, distinct keys, ascending counts and
 /// small errors, and its counts add up to the whole weight.
 pub fn adds_leave_a_table()
-    ensures table { (capacity : ℕ) (adds : List Add) → 1 ≤ capacity → AreWeighed adds → IsTable capacity (table_of capacity adds) }
-    ensures total { (capacity : ℕ) (adds : List Add) → 1 ≤ capacity → total_count (table_of capacity adds) ≡ total_added adds }
+    ensures table { (capacity : ℕ) (adds : List Add) → 1 ≤ capacity → AreWeighed adds
+        → IsTable capacity (table_of capacity adds) }
+    ensures total { (capacity : ℕ) (adds : List Add) → 1 ≤ capacity
+        → total_count (table_of capacity adds) ≡ total_added adds }
 {}
 
 /// Adds may come in parts: the later ones go on from the table that the earlier ones left.
 pub fn adds_go_on()
-    ensures { (capacity : ℕ) (earlier later : List Add)
+    ensures more { (capacity : ℕ) (earlier later : List Add)
         → table_of capacity (earlier ++ later) ≡ fold (step capacity) (table_of capacity earlier) later }
+    ensures one_more { (capacity : ℕ) (earlier : List Add) (last : Add)
+        → table_of capacity (earlier ++ last ∷ []) ≡ step capacity (table_of capacity earlier) last }
 {}
 
 /// A step leaves a table where one was, and adds its weight to the sum of the counts.

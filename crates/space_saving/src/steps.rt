@@ -13,7 +13,8 @@ pub(crate) fn add_weight(entries: &mut Vec<Entry>, capacity: usize, key: u64, we
     requires reserved { capacity ≤ vec_capacity entries.old }
     requires table { IsTable capacity entries.old.items }
     requires room { total_count entries.old.items + weight < 2 ^ 56 }
-    ensures stepped { entries.new.items ≡ step capacity entries.old.items (record { key = key; weight = weight }) }
+    ensures stepped { entries.new.items
+        ≡ step capacity entries.old.items (record { key = key; weight = weight }) }
     ensures still_reserved { capacity ≤ vec_capacity entries.new }
 {
     match place_of(entries, key) {

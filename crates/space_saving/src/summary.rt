@@ -1,6 +1,6 @@
 //! A table of Space-Saving, whatever it keeps its entries in.
 
-ghost use Rattle.std.specs.Prelude.{◌≡◌, ◌+◌, ◌^◌, ◌<◌, ◌≤◌, ◌↔◌, [], length, slice_get, IfOk, IsTrue, Some};
+ghost use Rattle.std.specs.Prelude.{◌≡◌, ◌+◌, ◌-◌, ◌*◌, ◌^◌, ◌<◌, ◌≤◌, ◌↔◌, [], length, slice_get, IfOk, IsTrue, Some};
 ghost use Rattle.space_saving.specs.Table.{TableValue, step, total_count, interval_in};
 ghost use Rattle.space_saving.specs.TableFacts.{AreEntries};
 
@@ -29,16 +29,20 @@ pub trait Summary: Sized {
         requires weighs { 1 ≤ weight }
         requires room { total_count (content self.old).entries + weight < 2 ^ 56 }
         ensures stepped { content self.new ≡ record (content self.old) {
-          entries = step (content self.old).capacity (content self.old).entries (record { key = key; weight = weight });
+          entries = step (content self.old).capacity (content self.old).entries
+              (record { key = key; weight = weight });
         } }
-        ensures grew { total_count (content self.new).entries ≡ total_count (content self.old).entries + weight };
+        ensures grew { total_count (content self.new).entries
+            ≡ total_count (content self.old).entries + weight };
 
     /// The least and the greatest weight that the key can have had.
     fn interval(&self, key: u64) -> (u64, u64)
         ensures low { result.0 ≡ (interval_in (content self.now) key).low }
         ensures high { result.1 ≡ (interval_in (content self.now) key).high }
         ensures ordered { result.0 ≤ result.1 }
-        ensures within_total { result.1 ≤ total_count (content self.now).entries };
+        ensures within_total { result.1 ≤ total_count (content self.now).entries }
+        ensures narrow { (result.1 - result.0) * (content self.now).capacity
+            ≤ total_count (content self.now).entries };
 
     /// The entry at this place, from 0, in the order of rising counts.
     fn entry(&self, place: usize) -> Entry

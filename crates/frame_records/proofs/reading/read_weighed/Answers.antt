@@ -1,5 +1,5 @@
 use Rattle.std.proofs.Common.{◌≤◌, [], length, sym, subst}
-use Rattle.frame_records.proofs.Keeping.{exact_counts}
+use Rattle.frame_records.proofs.Keeping.{exact_counts, few_records}
 use Rattle.frame_records.proofs.reading.read_weighed.Goals as goal
 
 pub returns-in-Ok-clause-records : goal.returns-in-Ok-clause-records
@@ -12,3 +12,8 @@ returns-in-Ok-clause-records g c =
       told = read.told;
       are = exact_counts _ read.frames _ few (read.seen [] c.new-visitor.ensures);
     }
+
+pub returns-in-Ok-clause-few : goal.returns-in-Ok-clause-few
+returns-in-Ok-clause-few g c =
+    let read = c.in-Ok.ensures.read in
+    few_records _ read.frames c.read_frames.new.visitor.records (subst (λ n. n ≤ 16777216) (sym read.counted) read.few) (read.seen [] c.new-visitor.ensures)

@@ -1,5 +1,9 @@
+use Rattle.std.proofs.Common.{[], ◌∷◌}
 use Rattle.space_saving.proofs.Running.{table_of-append}
 use Rattle.space_saving.proofs.laws.adds_go_on.Goals as goal
 
-pub returns : goal.returns
-returns c = table_of-append
+pub returns-clause-more : goal.returns-clause-more
+returns-clause-more c = table_of-append
+
+pub returns-clause-one_more : goal.returns-clause-one_more
+returns-clause-one_more c = λ capacity earlier last. table_of-append capacity earlier (last ∷ [])

@@ -1,4 +1,4 @@
-use Rattle.std.proofs.Common.{rules, arith}
+use Rattle.std.proofs.Common.{arith}
 use Rattle.space_saving.proofs.Placing.{placed}
 use Rattle.space_saving.proofs.places.place_of.Goals as goal
 

@@ -1,5 +1,5 @@
-use Rattle.std.proofs.Common.{◌≡◌, ◌≤◌, ◌+◌, ◌^◌, ◌<◌, ap, sym, subst, ◌∙◌, arith}
-use Rattle.space_saving.specs.Table.{Add, TableValue, total_count, step}
+use Rattle.std.proofs.Common.{◌≡◌, ◌+◌, ◌^◌, ◌<◌, ap, sym, subst, ◌∙◌, arith}
+use Rattle.space_saving.specs.Table.{TableValue, total_count}
 use Rattle.space_saving.proofs.Stepping.{IsKept-step, total_count-step}
 use Rattle.space_saving.proofs.flat.Flat.add.Goals as goal
 

@@ -1,4 +1,4 @@
-use Rattle.std.proofs.Common.{◌≤◌, ◌-◌, ◌*◌, arith, subst, vec_len, length}
+use Rattle.std.proofs.Common.{◌≤◌, ◌-◌, ◌*◌, arith, subst}
 use Rattle.space_saving.specs.Table.{TableValue, total_count}
 use Rattle.space_saving.proofs.Widths.{narrow_of_head}
 use Rattle.space_saving.proofs.flat.Flat.interval.Goals as goal

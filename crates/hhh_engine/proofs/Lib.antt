@@ -1,0 +1,3 @@
+pub mod WordLists
+pub mod Weights
+pub mod Ending

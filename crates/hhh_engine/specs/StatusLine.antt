@@ -1,0 +1,33 @@
+-- The line that tells on standard error how a command ended.
+use Rattle.std.specs.Prelude.{ℕ, List, ◌++◌, codes, decimal}
+use Rattle.pcap_frames.specs.declared.capture_fault.CaptureFault.{CaptureFault}
+use Rattle.pcap_frames.specs.declared.capture_fault.FaultKind.{FaultKind}
+use Rattle.pcap_frames.specs.declared.capture_fault.FaultKind.TheVariants.{NotCapture}
+use Rattle.hhh_engine.specs.declared.words_kind.WordsKind.{WordsKind}
+use Rattle.hhh_engine.specs.declared.words_kind.WordsKind.TheVariants.{NoCommand, UnknownCommand, Refused, BadPrefix}
+use Rattle.hhh_engine.specs.declared.status.Status.{Status}
+use Rattle.hhh_engine.specs.declared.status.Status.TheVariants.{Done, BadWords, BadCapture, ReadFault, WriteFault, OutOfMemory}
+
+-- what is wrong with the words, in a word or two
+abbrev pub words_text : WordsKind → List ℕ
+words_text NoCommand = codes "no command"
+words_text UnknownCommand = codes "unknown command"
+words_text Refused = codes "refused"
+words_text (BadPrefix fault) = codes "prefix"
+
+-- what is wrong with a capture
+abbrev pub fault_text : FaultKind → List ℕ
+fault_text NotCapture = codes "not a capture"
+
+-- how a command ended
+abbrev pub status_text : Status → List ℕ
+status_text Done = codes "done"
+status_text (BadWords kind) = codes "bad words: " ++ words_text kind
+status_text (BadCapture fault) = codes "bad capture: " ++ fault_text fault.kind ++ codes " at " ++ decimal fault.place
+status_text ReadFault = codes "read fault"
+status_text WriteFault = codes "write fault"
+status_text OutOfMemory = codes "out of memory"
+
+-- the line on standard error
+abbrev pub line_of : Status → List ℕ
+line_of status = codes "hhh: " ++ status_text status ++ codes "\n"

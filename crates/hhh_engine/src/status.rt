@@ -1,0 +1,62 @@
+//! How the program ended.
+
+ghost use Rattle.std.specs.Prelude.{◌≡◌};
+ghost use Rattle.hhh_engine.specs.declared.status.Status.TheVariants.{OutOfMemory as out_of_memory};
+ghost use Rattle.hhh_engine.specs.StatusOf.{status_of, number_of};
+
+use crate::WordsKind;
+use pcap_frames::{CaptureFault, ReadRefusal};
+use std::alloc::AllocError;
+
+/// How a command ended.
+#[derive(Clone, Copy, Debug, PartialEq, Eq)]
+pub enum Status {
+    /// The command's text was written whole.
+    Done,
+    /// The words of the command line ask nothing. Nothing was read or written.
+    BadWords(WordsKind),
+    /// The source is no capture. Nothing was written.
+    BadCapture(CaptureFault),
+    /// The source failed. Nothing was written.
+    ReadFault,
+    /// The sink failed. A beginning of the text was written.
+    WriteFault,
+    /// Memory ran out. Nothing was written.
+    OutOfMemory,
+}
+
+impl Status {
+    /// The exit status of the program: 0 where all went well.
+    pub fn number(&self) -> u8
+        ensures { result ≡ number_of self.now }
+    {
+        match self {
+            Status::Done => 0,
+            Status::BadWords(_) => 2,
+            Status::BadCapture(_) => 3,
+            Status::ReadFault => 4,
+            Status::WriteFault => 5,
+            Status::OutOfMemory => 13,
+        }
+    }
+}
+
+impl From<ReadRefusal> for Status {
+    ghost from_gives = { λ refusal status. status ≡ status_of refusal };
+
+    fn from(refusal: ReadRefusal) -> Status {
+        match refusal {
+            ReadRefusal::Capture(fault) => Status::BadCapture(fault),
+            ReadRefusal::ReadFault => Status::ReadFault,
+            ReadRefusal::OutOfMemory => Status::OutOfMemory,
+        }
+    }
+}
+
+impl From<AllocError> for Status {
+    ghost from_gives = { λ _ status. status ≡ out_of_memory };
+
+    fn from(_: AllocError) -> Status {
+        Status::OutOfMemory
+    }
+}

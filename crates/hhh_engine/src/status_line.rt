@@ -1,0 +1,54 @@
+//! The line that tells how a command ended.
+
+ghost use Rattle.std.specs.Prelude.{◌≡◌, ◌++◌, codes, decimal, IfOk, OnOk};
+ghost use Rattle.hhh_engine.specs.StatusLine.{line_of, status_text, words_text, fault_text};
+
+use crate::decimal_text::push_number;
+use crate::{Status, WordsKind};
+use pcap_frames::{CaptureFault, FaultKind};
+use std::alloc::{AllocError, Global};
+
+/// The line for standard error: `hhh: `, how the command ended, and a line feed.
+pub fn fault_line(alloc: Global, status: &Status) -> Result<Vec<u8>, AllocError>
+    ensures { IfOk result (λ line. line.items ≡ line_of status.now) }
+{
+    let mut line = Vec::from_slice(alloc, b"hhh: ")?;
+    push_status(&mut line, status)?;
+    line.extend_from_slice(b"\n")?;
+    Ok(line)
+}
+
+fn push_status(line: &mut Vec<u8>, status: &Status) -> Result<(), AllocError>
+    ensures { OnOk result (line.new.items ≡ line.old.items ++ status_text status.now) }
+{
+    match status {
+        Status::Done => line.extend_from_slice(b"done"),
+        Status::BadWords(kind) => push_words(line, kind),
+        Status::BadCapture(fault) => push_fault(line, fault),
+        Status::ReadFault => line.extend_from_slice(b"read fault"),
+        Status::WriteFault => line.extend_from_slice(b"write fault"),
+        Status::OutOfMemory => line.extend_from_slice(b"out of memory"),
+    }
+}
+
+fn push_words(line: &mut Vec<u8>, kind: &WordsKind) -> Result<(), AllocError>
+    ensures { OnOk result (line.new.items ≡ line.old.items ++ codes "bad words: " ++ words_text kind.now) }
+{
+    line.extend_from_slice(b"bad words: ")?;
+    match kind {
+        WordsKind::NoCommand => line.extend_from_slice(b"no command"),
+        WordsKind::UnknownCommand => line.extend_from_slice(b"unknown command"),
+        WordsKind::Refused => line.extend_from_slice(b"refused"),
+        WordsKind::BadPrefix(_) => line.extend_from_slice(b"prefix"),
+    }
+}
+
+fn push_fault(line: &mut Vec<u8>, fault: &CaptureFault) -> Result<(), AllocError>
+    ensures { OnOk result (line.new.items ≡ line.old.items ++ codes "bad capture: " ++ fault_text fault.now.kind ++ codes " at " ++ decimal fault.now.place) }
+{
+    line.extend_from_slice(b"bad capture: ")?;
+    line.extend_from_slice(match fault.kind {
+        FaultKind::NotCapture => b"not a capture",
+    })?;
+    push_number(line, b" at ", fault.place)
+}

@@ -1,0 +1,62 @@
+//! The weight of one prefix, in a table of Space-Saving.
+
+ghost use Rattle.std.specs.Prelude.{◌≡◌, ◌≤◌, ◌^◌, List, length, All, IfOk};
+ghost use Rattle.prefix_lattice.specs.RecordValue.{RecordValue};
+ghost use Rattle.hhh_engine.specs.Weighing.{text_for, weigh_text, adds_of, HoldsWeight};
+ghost use Rattle.space_saving.specs.Table.{table_of};
+
+use crate::decimal_text::push_number;
+use prefix_lattice::{Node, Prefix, Record, keys_tell_covering};
+use space_saving::{PlainTable, Summary, adds_leave_a_table, intervals_hold};
+use std::alloc::{AllocError, Global};
+
+// How many prefixes the table of the prefix's node can tell apart.
+const WEIGH_CAPACITY: u32 = 64;
+
+/// The lines that tell the weight of a prefix over at most 16,777,216 records. They hold its exact
+/// weight.
+pub fn weigh_text(alloc: Global, prefix: &Prefix, records: &[Record]) -> Result<Vec<u8>, AllocError>
+    requires few { length records.now ≤ 2 ^ 24 }
+    requires weighed { All (λ rec. 1 ≤ rec.weight) records.now }
+    ensures text { IfOk result (λ text. text.items ≡ text_for prefix.now records.now) }
+    ensures holds { HoldsWeight prefix.now records.now }
+{
+    adds_leave_a_table();
+    weight_is_held(prefix);
+    let key = prefix.key();
+    let table = fold_records(alloc, prefix.node(), records)?;
+    let (low, high) = table.interval(key);
+    three_lines(alloc, low, high, table.total())
+}
+
+// A law: the interval of a prefix in the table of records at its node holds what the prefix weighs.
+fn weight_is_held(prefix: &Prefix)
+    ensures { (records : List RecordValue) → All (λ rec. 1 ≤ rec.weight) records → HoldsWeight prefix.now records }
+{
+    keys_tell_covering();
+    intervals_hold();
+    let _key = prefix.key();
+}
+
+// The table of the records at a node.
+fn fold_records(alloc: Global, node: Node, records: &[Record]) -> Result<PlainTable, AllocError>
+    requires { length records.now ≤ 2 ^ 24 }
+    ensures { IfOk result (λ table. table ≡ record { capacity = 64; entries = table_of 64 (adds_of node records.now) }) }
+{
+    let mut table = PlainTable::with_capacity(alloc, WEIGH_CAPACITY)?;
+    for rec in records {
+        table.add(Prefix::of(rec, node).key(), rec.weight);
+    }
+    Ok(table)
+}
+
+fn three_lines(alloc: Global, low: u64, high: u64, total: u64) -> Result<Vec<u8>, AllocError>
+    ensures { IfOk result (λ text. text.items ≡ weigh_text low high total) }
+{
+    let mut text = Vec::new(alloc);
+    push_number(&mut text, b"low ", low)?;
+    push_number(&mut text, b"\nhigh ", high)?;
+    push_number(&mut text, b"\ntotal ", total)?;
+    text.extend_from_slice(b"\n")?;
+    Ok(text)
+}
