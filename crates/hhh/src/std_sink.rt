@@ -1,0 +1,50 @@
+//! A stream of the system as a sink.
+
+ghost use Rattle.std.specs.Prelude.{◌<◌, ◌≤◌, length, None, IfOk};
+
+use outside_io::{Failed, Sink};
+use std::io::Write;
+
+/// Writes to a stream of the system, and flushes it within each call. What the stream took is not told.
+#[derive(Drop)]
+pub struct StdSink<W: Write + Drop> {
+    writer: W,
+    faults: u64,
+}
+
+impl<W: Write + Drop> StdSink<W> {
+    pub fn new(writer: W) -> Self {
+        StdSink { writer, faults: 0 }
+    }
+}
+
+impl<W: Write + Drop> Sink for StdSink<W> {
+    ghost taken = { λ _. None };
+
+    ghost faults = { λ s. s.faults };
+
+    fn write(&mut self, bytes: &[u8]) -> Result<usize, Failed> {
+        let count = written(&mut self.writer, bytes);
+        if count.is_err() {
+            self.faults = self.faults.saturating_add(1);
+        }
+        count
+    }
+}
+
+// How many of the bytes the writer took and flushed: at least one where there is one.
+fn written<W: Write>(writer: &mut W, bytes: &[u8]) -> Result<usize, Failed>
+    ensures fits { IfOk result (λ count. count ≤ length bytes.now) }
+    ensures takes_some { IfOk result (λ count. 0 < length bytes.now → 0 < count) }
+{
+    let Ok(count) = writer.write(bytes) else {
+        return Err(Failed);
+    };
+    if count == 0 && !bytes.is_empty() {
+        return Err(Failed);
+    }
+    match writer.flush() {
+        Ok(()) => Ok(count),
+        Err(_) => Err(Failed),
+    }
+}
