@@ -1,7 +1,10 @@
 -- What reading the records of a capture came to.
 use Rattle.std.specs.Prelude.{ℕ, ◌≡◌, ◌≤◌, List, length, Option, IfSome}
 use Rattle.pcap_frames.specs.FrameValue.{FrameValue}
-use Rattle.pcap_frames.specs.Capture.{IsCapture}
+use Rattle.outside_io.specs.Faults.{Rose}
+use Rattle.pcap_frames.specs.Capture.{IsCapture, HasFault}
+use Rattle.pcap_frames.specs.declared.fault.ReadRefusal.{ReadRefusal}
+use Rattle.pcap_frames.specs.declared.fault.ReadRefusal.TheVariants.{Capture, ReadFault, OutOfMemory}
 use Rattle.frame_records.specs.FrameRecord.{records_of, skipped}
 use Rattle.frame_records.specs.declared.weigh.Weigh.{Weigh}
 use Rattle.frame_records.specs.declared.skip.Skip.TheVariants.{NotIpv4, Short, BadHeader}
@@ -21,3 +24,9 @@ pub record HasRecords (weigh : Weigh) (left : Option (List ℕ)) (records : Reco
   pub few : length frames ≤ 16777216
   pub told : IfSome left (λ file. IsCapture file frames)
   pub are : AreRecordsOf weigh frames records
+
+-- each refusal has its cause: the bytes told have that first fault, or the source's count of faults rose
+abbrev pub HasRefused : Option (List ℕ) → ℕ → ℕ → ReadRefusal → Type 0
+HasRefused left before now (Capture fault) = IfSome left (λ file. HasFault file fault)
+HasRefused left before now ReadFault = Rose before now
+HasRefused left before now OutOfMemory = Unit {0}

@@ -2,8 +2,7 @@
 
 ghost use Rattle.std.specs.Prelude.{◌≤◌, ◌<◌, vec_len, length, IfOk, IfErr, OnOk};
 ghost use Rattle.std.specs.Io.KnownBytes.{IsAtEnd};
-ghost use Rattle.pcap_frames.specs.Reading.{HasRefused};
-ghost use Rattle.frame_records.specs.Reading.{HasRecords};
+ghost use Rattle.frame_records.specs.Reading.{HasRecords, HasRefused};
 ghost use Rattle.frame_records.specs.Kept.{weigh_by};
 
 use crate::record_visitor::RecordVisitor;
@@ -29,7 +28,9 @@ pub fn read_records<S: Source>(
     ensures refused { IfErr result (HasRefused (S.left source.old) (S.faults source.old) (S.faults source.new)) }
     ensures later { S.faults source.old ≤ S.faults source.new }
 {
-    let mut buffer = read_buffer(alloc)?;
+    let Ok(mut buffer) = read_buffer(alloc) else {
+        return Err(ReadRefusal::OutOfMemory);
+    };
     match weigh {
         Weigh::Bytes => read_weighed::<S, false>(alloc, source, &mut buffer),
         Weigh::Packets => read_weighed::<S, true>(alloc, source, &mut buffer),
@@ -49,7 +50,7 @@ fn read_weighed<S: Source, const PACKETS: bool>(
     ensures later { S.faults source.old ≤ S.faults source.new }
 {
     let mut visitor = RecordVisitor::<PACKETS>::new(alloc);
-    match read_frames(alloc, source, &mut visitor, buffer) {
+    match read_frames(source, &mut visitor, buffer) {
         Ok(_) => Ok(visitor.records),
         Err(refusal) => Err(refusal),
     }

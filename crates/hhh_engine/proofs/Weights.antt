@@ -15,9 +15,9 @@ filtered_sum : {X : Type 0} (weight : X → ℕ) (test : X → Bool) (x : X) (xs
     → sum_by weight (filter test (x ∷ xs)) ≡ cond (test x) (weight x) 0 + sum_by weight (filter test xs)
 filtered_sum weight test x xs = by_test (test x)
   where
-  by_test : (passes : Bool) → sum_by weight (cond passes (x ∷ filter test xs) (filter test xs)) ≡ cond passes (weight x) 0 + sum_by weight (filter test xs)
-  by_test true = sum_by-cons weight x (filter test xs)
-  by_test false = omega arith
+    by_test : (passes : Bool) → sum_by weight (cond passes (x ∷ filter test xs) (filter test xs)) ≡ cond passes (weight x) 0 + sum_by weight (filter test xs)
+    by_test true = sum_by-cons weight x (filter test xs)
+    by_test false = omega arith
 
 -- the keys of a node tell what a prefix covers
 pub record KeysTell (prefix : PrefixValue) : Type 0 where

@@ -1,8 +1,8 @@
 -- The line that tells on standard error how a command ended.
 use Rattle.std.specs.Prelude.{ℕ, List, ◌++◌, codes, decimal}
-use Rattle.pcap_frames.specs.declared.capture_fault.CaptureFault.{CaptureFault}
-use Rattle.pcap_frames.specs.declared.capture_fault.FaultKind.{FaultKind}
-use Rattle.pcap_frames.specs.declared.capture_fault.FaultKind.TheVariants.{NotCapture}
+use Rattle.pcap_frames.specs.declared.fault.CaptureFault.{CaptureFault}
+use Rattle.pcap_frames.specs.declared.fault.FaultKind.{FaultKind}
+use Rattle.pcap_frames.specs.declared.fault.FaultKind.TheVariants.{ShortHeader, NotCapture, Version, Link, LongFrame, CutFrame, TooManyFrames}
 use Rattle.hhh_engine.specs.declared.words_kind.WordsKind.{WordsKind}
 use Rattle.hhh_engine.specs.declared.words_kind.WordsKind.TheVariants.{NoCommand, UnknownCommand, Refused, BadPrefix}
 use Rattle.hhh_engine.specs.declared.status.Status.{Status}
@@ -17,7 +17,13 @@ words_text (BadPrefix fault) = codes "prefix"
 
 -- what is wrong with a capture
 abbrev pub fault_text : FaultKind → List ℕ
+fault_text ShortHeader = codes "short header"
 fault_text NotCapture = codes "not a capture"
+fault_text Version = codes "version"
+fault_text Link = codes "link"
+fault_text LongFrame = codes "long frame"
+fault_text CutFrame = codes "cut frame"
+fault_text TooManyFrames = codes "too many frames"
 
 -- how a command ended
 abbrev pub status_text : Status → List ℕ

@@ -1,7 +1,7 @@
 -- The statuses of the program.
 use Rattle.std.specs.Prelude.{ℕ}
-use Rattle.pcap_frames.specs.declared.read_refusal.ReadRefusal.{ReadRefusal}
-use Rattle.pcap_frames.specs.declared.read_refusal.ReadRefusal.TheVariants as refusals
+use Rattle.pcap_frames.specs.declared.fault.ReadRefusal.{ReadRefusal}
+use Rattle.pcap_frames.specs.declared.fault.ReadRefusal.TheVariants as refusals
 use Rattle.hhh_engine.specs.declared.status.Status.{Status}
 use Rattle.hhh_engine.specs.declared.status.Status.TheVariants.{Done, BadWords, BadCapture, ReadFault, WriteFault, OutOfMemory}
 

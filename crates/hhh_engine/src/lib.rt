@@ -13,3 +13,6 @@ pub use status::Status;
 pub use status_line::fault_line;
 pub use top_call::run;
 pub use words_kind::WordsKind;
+
+#[cfg(test)]
+mod tests;

@@ -1,12 +1,10 @@
 //! How the program ended.
 
 ghost use Rattle.std.specs.Prelude.{◌≡◌};
-ghost use Rattle.hhh_engine.specs.declared.status.Status.TheVariants.{OutOfMemory as out_of_memory};
 ghost use Rattle.hhh_engine.specs.StatusOf.{status_of, number_of};
 
 use crate::WordsKind;
 use pcap_frames::{CaptureFault, ReadRefusal};
-use std::alloc::AllocError;
 
 /// How a command ended.
 #[derive(Clone, Copy, Debug, PartialEq, Eq)]
@@ -50,13 +48,5 @@ impl From<ReadRefusal> for Status {
             ReadRefusal::ReadFault => Status::ReadFault,
             ReadRefusal::OutOfMemory => Status::OutOfMemory,
         }
-    }
-}
-
-impl From<AllocError> for Status {
-    ghost from_gives = { λ _ status. status ≡ out_of_memory };
-
-    fn from(_: AllocError) -> Status {
-        Status::OutOfMemory
     }
 }

@@ -47,8 +47,20 @@ fn push_fault(line: &mut Vec<u8>, fault: &CaptureFault) -> Result<(), AllocError
     ensures { OnOk result (line.new.items ≡ line.old.items ++ codes "bad capture: " ++ fault_text fault.now.kind ++ codes " at " ++ decimal fault.now.place) }
 {
     line.extend_from_slice(b"bad capture: ")?;
-    line.extend_from_slice(match fault.kind {
-        FaultKind::NotCapture => b"not a capture",
-    })?;
+    line.extend_from_slice(kind_text(fault.kind))?;
     push_number(line, b" at ", fault.place)
+}
+
+fn kind_text(kind: FaultKind) -> &'static [u8]
+    ensures { result.now ≡ fault_text kind }
+{
+    match kind {
+        FaultKind::ShortHeader => b"short header",
+        FaultKind::NotCapture => b"not a capture",
+        FaultKind::Version => b"version",
+        FaultKind::Link => b"link",
+        FaultKind::LongFrame => b"long frame",
+        FaultKind::CutFrame => b"cut frame",
+        FaultKind::TooManyFrames => b"too many frames",
+    }
 }

@@ -4,7 +4,7 @@ ghost use Rattle.std.specs.Prelude.{◌≡◌, ◌⊎◌, ◌↔◌, ℕ, List, 
 ghost use Rattle.std.specs.Io.KnownBytes.{IsAtEnd};
 ghost use Rattle.outside_io.specs.Faults.{Rose};
 ghost use Rattle.pcap_frames.specs.Capture.{HasFault};
-ghost use Rattle.pcap_frames.specs.declared.capture_fault.CaptureFault.{CaptureFault};
+ghost use Rattle.pcap_frames.specs.declared.fault.CaptureFault.{CaptureFault};
 ghost use Rattle.hhh_engine.specs.Words.{texts, AskToWeigh, HasWordsFault};
 ghost use Rattle.hhh_engine.specs.Weighing.{Weighs, WeighsInPart, WritesWeight, WritesInPart};
 ghost use Rattle.hhh_engine.specs.Outcome.{AskSomething, TellsCapture};
@@ -16,6 +16,7 @@ use crate::weighing::weigh_text;
 use crate::words::asked_prefix;
 use frame_records::{Weigh, read_records};
 use outside_io::{Sink, Source, write_all};
+use pcap_frames::files_are_decided;
 use prefix_lattice::{Prefix, prefix_texts_have_one_reading};
 use std::alloc::Global;
 
@@ -60,6 +61,7 @@ pub fn run<S: Source, K: Sink>(
         → (Rose (S.faults capture.old) (S.faults capture.new) → ⊥) → (Rose (K.faults sink.old) (K.faults sink.new) → ⊥)
         → (result ≡ Done) ⊎ (result ≡ OutOfMemory) }
 {
+    files_are_decided();
     prefix_texts_have_one_reading();
     match asked_prefix(words) {
         Ok(prefix) => weigh(alloc, &prefix, capture, sink),

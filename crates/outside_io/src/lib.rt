@@ -3,7 +3,6 @@
 #![tactic(auto)]
 
 mod failed;
-mod loading;
 mod memory_sink;
 mod memory_source;
 mod path_text;
@@ -12,7 +11,6 @@ mod source;
 mod writing;
 
 pub use failed::Failed;
-pub use loading::{LoadFault, load_up_to};
 pub use memory_sink::MemorySink;
 pub use memory_source::MemorySource;
 pub use path_text::PathText;

@@ -4,25 +4,20 @@ use std::test::Fail;
 const BYTES: [u8; 5] = [1, 2, 3, 4, 5];
 
 #[test]
-fn loads_up_to_one_byte_past_the_limit(rt: HostRuntime) -> Result<(), Fail> {
+fn reads_in_steps_and_fails_where_told(rt: HostRuntime) -> Result<(), Fail> {
     let alloc = rt.alloc();
-    // The limit, the call that fails, and how many bytes are loaded.
-    let cases: [(usize, u64, Result<usize, LoadFault>); 4] = [
-        (5, 9, Ok(5)),
-        (4, 9, Ok(5)),
-        (2, 9, Ok(3)),
-        (5, 1, Err(LoadFault::ReadFault)),
-    ];
-    for (limit, failing, want) in cases {
-        let mut source = MemorySource::new(BYTES.to_vec(alloc)?, [failing].to_vec(alloc)?, 2);
-        let mut buffer = [0; 3];
-        match load_up_to(alloc, &mut source, limit, &mut buffer) {
-            Ok(bytes) => {
-                assert_eq!(rt; Ok(bytes.len()), want, "limit {limit}");
-                assert_eq!(rt; bytes.as_slice(), &BYTES[..bytes.len().min(5)]);
-            }
-            Err(fault) => assert_eq!(rt; Err(fault), want, "limit {limit}"),
-        }
+    let mut source = MemorySource::new(BYTES.to_vec(alloc)?, [1].to_vec(alloc)?, 2);
+    let mut buffer = [0; 3];
+    // What each call answers, and what then stands in the buffer.
+    for (want, bytes) in [
+        (Ok(2), [1, 2, 0]),
+        (Err(Failed), [1, 2, 0]),
+        (Ok(2), [3, 4, 0]),
+        (Ok(1), [5, 4, 0]),
+        (Ok(0), [5, 4, 0]),
+    ] {
+        assert_eq!(rt; source.read(&mut buffer), want);
+        assert_eq!(rt; buffer, bytes);
     }
     Ok(())
 }
@@ -44,14 +39,6 @@ fn texts(rt: HostRuntime) -> Result<(), Fail> {
     assert_eq!(rt;
         format!(in alloc; "{}", Failed)?.as_str(),
         "a call on the outside failed"
-    );
-    assert_eq!(rt;
-        format!(in alloc; "{}", LoadFault::ReadFault)?.as_str(),
-        "read fault"
-    );
-    assert_eq!(rt;
-        format!(in alloc; "{}", LoadFault::OutOfMemory)?.as_str(),
-        "out of memory"
     );
     Ok(())
 }

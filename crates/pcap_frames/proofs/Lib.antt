@@ -1,1 +1,10 @@
-pub mod Frames
+pub mod Numbers
+pub mod Headers
+pub mod FrameLists
+pub mod Splitting
+pub mod Steps
+pub mod Verdicts
+pub mod Heads
+pub mod Feeds
+pub mod Deciding
+pub mod SourceReads

@@ -1,45 +1,65 @@
--- A capture file of libpcap's savefile format, as narrow as it is read today: little-endian with
--- microseconds, link type Ethernet, frames without VLAN tags, and at most 268,435,456 bytes.
-use Rattle.std.specs.Prelude.{ℕ, ◌≡◌, ◌+◌, ◌≤◌, ◌⊎◌, min, List, [], ◌∷◌, length, take, drop}
-use Rattle.byteorder.specs.Endian.{big_from, little_from}
+-- A capture of libpcap's file format 2.4, and the first fault of a file that is none. Faults are tested in this order: NotCapture,
+-- Version, Link, else ShortHeader; then behind each frame TooManyFrames, LongFrame, else CutFrame.
+use Rattle.std.specs.Prelude.{ℕ, ◌≡◌, ◌-◌, ◌≤◌, ◌<◌, ◌⊎◌, Some, None, List, [], length, drop}
+use Rattle.pcap_frames.specs.declared.file_order.FileOrder.{FileOrder}
+use Rattle.pcap_frames.specs.declared.fault.CaptureFault.{CaptureFault}
+use Rattle.pcap_frames.specs.declared.fault.FaultKind.TheVariants.{ShortHeader, CutFrame}
 use Rattle.pcap_frames.specs.FrameValue.{FrameValue}
-use Rattle.pcap_frames.specs.declared.capture_fault.CaptureFault.{CaptureFault}
-use Rattle.pcap_frames.specs.declared.capture_fault.FaultKind.TheVariants.{NotCapture}
+use Rattle.pcap_frames.specs.Header.{IsHeader, header_fault, fault_at}
+use Rattle.pcap_frames.specs.Frames.{BeginsFrames, frame_fault, needed}
 
--- the file begins with 24 bytes of header: the magic number, version 2.4 and link type 1
-pub record HasHeader (file : List ℕ) : Type 0 where
-  pub whole : 24 ≤ length file
-  pub magic : big_from 0 4 file ≡ 0xd4c3b2a1
-  pub major : little_from 4 2 file ≡ 2
-  pub minor : little_from 6 2 file ≡ 4
-  pub link : little_from 20 4 file ≡ 1
+-- the bytes are a file header, these frames, at most 16,777,216, and a rest
+pub record Splits (bytes : List ℕ) (order : FileOrder) (frames : List FrameValue) (rest : List ℕ) : Type 0 where
+  pub header : IsHeader order bytes
+  pub begins : BeginsFrames order (drop 24 bytes) frames rest
+  pub limit : length frames ≤ 16777216
 
--- the type of the Ethernet frame is that of a VLAN tag (802.1Q or 802.1ad)
-abbrev pub IsTagged : FrameValue → Type 0
-IsTagged frame = (14 ≤ frame.captured) × ((big_from 12 2 frame.head ≡ 0x8100) ⊎ (big_from 12 2 frame.head ≡ 0x88a8))
+-- the file is a capture of these frames: a file header and the frames up to the end
+abbrev pub IsCapture : List ℕ → List FrameValue → Type 0
+IsCapture file frames = (order : FileOrder) × Splits file order frames []
 
--- the bytes begin with this frame: 16 bytes of header with both lengths, and the captured bytes
-pub record BeginsWithFrame (bytes : List ℕ) (frame : FrameValue) : Type 0 where
-  pub captured : frame.captured ≡ little_from 8 4 bytes
-  pub original : frame.original ≡ little_from 12 4 bytes
-  pub limit : frame.captured ≤ 262144
-  pub whole : 16 + frame.captured ≤ length bytes
-  pub head : frame.head ≡ take (min 42 frame.captured) (drop 16 bytes)
-  pub untagged : IsTagged frame → ⊥
+-- the bytes at the front of a file show this fault in the file header
+pub record ShowsInHeader (bytes : List ℕ) (frames : List FrameValue) (fault : CaptureFault) : Type 0 where
+  pub shown : header_fault bytes ≡ Some fault
+  pub none_before : frames ≡ []
 
--- the bytes are these frames, one after the other, and then the rest
-abbrev pub AreFrames : List ℕ → List FrameValue → List ℕ → Type 0
-AreFrames bytes [] rest = rest ≡ bytes
-AreFrames bytes (frame ∷ frames) rest = BeginsWithFrame bytes frame × AreFrames (drop (16 + frame.captured) bytes) frames rest
+-- the bytes at the front of a file show this fault behind these frames
+pub record ShowsInFrames (bytes : List ℕ) (frames : List FrameValue) (fault : CaptureFault) : Type 0 where
+  pub order : FileOrder
+  pub rest : List ℕ
+  pub splits : Splits bytes order frames rest
+  pub shown : frame_fault order (length frames) (length bytes - length rest) rest ≡ Some fault
 
--- the file is a capture of these frames
-pub record IsCapture (file : List ℕ) (frames : List FrameValue) : Type 0 where
-  pub short : length file ≤ 268435456
-  pub header : HasHeader file
-  pub frames_are : AreFrames (drop 24 file) frames []
+-- the bytes at the front of a file show this fault, however the file goes on, and these frames stand before it:
+-- NotCapture, Version, Link, TooManyFrames or LongFrame
+abbrev pub ShowsFault : List ℕ → List FrameValue → CaptureFault → Type 0
+ShowsFault bytes frames fault = ShowsInHeader bytes frames fault ⊎ ShowsInFrames bytes frames fault
 
--- the file is no capture, which is the one fault that is told today
-pub record HasFault (file : List ℕ) (fault : CaptureFault) : Type 0 where
-  pub none : (frames : List FrameValue) → IsCapture file frames → ⊥
-  pub kind : fault.kind ≡ NotCapture
-  pub place : fault.place ≡ 0
+-- the file ends inside its header, which shows nothing wrong: ShortHeader at the file's length
+pub record EndsInHeader (file : List ℕ) (frames : List FrameValue) (fault : CaptureFault) : Type 0 where
+  pub none_shown : header_fault file ≡ None
+  pub short : length file < 24
+  pub none_before : frames ≡ []
+  pub is_fault : fault ≡ fault_at ShortHeader (length file)
+
+-- the file ends inside the frame behind these, which shows nothing wrong: CutFrame at that frame's first byte
+pub record EndsInFrame (file : List ℕ) (frames : List FrameValue) (fault : CaptureFault) : Type 0 where
+  pub order : FileOrder
+  pub rest : List ℕ
+  pub splits : Splits file order frames rest
+  pub none_shown : frame_fault order (length frames) (length file - length rest) rest ≡ None
+  pub some_left : 0 < length rest
+  pub cut : length rest < needed order rest
+  pub is_fault : fault ≡ fault_at CutFrame (length file - length rest)
+
+-- the end of the file makes this fault, and these frames stand before it
+abbrev pub EndsInside : List ℕ → List FrameValue → CaptureFault → Type 0
+EndsInside file frames fault = EndsInHeader file frames fault ⊎ EndsInFrame file frames fault
+
+-- this is the file's first fault, and these are the frames before it
+abbrev pub HasFaultAfter : List ℕ → List FrameValue → CaptureFault → Type 0
+HasFaultAfter file frames fault = ShowsFault file frames fault ⊎ EndsInside file frames fault
+
+-- this is the file's first fault
+abbrev pub HasFault : List ℕ → CaptureFault → Type 0
+HasFault file fault = (frames : List FrameValue) × HasFaultAfter file frames fault

@@ -1,7 +1,7 @@
--- A frame in memory, seen as its content.
-use Rattle.pcap_frames.specs.FrameValue.{FrameValue}
+-- What a frame that a visitor is shown stands for.
 use Rattle.pcap_frames.specs.declared.frame.Frame.{Frame}
+use Rattle.pcap_frames.specs.FrameValue.{FrameValue}
 
--- what a frame in memory holds
+-- the frame's head, captured and original length
 abbrev pub content_of : Frame → FrameValue
 content_of frame = record { head = frame.head.now; captured = frame.captured; original = frame.original }

@@ -1,7 +1,7 @@
--- A frame without where it lies in memory.
+-- A frame, apart from where its bytes lie in memory.
 use Rattle.std.specs.Prelude.{ℕ, List}
 
--- the first captured bytes of a frame, how many bytes were captured, and how long it was on the wire
+-- the first 42 captured bytes or all where fewer were captured, the number of captured bytes, and the length on the wire
 pub record FrameValue : Type 0 where
   pub head : List ℕ
   pub captured : ℕ

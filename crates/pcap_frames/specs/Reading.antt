@@ -1,28 +1,72 @@
--- What reading a capture came to.
-use Rattle.std.specs.Prelude.{ℕ, ◌≡◌, ◌≤◌, List, length, Option, IfSome}
-use Rattle.outside_io.specs.Faults.{Rose}
+-- What reading a whole source answers.
+use Rattle.std.specs.Prelude.{ℕ, ◌≡◌, ◌≤◌, List, length, Option, IfSome, Result, Ok, Err}
+use Rattle.std.specs.Io.KnownBytes.{Consumes, IsAtEnd}
+use Rattle.pcap_frames.specs.declared.fault.FeedFault.{FeedFault}
+use Rattle.pcap_frames.specs.declared.fault.FeedFault.TheVariants as feed
+use Rattle.pcap_frames.specs.declared.fault.ReadRefusal.{ReadRefusal}
+use Rattle.pcap_frames.specs.declared.fault.ReadRefusal.TheVariants.{Capture, ReadFault, OutOfMemory}
+use Rattle.pcap_frames.specs.declared.fault.CaptureFault.{CaptureFault}
 use Rattle.pcap_frames.specs.FrameValue.{FrameValue}
+use Rattle.pcap_frames.specs.Frames.{AreFrames}
+use Rattle.pcap_frames.specs.Capture.{IsCapture, HasFaultAfter, HasFault}
+use Rattle.pcap_frames.specs.ReaderState.{Completes}
 use Rattle.pcap_frames.specs.Visitor.{Sees}
-use Rattle.pcap_frames.specs.Capture.{IsCapture, HasFault}
-use Rattle.pcap_frames.specs.declared.read_refusal.ReadRefusal.{ReadRefusal}
-use Rattle.pcap_frames.specs.declared.read_refusal.ReadRefusal.TheVariants.{Capture, ReadFault, OutOfMemory}
+use Rattle.pcap_frames.specs.Feeding.{IsBeginning}
 
--- the visitor saw so many frames, and they are those of the capture that the source told
-pub record HasRead {V : Type 0} (stands_for : V → List FrameValue → Type 0) (old new : V) (left : Option (List ℕ)) (count : ℕ) : Type 0 where
+-- a reader's answer as that of reading a source
+abbrev pub refusal_of : FeedFault → ReadRefusal
+refusal_of (feed.Refused fault) = Capture fault
+refusal_of feed.OutOfMemory = OutOfMemory
+
+-- the visitor saw this many frames, the whole capture where the source tells its bytes, and the source is at its end
+pub record SeesCapture {V : Type 0} (stands_for : V → List FrameValue → Type 0) (seen saw : V) (left now : Option (List ℕ)) (count : ℕ) : Type 0 where
   pub frames : List FrameValue
   pub counted : length frames ≡ count
-  pub few : count ≤ 16777216
-  pub seen : Sees stands_for old new frames
-  pub told : IfSome left (λ file. IsCapture file frames)
+  pub limit : count ≤ 16777216
+  pub are_frames : AreFrames frames
+  pub sees : Sees stands_for seen saw frames
+  pub capture : IfSome left (λ file. IsCapture file frames)
+  pub at_end : IsAtEnd now
 
--- each refusal has its cause: the bytes told have the fault, or the source's count of faults rose
-abbrev pub HasRefused : Option (List ℕ) → ℕ → ℕ → ReadRefusal → Type 0
-HasRefused left before now (Capture fault) = IfSome left (λ file. HasFault file fault)
-HasRefused left before now ReadFault = Rose before now
-HasRefused left before now OutOfMemory = Unit {0}
+-- the visitor saw the frames before the fault, which is the file's first one where the source tells its bytes
+pub record SeesBeforeFault {V : Type 0} (stands_for : V → List FrameValue → Type 0) (seen saw : V) (left : Option (List ℕ)) (fault : CaptureFault) : Type 0 where
+  pub frames : List FrameValue
+  pub limit : length frames ≤ 16777216
+  pub are_frames : AreFrames frames
+  pub sees : Sees stands_for seen saw frames
+  pub first : IfSome left (λ file. HasFaultAfter file frames fault)
 
--- the same for a file in memory, where no source can fail
-abbrev pub HasRefusedFile : List ℕ → ReadRefusal → Type 0
-HasRefusedFile file (Capture fault) = HasFault file fault
-HasRefusedFile file ReadFault = ⊥
-HasRefusedFile file OutOfMemory = Unit {0}
+-- a front of the source was read, and the visitor saw the frames that it completes
+pub record SeesFront {V : Type 0} (stands_for : V → List FrameValue → Type 0) (seen saw : V) (left now : Option (List ℕ)) : Type 0 where
+  pub front : List ℕ
+  pub frames : List FrameValue
+  pub consumed : Consumes left now front
+  pub completes : Completes front frames
+  pub are_frames : AreFrames frames
+  pub sees : Sees stands_for seen saw frames
+
+-- a front of the source was read, and the visitor saw a beginning of the frames that it completes
+pub record SeesPart {V : Type 0} (stands_for : V → List FrameValue → Type 0) (seen saw : V) (left now : Option (List ℕ)) : Type 0 where
+  pub front : List ℕ
+  pub all : List FrameValue
+  pub frames : List FrameValue
+  pub consumed : Consumes left now front
+  pub completes : Completes front all
+  pub begins : IsBeginning frames all
+  pub are_frames : AreFrames frames
+  pub sees : Sees stands_for seen saw frames
+
+-- what the visitor saw, by the answer
+abbrev pub IsSeen : {V : Type 0} → (V → List FrameValue → Type 0) → V → V → Option (List ℕ) → Option (List ℕ) → Result ℕ ReadRefusal → Type 0
+IsSeen stands_for seen saw left now (Ok count) = SeesCapture stands_for seen saw left now count
+IsSeen stands_for seen saw left now (Err (Capture fault)) = SeesBeforeFault stands_for seen saw left fault
+IsSeen stands_for seen saw left now (Err ReadFault) = SeesFront stands_for seen saw left now
+IsSeen stands_for seen saw left now (Err OutOfMemory) = SeesPart stands_for seen saw left now
+
+-- a capture is read and a file with a fault is refused with it, unless a read failed or memory ran out
+abbrev pub IsReadOf : List ℕ → Result ℕ ReadRefusal → Type 0
+IsReadOf file (Ok count) =
+    ((frames : List FrameValue) × IsCapture file frames × (length frames ≡ count)) × ((fault : CaptureFault) → HasFault file fault → ⊥)
+IsReadOf file (Err (Capture fault)) = HasFault file fault × ((frames : List FrameValue) → IsCapture file frames → ⊥)
+IsReadOf file (Err ReadFault) = Unit {0}
+IsReadOf file (Err OutOfMemory) = Unit {0}

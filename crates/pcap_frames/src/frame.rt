@@ -1,15 +1,16 @@
-//! A frame of a capture.
+//! One frame of a capture, as a visitor is shown it.
 
-ghost use Rattle.std.specs.Prelude.{◌≡◌, min, length};
+ghost use Rattle.std.specs.Prelude.{◌≡◌, ◌≤◌, length, min};
 
-/// One frame of a capture.
-#[derive(Clone, Copy, Debug)]
+/// A frame: what was captured of one packet, and how long the packet was on the wire.
+#[derive(Clone, Copy)]
 pub struct Frame<'a> {
-    /// The first captured bytes: 42, or all of them where fewer were captured.
+    /// The first 42 captured bytes, or all where fewer were captured.
     pub head: &'a [u8],
-    /// How many bytes were captured, at most 262,144.
+    /// The number of captured bytes, at most 262,144.
     pub captured: u32,
-    /// How many bytes the frame had on the wire. It may be smaller or greater than `captured`.
+    /// The length on the wire in bytes. It may be smaller or greater than `captured`.
     pub original: u32,
-    ghost has_head: { length head.now ≡ min 42 captured },
+    pub ghost head_length: { length head.now ≡ min 42 captured },
+    pub ghost captured_limit: { captured ≤ 262144 },
 }

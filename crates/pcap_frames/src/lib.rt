@@ -1,15 +1,26 @@
-//! The frames of a packet capture.
+//! Classic libpcap captures, format 2.4: the frames of a file or its first fault, read as a stream in
+//! pieces of any size.
 #![tactic(auto)]
 
-mod capture_fault;
+mod fault;
+mod file_order;
 mod frame;
-mod frame_layout;
-mod read_refusal;
+mod framing;
+mod header;
+mod held;
+mod kept;
+mod laws;
+mod part;
+mod reader;
 mod reading;
 mod visitor;
 
-pub use capture_fault::{CaptureFault, FaultKind};
+pub use fault::{CaptureFault, FaultKind, FeedFault, ReadRefusal};
 pub use frame::Frame;
-pub use read_refusal::ReadRefusal;
+pub use laws::{files_are_decided, fronts_are_decided};
+pub use reader::FrameReader;
 pub use reading::read_frames;
 pub use visitor::FrameVisitor;
+
+#[cfg(test)]
+mod tests;

@@ -4,16 +4,16 @@ use Rattle.frame_records.proofs.reading.read_weighed.Goals as goal
 
 pub returns-in-Ok-clause-records : goal.returns-in-Ok-clause-records
 returns-in-Ok-clause-records g c =
-    let read = c.in-Ok.ensures.read in
-    let few : length read.frames ≤ 16777216 = subst (λ n. n ≤ 16777216) (sym read.counted) read.few in
+    let read = c.in-Ok.ensures.seen in
+    let few : length read.frames ≤ 16777216 = subst (λ n. n ≤ 16777216) (sym read.counted) read.limit in
     record {
       frames = read.frames;
       few = few;
-      told = read.told;
-      are = exact_counts _ read.frames _ few (read.seen [] c.new-visitor.ensures);
+      told = read.capture;
+      are = exact_counts _ read.frames _ few (read.sees [] c.new-visitor.ensures);
     }
 
 pub returns-in-Ok-clause-few : goal.returns-in-Ok-clause-few
 returns-in-Ok-clause-few g c =
-    let read = c.in-Ok.ensures.read in
-    few_records _ read.frames c.read_frames.new.visitor.records (subst (λ n. n ≤ 16777216) (sym read.counted) read.few) (read.seen [] c.new-visitor.ensures)
+    let read = c.in-Ok.ensures.seen in
+    few_records _ read.frames c.read_frames.new.visitor.records (subst (λ n. n ≤ 16777216) (sym read.counted) read.limit) (read.sees [] c.new-visitor.ensures)

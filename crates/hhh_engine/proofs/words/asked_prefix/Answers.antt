@@ -29,8 +29,9 @@ returns-in-Ok-clause-ok c =
 
 pub returns-in-Err-clause-fault : goal.returns-in-Err-clause-fault
 returns-in-Err-clause-fault c =
-    let command_is = texts_agree _ weigh_word _ (slice_eq-Decides Decides-eqb _ weigh_word _ refl) c.if-ne.ensures in
-    ( c.as_bytes.result.now
-    , c.as_bytes-2.result.now
-    , weigh_texts c.args.words.now _ _ _ c.if-words-ne3.false command_is c.as_bytes.ensures.value c.as_bytes-2.ensures.value
-    , (c.in-Err.ensures.fault c.in-Err.fault).0 refl )
+    let command_is = texts_agree _ weigh_word _ (slice_eq-Decides Decides-eqb _ weigh_word _ refl) c.if-ne.ensures in (
+      c.as_bytes.result.now,
+      c.as_bytes-2.result.now,
+      weigh_texts c.args.words.now _ _ _ c.if-words-ne3.false command_is c.as_bytes.ensures.value c.as_bytes-2.ensures.value,
+      (c.in-Err.ensures.fault c.in-Err.fault).0 refl,
+    )

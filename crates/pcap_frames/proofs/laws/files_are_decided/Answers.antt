@@ -1,0 +1,5 @@
+use Rattle.pcap_frames.proofs.Deciding.{files_decided}
+use Rattle.pcap_frames.proofs.laws.files_are_decided.Goals as goal
+
+pub returns : goal.returns
+returns c = files_decided

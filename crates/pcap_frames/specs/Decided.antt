@@ -1,0 +1,26 @@
+-- What holds of the definitions of a capture and of its first fault.
+use Rattle.std.specs.Prelude.{ℕ, ◌≡◌, ◌<◌, ◌⊎◌, List, ◌++◌, slice_index}
+use Rattle.pcap_frames.specs.declared.fault.CaptureFault.{CaptureFault}
+use Rattle.pcap_frames.specs.FrameValue.{FrameValue}
+use Rattle.pcap_frames.specs.Frames.{AreFrames}
+use Rattle.pcap_frames.specs.Capture.{IsCapture, ShowsFault, HasFaultAfter, HasFault}
+use Rattle.pcap_frames.specs.ReaderState.{Completes}
+use Rattle.pcap_frames.specs.Feeding.{IsBeginning}
+
+-- each file is a capture or has a fault, never both; it has one list of frames, or one first fault behind one list of frames
+pub record FilesAreDecided : Type 0 where
+  pub either : (file : List ℕ) → ((frames : List FrameValue) × IsCapture file frames) ⊎ ((fault : CaptureFault) × HasFault file fault)
+  pub never_both : (file : List ℕ) (frames : List FrameValue) (fault : CaptureFault) → IsCapture file frames → HasFault file fault → ⊥
+  pub one_list : (file : List ℕ) (frames others : List FrameValue) → IsCapture file frames → IsCapture file others → others ≡ frames
+  pub one_fault : (file : List ℕ) (fault other : CaptureFault) → HasFault file fault → HasFault file other → other ≡ fault
+  pub one_before : (file : List ℕ) (frames others : List FrameValue) (fault other : CaptureFault) → HasFaultAfter file frames fault → HasFaultAfter file others other → others ≡ frames
+  pub are_frames : (file : List ℕ) (frames : List FrameValue) → ((place : ℕ) → slice_index file place < 256) → IsCapture file frames → AreFrames frames
+
+-- each front of a file completes one list of frames, a beginning of those of any longer front and of the whole file; a fault that a front shows is the file's
+pub record FrontsAreDecided : Type 0 where
+  pub some : (front : List ℕ) → (frames : List FrameValue) × Completes front frames
+  pub one : (front : List ℕ) (frames others : List FrameValue) → Completes front frames → Completes front others → others ≡ frames
+  pub longer : (front more : List ℕ) (frames others : List FrameValue) → Completes front frames → Completes (front ++ more) others → IsBeginning frames others
+  pub of_capture : (front more : List ℕ) (frames all : List FrameValue) → Completes front frames → IsCapture (front ++ more) all → IsBeginning frames all
+  pub before_fault : (front more : List ℕ) (frames all : List FrameValue) (fault : CaptureFault) → Completes front frames → HasFaultAfter (front ++ more) all fault → IsBeginning frames all
+  pub shown : (front more : List ℕ) (frames : List FrameValue) (fault : CaptureFault) → ShowsFault front frames fault → HasFaultAfter (front ++ more) frames fault

@@ -1,0 +1,53 @@
+-- What a reader answers, and what its visitor saw.
+use Rattle.std.specs.Prelude.{ℕ, ◌≡◌, IsOk, List, ◌++◌, length, Result, Ok, Err}
+use Rattle.pcap_frames.specs.declared.fault.FeedFault.{FeedFault}
+use Rattle.pcap_frames.specs.declared.fault.FeedFault.TheVariants.{Refused, OutOfMemory}
+use Rattle.pcap_frames.specs.declared.fault.CaptureFault.{CaptureFault}
+use Rattle.pcap_frames.specs.FrameValue.{FrameValue}
+use Rattle.pcap_frames.specs.Frames.{AreFrames}
+use Rattle.pcap_frames.specs.Capture.{IsCapture, ShowsFault, HasFaultAfter}
+use Rattle.pcap_frames.specs.ReaderState.{ReaderState, InHeader, InFrames, AtFault, LacksMemory, StandsFor, Completes, Advances}
+use Rattle.pcap_frames.specs.Visitor.{Sees}
+
+-- what a reader in this state answers
+abbrev pub IsAnswerOf : {T : Type 0} → ReaderState → Result T FeedFault → Type 0
+IsAnswerOf (InHeader kept) result = IsOk result
+IsAnswerOf (InFrames at) result = IsOk result
+IsAnswerOf (AtFault fault) result = result ≡ Err (Refused fault)
+IsAnswerOf LacksMemory result = result ≡ Err OutOfMemory
+
+-- one fact where memory sufficed, the other where it ran out
+abbrev pub IfMemory : {T : Type 0} → Result T FeedFault → Type 0 → Type 0 → Type 0
+IfMemory (Ok x) P Q = P
+IfMemory (Err (Refused fault)) P Q = P
+IfMemory (Err OutOfMemory) P Q = Q
+
+-- the reader was fed these bytes, and the visitor saw the frames that they complete
+pub record Feeds {V : Type 0} (stands_for : V → List FrameValue → Type 0) (seen saw : V) (old new : ReaderState) (bytes : List ℕ) : Type 0 where
+  pub given : List FrameValue
+  pub advances : Advances old new bytes given
+  pub are_frames : AreFrames given
+  pub sees : Sees stands_for seen saw given
+
+-- the first list is a beginning of the second, empty or whole or between
+abbrev pub IsBeginning : List FrameValue → List FrameValue → Type 0
+IsBeginning front frames = (rest : List FrameValue) × (frames ≡ front ++ rest)
+
+-- the visitor saw a beginning of the frames that these bytes complete
+pub record SeesBeginning {V : Type 0} (stands_for : V → List FrameValue → Type 0) (seen saw : V) (old : ReaderState) (bytes : List ℕ) : Type 0 where
+  pub given : List FrameValue
+  pub are_frames : AreFrames given
+  pub sees : Sees stands_for seen saw given
+  pub begins : (before : List ℕ) (frames more : List FrameValue) → StandsFor old before frames → Completes (before ++ bytes) (frames ++ more) → IsBeginning given more
+
+-- bytes are refused exactly where they show a fault, unless memory ran out
+abbrev pub IsAnswerTo : {T : Type 0} → List ℕ → Result T FeedFault → Type 0
+IsAnswerTo bytes (Ok x) = (frames : List FrameValue) (fault : CaptureFault) → ShowsFault bytes frames fault → ⊥
+IsAnswerTo bytes (Err (Refused fault)) = (frames : List FrameValue) × ShowsFault bytes frames fault
+IsAnswerTo bytes (Err OutOfMemory) = Unit {0}
+
+-- the file ends here: it is a capture of these frames and their number is answered, or it has this first fault behind them
+abbrev pub IsEndOf : List ℕ → List FrameValue → Result ℕ FeedFault → Type 0
+IsEndOf file frames (Ok count) = IsCapture file frames × (count ≡ length frames)
+IsEndOf file frames (Err (Refused fault)) = HasFaultAfter file frames fault
+IsEndOf file frames (Err OutOfMemory) = ⊥

@@ -1,0 +1,39 @@
+-- How the parts of a reader make its state.
+use Rattle.std.specs.Prelude.{◌+◌, ◌*◌, ◌≤◌, ◌<◌, Option, None, Some, List, [], ◌∷◌}
+use Rattle.pcap_frames.specs.declared.held.HeldFrame.{HeldFrame}
+use Rattle.pcap_frames.specs.declared.part.FramePart.{FramePart}
+use Rattle.pcap_frames.specs.declared.part.Stage.{Stage}
+use Rattle.pcap_frames.specs.declared.part.Stage.TheVariants.{Header, Frames, AtFault, LacksMemory}
+use Rattle.pcap_frames.specs.FrameValue.{FrameValue}
+use Rattle.pcap_frames.specs.Frames.{frame_at, needed}
+use Rattle.pcap_frames.specs.ReaderState as state
+
+-- where the part is behind some frames
+abbrev pub place_of : FramePart → state.FramePlace
+place_of part = record { order = part.order; count = part.count; place = part.place; kept = part.kept.first; came = part.kept.came }
+
+-- the state of a reader with this part
+abbrev pub state_of : Stage → FramePart → state.ReaderState
+state_of Header part = state.InHeader part.kept.first
+state_of Frames part = state.InFrames (place_of part)
+state_of (AtFault fault) part = state.AtFault fault
+state_of LacksMemory part = state.LacksMemory
+
+-- the counts of a part behind some frames stay small, and its frame isn't whole
+pub record IsWithin (part : FramePart) : Type 0 where
+  pub count : part.count ≤ 16777216
+  pub place : part.place ≤ 24 + 262160 * part.count
+  pub cut : part.kept.came < needed part.order part.kept.first
+  pub bound : needed part.order part.kept.first ≤ 262160
+
+-- what the part keeps true in each stage
+abbrev pub IsSound : Stage → FramePart → Type 0
+IsSound Header part = part.kept.came < 24
+IsSound Frames part = IsWithin part
+IsSound (AtFault fault) part = Unit {0}
+IsSound LacksMemory part = Unit {0}
+
+-- the frame that was held, if any
+abbrev pub held_frames : Option HeldFrame → List FrameValue
+held_frames None = []
+held_frames (Some held) = frame_at held.order held.kept.first ∷ []

@@ -1,0 +1,64 @@
+-- What a reader keeps between two pieces of a file.
+use Rattle.std.specs.Prelude.{ℕ, ◌≡◌, ◌+◌, ◌<◌, None, List, [], length, take, ◌++◌}
+use Rattle.pcap_frames.specs.declared.file_order.FileOrder.{FileOrder}
+use Rattle.pcap_frames.specs.declared.fault.CaptureFault.{CaptureFault}
+use Rattle.pcap_frames.specs.FrameValue.{FrameValue}
+use Rattle.pcap_frames.specs.Header.{header_fault}
+use Rattle.pcap_frames.specs.Frames.{frame_fault, needed}
+use Rattle.pcap_frames.specs.Capture.{Splits, ShowsFault}
+
+-- behind some frames: the byte order, how many frames, where the next one begins, its first 58 bytes as far as they came,
+-- and how many of its bytes came
+pub record FramePlace : Type 0 where
+  pub order : FileOrder
+  pub count : ℕ
+  pub place : ℕ
+  pub kept : List ℕ
+  pub came : ℕ
+
+-- inside the file header with its bytes so far, behind some frames, at a fault, or out of memory
+pub data ReaderState : Type 0 where
+  InHeader : List ℕ → ReaderState
+  InFrames : FramePlace → ReaderState
+  AtFault : CaptureFault → ReaderState
+  LacksMemory : ReaderState
+
+-- the bytes are less than a file header, and show nothing wrong
+pub record IsPartHeader (kept : List ℕ) (bytes : List ℕ) (frames : List FrameValue) : Type 0 where
+  pub kept_is : kept ≡ bytes
+  pub short : length bytes < 24
+  pub none_shown : header_fault bytes ≡ None
+  pub no_frame : frames ≡ []
+
+-- the bytes are a file header, these frames, and less than a whole frame that shows nothing wrong
+pub record IsBehind (at : FramePlace) (bytes : List ℕ) (frames : List FrameValue) : Type 0 where
+  pub rest : List ℕ
+  pub splits : Splits bytes at.order frames rest
+  pub none_shown : frame_fault at.order at.count at.place rest ≡ None
+  pub cut : length rest < needed at.order rest
+  pub count_is : at.count ≡ length frames
+  pub place_is : at.place + length rest ≡ length bytes
+  pub kept_is : at.kept ≡ take 58 rest
+  pub came_is : at.came ≡ length rest
+
+-- a reader in this state stands for these bytes at the front of a file, which hold these whole frames
+abbrev pub StandsFor : ReaderState → List ℕ → List FrameValue → Type 0
+StandsFor (InHeader kept) bytes frames = IsPartHeader kept bytes frames
+StandsFor (InFrames at) bytes frames = IsBehind at bytes frames
+StandsFor (AtFault fault) bytes frames = ShowsFault bytes frames fault
+StandsFor LacksMemory bytes frames = ⊥
+
+-- the bytes at the front of a file hold these whole frames and no more
+abbrev pub Completes : List ℕ → List FrameValue → Type 0
+Completes bytes frames = (state : ReaderState) × StandsFor state bytes frames
+
+-- a reader that takes no more bytes
+abbrev pub HasStopped : ReaderState → Type 0
+HasStopped (InHeader kept) = ⊥
+HasStopped (InFrames at) = ⊥
+HasStopped (AtFault fault) = Unit {0}
+HasStopped LacksMemory = Unit {0}
+
+-- whatever the reader stood for, it now stands for that followed by these bytes, which complete these frames
+pub record Advances (old new : ReaderState) (bytes : List ℕ) (given : List FrameValue) : Type 0 where
+  pub reads : (before : List ℕ) (frames : List FrameValue) → StandsFor old before frames → StandsFor new (before ++ bytes) (frames ++ given)

@@ -1,0 +1,39 @@
+-- What one step of a reader does, which no public contract cites.
+use Rattle.std.specs.Prelude.{ℕ, ◌≡◌, ◌+◌, ◌<◌, ◌≤◌, List, [], ◌∷◌, ◌++◌, length}
+use Rattle.pcap_frames.specs.declared.file_order.FileOrder.{FileOrder}
+use Rattle.pcap_frames.specs.FileOrder.{number_at}
+use Rattle.pcap_frames.specs.FrameValue.{FrameValue}
+use Rattle.pcap_frames.specs.Frames.{frame_at, AreFrames}
+use Rattle.pcap_frames.specs.ReaderState.{ReaderState, Advances}
+use Rattle.pcap_frames.specs.Visitor.{Sees, IsAlike}
+
+-- the bytes are a whole frame, this one, and then a rest
+pub record SplitsFrame (order : FileOrder) (bytes rest : List ℕ) (frame : FrameValue) : Type 0 where
+  pub front : List ℕ
+  pub joined : bytes ≡ front ++ rest
+  pub header : 16 ≤ length front
+  pub limit : number_at order 4 8 front ≤ 262144
+  pub whole : length front ≡ 16 + number_at order 4 8 front
+  pub frame_is : frame ≡ frame_at order front
+
+-- the reader took a front of the piece, of one byte at least, which completes these frames; this rest is left
+pub record Takes (old new : ReaderState) (piece rest : List ℕ) (given : List FrameValue) : Type 0 where
+  pub front : List ℕ
+  pub joined : piece ≡ front ++ rest
+  pub some : 0 < length front
+  pub advances : Advances old new front given
+
+-- the reader took a front of the piece, and the visitor saw the frames that it completes
+pub record ShowsFront {V : Type 0} (stands_for : V → List FrameValue → Type 0) (seen saw : V) (old new : ReaderState) (piece rest : List ℕ) : Type 0 where
+  pub given : List FrameValue
+  pub takes : Takes old new piece rest given
+  pub are_frames : AreFrames given
+  pub sees : Sees stands_for seen saw given
+
+-- the visitor had no memory for the frame that a front of the piece completes
+pub record LacksRoom {V : Type 0} (stands_for : V → List FrameValue → Type 0) (seen saw : V) (old : ReaderState) (piece : List ℕ) : Type 0 where
+  pub after : ReaderState
+  pub rest : List ℕ
+  pub frame : FrameValue
+  pub takes : Takes old after piece rest (frame ∷ [])
+  pub alike : IsAlike stands_for seen saw

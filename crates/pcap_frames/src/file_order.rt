@@ -1,0 +1,39 @@
+//! The byte order of a capture's numbers.
+
+ghost use Rattle.std.specs.Prelude.{◌≡◌, ◌+◌, ◌≤◌, length};
+ghost use Rattle.pcap_frames.specs.FileOrder.{number_at};
+
+use byteorder::{BigEndian, ByteOrder, LittleEndian};
+
+/// The byte order of every number of a file, which its magic shows.
+#[derive(Clone, Copy, Debug, PartialEq, Eq)]
+pub(crate) enum FileOrder {
+    Big,
+    Little,
+}
+
+impl FileOrder {
+    /// The number in the two bytes from the place on.
+    #[tactic(auto, unfolding(crate::specs::FileOrder::number_at))]
+    pub(crate) fn u16_at(self, bytes: &[u8], place: usize) -> u16
+        requires { place + 2 ≤ length bytes.now }
+        ensures { result ≡ number_at self 2 place bytes.now }
+    {
+        match self {
+            FileOrder::Big => BigEndian::read_u16(&bytes[place..]),
+            FileOrder::Little => LittleEndian::read_u16(&bytes[place..]),
+        }
+    }
+
+    /// The number in the four bytes from the place on.
+    #[tactic(auto, unfolding(crate::specs::FileOrder::number_at))]
+    pub(crate) fn u32_at(self, bytes: &[u8], place: usize) -> u32
+        requires { place + 4 ≤ length bytes.now }
+        ensures { result ≡ number_at self 4 place bytes.now }
+    {
+        match self {
+            FileOrder::Big => BigEndian::read_u32(&bytes[place..]),
+            FileOrder::Little => LittleEndian::read_u32(&bytes[place..]),
+        }
+    }
+}

@@ -1,0 +1,99 @@
+//! What the bytes at the front of a frame say.
+
+ghost use Rattle.std.specs.Prelude.{◌≡◌, ℕ, ◌+◌, ◌<◌, ◌≤◌, length, min, take, drop, slice_index, IfSome};
+ghost use Rattle.pcap_frames.specs.FileOrder.{number_at};
+ghost use Rattle.pcap_frames.specs.Frame.{content_of};
+ghost use Rattle.pcap_frames.specs.Frames.{frame_at, needed, frame_fault, IsFrame};
+ghost use Rattle.pcap_frames.specs.Steps.{SplitsFrame};
+
+use crate::file_order::FileOrder;
+use crate::header::fault_at;
+use crate::{CaptureFault, FaultKind, Frame};
+
+/// The most frames of a capture.
+pub(crate) const MOST_FRAMES: u32 = 16_777_216;
+/// The most captured bytes of a frame, which other tools use whatever the file's snapshot length says.
+pub(crate) const MOST_CAPTURED: u32 = 262_144;
+
+/// The frame whose header and head stand at the front of the bytes.
+pub(crate) fn frame_at(order: FileOrder, bytes: &[u8]) -> Frame<'_>
+    requires header { 16 ≤ length bytes.now }
+    requires limit { number_at order 4 8 bytes.now ≤ 262144 }
+    requires head { 16 + min 42 (number_at order 4 8 bytes.now) ≤ length bytes.now }
+    ensures content { content_of result ≡ frame_at order bytes.now }
+    ensures is_frame { IsFrame (content_of result) }
+{
+    let captured = order.u32_at(bytes, 8);
+    let original = order.u32_at(bytes, 12);
+    Frame {
+        head: head_of(bytes, captured),
+        captured,
+        original,
+    }
+}
+
+/// The first 42 of this many captured bytes behind the frame header.
+#[tactic(auto, using(crate::proofs::Heads::take_of_take))]
+fn head_of(bytes: &[u8], captured: u32) -> &[u8]
+    requires header { 16 ≤ length bytes.now }
+    requires head { 16 + min 42 captured ≤ length bytes.now }
+    ensures value { result.now ≡ take 42 (take captured (drop 16 bytes.now)) }
+    ensures length { length result.now ≡ min 42 captured }
+    ensures bytes { (place : ℕ) → slice_index result.now place < 256 }
+{
+    let (_, behind) = bytes.split_at(16);
+    let (head, _) = behind.split_at((captured as usize).min(42));
+    head
+}
+
+/// The frame that stands whole at the front of the bytes, and the rest behind it.
+pub(crate) fn whole_at(order: FileOrder, bytes: &[u8]) -> Option<(Frame<'_>, &[u8])>
+    ensures splits { IfSome result (λ found. SplitsFrame order bytes.now found.1.now (content_of found.0)) }
+    ensures is_frame { IfSome result (λ found. IsFrame (content_of found.0)) }
+{
+    if bytes.len() < 16 {
+        return None;
+    }
+    let captured = order.u32_at(bytes, 8);
+    if captured > MOST_CAPTURED || bytes.len() - 16 < captured as usize {
+        return None;
+    }
+    let (front, rest) = bytes.split_at(16 + captured as usize);
+    Some((frame_at(order, front), rest))
+}
+
+/// How many bytes the frame takes at least, as far as its header is there.
+#[tactic(auto, unfolding(crate::specs::Frames::needed))]
+pub(crate) fn needed(order: FileOrder, bytes: &[u8]) -> u64
+    ensures { result ≡ needed order bytes.now }
+{
+    if bytes.len() < 16 {
+        return 16;
+    }
+    16 + order.u32_at(bytes, 8) as u64
+}
+
+/// The first fault that the bytes behind `count` frames show, however the file goes on.
+#[tactic(auto, unfolding(crate::specs::Frames::frame_fault))]
+pub(crate) fn frame_fault(
+    order: FileOrder,
+    count: u32,
+    place: u64,
+    bytes: &[u8],
+) -> Option<CaptureFault>
+    ensures { result ≡ frame_fault order count place bytes.now }
+{
+    if bytes.is_empty() {
+        return None;
+    }
+    if count == MOST_FRAMES {
+        return Some(fault_at(FaultKind::TooManyFrames, place));
+    }
+    if bytes.len() < 16 {
+        return None;
+    }
+    if order.u32_at(bytes, 8) > MOST_CAPTURED {
+        return Some(fault_at(FaultKind::LongFrame, place));
+    }
+    None
+}

@@ -1,0 +1,178 @@
+//! Reading a capture in pieces of any size.
+
+ghost use Rattle.std.specs.Prelude.{◌≡◌, ℕ, ◌<◌, List, [], ◌∷◌, ◌++◌, length, IfOk, OnOk, OnErr, IfSome, IfNone, IsTrue, ◌↔◌};
+ghost use Rattle.pcap_frames.specs.FrameValue.{FrameValue};
+ghost use Rattle.pcap_frames.specs.Part.{held_frames};
+ghost use Rattle.pcap_frames.specs.ReaderState.{InHeader, StandsFor, HasStopped};
+ghost use Rattle.pcap_frames.specs.Feeding.{IsAnswerOf, IfMemory, Feeds, SeesBeginning, IsAnswerTo, IsEndOf};
+
+use crate::header::fault_at;
+use crate::held::HeldFrame;
+use crate::part::{FramePart, Stage, Taken};
+use crate::{FaultKind, FeedFault, Frame, FrameVisitor};
+use std::alloc::AllocError;
+use std::marker::Model;
+
+/// Reads a capture in pieces of any size. Between two pieces it keeps at most a file header, or a frame
+/// header with the first 42 captured bytes, and counts.
+#[derive(Drop)]
+pub struct FrameReader {
+    stage: Stage,
+    part: FramePart,
+}
+
+impl Model for FrameReader {
+    ghost use Rattle.pcap_frames.specs.ReaderState.{ReaderState};
+    ghost use Rattle.pcap_frames.specs.Part.{state_of, IsSound};
+
+    ghost Value = { ReaderState };
+
+    ghost view = { λ r. state_of r.stage r.part };
+
+    ghost invariant = { λ r. IsSound r.stage r.part };
+}
+
+impl FrameReader {
+    ghost use Rattle.pcap_frames.specs.Frame.{content_of};
+    ghost use Rattle.pcap_frames.specs.Frames.{IsFrame};
+    ghost use Rattle.pcap_frames.specs.Steps.{Takes, ShowsFront, LacksRoom};
+
+    /// A reader that was fed nothing.
+    pub fn new() -> FrameReader
+        ensures empty { result ≡ InHeader [] }
+        ensures stands { StandsFor result [] [] }
+    {
+        FrameReader {
+            stage: Stage::Header,
+            part: FramePart::new(),
+        }
+    }
+
+    /// The frame at the front of the piece and what is behind it, if the reader is between two frames
+    /// and the next one stands there whole.
+    fn whole_frame<'a>(&mut self, piece: &'a [u8]) -> Option<(Frame<'a>, &'a [u8])>
+        ensures takes { IfSome result (λ found. Takes self.old self.new piece.now found.1.now (content_of found.0 ∷ [])) }
+        ensures is_frame { IfSome result (λ found. IsFrame (content_of found.0)) }
+        ensures none { IfNone result (self.new ≡ self.old) }
+    {
+        match self.stage {
+            Stage::Frames => self.part.whole_frame(piece),
+            _ => None,
+        }
+    }
+
+    /// The next bytes of a header or a frame, the frame if they complete it, and what is behind them.
+    fn take<'a>(&mut self, piece: &'a [u8]) -> (Option<HeldFrame>, &'a [u8])
+        requires { 0 < length piece.now }
+        ensures { Takes self.old self.new piece.now result.1.now (held_frames result.0) }
+    {
+        let Taken { stage, held, rest } = self.part.take(self.stage, piece);
+        self.stage = stage;
+        (held, rest)
+    }
+
+    /// Takes a front of the piece, and shows the visitor the frame that it completes. What is behind it.
+    fn show_front<'a, V: FrameVisitor>(
+        &mut self,
+        piece: &'a [u8],
+        visitor: &mut V,
+    ) -> Result<&'a [u8], AllocError>
+        requires { 0 < length piece.now }
+        ensures ok { IfOk result (λ rest. ShowsFront V.stands_for visitor.old visitor.new self.old self.new piece.now rest.now) }
+        ensures err { OnErr result (LacksRoom V.stands_for visitor.old visitor.new self.old piece.now) }
+    {
+        if let Some((frame, rest)) = self.whole_frame(piece) {
+            visitor.frame(&frame)?;
+            return Ok(rest);
+        }
+        let (held, rest) = self.take(piece);
+        if let Some(held) = held {
+            visitor.frame(&held.frame())?;
+        }
+        Ok(rest)
+    }
+
+    /// Shows the visitor the frames that the piece completes.
+    fn show_all<V: FrameVisitor>(&mut self, piece: &[u8], visitor: &mut V) -> Result<(), AllocError>
+        ensures ok { OnOk result (Feeds V.stands_for visitor.old visitor.new self.old self.new piece.now) }
+        ensures err { OnErr result (SeesBeginning V.stands_for visitor.old visitor.new self.old piece.now) }
+    {
+        let mut rest = piece;
+        while !rest.is_empty() {
+            rest = self.show_front(rest, visitor)?;
+        }
+        Ok(())
+    }
+
+    /// Whether the reader takes no more bytes.
+    fn has_stopped(&self) -> bool
+        ensures { IsTrue result ↔ HasStopped self.now }
+    {
+        matches!(self.stage, Stage::AtFault(_) | Stage::LacksMemory)
+    }
+
+    /// What the reader answers.
+    fn answer(&self) -> Result<(), FeedFault>
+        ensures { IsAnswerOf self.now result }
+    {
+        match self.stage {
+            Stage::AtFault(fault) => Err(FeedFault::Refused(fault)),
+            Stage::LacksMemory => Err(FeedFault::OutOfMemory),
+            _ => Ok(()),
+        }
+    }
+
+    /// Feeds the next piece of the file, and shows the visitor the frames that the bytes so far complete.
+    ///
+    /// `Refused` comes as soon as the bytes so far show a fault, however the file goes on, and then at
+    /// each later call. `OutOfMemory` comes where the visitor has no memory for a frame, and then at
+    /// each later call. A reader that has answered either takes no more bytes.
+    pub fn feed<V: FrameVisitor>(&mut self, piece: &[u8], visitor: &mut V) -> Result<(), FeedFault>
+        // What the reader stands for, and what the visitor saw.
+        ensures fed { IfMemory result
+            (Feeds V.stands_for visitor.old visitor.new self.old self.new piece.now)
+            (SeesBeginning V.stands_for visitor.old visitor.new self.old piece.now) }
+
+        // When each answer comes.
+        ensures answer { IsAnswerOf self.new result }
+        ensures exact { (before : List ℕ) (frames : List FrameValue) → StandsFor self.old before frames
+            → IsAnswerTo (before ++ piece.now) result }
+
+        // After a fault or want of memory nothing changes.
+        ensures stays { HasStopped self.old → (self.new ≡ self.old) × (visitor.new ≡ visitor.old) }
+    {
+        if self.has_stopped() {
+            return self.answer();
+        }
+        match self.show_all(piece, visitor) {
+            Ok(()) => self.answer(),
+            Err(_) => {
+                self.stage = Stage::LacksMemory;
+                Err(FeedFault::OutOfMemory)
+            }
+        }
+    }
+
+    /// Ends the file, and answers the number of frames.
+    ///
+    /// `ShortHeader` and `CutFrame` come here. A reader that has refused or lacked memory answers that
+    /// again.
+    pub fn finish(self) -> Result<u64, FeedFault>
+        ensures stopped { HasStopped self → IsAnswerOf self result }
+        ensures end { (file : List ℕ) (frames : List FrameValue) → StandsFor self file frames → IsEndOf file frames result }
+    {
+        match self.stage {
+            Stage::Header => Err(FeedFault::Refused(fault_at(
+                FaultKind::ShortHeader,
+                self.part.kept.came() as u64,
+            ))),
+            Stage::Frames if self.part.kept.came() == 0 => Ok(self.part.count as u64),
+            Stage::Frames => Err(FeedFault::Refused(fault_at(
+                FaultKind::CutFrame,
+                self.part.place,
+            ))),
+            Stage::AtFault(fault) => Err(FeedFault::Refused(fault)),
+            Stage::LacksMemory => Err(FeedFault::OutOfMemory),
+        }
+    }
+}
