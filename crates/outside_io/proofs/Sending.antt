@@ -2,7 +2,7 @@
 use Rattle.std.proofs.Common.{◌≡◌, ℕ, List, [], ◌++◌, Option, None, Some, refl, sym, ap, ◌∙◌, append_assoc, append-nil, take, drop, subst, take-append-drop}
 use Rattle.std.specs.Io.KnownBytes.{Appends, Keeps}
 use Rattle.std.proofs.KnownBytes.{Appends-nil, Appends-trans}
-use Rattle.outside_io.specs.Pieces.{IsBeginning, AppendsBeginning}
+use Rattle.outside_io.specs.Pieces.{AppendsBeginning}
 
 -- of the text a front was taken, and this rest is still to be written
 pub record IsSent (old new : Option (List ℕ)) (text rest : List ℕ) : Type 0 where
@@ -39,6 +39,6 @@ pub beginning_sent : (old mid new : Option (List ℕ)) (text rest : List ℕ)
     → IsSent old mid text rest → Keeps mid new → AppendsBeginning old new text
 beginning_sent old mid new text rest sent kept = record {
   front = sent.front;
-  is_beginning = record { rest = rest; joined = sent.joined };
+  is_beginning = (rest, sent.joined);
   appended = kept_appended old mid new sent.front sent.appended kept;
 }

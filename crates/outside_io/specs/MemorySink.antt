@@ -1,5 +1,5 @@
 -- What a call of a sink in memory does.
-use Rattle.std.specs.Prelude.{ℕ, ◌-◌, Bool, ◌==◌, ◌||◌, ◌&&◌, nat_lt, nat_le, min, List, ◌++◌, length, take}
+use Rattle.std.specs.Prelude.{ℕ, ◌-◌, Bool, ◌==◌, ◌||◌, ◌&&◌, nat_lt, min, List, ◌++◌, length, take}
 use Rattle.std.specs.List.{list_any}
 use Rattle.outside_io.specs.Faults.{counted}
 use Rattle.outside_io.specs.MemorySinkState.{MemorySinkState}

@@ -1,5 +1,5 @@
 -- What a call of a source in memory does.
-use Rattle.std.specs.Prelude.{ℕ, Bool, ◌==◌, min, List, length, drop}
+use Rattle.std.specs.Prelude.{ℕ, Bool, ◌==◌, min, length, drop}
 use Rattle.std.specs.List.{list_any}
 use Rattle.outside_io.specs.Faults.{counted}
 use Rattle.outside_io.specs.MemorySourceState.{MemorySourceState}

@@ -1,11 +1,10 @@
--- A text of which a sink took a part.
+-- Beginnings of lists, and a text of which a sink took one.
 use Rattle.std.specs.Prelude.{ℕ, ◌≡◌, List, ◌++◌, Option}
 use Rattle.std.specs.Io.KnownBytes.{Appends}
 
--- front is a beginning of the text: all of it, nothing, or a part
-pub record IsBeginning (front text : List ℕ) : Type 0 where
-  pub rest : List ℕ
-  pub joined : text ≡ front ++ rest
+-- front is a beginning of the list: all of it, nothing, or a part
+abbrev pub IsBeginning : {X : Type 0} → List X → List X → Type 0
+IsBeginning {X} front whole = (rest : List X) × (whole ≡ front ++ rest)
 
 -- the known bytes grew by a beginning of the text
 pub record AppendsBeginning (old new : Option (List ℕ)) (text : List ℕ) : Type 0 where

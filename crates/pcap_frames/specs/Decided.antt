@@ -5,7 +5,7 @@ use Rattle.pcap_frames.specs.FrameValue.{FrameValue}
 use Rattle.pcap_frames.specs.Frames.{AreFrames}
 use Rattle.pcap_frames.specs.Capture.{IsCapture, ShowsFault, HasFaultAfter, HasFault}
 use Rattle.pcap_frames.specs.ReaderState.{Completes}
-use Rattle.pcap_frames.specs.Feeding.{IsBeginning}
+use Rattle.outside_io.specs.Pieces.{IsBeginning}
 
 -- each file is a capture or has a fault, never both; it has one list of frames, or one first fault behind one list of frames
 pub record FilesAreDecided : Type 0 where

@@ -1,5 +1,6 @@
 -- What a reader answers, and what its visitor saw.
 use Rattle.std.specs.Prelude.{ℕ, ◌≡◌, IsOk, List, ◌++◌, length, Result, Ok, Err}
+use Rattle.outside_io.specs.Pieces.{IsBeginning}
 use Rattle.pcap_frames.specs.declared.fault.FeedFault.{FeedFault}
 use Rattle.pcap_frames.specs.declared.fault.FeedFault.TheVariants.{Refused, OutOfMemory}
 use Rattle.pcap_frames.specs.declared.fault.CaptureFault.{CaptureFault}
@@ -28,10 +29,6 @@ pub record Feeds {V : Type 0} (stands_for : V → List FrameValue → Type 0) (s
   pub advances : Advances old new bytes given
   pub are_frames : AreFrames given
   pub sees : Sees stands_for seen saw given
-
--- the first list is a beginning of the second, empty or whole or between
-abbrev pub IsBeginning : List FrameValue → List FrameValue → Type 0
-IsBeginning front frames = (rest : List FrameValue) × (frames ≡ front ++ rest)
 
 -- the visitor saw a beginning of the frames that these bytes complete
 pub record SeesBeginning {V : Type 0} (stands_for : V → List FrameValue → Type 0) (seen saw : V) (old : ReaderState) (bytes : List ℕ) : Type 0 where

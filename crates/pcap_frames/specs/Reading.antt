@@ -11,7 +11,7 @@ use Rattle.pcap_frames.specs.Frames.{AreFrames}
 use Rattle.pcap_frames.specs.Capture.{IsCapture, HasFaultAfter, HasFault}
 use Rattle.pcap_frames.specs.ReaderState.{Completes}
 use Rattle.pcap_frames.specs.Visitor.{Sees}
-use Rattle.pcap_frames.specs.Feeding.{IsBeginning}
+use Rattle.outside_io.specs.Pieces.{IsBeginning}
 
 -- a reader's answer as that of reading a source
 abbrev pub refusal_of : FeedFault → ReadRefusal

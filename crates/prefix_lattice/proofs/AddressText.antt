@@ -1,8 +1,7 @@
 -- Addresses in text: their four numbers, and that each text spells one address at most.
-use Rattle.std.proofs.Common.{◌≡◌, ℕ, ◌+◌, ◌*◌, ◌/◌, ◌%◌, ◌^◌, ◌<◌, ◌≤◌, eqb, List, [], ◌∷◌, ◌++◌, length, take, get_or, decimal, refl, sym, ap, ◌∙◌, arith, subst}
+use Rattle.std.proofs.Common.{◌≡◌, ℕ, ◌/◌, ◌%◌, ◌^◌, ◌<◌, eqb, List, ◌∷◌, ◌++◌, decimal, refl, sym, arith}
 use Rattle.std.specs.List.{before_first}
 use Rattle.std.proofs.lemmas.Fmt.{decimal_injective}
-use Rattle.prefix_lattice.specs.Bytes.{digits, number_from, address_bytes}
 use Rattle.prefix_lattice.specs.PrefixText.{address_text}
 use Rattle.prefix_lattice.proofs.Cuts.{Lacks, first_cut, next_number, decimal_lacks, lacks-append, lacks-cons}
 

@@ -1,9 +1,9 @@
 -- Digits of a number and the number that digits spell.
-use Rattle.std.proofs.Common.{◌≡◌, ℕ, ◌+◌, ◌-◌, ◌*◌, ◌/◌, ◌%◌, ◌^◌, ◌<◌, ◌≤◌, eqb, Bool, true, false, zero, suc, List, [], ◌∷◌, ◌++◌, length, take, get_or, refl, sym, ap, ◌∙◌, arith, subst, length-append, take_all}
+use Rattle.std.proofs.Common.{◌≡◌, ℕ, ◌+◌, ◌*◌, ◌/◌, ◌%◌, ◌^◌, ◌<◌, ◌≤◌, zero, suc, List, [], ◌∷◌, ◌++◌, length, take, get_or, refl, sym, ap, ◌∙◌, arith, subst, length-append, take_all}
 use Rattle.std.proofs.lemmas.List.{take-append-le}
 use Rattle.std.proofs.lemmas.Nat.{div-add-mod', div-mul-add}
 use Rattle.std.proofs.Math.Nat.{pow-zero, pow-suc, pow-succ', div-one, div-div-eq-div-mul, div-lt_iff_lt-mul, mul-le-mul_right, mul_assoc}
-use Rattle.prefix_lattice.specs.Bytes.{digits, number_from, begins_with}
+use Rattle.prefix_lattice.specs.Bytes.{digits, number_from}
 
 -- as many digits as asked
 pub length-digits : (base count number : ℕ) → length (digits base count number) ≡ count

@@ -1,11 +1,9 @@
 -- The text of one side of a prefix: it spells one side at most, and has a fault exactly where it spells none.
-use Rattle.std.proofs.Common.{◌≡◌, ℕ, ◌+◌, ◌-◌, ◌*◌, ◌/◌, ◌%◌, ◌^◌, ◌<◌, ◌≤◌, eqb, List, [], ◌∷◌, ◌++◌, length, decimal, refl, sym, ap, ◌∙◌, arith, subst}
-use Rattle.std.specs.List.{before_first}
-use Rattle.std.proofs.lemmas.List.{append_cancel_left}
+use Rattle.std.proofs.Common.{◌≡◌, ℕ, ◌-◌, ◌*◌, ◌%◌, ◌^◌, ◌<◌, ◌≤◌, List, ◌∷◌, ◌++◌, length, decimal, refl, sym, ap, ◌∙◌, arith}
 use Rattle.std.proofs.lemmas.Fmt.{decimal_injective}
 use Rattle.std.proofs.Math.Nat.{mul-mod_left}
-use Rattle.prefix_lattice.specs.Bytes.{number_from, address_of, AreLeadingBytes}
-use Rattle.prefix_lattice.specs.PrefixText.{address_text, side_text_of, side_text, before_slash, IsAddressText, HasLength, HasLooseBits, SpellsSide, HasSideFault}
+use Rattle.prefix_lattice.specs.Bytes.{number_from, address_of}
+use Rattle.prefix_lattice.specs.PrefixText.{address_text, side_text_of, before_slash, IsAddressText, HasLength, SpellsSide, HasSideFault}
 use Rattle.prefix_lattice.specs.declared.prefix_fault.Side.{Side}
 use Rattle.prefix_lattice.specs.declared.prefix_fault.PrefixFault.{PrefixFault}
 use Rattle.prefix_lattice.specs.declared.prefix_fault.PrefixFault.TheVariants.{BadAddress, BadLength, LooseBits}

@@ -1,5 +1,5 @@
 -- The text of a prefix: how it is spelled, and what is wrong with a text that spells none.
-use Rattle.std.specs.Prelude.{ℕ, ◌≡◌, ◌≢◌, ◌+◌, ◌-◌, ◌*◌, ◌^◌, ◌%◌, ◌<◌, ◌≤◌, ◌⊎◌, ◌==◌, List, ◌∷◌, ◌++◌, length, map, decimal}
+use Rattle.std.specs.Prelude.{ℕ, ◌≡◌, ◌≢◌, ◌-◌, ◌*◌, ◌^◌, ◌%◌, ◌<◌, ◌≤◌, ◌⊎◌, ◌==◌, List, ◌∷◌, ◌++◌, length, map, decimal}
 use Rattle.std.specs.List.{join_with_byte, before_first}
 use Rattle.prefix_lattice.specs.Bytes.{address_bytes, address_of, AreLeadingBytes}
 use Rattle.prefix_lattice.specs.PrefixValue.{PrefixValue}

@@ -100,5 +100,4 @@ pub fn prefix_texts_have_one_reading()
         → SpellsPrefix source dest prefix → HasPrefixFault source dest fault → ⊥ }
     ensures one_fault { (source dest : List ℕ) (fault other : PrefixFault)
         → HasPrefixFault source dest fault → HasPrefixFault source dest other → fault ≡ other }
-{
-}
+{}

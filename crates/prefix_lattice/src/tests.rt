@@ -101,14 +101,13 @@ fn covers_by_both_sides(rt: HostRuntime) -> Result<(), Fail> {
 fn keeps_records_in_order(rt: HostRuntime) -> Result<(), Fail> {
     let mut list = RecordList::new(rt.alloc());
     assert!(rt; list.is_empty());
-    for weight in [3, 4] {
-        list.push(Record::new(SRC, DST, weight).ok_or("a weight of 0")?)?;
-    }
+    let first = Record::new(SRC, DST, 3).ok_or("a weight of 0")?;
+    let second = Record::new(SRC, DST, 4).ok_or("a weight of 0")?;
+    list.push(first)?;
+    list.push(second)?;
     assert_eq!(rt; list.len(), 2);
-    let second = list.at(1).weight;
-    assert_eq!(rt; second, 4);
-    let first = list.as_slice()[0].weight;
-    assert_eq!(rt; first, 3);
+    assert_eq!(rt; list.at(1), &second);
+    assert_eq!(rt; list.as_slice(), [first, second].as_slice());
     Ok(())
 }
 

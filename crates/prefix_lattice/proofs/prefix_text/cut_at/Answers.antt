@@ -1,4 +1,4 @@
-use Rattle.std.proofs.Common.{◌≡◌, ◌++◌, ◌∷◌, drop, ap, sym, ◌∙◌}
+use Rattle.std.proofs.Common.{◌++◌, ◌∷◌, drop, ap, sym, ◌∙◌}
 use Rattle.prefix_lattice.proofs.Cuts.{cut_joined}
 use Rattle.prefix_lattice.proofs.prefix_text.cut_at.Goals as goal
 

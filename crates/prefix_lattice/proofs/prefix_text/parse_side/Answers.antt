@@ -1,4 +1,4 @@
-use Rattle.std.proofs.Common.{◌≡◌, ◌++◌, ◌∷◌, refl, ap, sym, ◌∙◌}
+use Rattle.std.proofs.Common.{◌++◌, ◌∷◌, refl, ap, sym, ◌∙◌}
 use Rattle.prefix_lattice.specs.PrefixText.{before_slash}
 use Rattle.prefix_lattice.proofs.Cuts.{same_behind}
 use Rattle.prefix_lattice.proofs.prefix_text.parse_side.Goals as goal
