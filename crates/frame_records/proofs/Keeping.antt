@@ -1,5 +1,5 @@
 -- What is kept of frames, after one more.
-use Rattle.std.proofs.Common.{◌≡◌, ℕ, ◌+◌, ◌-◌, ◌^◌, ◌≤◌, cond, min, Bool, true, false, suc, List, [], ◌∷◌, ◌++◌, length, Option, Some, None, Result, Ok, Err, OnOk, refl, sym, ap, ◌∙◌, arith, subst, append-nil, length-append, count_by}
+use Rattle.std.proofs.Common.{◌≡◌, ℕ, ◌+◌, ◌≤◌, cond, Bool, true, false, suc, List, [], ◌∷◌, ◌++◌, length, Option, Some, None, Result, Ok, Err, OnOk, refl, sym, ap, ◌∙◌, arith, subst, append-nil, length-append, count_by}
 use Rattle.std.specs.List.{cons_option}
 use Rattle.std.specs.Result.{result_ok}
 use Rattle.std.proofs.lemmas.List.Elements.{filter_map-append}
@@ -114,9 +114,9 @@ records-le-frames weigh (frame ∷ all) =
     let rest = records-le-frames weigh all in
     one_more (result_ok (record_of weigh frame)) (records_of weigh all) (length all) rest
   where
-  one_more : (first : Option RecordValue) (rest : List RecordValue) (most : ℕ) → length rest ≤ most → length (cons_option first rest) ≤ suc most
-  one_more None rest most few = omega arith
-  one_more (Some rec) rest most few = omega arith
+    one_more : (first : Option RecordValue) (rest : List RecordValue) (most : ℕ) → length rest ≤ most → length (cons_option first rest) ≤ suc most
+    one_more None rest most few = omega arith
+    one_more (Some rec) rest most few = omega arith
 
 -- what is kept has few records where the frames are few
 pub few_records : (weigh : Weigh) (all : List FrameValue) (records : Records) → length all ≤ 16777216 → KeepsRecordsOf weigh all records → length records.list ≤ 16777216

@@ -1,6 +1,6 @@
 -- The record of a frame: what an Ethernet frame carries from one IPv4 address to another (RFC 791), behind up to
 -- two VLAN tags (802.1Q, 802.1ad).
-use Rattle.std.specs.Prelude.{ℕ, ◌+◌, ◌-◌, ◌/◌, ◌%◌, ◌==◌, ◌&&◌, ◌||◌, not, nat_lt, nat_le, max, Bool, true, false, if◌then◌else◌, List, length, slice_index, count_by, Option, None, Some, Result, Ok, Err}
+use Rattle.std.specs.Prelude.{ℕ, ◌+◌, ◌-◌, ◌/◌, ◌%◌, ◌==◌, ◌&&◌, ◌||◌, not, nat_lt, nat_le, max, Bool, true, false, if◌then◌else◌, List, slice_index, count_by, Option, None, Some, Result, Ok, Err}
 use Rattle.std.specs.List.{filter_map}
 use Rattle.std.specs.Result.{result_ok}
 use Rattle.byteorder.specs.Endian.{big_from}

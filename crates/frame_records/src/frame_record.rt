@@ -12,7 +12,9 @@ use prefix_lattice::Record;
 
 // The types of an Ethernet frame that are told apart.
 const VLAN_TAG: u16 = 0x8100;
+
 const SERVICE_TAG: u16 = 0x88a8;
+
 const IPV4: u16 = 0x0800;
 
 /// The record of a frame: the addresses of its IPv4 header, behind up to two VLAN tags, and its weight.

@@ -35,7 +35,11 @@ impl<const PACKETS: bool> RecordVisitor<PACKETS> {
     fn weigh() -> Weigh
         ensures { result ≡ weigh_by PACKETS }
     {
-        if PACKETS { Weigh::Packets } else { Weigh::Bytes }
+        if PACKETS {
+            Weigh::Packets
+        } else {
+            Weigh::Bytes
+        }
     }
 }
 

@@ -1,6 +1,5 @@
 //! The records of a capture, and how many frames had none.
 
-
 use crate::Skip;
 use prefix_lattice::{Record, RecordList};
 use std::alloc::AllocError;

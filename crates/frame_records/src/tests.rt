@@ -7,18 +7,29 @@ use std::test::Fail;
 
 // The addresses of every packet here: 10.1.2.3 and 20.4.5.6.
 const SRC: u32 = 0x0a01_0203;
+
 const DST: u32 = 0x1404_0506;
 
 const ADDRESSES: [u8; 12] = [2, 0, 0, 0, 0, 2, 2, 0, 0, 0, 0, 1];
+
 const NO_TAG: &[u8] = &[];
+
 const VLAN: &[u8] = &[0x81, 0, 0, 7];
+
 const SERVICE: &[u8] = &[0x88, 0xa8, 0, 7];
+
 const VLAN_VLAN: &[u8] = &[0x81, 0, 0, 7, 0x81, 0, 0, 8];
+
 const SERVICE_VLAN: &[u8] = &[0x88, 0xa8, 0, 7, 0x81, 0, 0, 8];
+
 const VLAN_SERVICE: &[u8] = &[0x81, 0, 0, 7, 0x88, 0xa8, 0, 8];
+
 const THREE_TAGS: &[u8] = &[0x88, 0xa8, 0, 7, 0x81, 0, 0, 8, 0x81, 0, 0, 9];
+
 const IPV4: [u8; 2] = [8, 0];
+
 const ARP: [u8; 2] = [8, 6];
+
 const IPV6: [u8; 2] = [0x86, 0xdd];
 
 // What stands in a frame: its tags, its type, the first byte behind the type, and its two lengths.
@@ -70,6 +81,7 @@ fn capture_of(alloc: Global, frames: &[FrameLayout<'_>]) -> Result<Vec<u8>, Allo
 
 // What reading a capture came to: its first record, the numbers of records and of frames skipped as not
 // IPv4, as short and for a bad header, and the number of frames.
+#[derive(Drop)]
 struct Counted {
     first: Option<Record>,
     records: usize,
@@ -188,13 +200,19 @@ fn refuses_what_the_reader_refuses(rt: HostRuntime) -> Result<(), Fail> {
     let alloc = rt.alloc();
     let mut bytes = capture_of(alloc, &[layout(NO_TAG, IPV4, 0x45, 34)])?;
     let mut source = MemorySource::new(bytes.to_vec(alloc)?, Vec::from_slice(alloc, &[2])?, 30);
-    assert_eq!(rt; read_records(alloc, &mut source, Weigh::Bytes).err(), Some(ReadRefusal::ReadFault));
+    assert_eq!(rt;
+        read_records(alloc, &mut source, Weigh::Bytes).err(),
+        Some(ReadRefusal::ReadFault)
+    );
     bytes.truncate(73);
     let mut source = MemorySource::new(bytes, Vec::new(alloc), 30);
     let fault = CaptureFault {
         kind: FaultKind::CutFrame,
         place: 24,
     };
-    assert_eq!(rt; read_records(alloc, &mut source, Weigh::Bytes).err(), Some(ReadRefusal::Capture(fault)));
+    assert_eq!(rt;
+        read_records(alloc, &mut source, Weigh::Bytes).err(),
+        Some(ReadRefusal::Capture(fault))
+    );
     Ok(())
 }

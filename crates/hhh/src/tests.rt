@@ -1,0 +1,26 @@
+use super::{StdSink, StdSource};
+use outside_io::{Failed, Sink, Source};
+use std::test::Fail;
+
+#[test]
+fn reads_a_stream_to_its_end(rt: HostRuntime) -> Result<(), Fail> {
+    let mut source = StdSource::new(rt.alloc(), b"abcde".as_slice())?;
+    let mut into = [0; 3];
+    assert_eq!(rt; source.read(&mut into), Ok(3));
+    assert_eq!(rt; into, *b"abc");
+    assert_eq!(rt; source.read(&mut into), Ok(2));
+    assert_eq!(rt; into, *b"dec");
+    assert_eq!(rt; source.read(&mut into), Ok(0));
+    Ok(())
+}
+
+#[test]
+fn writes_to_a_stream_until_it_takes_nothing(rt: HostRuntime) -> Result<(), Fail> {
+    let mut room = [0; 4];
+    let mut sink = StdSink::new(room.as_mut_slice());
+    assert_eq!(rt; sink.write(b"abc"), Ok(3));
+    assert_eq!(rt; sink.write(b""), Ok(0));
+    assert_eq!(rt; sink.write(b"de"), Ok(1));
+    assert_eq!(rt; sink.write(b"e"), Err(Failed));
+    Ok(())
+}
