@@ -178,7 +178,10 @@ fn reads_the_four_spellings_of_the_magic(rt: HostRuntime) -> Result<(), Fail> {
         let bytes = capture_by(alloc, big, &magic)?;
         let ended = run_over(alloc, &["weigh", "0.0.0.0/0", "0.0.0.0/0"], bytes, &[], &[])?;
         assert_eq!(rt; ended.status, Status::Done);
-        assert_eq!(rt; ended.text.as_slice(), b"low 100\nhigh 100\ntotal 100\n".as_slice());
+        assert_eq!(rt;
+            ended.text.as_slice(),
+            b"low 100\nhigh 100\ntotal 100\n".as_slice()
+        );
     }
     Ok(())
 }
@@ -214,7 +217,11 @@ fn refuses_captures(rt: HostRuntime) -> Result<(), Fail> {
         bytes[place] = byte;
         bytes.truncate(length);
         let ended = run_over(alloc, &WORDS, bytes, &[], &[])?;
-        assert_eq!(rt; ended.status, Status::BadCapture(CaptureFault { kind, place: at }), "byte {place}");
+        assert_eq!(rt;
+            ended.status,
+            Status::BadCapture(CaptureFault { kind, place: at }),
+            "byte {place}"
+        );
         assert_eq!(rt; ended.text.as_slice(), b"".as_slice());
     }
     Ok(())
@@ -227,7 +234,10 @@ fn weighs_the_longest_frame(rt: HostRuntime) -> Result<(), Fail> {
     let mut source = MemorySource::new(long_capture(alloc, 262_144)?, Vec::new(alloc), 4096);
     let mut sink = MemorySink::with_room(alloc, 4096, Vec::new(alloc))?;
     assert_eq!(rt; run(alloc, &words, &mut source, &mut sink), Status::Done);
-    assert_eq!(rt; sink.taken(), b"low 262144\nhigh 262144\ntotal 262144\n".as_slice());
+    assert_eq!(rt;
+        sink.taken(),
+        b"low 262144\nhigh 262144\ntotal 262144\n".as_slice()
+    );
     let fault = CaptureFault {
         kind: FaultKind::LongFrame,
         place: 24,
@@ -262,13 +272,41 @@ fn tells_each_status(rt: HostRuntime) -> Result<(), Fail> {
         (Status::Done, 0, b"hhh: done\n".as_slice()),
         (Status::ReadFault, 4, b"hhh: read fault\n"),
         (Status::WriteFault, 5, b"hhh: write fault\n"),
-        (bad(FaultKind::ShortHeader, 23), 3, b"hhh: bad capture: short header at 23\n"),
-        (bad(FaultKind::NotCapture, 0), 3, b"hhh: bad capture: not a capture at 0\n"),
-        (bad(FaultKind::Version, 4), 3, b"hhh: bad capture: version at 4\n"),
-        (bad(FaultKind::Link, 20), 3, b"hhh: bad capture: link at 20\n"),
-        (bad(FaultKind::LongFrame, 24), 3, b"hhh: bad capture: long frame at 24\n"),
-        (bad(FaultKind::CutFrame, 24), 3, b"hhh: bad capture: cut frame at 24\n"),
-        (bad(FaultKind::TooManyFrames, 570_425_368), 3, b"hhh: bad capture: too many frames at 570425368\n"),
+        (
+            bad(FaultKind::ShortHeader, 23),
+            3,
+            b"hhh: bad capture: short header at 23\n",
+        ),
+        (
+            bad(FaultKind::NotCapture, 0),
+            3,
+            b"hhh: bad capture: not a capture at 0\n",
+        ),
+        (
+            bad(FaultKind::Version, 4),
+            3,
+            b"hhh: bad capture: version at 4\n",
+        ),
+        (
+            bad(FaultKind::Link, 20),
+            3,
+            b"hhh: bad capture: link at 20\n",
+        ),
+        (
+            bad(FaultKind::LongFrame, 24),
+            3,
+            b"hhh: bad capture: long frame at 24\n",
+        ),
+        (
+            bad(FaultKind::CutFrame, 24),
+            3,
+            b"hhh: bad capture: cut frame at 24\n",
+        ),
+        (
+            bad(FaultKind::TooManyFrames, 570_425_368),
+            3,
+            b"hhh: bad capture: too many frames at 570425368\n",
+        ),
         (Status::OutOfMemory, 13, b"hhh: out of memory\n"),
     ] {
         assert_eq!(rt; status.number(), number);
