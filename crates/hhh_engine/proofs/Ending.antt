@@ -1,5 +1,5 @@
 -- How a command can end.
-use Rattle.std.proofs.Common.{◌≡◌, ◌⊎◌, ℕ, List, Option, Some, IfSome, inl, inr, refl, sym, ap, ◌∙◌, subst}
+use Rattle.std.proofs.Common.{◌≡◌, ◌⊎◌, ℕ, List, Option, Some, IfSome, inl, inr, refl, ap, subst}
 use Rattle.pcap_frames.specs.FrameValue.{FrameValue}
 use Rattle.pcap_frames.specs.Capture.{IsCapture, HasFault}
 use Rattle.pcap_frames.specs.declared.fault.CaptureFault.{CaptureFault}

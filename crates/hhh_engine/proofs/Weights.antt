@@ -1,14 +1,14 @@
 -- What records add to a table at a prefix's node, against what the prefix weighs.
-use Rattle.std.proofs.Common.{◌≡◌, ℕ, ◌+◌, ◌-◌, ◌*◌, ◌≤◌, ◌<◌, eqb, cond, Bool, true, false, List, [], ◌∷◌, length, map, filter, sum_by, get_or, All, refl, sym, ap, ◌∙◌, arith, subst}
+use Rattle.std.proofs.Common.{◌≡◌, ℕ, ◌+◌, ◌-◌, ◌*◌, ◌≤◌, eqb, cond, Bool, true, false, List, [], ◌∷◌, map, filter, sum_by, All, refl, sym, ap, ◌∙◌, arith, subst}
 use Rattle.std.proofs.lemmas.List.Sums.{sum_by-cons}
 use Rattle.std.proofs.lemmas.List.Elements.{All-map}
 use Rattle.prefix_lattice.specs.RecordValue.{RecordValue}
-use Rattle.prefix_lattice.specs.PrefixValue.{PrefixValue, IsPrefix}
+use Rattle.prefix_lattice.specs.PrefixValue.{PrefixValue}
 use Rattle.prefix_lattice.specs.NodeValue.{NodeValue}
 use Rattle.prefix_lattice.specs.Prefix.{covers, node_of, prefix_at, key_of, weight_of, total_weight}
 use Rattle.space_saving.specs.Table.{Add, interval_after, weight_of_key, total_added}
 use Rattle.space_saving.specs.TableFacts.{AreWeighed}
-use Rattle.hhh_engine.specs.Weighing.{adds_of, weighed, weigh_capacity, HoldsWeight}
+use Rattle.hhh_engine.specs.Weighing.{adds_of, weighed, HoldsWeight}
 
 -- the sum over the elements that pass, by whether the first passes
 filtered_sum : {X : Type 0} (weight : X → ℕ) (test : X → Bool) (x : X) (xs : List X)

@@ -1,6 +1,5 @@
 -- The line that tells on standard error how a command ended.
 use Rattle.std.specs.Prelude.{ℕ, List, ◌++◌, codes, decimal}
-use Rattle.pcap_frames.specs.declared.fault.CaptureFault.{CaptureFault}
 use Rattle.pcap_frames.specs.declared.fault.FaultKind.{FaultKind}
 use Rattle.pcap_frames.specs.declared.fault.FaultKind.TheVariants.{ShortHeader, NotCapture, Version, Link, LongFrame, CutFrame, TooManyFrames}
 use Rattle.hhh_engine.specs.declared.words_kind.WordsKind.{WordsKind}

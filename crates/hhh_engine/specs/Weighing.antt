@@ -1,5 +1,5 @@
 -- The weight of a prefix as the program tells it.
-use Rattle.std.specs.Prelude.{ℕ, ◌≡◌, ◌-◌, ◌*◌, ◌≤◌, List, ◌++◌, map, codes, decimal, Option}
+use Rattle.std.specs.Prelude.{ℕ, ◌-◌, ◌*◌, ◌≤◌, List, ◌++◌, map, codes, decimal, Option}
 use Rattle.std.specs.Io.KnownBytes.{Appends}
 use Rattle.outside_io.specs.Pieces.{AppendsBeginning}
 use Rattle.prefix_lattice.specs.RecordValue.{RecordValue}

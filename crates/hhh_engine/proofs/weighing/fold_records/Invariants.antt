@@ -1,5 +1,5 @@
 use Rattle.std.proofs.Common.{◌≡◌, ◌*◌, ◌^◌, ◌≤◌, take}
-use Rattle.space_saving.specs.Table.{TableValue, table_of, total_count}
+use Rattle.space_saving.specs.Table.{table_of, total_count}
 use Rattle.hhh_engine.specs.Weighing.{adds_of}
 use Rattle.hhh_engine.proofs.weighing.fold_records.Given as goal
 
