@@ -1,0 +1,51 @@
+#!/usr/bin/env python3
+"""Writes a capture of random IPv4 traffic: make_capture.py SEED FRAMES short|whole > FILE
+
+Addresses come from a linear congruential generator; of each side a quarter is one host, a
+quarter falls into a /22, and the rest spreads over a /8. Lengths on the wire go 100, 200, 300, 400 in turn.
+`short` frames hold the 34 bytes up to the end of the IPv4 header, `whole` frames all their bytes.
+"""
+
+import struct
+import sys
+
+MULTIPLIER = 6364136223846793005
+INCREMENT = 1442695040888963407
+STATES = 1 << 64
+FILE_HEADER = struct.pack("<IHHIIII", 0xA1B2C3D4, 2, 4, 0, 0, 262144, 1)
+ETHERNET = bytes.fromhex("020000000002" "020000000001" "0800")
+
+
+def address(first_byte, draw):
+    """The address that 32 random bits pick in the /8 of this first byte."""
+    top, low = draw >> 24, draw & 0xFFFFFF
+    if top < 64:
+        low = 1
+    elif top < 128:
+        low = ((draw >> 16) & 3) << 8 | (draw >> 8) & 0xFF
+    return first_byte << 24 | low
+
+
+def frames(seed, count, whole):
+    state = seed
+    for place in range(count):
+        state = (MULTIPLIER * state + INCREMENT) % STATES
+        source = address(10, state >> 32)
+        state = (MULTIPLIER * state + INCREMENT) % STATES
+        destination = address(20, state >> 32)
+        wire = 100 * (1 + place % 4)
+        captured = wire if whole else 34
+        yield struct.pack("<IIII", place, 0, captured, wire) + ETHERNET + struct.pack(
+            ">BBHHHBBHII", 0x45, 0, wire - 14, 0, 0, 64, 17, 0, source, destination
+        ) + bytes(captured - 34)
+
+
+def main():
+    seed, count, kind = int(sys.argv[1]), int(sys.argv[2]), sys.argv[3]
+    out = sys.stdout.buffer
+    out.write(FILE_HEADER)
+    for frame in frames(seed, count, kind == "whole"):
+        out.write(frame)
+
+
+main()
