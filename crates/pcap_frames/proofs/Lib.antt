@@ -8,3 +8,4 @@ pub mod Heads
 pub mod Feeds
 pub mod Deciding
 pub mod SourceReads
+pub mod Examples

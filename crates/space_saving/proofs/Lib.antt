@@ -6,3 +6,4 @@ pub mod Widths
 pub mod Running
 pub mod Placing
 pub mod Accepting
+pub mod Examples

@@ -1,0 +1,52 @@
+-- Worked examples of the definitions, each by computing.
+use Rattle.std.proofs.Common.{◌≡◌, [], ◌∷◌, ◌++◌, true, false, codes, decimal, refl}
+use Rattle.prefix_lattice.specs.RecordValue.{RecordValue}
+use Rattle.prefix_lattice.specs.PrefixValue.{PrefixValue}
+use Rattle.prefix_lattice.specs.Bytes.{address_bytes, address_of}
+use Rattle.prefix_lattice.specs.Prefix.{covers, weight_of, total_weight, node_of, prefix_at, key_of}
+use Rattle.prefix_lattice.specs.PrefixText.{address_text, side_text}
+
+-- 100 bytes from 10.1.2.3 to 20.1.2.3
+abbrev packet : RecordValue
+packet = record { src = 0x0a010203; dst = 0x14010203; weight = 100 }
+
+-- 60 bytes back
+abbrev answer : RecordValue
+answer = record { src = 0x14010203; dst = 0x0a010203; weight = 60 }
+
+-- 10.0.0.0/8 20.1.0.0/16
+abbrev prefix : PrefixValue
+prefix = record { source = 10 ∷ []; dest = 20 ∷ 1 ∷ [] }
+
+pub bytes_of_an_address : address_bytes 0x0a010203 ≡ 10 ∷ 1 ∷ 2 ∷ 3 ∷ []
+bytes_of_an_address = refl
+
+pub address_of_two_bytes : address_of (20 ∷ 1 ∷ []) ≡ 0x14010000
+address_of_two_bytes = refl
+
+pub covers_the_packet : covers prefix packet ≡ true
+covers_the_packet = refl
+
+pub covers_no_answer : covers prefix answer ≡ false
+covers_no_answer = refl
+
+pub root_covers_all : covers (record { source = []; dest = [] }) answer ≡ true
+root_covers_all = refl
+
+pub weighs_what_it_covers : weight_of prefix (packet ∷ answer ∷ packet ∷ []) ≡ 200
+weighs_what_it_covers = refl
+
+pub weighs_together : total_weight (packet ∷ answer ∷ packet ∷ []) ≡ 260
+weighs_together = refl
+
+pub prefix_of_the_packet : prefix_at (node_of prefix) packet ≡ prefix
+prefix_of_the_packet = refl
+
+pub key_of_the_prefix : key_of prefix ≡ 0x0a00000014010000
+key_of_the_prefix = refl
+
+pub text_of_an_address : address_text 0x0a010203 ≡ decimal 10 ++ (codes "." ++ (decimal 1 ++ (codes "." ++ (decimal 2 ++ (codes "." ++ decimal 3)))))
+text_of_an_address = refl
+
+pub text_of_a_side : side_text (20 ∷ 1 ∷ []) ≡ address_text 0x14010000 ++ (codes "/" ++ decimal 16)
+text_of_a_side = refl
