@@ -1,11 +1,12 @@
 //! A stream of the system as a sink.
 
-ghost use Rattle.std.specs.Prelude.{◌<◌, ◌≤◌, length, None, IfOk};
+ghost use Rattle.std.specs.Prelude.{◌<◌, ◌≤◌, length, IfOk};
+ghost use Rattle.std.specs.Io.KnownBytes.{WriteAppends};
 
 use outside_io::{Failed, Sink};
 use std::io::Write;
 
-/// Writes to a stream of the system, and flushes it within each call. What the stream took is not told.
+/// Writes to a stream that keeps nothing back. What it took is what the stream holds.
 #[derive(Drop)]
 pub struct StdSink<W: Write + Drop> {
     writer: W,
@@ -19,7 +20,7 @@ impl<W: Write + Drop> StdSink<W> {
 }
 
 impl<W: Write + Drop> Sink for StdSink<W> {
-    ghost taken = { λ _. None };
+    ghost taken = { λ s. W.contents s.writer };
 
     ghost faults = { λ s. s.faults };
 
@@ -32,19 +33,15 @@ impl<W: Write + Drop> Sink for StdSink<W> {
     }
 }
 
-// How many of the bytes the writer took and flushed: at least one where there is one.
+// How many of the bytes the writer took: at least one where there is one.
 fn written<W: Write>(writer: &mut W, bytes: &[u8]) -> Result<usize, Failed>
     ensures fits { IfOk result (λ count. count ≤ length bytes.now) }
     ensures takes_some { IfOk result (λ count. 0 < length bytes.now → 0 < count) }
+    ensures appended { WriteAppends (W.contents writer.old) (W.contents writer.new) result bytes.now }
 {
-    let Ok(count) = writer.write(bytes) else {
-        return Err(Failed);
-    };
-    if count == 0 && !bytes.is_empty() {
-        return Err(Failed);
-    }
-    match writer.flush() {
-        Ok(()) => Ok(count),
+    match writer.write(bytes) {
+        Ok(0) if !bytes.is_empty() => Err(Failed),
+        Ok(count) => Ok(count),
         Err(_) => Err(Failed),
     }
 }

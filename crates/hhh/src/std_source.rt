@@ -1,6 +1,7 @@
 //! A stream of the system as a source.
 
-ghost use Rattle.std.specs.Prelude.{◌≤◌, length, None, IfOk};
+ghost use Rattle.std.specs.Prelude.{◌≡◌, ◌≤◌, ◌<◌, length, vec_len, drop, IfOk};
+ghost use Rattle.std.specs.Io.KnownBytes.{ReadConsumes};
 
 use outside_io::{Failed, Source};
 use std::alloc::{AllocError, Global};
@@ -9,12 +10,13 @@ use std::io::{ErrorKind, Read};
 // How many bytes one call of the system is asked for.
 const ROOM: usize = 65_536;
 
-/// Reads from a stream of the system. What the stream has left is not told.
+/// Reads from a stream. What it has left is what the stream has.
 #[derive(Drop)]
 pub struct StdSource<R: Read + Drop> {
     reader: R,
     buffer: Vec<u8>,
     faults: u64,
+    ghost has_room: { 0 < vec_len buffer },
 }
 
 impl<R: Read + Drop> StdSource<R> {
@@ -28,29 +30,38 @@ impl<R: Read + Drop> StdSource<R> {
 }
 
 impl<R: Read + Drop> Source for StdSource<R> {
-    ghost left = { λ _. None };
+    ghost left = { λ s. R.remaining s.reader };
 
     ghost faults = { λ s. s.faults };
 
     fn read(&mut self, into: &mut [u8]) -> Result<usize, Failed> {
-        let room = into.len().min(self.buffer.len());
-        let piece = &mut self.buffer[..room];
-        match fill(&mut self.reader, piece) {
-            Ok(count) => {
-                into[..count].copy_from_slice(&piece[..count]);
-                Ok(count)
-            }
-            Err(failed) => {
-                self.faults = self.faults.saturating_add(1);
-                Err(failed)
-            }
+        let count = read_by(&mut self.reader, &mut self.buffer, into);
+        if count.is_err() {
+            self.faults = self.faults.saturating_add(1);
         }
+        count
     }
+}
+
+// Reads once by way of a buffer, so that the places behind the bytes read stay as they were.
+fn read_by<R: Read>(reader: &mut R, buffer: &mut [u8], into: &mut [u8]) -> Result<usize, Failed>
+    requires { 0 < length buffer.old }
+    ensures same_room { length buffer.new ≡ length buffer.old }
+    ensures fits { IfOk result (λ count. count ≤ length into.old) }
+    ensures later_places { IfOk result (λ count. drop count into.new ≡ drop count into.old) }
+    ensures bytes { ReadConsumes (R.remaining reader.old) (R.remaining reader.new) result into.new }
+{
+    let room = into.len().min(buffer.len());
+    let piece = &mut buffer[..room];
+    let count = fill(reader, piece)?;
+    into[..count].copy_from_slice(&piece[..count]);
+    Ok(count)
 }
 
 // Reads once. A call that a signal broke off is made again.
 fn fill<R: Read>(reader: &mut R, into: &mut [u8]) -> Result<usize, Failed>
-    ensures { IfOk result (λ count. count ≤ length into.old) }
+    ensures fits { IfOk result (λ count. count ≤ length into.old) }
+    ensures bytes { ReadConsumes (R.remaining reader.old) (R.remaining reader.new) result into.new }
 {
     for _ in 0..u64::MAX {
         match reader.read(into) {
