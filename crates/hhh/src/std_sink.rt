@@ -1,6 +1,6 @@
 //! A stream of the system as a sink.
 
-ghost use Rattle.std.specs.Prelude.{◌<◌, ◌≤◌, length, IfOk};
+ghost use Rattle.std.specs.Prelude.{◌≡◌, ◌<◌, ◌≤◌, length, IfOk};
 ghost use Rattle.std.specs.Io.KnownBytes.{WriteAppends};
 
 use outside_io::{Failed, Sink};
@@ -14,7 +14,10 @@ pub struct StdSink<W: Write + Drop> {
 }
 
 impl<W: Write + Drop> StdSink<W> {
-    pub fn new(writer: W) -> Self {
+    /// A sink that writes behind what the stream holds.
+    pub fn new(writer: W) -> Self
+        ensures { (result.writer ≡ writer) × (result.faults ≡ 0) }
+    {
         StdSink { writer, faults: 0 }
     }
 }

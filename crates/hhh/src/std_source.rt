@@ -20,7 +20,10 @@ pub struct StdSource<R: Read + Drop> {
 }
 
 impl<R: Read + Drop> StdSource<R> {
-    pub fn new(alloc: Global, reader: R) -> Result<Self, AllocError> {
+    /// A source of all that the stream has.
+    pub fn new(alloc: Global, reader: R) -> Result<Self, AllocError>
+        ensures { IfOk result (λ source. (source.reader ≡ reader) × (source.faults ≡ 0)) }
+    {
         Ok(StdSource {
             reader,
             buffer: vec![in alloc; 0; ROOM]?,
