@@ -1,12 +1,12 @@
 //! A stream of the system as a sink.
 
-ghost use Rattle.std.specs.Prelude.{◌≡◌, ◌<◌, ◌≤◌, length, IfOk};
-ghost use Rattle.std.specs.Io.KnownBytes.{WriteAppends};
+ghost use Rattle.std.specs.Prelude.{◌≡◌, ◌<◌, ◌≤◌, length, take, None, IfOk};
+ghost use Rattle.std.specs.Io.KnownBytes.{Appends, WriteAppends};
 
 use outside_io::{Failed, Sink};
-use std::io::Write;
+use std::io::{ErrorKind, Write};
 
-/// Writes to a stream that keeps nothing back. What it took is what the stream holds.
+/// Writes to a stream of the system, and flushes it within each call. What the stream took is not told.
 #[derive(Drop)]
 pub struct StdSink<W: Write + Drop> {
     writer: W,
@@ -23,7 +23,7 @@ impl<W: Write + Drop> StdSink<W> {
 }
 
 impl<W: Write + Drop> Sink for StdSink<W> {
-    ghost taken = { λ s. W.contents s.writer };
+    ghost taken = { λ _. None };
 
     ghost faults = { λ s. s.faults };
 
@@ -36,15 +36,32 @@ impl<W: Write + Drop> Sink for StdSink<W> {
     }
 }
 
-// How many of the bytes the writer took: at least one where there is one.
+// How many of the bytes the writer took and flushed: at least one where there is one.
 fn written<W: Write>(writer: &mut W, bytes: &[u8]) -> Result<usize, Failed>
+    ensures fits { IfOk result (λ count. count ≤ length bytes.now) }
+    ensures takes_some { IfOk result (λ count. 0 < length bytes.now → 0 < count) }
+    ensures appended { IfOk result (λ count. Appends (W.contents writer.old) (W.contents writer.new) (take count bytes.now)) }
+{
+    let count = taken(writer, bytes)?;
+    match writer.flush() {
+        Ok(()) => Ok(count),
+        Err(_) => Err(Failed),
+    }
+}
+
+// How many of the bytes the writer took. A call that a signal broke off is made again.
+fn taken<W: Write>(writer: &mut W, bytes: &[u8]) -> Result<usize, Failed>
     ensures fits { IfOk result (λ count. count ≤ length bytes.now) }
     ensures takes_some { IfOk result (λ count. 0 < length bytes.now → 0 < count) }
     ensures appended { WriteAppends (W.contents writer.old) (W.contents writer.new) result bytes.now }
 {
-    match writer.write(bytes) {
-        Ok(0) if !bytes.is_empty() => Err(Failed),
-        Ok(count) => Ok(count),
-        Err(_) => Err(Failed),
+    for _ in 0..u64::MAX {
+        match writer.write(bytes) {
+            Ok(0) if !bytes.is_empty() => break,
+            Ok(count) => return Ok(count),
+            Err(error) if error.kind() == ErrorKind::Interrupted => {}
+            Err(_) => break,
+        }
     }
+    Err(Failed)
 }

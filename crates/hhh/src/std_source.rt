@@ -1,6 +1,6 @@
 //! A stream of the system as a source.
 
-ghost use Rattle.std.specs.Prelude.{◌≡◌, ◌≤◌, ◌<◌, length, vec_len, drop, IfOk};
+ghost use Rattle.std.specs.Prelude.{◌≡◌, ◌≤◌, ◌<◌, length, vec_len, drop, None, IfOk};
 ghost use Rattle.std.specs.Io.KnownBytes.{ReadConsumes};
 
 use outside_io::{Failed, Source};
@@ -10,7 +10,7 @@ use std::io::{ErrorKind, Read};
 // How many bytes one call of the system is asked for.
 const ROOM: usize = 65_536;
 
-/// Reads from a stream. What it has left is what the stream has.
+/// Reads from a stream of the system. What the stream has left is not told.
 #[derive(Drop)]
 pub struct StdSource<R: Read + Drop> {
     reader: R,
@@ -33,7 +33,7 @@ impl<R: Read + Drop> StdSource<R> {
 }
 
 impl<R: Read + Drop> Source for StdSource<R> {
-    ghost left = { λ s. R.remaining s.reader };
+    ghost left = { λ _. None };
 
     ghost faults = { λ s. s.faults };
 

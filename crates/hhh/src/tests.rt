@@ -1,6 +1,21 @@
 use super::{StdSink, StdSource};
 use outside_io::{Failed, Sink, Source};
+use std::io::{Error, ErrorKind, Result as IoResult, Write};
 use std::test::Fail;
+
+// Takes all bytes, and can't be flushed.
+#[derive(Drop)]
+struct Stuck;
+
+impl Write for Stuck {
+    fn write(&mut self, bytes: &[u8]) -> IoResult<usize> {
+        Ok(bytes.len())
+    }
+
+    fn flush(&mut self) -> IoResult<()> {
+        Err(Error::from(ErrorKind::Other))
+    }
+}
 
 #[test]
 fn reads_a_stream_to_its_end(rt: HostRuntime) -> Result<(), Fail> {
@@ -22,5 +37,7 @@ fn writes_to_a_stream_until_it_takes_nothing(rt: HostRuntime) -> Result<(), Fail
     assert_eq!(rt; sink.write(b""), Ok(0));
     assert_eq!(rt; sink.write(b"de"), Ok(1));
     assert_eq!(rt; sink.write(b"e"), Err(Failed));
+    let mut stuck = StdSink::new(Stuck);
+    assert_eq!(rt; stuck.write(b"abc"), Err(Failed));
     Ok(())
 }
