@@ -4,3 +4,5 @@ pub mod NodeValue
 pub mod PrefixValue
 pub mod Prefix
 pub mod PrefixText
+pub mod Lattice
+pub mod Explaining

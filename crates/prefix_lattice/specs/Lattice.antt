@@ -1,0 +1,44 @@
+-- The lattice of prefixes: which is under which, the greatest prefix under two, and the order of a report.
+use Rattle.std.specs.Prelude.{ℕ, ◌+◌, ◌&&◌, ◌||◌, not, Bool, List, length, Option, None, Some, if◌then◌else◌}
+use Rattle.std.specs.declared.cmp.Ordering.{Ordering}
+use Rattle.std.specs.Ordering.{nat_cmp, ordering_then}
+use Rattle.prefix_lattice.specs.Bytes.{address_of, begins_with}
+use Rattle.prefix_lattice.specs.PrefixValue.{PrefixValue}
+
+-- a prefix is under another whose kept bytes begin its own, on both sides
+abbrev pub under : PrefixValue → PrefixValue → Bool
+under lower upper = begins_with lower.source upper.source && begins_with lower.dest upper.dest
+
+-- two prefixes are the same where each is under the other
+abbrev pub same_prefix : PrefixValue → PrefixValue → Bool
+same_prefix prefix other = under prefix other && under other prefix
+
+-- under another, and not the same
+abbrev pub strictly_under : PrefixValue → PrefixValue → Bool
+strictly_under lower upper = under lower upper && not (same_prefix lower upper)
+
+-- the longer of two lists of kept bytes, if the other one begins it
+abbrev pub longer_side : List ℕ → List ℕ → Option (List ℕ)
+longer_side front other = if begins_with front other then Some front else (if begins_with other front then Some other else None)
+
+-- a prefix of two sides, if both are there
+abbrev pub prefix_of_sides : Option (List ℕ) → Option (List ℕ) → Option PrefixValue
+prefix_of_sides (Some source) (Some dest) = Some (record { source = source; dest = dest })
+prefix_of_sides (Some source) None = None
+prefix_of_sides None dest = None
+
+-- the greatest prefix under two others: on each side the longer list, where the other one begins it
+abbrev pub meet : PrefixValue → PrefixValue → Option PrefixValue
+meet prefix other = prefix_of_sides (longer_side prefix.source other.source) (longer_side prefix.dest other.dest)
+
+-- the level of a prefix: how many bytes it keeps of both addresses
+abbrev pub level_of : PrefixValue → ℕ
+level_of prefix = length prefix.source + length prefix.dest
+
+-- the order of a report: the level falls, then the source address rises, then its kept bytes, then the destination address
+abbrev pub report_order : PrefixValue → PrefixValue → Ordering
+report_order prefix other =
+    ordering_then (nat_cmp (level_of other) (level_of prefix))
+    (ordering_then (nat_cmp (address_of prefix.source) (address_of other.source))
+    (ordering_then (nat_cmp (length prefix.source) (length other.source))
+    (nat_cmp (address_of prefix.dest) (address_of other.dest))))
