@@ -1,5 +1,5 @@
 -- What reported prefixes explain of the weight of another (Mitzenmacher, Steinke, Thaler 2012).
-use Rattle.std.specs.Prelude.{ℕ, ◌&&◌, ◌||◌, not, Bool, List, [], ◌∷◌, ◌++◌, Option, None, Some, filter, sum_by, if◌then◌else◌}
+use Rattle.std.specs.Prelude.{ℕ, ◌≡◌, ◌≢◌, ◌+◌, ◌≤◌, ◌&&◌, ◌||◌, not, Bool, false, List, [], ◌∷◌, ◌++◌, Option, None, Some, filter, sum_by, count_by, AllPairs, if◌then◌else◌}
 use Rattle.std.specs.List.{list_any, filter_map}
 use Rattle.prefix_lattice.specs.RecordValue.{RecordValue}
 use Rattle.prefix_lattice.specs.PrefixValue.{PrefixValue}
@@ -48,3 +48,16 @@ kept_among members (first ∷ rest) = filter_map (kept_meet members first) rest 
 -- the meets of the kept pairs of some members, each pair once
 abbrev pub kept_pairs : List PrefixValue → List PrefixValue
 kept_pairs members = kept_among members members
+
+-- distinct prefixes, none of which is strictly under another
+pub record AreIncomparable (members : List PrefixValue) : Type 0 where
+  pub distinct : AllPairs (λ prefix other. prefix ≢ other) members
+  pub none_under : AllPairs (λ prefix other. (strictly_under prefix other ≡ false) × (strictly_under other prefix ≡ false)) members
+
+-- how many of these prefixes cover the record
+abbrev pub covering_count : RecordValue → List PrefixValue → ℕ
+covering_count rec prefixes = count_by (λ prefix. covers prefix rec) prefixes
+
+-- where some of these prefixes cover a record, just one kept pair fewer has a meet that covers it
+abbrev pub ObeysStaircase : List PrefixValue → RecordValue → Type 0
+ObeysStaircase members rec = 1 ≤ covering_count rec members → covering_count rec (kept_pairs members) + 1 ≡ covering_count rec members
