@@ -5,6 +5,7 @@ use Rattle.std.proofs.lemmas.Nat.{pow-add}
 use Rattle.std.proofs.Math.Nat.{pow-zero, pow-suc, div-lt_iff_lt-mul, mul-div_cancel, mul-lt-mul_of_pos_right, div-mul-le_self}
 use Rattle.prefix_lattice.specs.Bytes.{digits, number_from, address_bytes, address_of, begins_with, AreLeadingBytes}
 use Rattle.prefix_lattice.proofs.Digits.{length-digits, number_from-digits, take-digits, digits_small, same_digits, number_small}
+use Rattle.prefix_lattice.proofs.Fronts.{begins_with-front, begins_with-shorter_list}
 
 -- the first bytes of an address are the digits of its high part
 pub leading_digits : (n address : ℕ) → n ≤ 4 → take n (address_bytes address) ≡ digits 256 n (address / 256 ^ (4 - n))
@@ -28,7 +29,7 @@ parts n few =
     let whole : n + (4 - n) ≡ 4 = omega arith in
     sym (pow-add 256 n (4 - n)) ∙ ap (λ m. 256 ^ m) whole
 
-some_unit : (k : ℕ) → 0 < 256 ^ k
+pub some_unit : (k : ℕ) → 0 < 256 ^ k
 some_unit zero = omega (arith, pow-zero 256)
 some_unit (suc k) = omega (arith, pow-suc 256 k, some_unit k)
 
@@ -118,3 +119,14 @@ begins_with-leading n address other few small other_small masked =
     ∙ masked))
     (λ same. begins_with-take (address_bytes address) front
     (as_many ∙ sym (leading-masked n address few) ∙ ap (λ m. take n (address_bytes m)) (eqb-true (address / unit * unit) other same)))
+
+-- the first bytes of an address begin with those of another that are as many at most, where the address does
+pub kept-begins_with : (n m address other : ℕ) → m ≤ n → n ≤ 4 → begins_with (take n (address_bytes address)) (take m (address_bytes other)) ≡ begins_with (address_bytes address) (take m (address_bytes other))
+kept-begins_with n m address other fewer few =
+    begins_with-front (address_bytes address) (take m (address_bytes other)) n (omega (arith, length-leading m other (omega arith)))
+
+-- the first bytes of an address don't begin with more of another's
+pub kept-begins_with_no_more : (n m address other : ℕ) → n < m → m ≤ 4 → begins_with (take n (address_bytes address)) (take m (address_bytes other)) ≡ false
+kept-begins_with_no_more n m address other more few =
+    begins_with-shorter_list (take n (address_bytes address)) (take m (address_bytes other))
+    (omega (arith, length-leading n address (omega arith), length-leading m other few))

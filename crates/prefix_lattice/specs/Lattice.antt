@@ -1,9 +1,11 @@
 -- The lattice of prefixes: which is under which, the greatest prefix under two, and the order of a report.
-use Rattle.std.specs.Prelude.{ℕ, ◌+◌, ◌&&◌, ◌||◌, not, Bool, List, length, Option, None, Some, if◌then◌else◌}
+use Rattle.std.specs.Prelude.{ℕ, ◌≡◌, ◌+◌, ◌^◌, ◌<◌, ◌&&◌, not, Bool, true, List, length, Option, None, Some, if◌then◌else◌}
 use Rattle.std.specs.declared.cmp.Ordering.{Ordering}
 use Rattle.std.specs.Ordering.{nat_cmp, ordering_then}
 use Rattle.prefix_lattice.specs.Bytes.{address_of, begins_with}
+use Rattle.prefix_lattice.specs.RecordValue.{RecordValue}
 use Rattle.prefix_lattice.specs.PrefixValue.{PrefixValue}
+use Rattle.prefix_lattice.specs.Prefix.{covers}
 
 -- a prefix is under another whose kept bytes begin its own, on both sides
 abbrev pub under : PrefixValue → PrefixValue → Bool
@@ -30,6 +32,14 @@ prefix_of_sides None dest = None
 -- the greatest prefix under two others: on each side the longer list, where the other one begins it
 abbrev pub meet : PrefixValue → PrefixValue → Option PrefixValue
 meet prefix other = prefix_of_sides (longer_side prefix.source other.source) (longer_side prefix.dest other.dest)
+
+-- some pair of addresses is covered by both prefixes
+pub record ShareAddresses (prefix other : PrefixValue) : Type 0 where
+  pub pair : RecordValue
+  pub is_source : pair.src < 2 ^ 32
+  pub is_dest : pair.dst < 2 ^ 32
+  pub covered : covers prefix pair ≡ true
+  pub covered_by_other : covers other pair ≡ true
 
 -- the level of a prefix: how many bytes it keeps of both addresses
 abbrev pub level_of : PrefixValue → ℕ

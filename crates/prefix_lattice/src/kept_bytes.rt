@@ -2,6 +2,7 @@
 
 ghost use Rattle.std.specs.Prelude.{◌≡◌, ◌≢◌, ◌≤◌, ◌-◌, ◌*◌, ◌/◌, ◌%◌, ◌^◌, length, take, IfSome, IfNone};
 ghost use Rattle.prefix_lattice.specs.Bytes.{address_bytes, address_of, begins_with, AreLeadingBytes};
+ghost use Rattle.prefix_lattice.specs.Lattice.{longer_side};
 
 use std::marker::Model;
 
@@ -74,6 +75,30 @@ impl KeptBytes {
         ensures { result ≡ begins_with (address_bytes address) self.now }
     {
         masked(address, self.bytes) == self.address
+    }
+
+    /// Whether these bytes begin with those of another.
+    pub fn under(&self, other: &KeptBytes) -> bool
+        ensures value { result ≡ begins_with self.now other.now }
+        ensures leading { AreLeadingBytes self.now }
+        ensures other_leading { AreLeadingBytes other.now }
+    {
+        other.bytes <= self.bytes && masked(self.address, other.bytes) == other.address
+    }
+
+    /// The longer of two, if it begins with the bytes of the other one.
+    pub fn longer(self, other: KeptBytes) -> Option<KeptBytes>
+        ensures value { result ≡ longer_side self other }
+        ensures leading { AreLeadingBytes self }
+        ensures other_leading { AreLeadingBytes other }
+    {
+        if self.under(&other) {
+            Some(self)
+        } else if other.under(&self) {
+            Some(other)
+        } else {
+            None
+        }
     }
 }
 

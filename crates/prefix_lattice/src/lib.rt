@@ -7,6 +7,7 @@ mod node;
 mod prefix;
 mod prefix_fault;
 mod prefix_text;
+mod prefixes;
 mod record;
 mod record_list;
 
@@ -14,6 +15,7 @@ pub use decimal::number_of;
 pub use node::Node;
 pub use prefix::{Prefix, keys_tell_covering, prefix_texts_have_one_reading};
 pub use prefix_fault::{PrefixFault, Side};
+pub use prefixes::Prefixes;
 pub use record::Record;
 pub use record_list::RecordList;
 

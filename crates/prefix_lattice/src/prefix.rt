@@ -6,6 +6,8 @@ ghost use Rattle.prefix_lattice.specs.PrefixText.{SpellsPrefix, HasPrefixFault};
 ghost use Rattle.prefix_lattice.specs.declared.prefix_fault.PrefixFault.{PrefixFault};
 ghost use Rattle.prefix_lattice.specs.Prefix.{covers, node_of, prefix_at, key_of};
 
+mod lattice;
+
 use crate::kept_bytes::KeptBytes;
 use crate::prefix_text::parse_side;
 use crate::{Node, PrefixFault, Record, Side};

@@ -1,0 +1,57 @@
+//! Which prefix is under which, and the greatest under two.
+
+ghost use Rattle.std.specs.Prelude.{◌≡◌, ◌≢◌, ◌↔◌, true, IsTrue, IsSome, IsSomeAnd, IfSome};
+ghost use Rattle.prefix_lattice.specs.PrefixValue.{PrefixValue, IsPrefix};
+ghost use Rattle.prefix_lattice.specs.Lattice.{under, strictly_under, meet, ShareAddresses};
+
+use crate::Prefix;
+
+impl Prefix {
+    /// A fact of every prefix for proofs: at most four bytes of each address are kept.
+    pub fn keeps_leading_bytes(&self)
+        ensures { IsPrefix self.now }
+    {
+        let _ = self.source.len();
+        let _ = self.dest.len();
+    }
+
+    /// Whether the bytes of this prefix begin with those of the other one, on both sides.
+    pub fn under(&self, other: &Prefix) -> bool
+        ensures { result ≡ under self.now other.now }
+    {
+        self.source.under(&other.source) && self.dest.under(&other.dest)
+    }
+
+    /// Under the other prefix, and not equal to it.
+    pub fn strictly_under(&self, other: &Prefix) -> bool
+        ensures value { result ≡ strictly_under self.now other.now }
+        ensures differs { IsTrue result ↔ (IsTrue (under self.now other.now) × (self.now ≢ other.now)) }
+    {
+        self.under(other) && !other.under(self)
+    }
+
+    /// The greatest prefix under both. `None` exactly where both cover no pair of addresses.
+    pub fn meet(&self, other: &Prefix) -> Option<Prefix>
+        ensures value { result ≡ meet self.now other.now }
+        ensures under_both { IfSome result (λ m. (under m self.now ≡ true) × (under m other.now ≡ true)) }
+        ensures greatest { (lower : PrefixValue) → under lower self.now ≡ true → under lower other.now ≡ true
+            → IsSomeAnd result (λ m. under lower m ≡ true) }
+        ensures some { IsSome result ↔ ShareAddresses self.now other.now }
+    {
+        lowest(self, other)
+    }
+}
+
+// The prefix of the longer list on each side.
+fn lowest(prefix: &Prefix, other: &Prefix) -> Option<Prefix>
+    ensures value { result ≡ meet prefix.now other.now }
+    ensures prefix { IsPrefix prefix.now }
+    ensures other { IsPrefix other.now }
+{
+    let source = prefix.source.longer(other.source);
+    let dest = prefix.dest.longer(other.dest);
+    Some(Prefix {
+        source: source?,
+        dest: dest?,
+    })
+}
