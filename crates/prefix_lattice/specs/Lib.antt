@@ -3,4 +3,5 @@ pub mod RecordValue
 pub mod NodeValue
 pub mod PrefixValue
 pub mod Prefix
+pub mod Key
 pub mod PrefixText
