@@ -13,7 +13,9 @@ mod record_list;
 
 pub use decimal::number_of;
 pub use node::Node;
-pub use prefix::{Prefix, keys_tell_covering, prefix_texts_have_one_reading};
+pub use prefix::{
+    Prefix, keys_are_of_their_node, keys_tell_covering, prefix_texts_have_one_reading,
+};
 pub use prefix_fault::{PrefixFault, Side};
 pub use prefixes::Prefixes;
 pub use record::Record;
