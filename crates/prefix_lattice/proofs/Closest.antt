@@ -4,10 +4,11 @@ use Rattle.std.specs.List.{All, AllPairs, list_any, filter_map}
 use Rattle.std.proofs.lemmas.Bool.{not-true, not_from_false}
 use Rattle.std.proofs.lemmas.List.Elements.{All-nil, All-append, All-head, All-tail}
 use Rattle.std.proofs.lemmas.List.Kept.{AllPairs-filter}
+use Rattle.prefix_lattice.specs.NodeValue.{level_of}
 use Rattle.prefix_lattice.specs.RecordValue.{RecordValue}
 use Rattle.prefix_lattice.specs.PrefixValue.{PrefixValue, IsPrefix}
-use Rattle.prefix_lattice.specs.Prefix.{covers}
-use Rattle.prefix_lattice.specs.Lattice.{strictly_under, meet, level_of}
+use Rattle.prefix_lattice.specs.Prefix.{covers, node_of}
+use Rattle.prefix_lattice.specs.Lattice.{strictly_under, meet}
 use Rattle.prefix_lattice.specs.Explaining.{lines_under, one_covers, greatest, closest, under_third, unless_under_third, kept_meet, kept_among, kept_pairs, AreIncomparable}
 use Rattle.prefix_lattice.proofs.Addresses.{same_truth}
 use Rattle.prefix_lattice.proofs.Members.{Among, Passes, All-from_among, among-All, list_any-true, list_any-found, list_any-fails, among-filter, filter-among, AllPairs-from_among, All-filter_map}
@@ -21,13 +22,13 @@ among-greatest member members among =
     (kept.0, not-true _ kept.1)
 
 -- from a member that covers a record the way up ends at a greatest one that covers it
-climb : (members : List PrefixValue) (rec : RecordValue) (bound : ℕ) (member : PrefixValue) → Among member members → covers member rec ≡ true → level_of member < bound
+climb : (members : List PrefixValue) (rec : RecordValue) (bound : ℕ) (member : PrefixValue) → Among member members → covers member rec ≡ true → level_of (node_of member) < bound
     → Passes (λ p. covers p rec) (greatest members)
 climb members rec zero member among covered low = absurd (omega arith)
 climb members rec (suc bound) member among covered low =
     by_test (climb members rec bound) (list_any (λ other. strictly_under member other) members) refl
   where
-    by_test : ((other : PrefixValue) → Among other members → covers other rec ≡ true → level_of other < bound → Passes (λ p. covers p rec) (greatest members))
+    by_test : ((other : PrefixValue) → Among other members → covers other rec ≡ true → level_of (node_of other) < bound → Passes (λ p. covers p rec) (greatest members))
         → (above : Bool) → list_any (λ other. strictly_under member other) members ≡ above → Passes (λ p. covers p rec) (greatest members)
     by_test from false is = record {
       found = member;
@@ -44,7 +45,7 @@ greatest-covers : (members : List PrefixValue) (rec : RecordValue) → one_cover
 greatest-covers members rec = same_truth (one_covers members rec) (one_covers (greatest members) rec)
     (λ some.
     let line = list_any-found (λ p. covers p rec) members some in
-    let top = climb members rec (suc (level_of line.found)) line.found line.among line.passes (omega arith) in
+    let top = climb members rec (suc (level_of (node_of line.found))) line.found line.among line.passes (omega arith) in
     list_any-true (λ p. covers p rec) top.found (greatest members) top.among top.passes)
     (λ some.
     let line = list_any-found (λ p. covers p rec) (greatest members) some in

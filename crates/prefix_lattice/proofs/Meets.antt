@@ -3,10 +3,11 @@ use Rattle.std.proofs.Common.{◌≡◌, ◌≢◌, ◌↔◌, ℕ, ◌-◌, ◌
 use Rattle.std.proofs.lemmas.Bool.{false≢true, and_parts, and_from, cases_lt}
 use Rattle.std.proofs.Math.Nat.{mul-div_cancel}
 use Rattle.prefix_lattice.specs.Bytes.{number_from, address_bytes, address_of, begins_with, AreLeadingBytes}
+use Rattle.prefix_lattice.specs.NodeValue.{level_of}
 use Rattle.prefix_lattice.specs.RecordValue.{RecordValue}
 use Rattle.prefix_lattice.specs.PrefixValue.{PrefixValue, IsPrefix}
-use Rattle.prefix_lattice.specs.Prefix.{covers}
-use Rattle.prefix_lattice.specs.Lattice.{under, same_prefix, strictly_under, longer_side, prefix_of_sides, meet, level_of, ShareAddresses}
+use Rattle.prefix_lattice.specs.Prefix.{covers, node_of}
+use Rattle.prefix_lattice.specs.Lattice.{under, same_prefix, strictly_under, longer_side, prefix_of_sides, meet, ShareAddresses}
 use Rattle.prefix_lattice.proofs.Addresses.{some_unit, leading_bytes, length-leading, address_of-small, address_of-leading, same_leading, begins_with-take}
 use Rattle.prefix_lattice.proofs.Fronts.{begins_with-refl, begins_with-trans, begins_with-antisym, begins_with-length, begins_with-shorter, longer-begins, longer_of, longer-either, longer_side-turned}
 
@@ -75,13 +76,13 @@ same_unless_strictly lower upper is_under not_strictly = by_test (under upper lo
     by_test false is_second = absurd (false≢true (sym not_strictly ∙ sym (strictly-is lower upper true false (sym is_under) (sym is_second))))
 
 -- going up strictly the level falls
-pub strictly-level : (lower upper : PrefixValue) → strictly_under lower upper ≡ true → level_of upper < level_of lower
-strictly-level lower upper strictly = by_level (cases_lt (level_of upper) (level_of lower))
+pub strictly-level : (lower upper : PrefixValue) → strictly_under lower upper ≡ true → level_of (node_of upper) < level_of (node_of lower)
+strictly-level lower upper strictly = by_level (cases_lt (level_of (node_of upper)) (level_of (node_of lower)))
   where
     parts : (under lower upper ≡ true) × (lower ≢ upper)
     parts = (strictly-differs lower upper).0 strictly
 
-    by_level : (level_of upper < level_of lower) ⊎ (level_of lower ≤ level_of upper) → level_of upper < level_of lower
+    by_level : (level_of (node_of upper) < level_of (node_of lower)) ⊎ (level_of (node_of lower) ≤ level_of (node_of upper)) → level_of (node_of upper) < level_of (node_of lower)
     by_level (inl falls) = falls
     by_level (inr no_fall) =
         let sides = under_parts lower upper parts.0 in

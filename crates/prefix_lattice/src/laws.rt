@@ -1,23 +1,34 @@
 //! Laws of the lattice. A caller that runs one has it at hand.
 
-ghost use Rattle.std.specs.Prelude.{◌≡◌, ◌≢◌, List, All, AllPairs, true};
+ghost use Rattle.std.specs.Prelude.{◌≡◌, ◌≢◌, ◌<◌, ◌↔◌, List, All, AllPairs, true};
+ghost use Rattle.std.specs.Cmp.{IsTotalOrder};
+ghost use Rattle.prefix_lattice.specs.NodeValue.{level_of};
 ghost use Rattle.prefix_lattice.specs.RecordValue.{RecordValue};
 ghost use Rattle.prefix_lattice.specs.PrefixValue.{PrefixValue, IsPrefix};
-ghost use Rattle.prefix_lattice.specs.Prefix.{covers};
-ghost use Rattle.prefix_lattice.specs.Lattice.{under, strictly_under};
+ghost use Rattle.prefix_lattice.specs.Prefix.{covers, node_of};
+ghost use Rattle.prefix_lattice.specs.Lattice.{under, strictly_under, report_order};
 ghost use Rattle.prefix_lattice.specs.Explaining.{lines_under, one_covers, closest, kept_pairs, AreIncomparable, ObeysStaircase};
 
-/// A law of the lattice: to be under a prefix is a partial order, and strictly under is under and different.
+use std::cmp::Ordering;
+
+/// A law of the lattice: prefixes are partly ordered by which is under which, and going up strictly the level falls.
 pub fn prefixes_are_ordered()
     ensures reflexive { (prefix : PrefixValue) → under prefix prefix ≡ true }
     ensures transitive { (lower middle upper : PrefixValue) → under lower middle ≡ true → under middle upper ≡ true → under lower upper ≡ true }
     ensures antisymmetric { (prefix other : PrefixValue) → under prefix other ≡ true → under other prefix ≡ true → prefix ≡ other }
     ensures strictly { (lower middle upper : PrefixValue) → under lower middle ≡ true → strictly_under middle upper ≡ true → strictly_under lower upper ≡ true }
+    ensures level { (lower upper : PrefixValue) → strictly_under lower upper ≡ true → level_of (node_of upper) < level_of (node_of lower) }
 {}
 
 /// A law of covering: a record that a prefix covers is covered by each prefix that it is under.
 pub fn covering_goes_up()
     ensures { (lower upper : PrefixValue) (rec : RecordValue) → under lower upper ≡ true → covers lower rec ≡ true → covers upper rec ≡ true }
+{}
+
+/// A law of reports: their order is total, and tells any two prefixes apart.
+pub fn report_order_is_total()
+    ensures total { IsTotalOrder report_order }
+    ensures apart { (prefix other : PrefixValue) → IsPrefix prefix → IsPrefix other → (report_order prefix other ≡ Ordering.Equal) ↔ (prefix ≡ other) }
 {}
 
 /// A law of lines: those closest to a prefix explain what all lines under it do, and of distinct lines they are
