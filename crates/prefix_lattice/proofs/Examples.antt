@@ -2,6 +2,8 @@
 use Rattle.std.proofs.Common.{◌≡◌, List, [], ◌∷◌, ◌++◌, true, false, None, Some, codes, decimal, refl}
 use Rattle.std.specs.declared.cmp.Ordering.TheVariants.{Less, Equal, Greater}
 use Rattle.prefix_lattice.specs.RecordValue.{RecordValue}
+use Rattle.prefix_lattice.specs.NodeValue.{index_of, node_at, level_of}
+use Rattle.prefix_lattice.specs.Key.{IsKeyOf}
 use Rattle.prefix_lattice.specs.PrefixValue.{PrefixValue}
 use Rattle.prefix_lattice.specs.Bytes.{address_bytes, address_of}
 use Rattle.prefix_lattice.specs.Prefix.{covers, weight_of, total_weight, node_of, prefix_at, key_of}
@@ -47,6 +49,18 @@ prefix_of_the_packet = refl
 
 pub key_of_the_prefix : key_of prefix ≡ 0x0a00000014010000
 key_of_the_prefix = refl
+
+pub place_of_the_node : index_of (node_of prefix) ≡ 7
+place_of_the_node = refl
+
+pub node_of_the_place : node_at 7 ≡ node_of prefix
+node_of_the_place = refl
+
+pub level_of_the_prefix : level_of (node_of prefix) ≡ 3
+level_of_the_prefix = refl
+
+pub key_of_its_node : IsKeyOf (node_of prefix) 0x0a00000014010000
+key_of_its_node = record { source = refl; dest = refl }
 
 pub text_of_an_address : address_text 0x0a010203 ≡ decimal 10 ++ (codes "." ++ (decimal 1 ++ (codes "." ++ (decimal 2 ++ (codes "." ++ decimal 3)))))
 text_of_an_address = refl

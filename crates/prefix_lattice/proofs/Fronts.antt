@@ -119,3 +119,14 @@ longer-either P front other longer found at_front at_other = of_case (cases_long
     of_case : ((longer ≡ front) × (begins_with front other ≡ true)) ⊎ ((longer ≡ other) × (begins_with other front ≡ true)) → P longer
     of_case (inl is) = subst P (sym is.0) at_front
     of_case (inr is) = subst P (sym is.0) at_other
+
+-- the longer of two lists is the same whichever is named first
+pub longer_side-turned : (front other : List ℕ) → longer_side front other ≡ longer_side other front
+longer_side-turned front other = by_tests (begins_with front other) (begins_with other front) refl refl
+  where
+    by_tests : (first second : Bool) → begins_with front other ≡ first → begins_with other front ≡ second
+        → cond first (Some front) (cond second (Some other) None) ≡ cond second (Some other) (cond first (Some front) None)
+    by_tests true true is_first is_second = ap Some (begins_with-antisym front other is_first is_second)
+    by_tests true false is_first is_second = refl
+    by_tests false true is_first is_second = refl
+    by_tests false false is_first is_second = refl

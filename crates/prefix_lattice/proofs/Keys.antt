@@ -31,7 +31,7 @@ only_prefix_at node rec other of_node covered =
     ap with_source source ∙ ap with_dest dest
 
 -- two prefixes of one node with one key are one
-same_key : (prefix other : PrefixValue) → IsPrefix prefix → IsPrefix other → node_of prefix ≡ node_of other → key_of prefix ≡ key_of other → prefix ≡ other
+pub same_key : (prefix other : PrefixValue) → IsPrefix prefix → IsPrefix other → node_of prefix ≡ node_of other → key_of prefix ≡ key_of other → prefix ≡ other
 same_key prefix other valid other_valid of_node same =
     let dest_small : address_of prefix.dest < 2 ^ 32 = address_of-small prefix.dest valid.dest in
     let other_small : address_of other.dest < 2 ^ 32 = address_of-small other.dest other_valid.dest in

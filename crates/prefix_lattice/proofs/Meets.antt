@@ -1,14 +1,15 @@
 -- Which prefix is under which, and the greatest under two.
-use Rattle.std.proofs.Common.{◌≡◌, ◌≢◌, ◌↔◌, ℕ, ◌-◌, ◌*◌, ◌/◌, ◌^◌, max, Bool, true, false, ◌&&◌, not, List, length, take, Option, Some, None, is_some, IfSome, IsSomeAnd, refl, sym, ap, ◌∙◌, subst}
-use Rattle.std.proofs.lemmas.Bool.{false≢true, and_parts, and_from}
+use Rattle.std.proofs.Common.{◌≡◌, ◌≢◌, ◌↔◌, ℕ, ◌-◌, ◌*◌, ◌/◌, ◌^◌, ◌<◌, ◌≤◌, max, Bool, true, false, ◌&&◌, not, List, length, take, Option, Some, None, is_some, IfSome, IsSomeAnd, ◌⊎◌, inl, inr, refl, sym, ap, ◌∙◌, arith, subst}
+use Rattle.std.proofs.lemmas.Bool.{false≢true, and_parts, and_from, cases_lt}
 use Rattle.std.proofs.Math.Nat.{mul-div_cancel}
 use Rattle.prefix_lattice.specs.Bytes.{number_from, address_bytes, address_of, begins_with, AreLeadingBytes}
+use Rattle.prefix_lattice.specs.NodeValue.{level_of}
 use Rattle.prefix_lattice.specs.RecordValue.{RecordValue}
 use Rattle.prefix_lattice.specs.PrefixValue.{PrefixValue, IsPrefix}
-use Rattle.prefix_lattice.specs.Prefix.{covers}
-use Rattle.prefix_lattice.specs.Lattice.{under, strictly_under, longer_side, prefix_of_sides, meet, ShareAddresses}
+use Rattle.prefix_lattice.specs.Prefix.{covers, node_of}
+use Rattle.prefix_lattice.specs.Lattice.{under, same_prefix, strictly_under, longer_side, prefix_of_sides, meet, ShareAddresses}
 use Rattle.prefix_lattice.proofs.Addresses.{some_unit, leading_bytes, length-leading, address_of-small, address_of-leading, same_leading, begins_with-take}
-use Rattle.prefix_lattice.proofs.Fronts.{begins_with-refl, begins_with-trans, begins_with-antisym, longer-begins, longer_of, longer-either}
+use Rattle.prefix_lattice.proofs.Fronts.{begins_with-refl, begins_with-trans, begins_with-antisym, begins_with-length, begins_with-shorter, longer-begins, longer_of, longer-either, longer_side-turned}
 
 pub under_parts : (lower upper : PrefixValue) → under lower upper ≡ true → (begins_with lower.source upper.source ≡ true) × (begins_with lower.dest upper.dest ≡ true)
 under_parts lower upper is_under = and_parts (begins_with lower.source upper.source) (begins_with lower.dest upper.dest) is_under
@@ -65,6 +66,44 @@ strictly-is lower upper first second is_first is_second = by_first first second 
     by_first : (first second : Bool) → (first && not second) ≡ (first && not (first && second))
     by_first true second = refl
     by_first false second = refl
+
+-- what is under a prefix, and not strictly, is that prefix
+pub same_unless_strictly : (lower upper : PrefixValue) → under lower upper ≡ true → strictly_under lower upper ≡ false → lower ≡ upper
+same_unless_strictly lower upper is_under not_strictly = by_test (under upper lower) refl
+  where
+    by_test : (second : Bool) → under upper lower ≡ second → lower ≡ upper
+    by_test true is_second = under-antisym lower upper is_under is_second
+    by_test false is_second = absurd (false≢true (sym not_strictly ∙ sym (strictly-is lower upper true false (sym is_under) (sym is_second))))
+
+-- going up strictly the level falls
+pub strictly-level : (lower upper : PrefixValue) → strictly_under lower upper ≡ true → level_of (node_of upper) < level_of (node_of lower)
+strictly-level lower upper strictly = by_level (cases_lt (level_of (node_of upper)) (level_of (node_of lower)))
+  where
+    parts : (under lower upper ≡ true) × (lower ≢ upper)
+    parts = (strictly-differs lower upper).0 strictly
+
+    by_level : (level_of (node_of upper) < level_of (node_of lower)) ⊎ (level_of (node_of lower) ≤ level_of (node_of upper)) → level_of (node_of upper) < level_of (node_of lower)
+    by_level (inl falls) = falls
+    by_level (inr no_fall) =
+        let sides = under_parts lower upper parts.0 in
+        let sources : length upper.source ≤ length lower.source = begins_with-length lower.source upper.source sides.0 in
+        let dests : length upper.dest ≤ length lower.dest = begins_with-length lower.dest upper.dest sides.1 in
+        let back : under upper lower ≡ true =
+        and_from _ _ (begins_with-shorter lower.source upper.source lower.source sides.0 (begins_with-refl lower.source) (omega arith))
+        (begins_with-shorter lower.dest upper.dest lower.dest sides.1 (begins_with-refl lower.dest) (omega arith)) in
+        absurd (parts.1 (under-antisym lower upper parts.0 back))
+
+-- what is under a prefix that is strictly under another is strictly under that one
+pub strictly-trans : (lower middle upper : PrefixValue) → under lower middle ≡ true → strictly_under middle upper ≡ true → strictly_under lower upper ≡ true
+strictly-trans lower middle upper is_under strictly =
+    let parts = (strictly-differs middle upper).0 strictly in
+    (strictly-differs lower upper).1 (
+      under-trans lower middle upper is_under parts.0,
+      λ same. parts.1 (under-antisym middle upper parts.0 (subst (λ p. under p middle ≡ true) same is_under)),
+    )
+
+pub same_prefix-refl : (prefix : PrefixValue) → same_prefix prefix prefix ≡ true
+same_prefix-refl prefix = and_from _ _ (under-refl prefix) (under-refl prefix)
 
 -- a record that a prefix covers is covered by all that the prefix is under
 pub covers-up : (lower upper : PrefixValue) (rec : RecordValue) → under lower upper ≡ true → covers lower rec ≡ true → covers upper rec ≡ true
@@ -126,6 +165,12 @@ meet_of prefix other source dest source_begins source_other dest_begins dest_oth
         dest_length = on_dest.1.is_length;
       },
     )
+
+-- the meet is the same whichever prefix is named first
+pub meet-turned : (prefix other : PrefixValue) → meet prefix other ≡ meet other prefix
+meet-turned prefix other =
+    ap (λ s. prefix_of_sides s (longer_side prefix.dest other.dest)) (longer_side-turned prefix.source other.source)
+    ∙ ap (λ d. prefix_of_sides (longer_side other.source prefix.source) d) (longer_side-turned prefix.dest other.dest)
 
 -- two prefixes that cover one record meet, and their meet covers it
 pub meet-covers : (prefix other : PrefixValue) (rec : RecordValue) → covers prefix rec ≡ true → covers other rec ≡ true

@@ -1,11 +1,12 @@
 -- The lattice of prefixes: which is under which, the greatest prefix under two, and the order of a report.
-use Rattle.std.specs.Prelude.{ℕ, ◌≡◌, ◌+◌, ◌^◌, ◌<◌, ◌&&◌, not, Bool, true, List, length, Option, None, Some, if◌then◌else◌}
+use Rattle.std.specs.Prelude.{ℕ, ◌≡◌, ◌^◌, ◌<◌, ◌&&◌, not, Bool, true, List, length, Option, None, Some, if◌then◌else◌}
 use Rattle.std.specs.declared.cmp.Ordering.{Ordering}
 use Rattle.std.specs.Ordering.{nat_cmp, ordering_then}
 use Rattle.prefix_lattice.specs.Bytes.{address_of, begins_with}
+use Rattle.prefix_lattice.specs.NodeValue.{level_of}
 use Rattle.prefix_lattice.specs.RecordValue.{RecordValue}
 use Rattle.prefix_lattice.specs.PrefixValue.{PrefixValue}
-use Rattle.prefix_lattice.specs.Prefix.{covers}
+use Rattle.prefix_lattice.specs.Prefix.{covers, node_of}
 
 -- a prefix is under another whose kept bytes begin its own, on both sides
 abbrev pub under : PrefixValue → PrefixValue → Bool
@@ -41,14 +42,10 @@ pub record ShareAddresses (prefix other : PrefixValue) : Type 0 where
   pub covered : covers prefix pair ≡ true
   pub covered_by_other : covers other pair ≡ true
 
--- the level of a prefix: how many bytes it keeps of both addresses
-abbrev pub level_of : PrefixValue → ℕ
-level_of prefix = length prefix.source + length prefix.dest
-
 -- the order of a report: the level falls, then the source address rises, then its kept bytes, then the destination address
 abbrev pub report_order : PrefixValue → PrefixValue → Ordering
 report_order prefix other =
-    ordering_then (nat_cmp (level_of other) (level_of prefix))
+    ordering_then (nat_cmp (level_of (node_of other)) (level_of (node_of prefix)))
     (ordering_then (nat_cmp (address_of prefix.source) (address_of other.source))
     (ordering_then (nat_cmp (length prefix.source) (length other.source))
     (nat_cmp (address_of prefix.dest) (address_of other.dest))))

@@ -3,6 +3,7 @@ pub mod RecordValue
 pub mod NodeValue
 pub mod PrefixValue
 pub mod Prefix
+pub mod Key
 pub mod PrefixText
 pub mod Lattice
 pub mod Explaining

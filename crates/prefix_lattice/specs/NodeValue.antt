@@ -1,7 +1,24 @@
 -- What contracts see of a node of the lattice.
-use Rattle.std.specs.Prelude.{ℕ}
+use Rattle.std.specs.Prelude.{ℕ, ◌+◌, ◌*◌, ◌/◌, ◌%◌, ◌≤◌}
 
 -- how many leading bytes are kept of the source and of the destination, 0 to 4 each
 pub record NodeValue : Type 0 where
   pub source_bytes : ℕ
   pub dest_bytes : ℕ
+
+-- a node keeps at most the four bytes of each address
+pub record IsNode (node : NodeValue) : Type 0 where
+  pub source : node.source_bytes ≤ 4
+  pub dest : node.dest_bytes ≤ 4
+
+-- the place of a node among the 25, from 0: five for each source byte, and one for each destination byte
+abbrev pub index_of : NodeValue → ℕ
+index_of node = 5 * node.source_bytes + node.dest_bytes
+
+-- the node at such a place
+abbrev pub node_at : ℕ → NodeValue
+node_at index = record { source_bytes = index / 5; dest_bytes = index % 5 }
+
+-- how many bytes a node keeps of both addresses together
+abbrev pub level_of : NodeValue → ℕ
+level_of node = node.source_bytes + node.dest_bytes

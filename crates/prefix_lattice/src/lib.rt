@@ -3,6 +3,7 @@
 
 mod decimal;
 mod kept_bytes;
+mod laws;
 mod node;
 mod prefix;
 mod prefix_fault;
@@ -12,8 +13,14 @@ mod record;
 mod record_list;
 
 pub use decimal::number_of;
+pub use laws::{
+    closest_lines_explain, covering_goes_up, kept_meets_stay_under, prefixes_are_ordered,
+    report_order_is_total, staircase_law,
+};
 pub use node::Node;
-pub use prefix::{Prefix, keys_tell_covering, prefix_texts_have_one_reading};
+pub use prefix::{
+    Prefix, keys_are_of_their_node, keys_tell_covering, prefix_texts_have_one_reading,
+};
 pub use prefix_fault::{PrefixFault, Side};
 pub use prefixes::Prefixes;
 pub use record::Record;

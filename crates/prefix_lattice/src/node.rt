@@ -1,6 +1,7 @@
 //! The nodes of the lattice.
 
 ghost use Rattle.std.specs.Prelude.{◌≡◌, ◌<◌, ◌≤◌, ◌↔◌, ◌⊎◌, IsNone, IfSome};
+ghost use Rattle.prefix_lattice.specs.NodeValue.{IsNode, index_of, node_at, level_of};
 
 use std::marker::Model;
 
@@ -37,6 +38,34 @@ impl Node {
             source_bytes,
             dest_bytes,
         })
+    }
+
+    /// The node at this place among the 25. `None` exactly where the place is above 24.
+    pub fn from_index(index: u8) -> Option<Node>
+        ensures none { IsNone result ↔ (24 < index) }
+        ensures some { IfSome result (λ node. node ≡ node_at index) }
+        ensures back { IfSome result (λ node. index_of node ≡ index) }
+        ensures is_node { IfSome result IsNode }
+    {
+        Node::new(index / 5, index % 5)
+    }
+
+    /// The place of the node among the 25, from 0: five times the source bytes, and the destination bytes.
+    pub fn index(self) -> u8
+        ensures value { result ≡ index_of self }
+        ensures few { result < 25 }
+        ensures back { node_at result ≡ self }
+        ensures is_node { IsNode self }
+    {
+        5 * self.source_bytes + self.dest_bytes
+    }
+
+    /// How many bytes are kept of both addresses together, 0 to 8.
+    pub fn level(self) -> u8
+        ensures value { result ≡ level_of self }
+        ensures few { result ≤ 8 }
+    {
+        self.source_bytes + self.dest_bytes
     }
 
     /// How many leading bytes of the source are kept.

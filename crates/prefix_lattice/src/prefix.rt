@@ -1,6 +1,10 @@
 //! Prefixes of pairs of addresses.
 
-ghost use Rattle.std.specs.Prelude.{◌≡◌, ◌==◌, ◌↔◌, ℕ, List, true, IfOk, IfErr};
+ghost use Rattle.std.specs.Prelude.{◌≡◌, ◌==◌, ◌↔◌, ◌≤◌, ℕ, List, true, IfOk, IfErr, IfSome, IfNone, IsSome};
+ghost use Rattle.prefix_lattice.specs.NodeValue.{NodeValue, IsNode, level_of};
+ghost use Rattle.prefix_lattice.specs.RecordValue.{RecordValue};
+ghost use Rattle.prefix_lattice.specs.Bytes.{address_of};
+ghost use Rattle.prefix_lattice.specs.Key.{IsKeyOf, HasKey};
 ghost use Rattle.prefix_lattice.specs.PrefixValue.{PrefixValue, IsPrefix};
 ghost use Rattle.prefix_lattice.specs.PrefixText.{SpellsPrefix, HasPrefixFault};
 ghost use Rattle.prefix_lattice.specs.declared.prefix_fault.PrefixFault.{PrefixFault};
@@ -70,6 +74,37 @@ impl Prefix {
         u64::from(self.source.address()) << 32 | u64::from(self.dest.address())
     }
 
+    /// The prefix of this node that has this key. `None` exactly where a bit of the key is set that the
+    /// node doesn't keep.
+    pub fn from_key(key: u64, node: Node) -> Option<Prefix>
+        ensures accepted { IsSome result ↔ IsKeyOf node key }
+        ensures prefix { (prefix : PrefixValue) → (result ≡ Some prefix) ↔ HasKey node key prefix }
+    {
+        prefix_of_key(key, node)
+    }
+
+    /// The source address, with zeros for what is not kept.
+    pub fn source(&self) -> u32
+        ensures { result ≡ address_of self.now.source }
+    {
+        self.source.address()
+    }
+
+    /// The destination address, with zeros for what is not kept.
+    pub fn dest(&self) -> u32
+        ensures { result ≡ address_of self.now.dest }
+    {
+        self.dest.address()
+    }
+
+    /// How many bytes are kept of both addresses together, 0 to 8.
+    pub fn level(&self) -> u8
+        ensures value { result ≡ level_of (node_of self.now) }
+        ensures few { result ≤ 8 }
+    {
+        self.source.len() + self.dest.len()
+    }
+
     /// Whether the record's addresses begin with the bytes of the prefix.
     pub fn covers(&self, rec: &Record) -> bool
         ensures { result ≡ covers self.now rec.now }
@@ -88,10 +123,28 @@ fn parse_sides(source: &[u8], dest: &[u8]) -> Result<Prefix, PrefixFault>
     Ok(Prefix { source, dest })
 }
 
+// Both halves of the key, if all that the node doesn't keep is zero.
+fn prefix_of_key(key: u64, node: Node) -> Option<Prefix>
+    ensures some { IfSome result (HasKey node key) }
+    ensures none { IfNone result (IsKeyOf node key → ⊥) }
+{
+    let source = KeptBytes::exact((key >> 32) as u32, node.source_bytes())?;
+    let dest = KeptBytes::exact((key % (1 << 32)) as u32, node.dest_bytes())?;
+    Some(Prefix { source, dest })
+}
+
 /// A law of keys: a prefix covers a record exactly where the record's prefix of that node has its key.
 pub fn keys_tell_covering()
     ensures { (prefix : PrefixValue) (rec : _) → IsPrefix prefix
         → covers prefix rec ≡ (key_of (prefix_at (node_of prefix) rec) == key_of prefix) }
+{}
+
+/// A law of keys: the key of a prefix sets no bit that the prefix doesn't keep, and each record's prefix at
+/// a node has a key of that node.
+pub fn keys_are_of_their_node()
+    ensures of_prefix { (prefix : PrefixValue) → IsPrefix prefix → IsKeyOf (node_of prefix) (key_of prefix) }
+    ensures of_record { (node : NodeValue) (rec : RecordValue) → IsNode node → HasKey node (key_of (prefix_at node rec)) (prefix_at node rec) }
+    ensures of_record_key { (node : NodeValue) (rec : RecordValue) → IsNode node → IsKeyOf node (key_of (prefix_at node rec)) }
 {}
 
 /// A law of texts: two texts spell one prefix, or have one fault, and never both.

@@ -1,6 +1,6 @@
 //! Records in their order.
 
-ghost use Rattle.std.specs.Prelude.{◌≡◌, ◌==◌, ◌<◌, ◌++◌, [], ◌∷◌, ◌≤◌, length, All, OnOk, OnErr, slice_get, Some};
+ghost use Rattle.std.specs.Prelude.{◌≡◌, ◌==◌, ◌<◌, ◌++◌, [], ◌∷◌, ◌≤◌, ◌^◌, length, All, OnOk, OnErr, slice_get, Some};
 
 use crate::Record;
 use std::alloc::{AllocError, Global};
@@ -13,15 +13,15 @@ pub struct RecordList {
 }
 
 impl Model for RecordList {
-    ghost use Rattle.std.specs.Prelude.{◌≤◌, List, All};
+    ghost use Rattle.std.specs.Prelude.{◌<◌, ◌≤◌, ◌^◌, List, All};
     ghost use Rattle.prefix_lattice.specs.RecordValue.{RecordValue};
 
     ghost Value = { List RecordValue };
 
     ghost view = { λ l. l.records.items };
 
-    // Each record weighs at least 1.
-    ghost invariant = { λ l. All (λ rec. 1 ≤ rec.weight) l.records.items };
+    // Each record weighs at least 1 and less than 2^32.
+    ghost invariant = { λ l. All (λ rec. 1 ≤ rec.weight) l.records.items × All (λ rec. rec.weight < 2 ^ 32) l.records.items };
 }
 
 impl RecordList {
@@ -68,6 +68,7 @@ impl RecordList {
     pub fn as_slice(&self) -> &[Record]
         ensures value { result.now ≡ self.now }
         ensures weighed { All (λ rec. 1 ≤ rec.weight) self.now }
+        ensures bounded { All (λ rec. rec.weight < 2 ^ 32) self.now }
     {
         self.records.as_slice()
     }

@@ -98,6 +98,37 @@ fn covers_by_both_sides(rt: HostRuntime) -> Result<(), Fail> {
 }
 
 #[test]
+fn finds_prefixes_by_key(rt: HostRuntime) -> Result<(), Fail> {
+    // The node, the key, and the addresses and level of its prefix.
+    let cases: [(u8, u64, Option<(u32, u32, u8)>); 8] = [
+        (0, 0, Some((0, 0, 0))),
+        (0, 1, None),
+        (24, 0x0a01_0203_1401_0203, Some((SRC, DST, 8))),
+        (
+            7,
+            0x0a00_0000_1401_0000,
+            Some((0x0a00_0000, 0x1401_0000, 3)),
+        ),
+        (7, 0x0a01_0000_1401_0000, None),
+        (7, 0x0a00_0000_1401_0001, None),
+        (11, 0x0a00_0000_1401_0000, None),
+        (4, 0xffff_ffff, Some((0, 0xffff_ffff, 4))),
+    ];
+    for (index, key, want) in cases {
+        let node = Node::from_index(index).ok_or("a node")?;
+        assert_eq!(rt; node.index(), index);
+        let found = match Prefix::from_key(key, node) {
+            Some(prefix) => Some((prefix.source(), prefix.dest(), prefix.level())),
+            None => None,
+        };
+        assert_eq!(rt; found, want, "{index} {key:x}");
+    }
+    assert_eq!(rt; Node::from_index(25), None);
+    assert_eq!(rt; Node::from_index(7).ok_or("a node")?.level(), 3);
+    Ok(())
+}
+
+#[test]
 fn keeps_records_in_order(rt: HostRuntime) -> Result<(), Fail> {
     let mut list = RecordList::new(rt.alloc());
     assert!(rt; list.is_empty());

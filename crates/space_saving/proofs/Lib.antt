@@ -3,6 +3,7 @@ pub mod Taking
 pub mod Stepping
 pub mod Holding
 pub mod Widths
+pub mod EntryFacts
 pub mod Running
 pub mod Placing
 pub mod Accepting

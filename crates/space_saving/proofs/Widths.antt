@@ -6,7 +6,7 @@ use Rattle.space_saving.specs.declared.entry.Entry.{Entry}
 use Rattle.space_saving.specs.Table.{entry_of, total_count, least_count, Interval, interval_from, interval_in}
 use Rattle.space_saving.specs.TableFacts.{HasSmallError, IsTable}
 use Rattle.space_saving.proofs.Putting.{total_count-cons}
-use Rattle.space_saving.proofs.Taking.{all-entry_of}
+use Rattle.space_saving.proofs.Taking.{all-entry_of, count-entry_of}
 use Rattle.space_saving.proofs.Stepping.{least-times-length}
 use Rattle.space_saving.proofs.Holding.{RisesFrom-least}
 
@@ -66,6 +66,17 @@ interval_is_narrow capacity es key table =
     (elim (entry_of key es) as (λ o. entry_of key es ≡ o → IsNarrow capacity (total_count es) (interval_from o (record { capacity = capacity; entries = es }))) [
       | None ↦ λ _. narrow_missing capacity es table
       | Some e ↦ λ found. narrow_found capacity es key e table found
+    ]) refl
+
+-- no key has a lesser high than a missing one
+pub missing_high-le-high : (capacity : ℕ) (es : List Entry) (key : ℕ) → IsTable capacity es
+    → (interval_from None (record { capacity = capacity; entries = es })).high ≤ (interval_in (record { capacity = capacity; entries = es }) key).high
+missing_high-le-high capacity es key table =
+    (elim (entry_of key es) as (λ o. entry_of key es ≡ o → cond (ltb (length es) capacity) 0 (least_count es) ≤ (interval_from o (record { capacity = capacity; entries = es })).high) [
+      | None ↦ λ _. omega arith
+      | Some e ↦ λ found.
+          let least : least_count es ≤ e.count = count-entry_of (least_count es) key e es (RisesFrom-least es table.ascending) found in
+          cond_both (ltb (length es) capacity) 0 (least_count es) (λ n. n ≤ e.count) (λ _. omega arith) (λ _. least)
     ]) refl
 
 -- the width of a missing key in a full table, by the head

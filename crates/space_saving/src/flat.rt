@@ -1,7 +1,7 @@
 //! A table as plain entries.
 
-ghost use Rattle.std.specs.Prelude.{◌≡◌, ◌+◌, ◌-◌, ◌*◌, ◌^◌, ◌<◌, ◌≤◌, ◌↔◌, [], length, slice_get, vec_capacity, IfOk, IfSome, IsSome};
-ghost use Rattle.space_saving.specs.Table.{step, total_count, interval_in};
+ghost use Rattle.std.specs.Prelude.{◌≡◌, ◌+◌, ◌-◌, ◌*◌, ◌^◌, ◌<◌, ◌≤◌, ◌↔◌, [], length, take, slice_get, vec_capacity, IfOk, IfSome, IsSome, None};
+ghost use Rattle.space_saving.specs.Table.{step, entry_of, total_count, least_count, interval_in};
 ghost use Rattle.space_saving.specs.TableFacts.{AreEntries};
 
 use crate::Entry;
@@ -86,10 +86,14 @@ impl Flat {
         }
     }
 
-    /// The entry at this place, from 0, in the order of rising counts.
+    /// The entry at this place, from 0, in the order of rising counts. No earlier entry has its key.
     pub fn entry(&self, place: usize) -> Entry
         requires { place < length self.now.entries }
-        ensures { slice_get self.now.entries place ≡ Some result }
+        ensures entry { slice_get self.now.entries place ≡ Some result }
+        ensures apart { entry_of result.key (take place self.now.entries) ≡ None }
+        ensures error { result.error < result.count }
+        ensures least { least_count self.now.entries ≤ result.count }
+        ensures within_total { result.count ≤ total_count self.now.entries }
     {
         self.entries[place]
     }

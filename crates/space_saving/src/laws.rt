@@ -2,7 +2,7 @@
 
 ghost use Rattle.std.specs.Prelude.{◌≡◌, ℕ, ◌+◌, ◌-◌, ◌*◌, ◌≤◌, ◌++◌, ◌∷◌, [], List, length, fold};
 ghost use Rattle.space_saving.specs.declared.entry.Entry.{Entry};
-ghost use Rattle.space_saving.specs.Table.{Add, step, table_of, entry_of, total_count, least_count, interval_in, interval_after, weight_of_key, total_added};
+ghost use Rattle.space_saving.specs.Table.{Add, step, table_of, entry_of, total_count, least_count, interval_from, interval_in, interval_after, weight_of_key, total_added};
 ghost use Rattle.space_saving.specs.TableFacts.{AreWeighed, IsTable};
 
 /// The interval of each key holds the weight that was added for it, and its width is at most the whole
@@ -53,8 +53,8 @@ pub fn steps_leave_a_table()
         → total_count (step capacity entries add) ≡ total_count entries + add.weight }
 {}
 
-/// In every table an interval has its ends in order and within the sum of the counts, and its width is at
-/// most that sum divided by the capacity.
+/// In every table an interval has its ends in order and within the sum of the counts, its width is at most
+/// that sum divided by the capacity, and no high is below that of a missing key.
 pub fn intervals_are_narrow()
     ensures ordered { (capacity : ℕ) (entries : List Entry) (key : ℕ) → IsTable capacity entries
         → (interval_in (record { capacity = capacity; entries = entries }) key).low
@@ -65,4 +65,7 @@ pub fn intervals_are_narrow()
         → ((interval_in (record { capacity = capacity; entries = entries }) key).high
         - (interval_in (record { capacity = capacity; entries = entries }) key).low) * capacity
         ≤ total_count entries }
+    ensures above_missing { (capacity : ℕ) (entries : List Entry) (key : ℕ) → IsTable capacity entries
+        → (interval_from None (record { capacity = capacity; entries = entries })).high
+        ≤ (interval_in (record { capacity = capacity; entries = entries }) key).high }
 {}

@@ -1,10 +1,11 @@
-//! Which prefix is under which, and the greatest under two.
+//! Which prefix is under which, the greatest under two, and the order of a report.
 
 ghost use Rattle.std.specs.Prelude.{◌≡◌, ◌≢◌, ◌↔◌, true, IsTrue, IsSome, IsSomeAnd, IfSome};
 ghost use Rattle.prefix_lattice.specs.PrefixValue.{PrefixValue, IsPrefix};
-ghost use Rattle.prefix_lattice.specs.Lattice.{under, strictly_under, meet, ShareAddresses};
+ghost use Rattle.prefix_lattice.specs.Lattice.{under, strictly_under, meet, ShareAddresses, report_order};
 
 use crate::Prefix;
+use std::cmp::Ordering;
 
 impl Prefix {
     /// A fact of every prefix for proofs: at most four bytes of each address are kept.
@@ -39,6 +40,19 @@ impl Prefix {
         ensures some { IsSome result ↔ ShareAddresses self.now other.now }
     {
         lowest(self, other)
+    }
+
+    /// The order of a report: the level falls, then the source address rises, then how many of its bytes are kept,
+    /// then the destination address.
+    pub fn order(&self, other: &Prefix) -> Ordering
+        ensures { result ≡ report_order self.now other.now }
+    {
+        other
+            .level()
+            .cmp(&self.level())
+            .then(self.source.address().cmp(&other.source.address()))
+            .then(self.source.len().cmp(&other.source.len()))
+            .then(self.dest.address().cmp(&other.dest.address()))
     }
 }
 

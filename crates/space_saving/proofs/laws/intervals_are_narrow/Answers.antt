@@ -1,4 +1,4 @@
-use Rattle.space_saving.proofs.Widths.{interval_is_narrow}
+use Rattle.space_saving.proofs.Widths.{interval_is_narrow, missing_high-le-high}
 use Rattle.space_saving.proofs.laws.intervals_are_narrow.Goals as goal
 
 pub returns-clause-ordered : goal.returns-clause-ordered
@@ -9,3 +9,6 @@ returns-clause-within_total c = λ capacity entries key table. (interval_is_narr
 
 pub returns-clause-narrow : goal.returns-clause-narrow
 returns-clause-narrow c = λ capacity entries key table. (interval_is_narrow capacity entries key table).narrow
+
+pub returns-clause-above_missing : goal.returns-clause-above_missing
+returns-clause-above_missing c = λ capacity entries key table. missing_high-le-high capacity entries key table

@@ -1,0 +1,3 @@
+pub mod Noting
+pub mod NotingEntries
+pub mod FirstSeenLemmas

@@ -1,0 +1,4 @@
+pub mod FirstSeen
+pub mod Gains
+pub mod NodeMergeValue
+pub mod Merging

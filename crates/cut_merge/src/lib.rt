@@ -1,0 +1,8 @@
+//! The tables of all shards read as one: the interval of each prefix, and the prefixes that some shard
+//! monitors.
+#![tactic(auto)]
+
+mod gain;
+mod node_merge;
+
+pub use gain::Gain;

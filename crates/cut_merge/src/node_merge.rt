@@ -1,0 +1,99 @@
+//! The tables of one node, merged.
+
+ghost use Rattle.std.specs.Prelude.{◌≡◌, ◌==◌, ◌+◌, ◌^◌, ◌<◌, ◌≤◌, ℕ, [], OnOk, fold, if◌then◌else◌};
+ghost use Rattle.std.specs.Map.{keys_of};
+ghost use Rattle.space_saving.specs.Table.{entry_of, total_count};
+ghost use Rattle.cut_merge.specs.FirstSeen.{seen};
+ghost use Rattle.cut_merge.specs.Gains.{gain_of, plus};
+ghost use Rattle.cut_merge.specs.Merging.{interval_of, missing_high, gain_from, table_keys, AddsTable};
+
+use crate::Gain;
+use indexmap::IndexMap;
+use space_saving::Flat;
+use std::alloc::{AllocError, Global};
+use std::marker::Model;
+
+/// The tables of one node, merged: what each key gains where it is monitored, and the high of a key that
+/// no table monitors. A key that some tables lack has their highs by the second number.
+#[derive(Debug, Drop)]
+pub(crate) struct NodeMerge {
+    gains: IndexMap<u64, Gain>,
+    missing: u64,
+}
+
+impl Model for NodeMerge {
+    ghost use Rattle.cut_merge.specs.NodeMergeValue.{NodeMergeValue};
+
+    ghost Value = { NodeMergeValue };
+
+    ghost view = { λ m. record { gains = m.gains.entries; missing = m.missing } };
+}
+
+impl NodeMerge {
+    /// No table is merged yet. It takes no memory.
+    pub(crate) fn new(alloc: Global) -> NodeMerge
+        ensures { result ≡ record { gains = []; missing = 0 } }
+    {
+        NodeMerge {
+            gains: IndexMap::new(alloc),
+            missing: 0,
+        }
+    }
+
+    /// Merges one more table in. After an `Err` it may be merged in part.
+    pub(crate) fn add(&mut self, table: &Flat) -> Result<(), AllocError>
+        requires low { (key : ℕ) → (interval_of self.old key).low + total_count table.now.entries < 2 ^ 64 }
+        requires high { (key : ℕ) → (interval_of self.old key).high + total_count table.now.entries < 2 ^ 64 }
+        ensures { OnOk result (AddsTable self.old table.now self.new) }
+    {
+        let missing = missing_in(table);
+        self.missing += missing;
+        note_entries(&mut self.gains, table, missing)
+    }
+}
+
+// The high of a key that is missing in a table.
+fn missing_in(table: &Flat) -> u64
+    ensures value { result ≡ missing_high table.now }
+    ensures within_total { result ≤ total_count table.now.entries }
+{
+    if table.len() < table.capacity() as usize {
+        0
+    } else {
+        table.entry(0).count
+    }
+}
+
+// Notes what each entry of a table gains, beyond what a missing key has there.
+fn note_entries(gains: &mut IndexMap<u64, Gain>, table: &Flat, missing: u64) -> Result<(), AllocError>
+    requires missing { missing ≡ missing_high table.now }
+    requires low { (key : ℕ) → (gain_of key gains.old.entries).low + total_count table.now.entries < 2 ^ 64 }
+    requires high { (key : ℕ) → (gain_of key gains.old.entries).high + total_count table.now.entries < 2 ^ 64 }
+    ensures gains { OnOk result ((key : ℕ) → gain_of key gains.new.entries
+        ≡ plus (gain_of key gains.old.entries) (gain_from table.now (entry_of key table.now.entries))) }
+    ensures keys { OnOk result (keys_of gains.new.entries ≡ fold seen (keys_of gains.old.entries) (table_keys table.now)) }
+{
+    for place in 0..table.len() {
+        let entry = table.entry(place);
+        let gain = Gain {
+            low: entry.count - entry.error,
+            high: entry.count - missing,
+        };
+        note(gains, entry.key, gain)?;
+    }
+    Ok(())
+}
+
+// Notes what a key gains more. A new key goes behind the others.
+fn note(gains: &mut IndexMap<u64, Gain>, key: u64, more: Gain) -> Result<(), AllocError>
+    requires low { (gain_of key gains.old.entries).low + more.low < 2 ^ 64 }
+    requires high { (gain_of key gains.old.entries).high + more.high < 2 ^ 64 }
+    ensures gain { OnOk result ((other : ℕ) → gain_of other gains.new.entries
+        ≡ (if key == other then plus (gain_of other gains.old.entries) more else gain_of other gains.old.entries)) }
+    ensures keys { OnOk result (keys_of gains.new.entries ≡ seen (keys_of gains.old.entries) key) }
+{
+    if let Some(before) = gains.insert(key, more)? {
+        gains.insert(key, before.plus(more))?;
+    }
+    Ok(())
+}

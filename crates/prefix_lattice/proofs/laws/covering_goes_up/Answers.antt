@@ -1,0 +1,5 @@
+use Rattle.prefix_lattice.proofs.Meets.{covers-up}
+use Rattle.prefix_lattice.proofs.laws.covering_goes_up.Goals as goal
+
+pub returns : goal.returns
+returns c = covers-up

@@ -1,0 +1,5 @@
+use Rattle.prefix_lattice.proofs.Staircase.{staircase}
+use Rattle.prefix_lattice.proofs.laws.staircase_law.Goals as goal
+
+pub returns : goal.returns
+returns c = staircase

@@ -1,0 +1,55 @@
+//! Laws of the lattice. A caller that runs one has it at hand.
+
+ghost use Rattle.std.specs.Prelude.{◌≡◌, ◌≢◌, ◌<◌, ◌↔◌, List, All, AllPairs, true};
+ghost use Rattle.std.specs.Cmp.{IsTotalOrder};
+ghost use Rattle.prefix_lattice.specs.NodeValue.{level_of};
+ghost use Rattle.prefix_lattice.specs.RecordValue.{RecordValue};
+ghost use Rattle.prefix_lattice.specs.PrefixValue.{PrefixValue, IsPrefix};
+ghost use Rattle.prefix_lattice.specs.Prefix.{covers, node_of};
+ghost use Rattle.prefix_lattice.specs.Lattice.{under, strictly_under, report_order};
+ghost use Rattle.prefix_lattice.specs.Explaining.{lines_under, one_covers, closest, kept_pairs, AreIncomparable, ObeysStaircase};
+
+use std::cmp::Ordering;
+
+/// A law of the lattice: prefixes are partly ordered by which is under which, and going up strictly the level falls.
+pub fn prefixes_are_ordered()
+    ensures reflexive { (prefix : PrefixValue) → under prefix prefix ≡ true }
+    ensures transitive { (lower middle upper : PrefixValue) → under lower middle ≡ true → under middle upper ≡ true → under lower upper ≡ true }
+    ensures antisymmetric { (prefix other : PrefixValue) → under prefix other ≡ true → under other prefix ≡ true → prefix ≡ other }
+    ensures strictly { (lower middle upper : PrefixValue) → under lower middle ≡ true → strictly_under middle upper ≡ true → strictly_under lower upper ≡ true }
+    ensures level { (lower upper : PrefixValue) → strictly_under lower upper ≡ true → level_of (node_of upper) < level_of (node_of lower) }
+{}
+
+/// A law of covering: a record that a prefix covers is covered by each prefix that it is under.
+pub fn covering_goes_up()
+    ensures { (lower upper : PrefixValue) (rec : RecordValue) → under lower upper ≡ true → covers lower rec ≡ true → covers upper rec ≡ true }
+{}
+
+/// A law of reports: their order is total, and tells any two prefixes apart.
+pub fn report_order_is_total()
+    ensures total { IsTotalOrder report_order }
+    ensures apart { (prefix other : PrefixValue) → IsPrefix prefix → IsPrefix other → (report_order prefix other ≡ Ordering.Equal) ↔ (prefix ≡ other) }
+{}
+
+/// A law of lines: those closest to a prefix explain what all lines under it do, and of distinct lines they are
+/// incomparable.
+pub fn closest_lines_explain()
+    ensures explain { (prefix : PrefixValue) (lines : List PrefixValue) (rec : RecordValue)
+        → one_covers (lines_under prefix lines) rec ≡ one_covers (closest prefix lines) rec }
+    ensures incomparable { (prefix : PrefixValue) (lines : List PrefixValue)
+        → AllPairs (λ line other. line ≢ other) lines → AreIncomparable (closest prefix lines) }
+    ensures under { (prefix : PrefixValue) (lines : List PrefixValue) → All (λ line. strictly_under line prefix ≡ true) (closest prefix lines) }
+{}
+
+/// A law of kept pairs: their meets are strictly under what all members are strictly under, and they are prefixes.
+pub fn kept_meets_stay_under()
+    ensures under { (prefix : PrefixValue) (members : List PrefixValue)
+        → All (λ member. strictly_under member prefix ≡ true) members → All (λ lowest. strictly_under lowest prefix ≡ true) (kept_pairs members) }
+    ensures prefixes { (members : List PrefixValue) → All IsPrefix members → All IsPrefix (kept_pairs members) }
+{}
+
+/// The staircase law: where some of distinct prefixes, none of which is strictly under another, cover a record, just
+/// one kept pair fewer has a meet that covers it.
+pub fn staircase_law()
+    ensures { (members : List PrefixValue) (rec : RecordValue) → AreIncomparable members → ObeysStaircase members rec }
+{}
