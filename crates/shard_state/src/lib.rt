@@ -1,0 +1,12 @@
+//! The states of shards: tables that count a shard's records up to a position, snapshots of them, and cuts
+//! of one snapshot for each shard.
+#![tactic(auto)]
+
+mod cut;
+mod positions;
+mod snapshot;
+mod snapshot_parts;
+
+pub use cut::Cut;
+pub use positions::Positions;
+pub use snapshot::Snapshot;
