@@ -2,9 +2,10 @@
 
 ghost use Rattle.std.specs.Prelude.{◌≡◌, ◌<◌, ◌≤◌, length, slice_get, slice_set, IfOk, Some};
 ghost use Rattle.shard_state.specs.SnapshotValue.{IsSnapshot};
+ghost use Rattle.shard_state.specs.ShardValue.{snapshot_of};
 ghost use Rattle.shard_state.specs.CutValue.{IsCut, empty_cut, positions_of};
 
-use crate::{Positions, Snapshot};
+use crate::{Positions, ShardState, Snapshot};
 use std::alloc::{AllocError, Global};
 use std::marker::Model;
 
@@ -16,6 +17,7 @@ pub struct Cut {
 }
 
 impl Model for Cut {
+    ghost use Rattle.shard_state.specs.ShardValue.{snapshot_of};
     ghost use Rattle.shard_state.specs.CutValue.{CutValue, IsCut};
 
     ghost Value = { CutValue };
@@ -89,6 +91,17 @@ impl Cut {
     {
         let _kept = snapshot.position();
         self.shards[shard as usize] = snapshot;
+    }
+
+    /// Makes a shard's snapshot that of a state of the cut's capacity. The other shards stay. It takes no
+    /// memory.
+    pub fn copy_shard(&mut self, shard: u32, state: &ShardState)
+        requires within { shard < length self.old.shards }
+        requires capacity { state.now.base.capacity ≡ self.old.capacity }
+        ensures { self.new ≡ record self.old { shards = slice_set self.old.shards shard (snapshot_of state.now) } }
+    {
+        let _kept = state.position();
+        state.copy_into(&mut self.shards[shard as usize]);
     }
 
     /// The snapshots of the shards, in order.

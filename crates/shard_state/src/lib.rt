@@ -3,10 +3,13 @@
 #![tactic(auto)]
 
 mod cut;
+mod folding;
 mod positions;
+mod shard_state;
 mod snapshot;
 mod snapshot_parts;
 
 pub use cut::Cut;
 pub use positions::Positions;
+pub use shard_state::{Folded, ShardState};
 pub use snapshot::Snapshot;

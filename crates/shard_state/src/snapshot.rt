@@ -1,12 +1,13 @@
 //! The tables of a shard at one position.
 
-ghost use Rattle.std.specs.Prelude.{◌≡◌, ◌^◌, ◌<◌, ◌≤◌, ◌↔◌, IfOk, IfSome, IsSome};
+ghost use Rattle.std.specs.Prelude.{◌≡◌, ◌^◌, ◌<◌, ◌≤◌, ◌↔◌, All, IfOk, IfSome, IsSome};
 ghost use Rattle.shard_state.specs.SnapshotValue.{IsSnapshot, empty_snapshot, table_at, tables_of, total_of};
-ghost use Rattle.shard_state.specs.SnapshotParts.{AreParts};
+ghost use Rattle.shard_state.specs.SnapshotParts.{AreParts, copied_from};
 
+use crate::folding::copy_tables;
 use crate::snapshot_parts::{are_tables, empty_tables};
 use prefix_lattice::Node;
-use space_saving::Flat;
+use space_saving::{Flat, PlainTable};
 use std::alloc::{AllocError, Global};
 use std::marker::Model;
 
@@ -104,5 +105,23 @@ impl Snapshot {
         ensures kept { IsSnapshot self.now }
     {
         self.tables[0].total()
+    }
+
+    /// All tables, in the order of their nodes' places.
+    pub(crate) fn tables(&self) -> &[Flat]
+        ensures tables { result.now ≡ tables_of self.now }
+        ensures kept { IsSnapshot self.now }
+    {
+        self.tables.as_slice()
+    }
+
+    /// Takes over a position and the content of tables of its capacity.
+    pub(crate) fn copy_from(&mut self, position: u64, tables: &[PlainTable])
+        requires alike { All (λ table. table.capacity ≡ self.old.capacity) tables.now }
+        requires snapshot { IsSnapshot (copied_from self.old.capacity position tables.now) }
+        ensures { self.new ≡ copied_from self.old.capacity position tables.now }
+    {
+        copy_tables(tables, &mut self.tables);
+        self.position = position;
     }
 }
