@@ -1,12 +1,16 @@
 //! A stored rule of dealing.
 
-ghost use Rattle.std.specs.Prelude.{◌≡◌, ℕ, ◌<◌, ◌≤◌};
+ghost use Rattle.std.specs.Prelude.{◌≡◌, ◌↔◌, ℕ, ◌<◌, ◌≤◌};
 ghost use Rattle.prefix_lattice.specs.RecordValue.{RecordValue};
 ghost use Rattle.deal_rules.specs.declared.deal_kind.DealKind.{DealKind};
 ghost use Rattle.deal_rules.specs.Rule.{IsAsked, IsOfKind, MayBeDealt};
 
 use crate::DealKind;
 use prefix_lattice::Record;
+
+/// The stored function of a dealer: from the place of a record, counted from 0, the record and the number
+/// of shards to the number of the record's shard.
+pub type DealRule = Box<dyn Fn(u64, Record, u32) -> u32>;
 
 /// What contracts say of a dealer.
 pub trait Deals {
@@ -17,13 +21,12 @@ pub trait Deals {
     ghost may_answer: { Self → ℕ → RecordValue → ℕ → ℕ → Type 0 };
 }
 
-/// A rule of dealing: a function from the place of a record, from 0, the record and the number of shards
-/// to the number of its shard. It may be called for each place below 16,777,216, each record and 1 to 16
+/// A rule of dealing. Its function may be called for each place below 16,777,216, each record and 1 to 16
 /// shards, and it answers a number below the number of shards, by the formula of its kind.
 #[derive(Drop)]
 pub struct Dealer {
     kind: DealKind,
-    rule: Box<dyn Fn(u64, Record, u32) -> u32>,
+    rule: DealRule,
     ghost callable: { (place : ℕ) (rec : RecordValue) (shards : ℕ)
         → IsAsked place rec shards → pre rule place rec shards },
     ghost below: { (place : ℕ) (rec : RecordValue) (shards number : ℕ)
@@ -40,8 +43,8 @@ impl Deals for Dealer {
 }
 
 impl Dealer {
-    /// A dealer that deals by the rule.
-    pub fn new(kind: DealKind, rule: Box<dyn Fn(u64, Record, u32) -> u32>) -> Dealer
+    /// A dealer that deals by the rule, which must be of this kind.
+    pub fn new(kind: DealKind, rule: DealRule) -> Dealer
         requires callable { (place : ℕ) (rec : RecordValue) (shards : ℕ)
             → IsAsked place rec shards → pre rule place rec shards }
         requires below { (place : ℕ) (rec : RecordValue) (shards number : ℕ)
@@ -51,7 +54,7 @@ impl Dealer {
             → IsOfKind kind place rec shards number }
         ensures kind { ⟦<Dealer as Deals>⟧.kind_of result ≡ kind }
         ensures rule { (place : ℕ) (rec : RecordValue) (shards number : ℕ)
-            → ⟦<Dealer as Deals>⟧.may_answer result place rec shards number → post rule place rec shards number }
+            → ⟦<Dealer as Deals>⟧.may_answer result place rec shards number ↔ post rule place rec shards number }
     {
         Dealer { kind, rule }
     }
@@ -71,14 +74,14 @@ impl Dealer {
         ensures { MayBeDealt (⟦<Dealer as Deals>⟧.kind_of self.now) (⟦<Dealer as Deals>⟧.may_answer self.now)
             place rec.now shards result }
     {
-        let rec = *rec;
+        // That the record weighs something is known once its weight is read.
         let _weight = rec.weight;
-        ask(&self.rule, place, rec, shards)
+        ask(&self.rule, place, *rec, shards)
     }
 }
 
 // Calls a rule that may be called.
-fn ask(rule: &Box<dyn Fn(u64, Record, u32) -> u32>, place: u64, rec: Record, shards: u32) -> u32
+fn ask(rule: &DealRule, place: u64, rec: Record, shards: u32) -> u32
     requires { pre rule.now place rec shards }
     ensures { post rule.now place rec shards result }
 {

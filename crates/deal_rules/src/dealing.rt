@@ -13,7 +13,8 @@ use prefix_lattice::RecordList;
 use std::alloc::{AllocError, Global};
 
 /// Deals the records, at most 16,777,216, to 1 to 16 shards: each record goes to the shard that the
-/// dealer answers for its place, counted from 0, and keeps its order there.
+/// dealer answers for its place, counted from 0, and keeps its order there. Want of memory drops what was
+/// dealt.
 pub fn deal(
     alloc: Global,
     list: &RecordList,

@@ -1,6 +1,7 @@
 //! Dealing records to shards, by a rule that the caller hands in.
 #![tactic(auto)]
 
+mod choosing;
 mod deal_kind;
 mod dealer;
 mod dealers;
@@ -8,7 +9,7 @@ mod dealing;
 mod dealt;
 
 pub use deal_kind::DealKind;
-pub use dealer::{Dealer, Deals};
+pub use dealer::{DealRule, Dealer, Deals};
 pub use dealers::Dealers;
 pub use dealing::{deal, dealing_loses_nothing};
 pub use dealt::Dealt;

@@ -74,21 +74,21 @@ fn list_of(
 #[test]
 fn deals_by_each_kind(rt: HostRuntime) -> Result<(), Fail> {
     let alloc = rt.alloc();
-    let by_place: Box<dyn Fn(u64, Record, u32) -> u32> = Box::new(
+    let by_place: DealRule = Box::new(
         alloc,
         |place: u64, rec: Record, shards: u32| -> u32
             requires { IsAsked place rec shards }
             ensures { result ≡ place % shards }
         { (place % u64::from(shards)) as u32 },
     )?;
-    let by_source: Box<dyn Fn(u64, Record, u32) -> u32> = Box::new(
+    let by_source: DealRule = Box::new(
         alloc,
         |place: u64, rec: Record, shards: u32| -> u32
             requires { IsAsked place rec shards }
             ensures { result ≡ rec.src % shards }
         { rec.src % shards },
     )?;
-    let by_both: Box<dyn Fn(u64, Record, u32) -> u32> = Box::new(
+    let by_both: DealRule = Box::new(
         alloc,
         |place: u64, rec: Record, shards: u32| -> u32
             requires { IsAsked place rec shards }
@@ -100,35 +100,38 @@ fn deals_by_each_kind(rt: HostRuntime) -> Result<(), Fail> {
         source: Dealer::new(DealKind::BySource, by_source),
         free: Dealer::new(DealKind::Free, by_both),
     };
-    assert_eq!(rt; dealers.round.kind(), DealKind::RoundRobin);
+    assert_eq!(rt;
+        dealers.of(DealKind::RoundRobin).kind(),
+        DealKind::RoundRobin
+    );
     let rows = [
         (1, [0, 0, 0, 0, 0]),
         (2, [0, 1, 0, 1, 0]),
         (3, [0, 1, 2, 0, 1]),
         (16, [0, 1, 2, 3, 4]),
     ];
-    check_rows(&rt, alloc, &dealers.round, rows)?;
-    assert_eq!(rt; dealers.source.kind(), DealKind::BySource);
+    check_rows(&rt, alloc, dealers.of(DealKind::RoundRobin), rows)?;
+    assert_eq!(rt; dealers.of(DealKind::BySource).kind(), DealKind::BySource);
     let rows = [
         (1, [0, 0, 0, 0, 0]),
         (2, [1, 0, 1, 0, 1]),
         (3, [1, 1, 1, 1, 0]),
         (16, [7, 4, 7, 0, 1]),
     ];
-    check_rows(&rt, alloc, &dealers.source, rows)?;
-    assert_eq!(rt; dealers.free.kind(), DealKind::Free);
+    check_rows(&rt, alloc, dealers.of(DealKind::BySource), rows)?;
+    assert_eq!(rt; dealers.of(DealKind::Free).kind(), DealKind::Free);
     let rows = [
         (1, [0, 0, 0, 0, 0]),
         (2, [0, 0, 1, 1, 1]),
         (3, [0, 0, 2, 2, 0]),
         (16, [6, 0, 5, 15, 1]),
     ];
-    check_rows(&rt, alloc, &dealers.free, rows)
+    check_rows(&rt, alloc, dealers.of(DealKind::Free), rows)
 }
 
 #[test]
 fn deals_all_to_one_shard(rt: HostRuntime) -> Result<(), Fail> {
-    let to_zero: Box<dyn Fn(u64, Record, u32) -> u32> = Box::new(
+    let to_zero: DealRule = Box::new(
         rt.alloc(),
         |place: u64, rec: Record, shards: u32| -> u32
             requires { IsAsked place rec shards }
