@@ -4,3 +4,4 @@ pub mod FirstSeenLemmas
 pub mod MergingTables
 pub mod CutTables
 pub mod MergingCut
+pub mod Spans
