@@ -1,0 +1,5 @@
+pub mod Weighing
+pub mod Summing
+pub mod Balancing
+pub mod Bounding
+pub mod Examples

@@ -1,0 +1,32 @@
+//! Sums over the intervals of some prefixes.
+
+ghost use Rattle.std.specs.Prelude.{◌≡◌, ◌^◌, ◌<◌, sum_by};
+
+use crate::Intervals;
+use prefix_lattice::Prefix;
+
+/// The sum of the lows.
+pub(crate) fn sum_of_lows<I: Intervals>(prefixes: &[Prefix], intervals: &I) -> u128
+    ensures value { result ≡ sum_by (I.low intervals.now) prefixes.now }
+    ensures bounded { result < 2 ^ 124 }
+{
+    let mut sum: u128 = 0;
+    for prefix in prefixes {
+        let (low, _) = intervals.interval(prefix);
+        sum += u128::from(low);
+    }
+    sum
+}
+
+/// The sum of the highs.
+pub(crate) fn sum_of_highs<I: Intervals>(prefixes: &[Prefix], intervals: &I) -> u128
+    ensures value { result ≡ sum_by (I.high intervals.now) prefixes.now }
+    ensures bounded { result < 2 ^ 124 }
+{
+    let mut sum: u128 = 0;
+    for prefix in prefixes {
+        let (_, high) = intervals.interval(prefix);
+        sum += u128::from(high);
+    }
+    sum
+}
