@@ -5,3 +5,4 @@ pub mod MergingTables
 pub mod CutTables
 pub mod MergingCut
 pub mod Spans
+pub mod MonitoredKeys
