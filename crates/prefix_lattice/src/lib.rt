@@ -14,8 +14,8 @@ mod record_list;
 
 pub use decimal::number_of;
 pub use laws::{
-    closest_lines_explain, covering_goes_up, kept_meets_stay_under, prefixes_are_ordered,
-    report_order_is_total, staircase_law,
+    closest_lines_explain, covering_goes_up, kept_meets_stay_under, meets_are_greatest,
+    prefixes_are_ordered, report_order_is_total, staircase_law,
 };
 pub use node::Node;
 pub use prefix::{
