@@ -1,3 +1,4 @@
 pub mod Rising
 pub mod Nearness
 pub mod Uniqueness
+pub mod Soundness
