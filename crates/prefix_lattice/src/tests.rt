@@ -1,3 +1,6 @@
+mod lattice;
+mod staircase;
+
 use super::*;
 use std::test::Fail;
 
