@@ -112,3 +112,115 @@ among key (first ∷ keys) = by (eqb first key) refl (among key keys)
       | inl is ↦ false≢true (sym differs ∙ eq-eqb first key is)
       | inr later ↦ missing later
     ])
+
+-- the intervals that a bound asks hold the weights, and are narrow
+hold_asked : (cut : CutValue) (lists : List (List RecordValue)) → CutHolds cut lists → (prefix : PrefixValue) (lines : List PrefixValue) → IsPrefix prefix → All IsPrefix lines
+    → HoldWeights (low_in cut) (high_in cut) (records_before lists (positions_of cut)) (asked_of prefix lines)
+hold_asked cut lists holds prefix lines is_prefix are_prefixes =
+    let records = records_before lists (positions_of cut) in
+    All-weaker IsPrefix (λ p. (low_in cut p ≤ weight_of p records) × (weight_of p records ≤ high_in cut p))
+    (λ p is. ((holds.spans p is).low, (holds.spans p is).high)) (asked_of prefix lines) (holds.asked prefix lines is_prefix are_prefixes)
+
+narrow_asked : (cut : CutValue) (lists : List (List RecordValue)) → CutHolds cut lists → (prefix : PrefixValue) (lines : List PrefixValue) → IsPrefix prefix → All IsPrefix lines
+    → AreNarrow (low_in cut) (high_in cut) cut.capacity (total_weight (records_before lists (positions_of cut))) (asked_of prefix lines)
+narrow_asked cut lists holds prefix lines is_prefix are_prefixes =
+    All-weaker IsPrefix (λ p. (high_in cut p - low_in cut p) * cut.capacity ≤ total_weight (records_before lists (positions_of cut)))
+    (λ p is. subst (λ n. (high_in cut p - low_in cut p) * cut.capacity ≤ n) holds.total (holds.spans p is).width) (asked_of prefix lines) (holds.asked prefix lines is_prefix are_prefixes)
+
+-- the report of a cut, the lists that it stands for, and what holds of both
+pub record Reports (cut : CutValue) (lists : List (List RecordValue)) (phi : ℕ) (report : Report) : Type 0 where
+  pub holds : CutHolds cut lists
+  pub kept : AreLines report.lines
+  pub wide : 2000000 ≤ phi * cut.capacity
+  pub is_report : IsReportOf cut phi report
+
+-- its lines have prefixes, and no two the same
+report_prefixes : (cut : CutValue) (lists : List (List RecordValue)) (phi : ℕ) (report : Report) → Reports cut lists phi report → All IsPrefix (prefixes_of report.lines)
+report_prefixes cut lists phi report reports =
+    All-map IsPrefix (λ (l : Line). l.prefix) report.lines
+    (each_line (λ l. IsPrefix l.prefix) report.lines (λ line there. ((reports.is_report.lines line).0 there).is_prefix))
+
+-- a prefix that has no line is light once the lines are accounted for
+left_out : (cut : CutValue) (lists : List (List RecordValue)) (phi : ℕ) (report : Report) → Reports cut lists phi report → (prefix : PrefixValue) → IsPrefix prefix
+    → ¬ Contains (prefixes_of report.lines) prefix → conditioned_weight prefix (prefixes_of report.lines) (records_before lists (positions_of cut)) < report.threshold
+left_out cut lists phi report reports prefix is_prefix missing =
+    elim (among (key_of prefix) (monitored_at cut (node_of prefix))) [
+      | inr unknown ↦
+          let light : high_in cut prefix < report.threshold =
+          light_below phi cut.capacity report.total report.threshold (high_in cut prefix) reports.wide reports.is_report.threshold
+          (subst (λ n. high_in cut prefix * cut.capacity ≤ n) (sym reports.is_report.total) (holds.light prefix is_prefix unknown)) in
+          omega (arith, light, few, span_holds.high)
+      | inl monitored ↦ elim (cases_lt (high_in cut prefix) report.threshold) [
+          | inl light ↦ omega (arith, light, few, span_holds.high)
+          | inr heavy ↦ elim (cases_lt (high_in cut prefix + sum_by (high_in cut) (kept_pairs (closest prefix lines))) (report.threshold + sum_by (low_in cut) (closest prefix lines))) [
+              | inl explained ↦
+                  let least = holds.at_least (low_in cut) (high_in cut) prefix lines records (distinct_prefixes holds.order report.lines reports.kept.rising)
+                      (hold_asked cut lists holds prefix lines is_prefix (report_prefixes cut lists phi report reports)) in
+                  omega (arith, ints, least, explained)
+              | inr unexplained ↦
+                  let line : Line = record { prefix = prefix; lo = low_in cut prefix; hi = high_in cut prefix } in
+                  let is : IsLineOf cut report.threshold lines line = record {
+                    is_prefix = is_prefix;
+                    low = refl;
+                    high = refl;
+                    monitored = monitored;
+                    heavy = heavy;
+                    unexplained = omega (arith, ints, unexplained);
+                  } in
+                  absurd (missing (contains_prefix report.lines line ((reports.is_report.lines line).1 is)))
+            ]
+        ]
+    ]
+  where
+    lines : List PrefixValue
+    lines = prefixes_of report.lines
+    records : List RecordValue
+    records = records_before lists (positions_of cut)
+    holds : CutHolds cut lists
+    holds = reports.holds
+    span_holds : Holds (span cut prefix) cut.capacity (weight_of prefix records) (total_of_cut cut)
+    span_holds = holds.spans prefix is_prefix
+    few : conditioned_weight prefix lines records ≤ weight_of prefix records
+    few = conditioned-le-weight prefix lines records
+    contains_prefix : (ls : List Line) (line : Line) → Contains ls line → Contains (prefixes_of ls) line.prefix
+    contains_prefix [] line there = absurd (contains-nil line there)
+    contains_prefix (l ∷ ls) line there = elim (contains-cons l ls line there) [
+      | inl same ↦ subst (λ (x : Line). Contains (l.prefix ∷ prefixes_of ls) x.prefix) same (contains-head l.prefix (prefixes_of ls))
+      | inr later ↦ contains-tail l.prefix (prefixes_of ls) line.prefix (contains_prefix ls line later)
+    ]
+
+-- the report is sound
+pub report_is_sound : (cut : CutValue) (lists : List (List RecordValue)) (phi : ℕ) (report : Report) → Reports cut lists phi report → IsSound report lists cut.capacity phi
+report_is_sound cut lists phi report reports =
+    let holds = reports.holds in
+    let is = reports.is_report in
+    let records = records_before lists (positions_of cut) in
+    let at : records_before lists report.positions ≡ records = ap (records_before lists) is.positions in
+    let prefixes = report_prefixes cut lists phi report reports in
+    let line_of : (line : Line) → Contains report.lines line → IsLineOf cut report.threshold (prefixes_of report.lines) line = λ line there. (is.lines line).0 there in
+    record {
+      positions = subst (λ positions. AllZip (λ position list. position ≤ length list) positions lists) (sym is.positions) (within_lists cut.shards lists holds.stands.shards);
+      total = is.total ∙ holds.total ∙ ap total_weight (sym at);
+      threshold = is.threshold;
+      interval = subst (λ rs. All (HoldsWeight rs) report.lines) (sym at)
+          (each_line (HoldsWeight records) report.lines (λ line there.
+            let l = line_of line there in
+            let span_holds = holds.spans line.prefix l.is_prefix in
+            record { low = omega (arith, l.low, span_holds.low); high = omega (arith, l.high, span_holds.high) }));
+      width = each_line (IsNarrow cut.capacity report.total) report.lines (λ line there.
+          let l = line_of line there in
+          subst (λ n. (n - line.lo) * cut.capacity ≤ report.total) (sym l.high)
+          (subst (λ n. (high_in cut line.prefix - n) * cut.capacity ≤ report.total) (sym l.low)
+            (subst (λ n. (high_in cut line.prefix - low_in cut line.prefix) * cut.capacity ≤ n) (sym is.total) (holds.spans line.prefix l.is_prefix).width)));
+      heavy = each_line (λ line. report.threshold ≤ line.hi) report.lines (λ line there. (line_of line there).heavy);
+      justified = subst (λ rs. All (IsJustified cut.capacity report.threshold (prefixes_of report.lines) rs) report.lines) (sym at)
+          (each_line (IsJustified cut.capacity report.threshold (prefixes_of report.lines) records) report.lines (λ line there.
+            let l = line_of line there in
+            holds.reached (low_in cut) (high_in cut) line.prefix (prefixes_of report.lines) records cut.capacity (total_weight records) report.threshold
+            (distinct_prefixes holds.order report.lines reports.kept.rising)
+            (hold_asked cut lists holds line.prefix (prefixes_of report.lines) l.is_prefix prefixes)
+            (narrow_asked cut lists holds line.prefix (prefixes_of report.lines) l.is_prefix prefixes)
+            l.unexplained));
+      complete = λ prefix is_prefix missing.
+          subst (λ rs. conditioned_weight prefix (prefixes_of report.lines) rs < report.threshold) (sym at) (left_out cut lists phi report reports prefix is_prefix missing);
+    }
