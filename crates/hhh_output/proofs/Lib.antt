@@ -3,3 +3,5 @@ pub mod Nearness
 pub mod Uniqueness
 pub mod Soundness
 pub mod Finding
+pub mod Levelling
+pub mod Descending

@@ -55,13 +55,15 @@ fn select_level(
     requires { AreCandidates merged.now }
     ensures { IfOk result (λ found. AreOfLevel merged.now threshold reported.now level found.items) }
 {
+    prefixes_are_ordered();
     report_order_is_total();
     let mut found = Vec::new(alloc);
     for place in 0..25 {
         let node = Node::from_index(place).unwrap();
-        if node.level() == level {
-            select_at(alloc, merged, threshold, reported, node, &mut found)?;
+        if node.level() != level {
+            continue;
         }
+        select_at(alloc, merged, threshold, reported, node, &mut found)?;
     }
     found.sort_by(|line, other| line.prefix.order(&other.prefix))?;
     Ok(found)

@@ -1,0 +1,7 @@
+use Rattle.std.proofs.Common.{◌≡◌}
+use Rattle.hhh_output.specs.Lines.{prefixes_of}
+use Rattle.hhh_output.specs.Selecting.{AreDownTo}
+use Rattle.hhh_output.proofs.selecting.select_lines.Given as goal
+
+abbrev pub invariant-loop-levels : goal.invariant-loop-levels
+invariant-loop-levels l = (l.reported ≡ prefixes_of l.lines) × AreDownTo l.merged l.threshold l.levels l.lines
