@@ -4,7 +4,8 @@ use Rattle.std.specs.Map.{keys_of}
 use Rattle.prefix_lattice.specs.NodeValue.{NodeValue, IsNode, index_of}
 use Rattle.prefix_lattice.specs.PrefixValue.{PrefixValue, IsPrefix}
 use Rattle.prefix_lattice.specs.Prefix.{node_of, key_of}
-use Rattle.space_saving.specs.Table.{TableValue, Interval}
+use Rattle.space_saving.specs.Table.{TableValue}
+pub use Rattle.space_saving.specs.Table.{Interval}
 use Rattle.shard_state.specs.SnapshotValue.{table_at}
 use Rattle.shard_state.specs.CutValue.{CutValue, total_of_cut}
 use Rattle.cut_merge.specs.Merging.{merged_interval, monitored_keys, interval_of}

@@ -5,3 +5,4 @@ pub mod Soundness
 pub mod Finding
 pub mod Levelling
 pub mod Descending
+pub mod Selected

@@ -3,3 +3,4 @@ pub mod Lines
 pub mod Output
 pub mod Sound
 pub mod Selecting
+pub mod Same

@@ -1,14 +1,18 @@
 //! The report of a cut: the prefixes that carry heavy load which no more specific reported prefix explains.
 #![tactic(auto)]
 
+mod laws;
 mod line;
 mod lines;
 mod merged_intervals;
 mod report;
+mod reporting;
 mod selecting;
 mod thresholds;
 
+pub use laws::{a_cut_has_one_report, reports_are_sound};
 pub use line::Line;
 pub use lines::Lines;
 pub use report::Report;
+pub use reporting::report_of;
 pub use thresholds::threshold;

@@ -74,7 +74,8 @@ impl Cut {
 
     /// The positions of the shards, in order.
     pub fn positions(&self, alloc: Global) -> Result<Positions, AllocError>
-        ensures { IfOk result (λ positions. positions ≡ positions_of self.now) }
+        ensures positions { IfOk result (λ positions. positions ≡ positions_of self.now) }
+        ensures kept { IsCut self.now }
     {
         let mut positions = Positions::new(alloc);
         for snapshot in &self.shards {

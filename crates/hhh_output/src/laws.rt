@@ -1,0 +1,39 @@
+//! Laws of reports, each the contract of a function that does nothing.
+
+ghost use Rattle.std.specs.Prelude.{◌≡◌, ℕ, ◌*◌, ◌≤◌, List, All};
+ghost use Rattle.prefix_lattice.specs.RecordValue.{RecordValue};
+ghost use Rattle.shard_state.specs.CutValue.{CutValue, IsCut};
+ghost use Rattle.shard_state.specs.Standing.{CutStandsFor};
+ghost use Rattle.hhh_output.specs.declared.report.Report.{Report};
+ghost use Rattle.hhh_output.specs.Lines.{AreLines};
+ghost use Rattle.hhh_output.specs.Output.{IsReportOf};
+ghost use Rattle.hhh_output.specs.Sound.{IsSound};
+ghost use Rattle.hhh_output.specs.Same.{AreSame};
+
+use conditioned_bounds::{bounds_hold, only_prefixes_are_asked};
+use cut_merge::{spans_are_narrow, spans_hold_weights};
+use prefix_lattice::{prefixes_are_ordered, report_order_is_total};
+use shard_state::snapshots_hold_weights;
+
+/// A cut has one report: two that meet the definition show the same.
+pub fn a_cut_has_one_report()
+    ensures { (cut : CutValue) (phi : ℕ) (report other : Report) → AreLines report.lines → AreLines other.lines
+        → IsReportOf cut phi report → IsReportOf cut phi other → AreSame report other }
+{
+    prefixes_are_ordered();
+    report_order_is_total();
+}
+
+/// The report of a cut that stands for lists of records is sound over them.
+pub fn reports_are_sound()
+    ensures { (cut : CutValue) (lists : List (List RecordValue)) (phi : ℕ) (report : Report) → IsCut cut → CutStandsFor cut lists
+        → All (λ list. All (λ rec. 1 ≤ rec.weight) list) lists → 2000000 ≤ phi * cut.capacity → AreLines report.lines
+        → IsReportOf cut phi report → IsSound report lists cut.capacity phi }
+{
+    report_order_is_total();
+    snapshots_hold_weights();
+    spans_hold_weights();
+    spans_are_narrow();
+    only_prefixes_are_asked();
+    bounds_hold();
+}

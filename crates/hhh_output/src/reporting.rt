@@ -1,0 +1,49 @@
+//! The report of a cut.
+
+ghost use Rattle.std.specs.Prelude.{◌≡◌, ◌*◌, ◌≤◌, ◌<◌, ◌^◌, List, All, IfOk};
+ghost use Rattle.prefix_lattice.specs.RecordValue.{RecordValue};
+ghost use Rattle.shard_state.specs.CutValue.{total_of_cut};
+ghost use Rattle.shard_state.specs.Standing.{CutStandsFor};
+ghost use Rattle.hhh_output.specs.Output.{IsReportOf};
+ghost use Rattle.hhh_output.specs.Sound.{IsSound};
+
+use crate::selecting::select_lines;
+use crate::{Report, reports_are_sound, threshold};
+use conditioned_bounds::only_prefixes_are_asked;
+use cut_merge::{Merged, monitored_keys_are_few, spans_are_narrow};
+use shard_state::Cut;
+use std::alloc::{AllocError, Global};
+
+/// The report of a cut (Mitzenmacher, Steinke, Thaler 2012): the prefixes that some shard monitors, that can
+/// weigh at least `phi` parts per million of the total, and that can still do so once the lines of more
+/// specific prefixes are accounted for. Each candidate is judged once, level by level from the most specific
+/// prefixes up.
+///
+/// Where the cut stands for lists of records, the report is sound over them: each interval holds the exact
+/// weight of its prefix and is no wider than the total divided by the capacity, and each prefix without a
+/// line has a conditioned weight below the threshold. Want of memory is the only error.
+pub fn report_of(alloc: Global, cut: &Cut, phi: u32) -> Result<Report, AllocError>
+    requires some { 1 ≤ phi }
+    requires most { phi ≤ 1000000 }
+    requires wide { 2000000 ≤ phi * cut.now.capacity }
+    requires bounded { total_of_cut cut.now < 2 ^ 60 }
+    ensures report { IfOk result (IsReportOf cut.now phi) }
+    ensures sound { IfOk result (λ report. (lists : List (List RecordValue)) → CutStandsFor cut.now lists
+        → All (λ list. All (λ rec. 1 ≤ rec.weight) list) lists → IsSound report lists cut.now.capacity phi) }
+{
+    reports_are_sound();
+    monitored_keys_are_few();
+    spans_are_narrow();
+    only_prefixes_are_asked();
+    let positions = cut.positions(alloc)?;
+    let merged = Merged::of(alloc, cut)?;
+    let total = merged.total();
+    let threshold = threshold(phi, total);
+    let lines = select_lines(alloc, &merged, threshold)?;
+    Ok(Report {
+        positions,
+        total,
+        threshold,
+        lines,
+    })
+}
