@@ -7,3 +7,7 @@ pub mod Shards
 pub mod Cuts
 pub mod Weighing
 pub mod Stands
+pub mod Changes
+pub mod Events
+pub mod Runs
+pub mod Cores

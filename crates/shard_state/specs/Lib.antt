@@ -6,3 +6,5 @@ pub mod Standing
 pub mod SnapshotParts
 pub mod Folding
 pub mod Weights
+pub mod CoreValue
+pub mod Reads

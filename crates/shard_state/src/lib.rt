@@ -3,15 +3,19 @@
 #![tactic(auto)]
 
 mod cut;
+mod event;
 mod folding;
 mod laws;
 mod positions;
+mod shard_core;
 mod shard_state;
 mod snapshot;
 mod snapshot_parts;
 
 pub use cut::Cut;
+pub use event::Event;
 pub use laws::{shards_stand, snapshots_hold_weights, tables_hold_weights};
 pub use positions::Positions;
+pub use shard_core::Core;
 pub use shard_state::{Folded, ShardState};
 pub use snapshot::Snapshot;

@@ -84,6 +84,7 @@ impl ShardState {
         ensures from { result.from ≡ self.old.position }
         ensures to { result.to ≡ self.new.position }
         ensures end { (result.from ≡ result.to) ↔ (self.old.position ≡ length self.old.list) }
+        ensures kept { IsShard self.new }
     {
         steps_leave_a_table();
         keys_are_of_their_node();

@@ -55,3 +55,14 @@ returns-clause-tables c =
     let on : FoldedOn shard to = folded_on shard to keep c.self.invariant.0 later within in
     subst (λ (v : ShardValue). fold_from 0 inside.base.capacity inside.base.tables (slice_range inside.list inside.base.position to)
     ≡ fold_from 0 v.base.capacity (snapshot_of v).tables (slice_range v.list inside.position to)) c.self.view_is on.tables
+
+pub returns-clause-kept : goal.returns-clause-kept
+returns-clause-kept c =
+    let inside = c.self.inside in
+    let to = c.min-to.result in
+    let shard : ShardValue = record { list = inside.list; base = inside.base; position = inside.position } in
+    let later : shard.position ≤ to = omega (arith, c.self.invariant.0.within) in
+    let within : to ≤ length shard.list = omega arith in
+    let keep : StepsKeep = record { table = c.steps_leave_a_table.ensures.table; total = c.steps_leave_a_table.ensures.total; key = c.keys_are_of_their_node.ensures.of_record_key } in
+    let on : FoldedOn shard to = folded_on shard to keep c.self.invariant.0 later within in
+    on.is_shard

@@ -1,0 +1,133 @@
+//! The pure core: shards and callers' cuts under a list of events.
+
+ghost use Rattle.std.specs.Prelude.{◌≡◌, ◌<◌, ◌≤◌, ℕ, length, slice_get, Some, All};
+ghost use Rattle.shard_state.specs.SnapshotValue.{SnapshotValue};
+ghost use Rattle.shard_state.specs.CutValue.{CutValue, positions_of};
+ghost use Rattle.shard_state.specs.ShardValue.{ShardValue, IsShard, folded};
+ghost use Rattle.shard_state.specs.Standing.{CutStandsFor};
+ghost use Rattle.shard_state.specs.CoreValue.{AreShards, HasShape, IsCore, IsEventFor, after, capacity_of, changed, run, with_read};
+ghost use Rattle.shard_state.specs.Reads.{BasesStand, NeverFall, ReadsEach, last_of, latest, lists_of, reads_of, snapshot_in};
+
+use crate::{Cut, Event, ShardState};
+use std::marker::Model;
+
+/// The states of 1 to 16 shards of one capacity, on which events act one after the other.
+#[derive(Debug, Drop)]
+pub struct Core {
+    states: Vec<ShardState>,
+}
+
+impl Model for Core {
+    ghost use Rattle.std.specs.Prelude.{List};
+    ghost use Rattle.shard_state.specs.ShardValue.{ShardValue};
+    ghost use Rattle.shard_state.specs.CoreValue.{IsCore};
+
+    ghost Value = { List ShardValue };
+
+    ghost view = { λ c. c.states.items };
+
+    ghost invariant = { λ c. IsCore c.states.items };
+}
+
+impl Core {
+    /// The core of these states.
+    pub fn new(states: Vec<ShardState>) -> Core
+        requires { AreShards states.items }
+        ensures { result ≡ states.items }
+    {
+        all_are_kept(&states);
+        Core { states }
+    }
+
+    /// One event: a fold of a shard, or a read of a shard into its caller's cut. All else stays. It takes
+    /// no memory.
+    pub fn step(&mut self, event: Event, cuts: &mut Vec<Cut>)
+        requires event { IsEventFor (length self.old) (length cuts.old.items) event }
+        requires cuts { All (HasShape (length self.old) (capacity_of self.old)) cuts.old.items }
+        ensures shards { self.new ≡ (after (record { shards = self.old; cuts = cuts.old.items }) event).shards }
+        ensures cuts { cuts.new.items ≡ (after (record { shards = self.old; cuts = cuts.old.items }) event).cuts }
+    {
+        match event {
+            Event::Fold { shard, block } => self.fold(shard, block),
+            Event::Read { caller, shard } => self.read(caller, shard, cuts),
+        }
+    }
+
+    /// A run of events, in order. It takes no memory.
+    pub fn run_events(&mut self, events: &[Event], cuts: &mut Vec<Cut>)
+        requires events { All (IsEventFor (length self.old) (length cuts.old.items)) events.now }
+        requires cuts { All (HasShape (length self.old) (capacity_of self.old)) cuts.old.items }
+        ensures shards { self.new ≡ (run (record { shards = self.old; cuts = cuts.old.items }) events.now).shards }
+        ensures cuts { cuts.new.items ≡ (run (record { shards = self.old; cuts = cuts.old.items }) events.now).cuts }
+
+        // A caller's cut has of each shard what its last read of it met: the shard's snapshot at that position.
+        ensures latest { (caller shard : ℕ) (state : ShardValue) (before : SnapshotValue) → slice_get self.old shard ≡ Some state
+            → snapshot_in caller shard cuts.old.items ≡ Some before → snapshot_in caller shard cuts.new.items
+            ≡ Some (latest state before (reads_of caller shard (record { shards = self.old; cuts = cuts.old.items }) events.now)) }
+        ensures last_reads { (caller shard position : ℕ) (cut : CutValue) → shard < length self.old → slice_get cuts.new.items caller ≡ Some cut
+            → last_of (reads_of caller shard (record { shards = self.old; cuts = cuts.old.items }) events.now) ≡ Some position
+            → slice_get (positions_of cut) shard ≡ Some position }
+
+        // A later read of a shard by the same caller never meets a smaller position.
+        ensures never_fall { (caller shard : ℕ) (state : ShardValue) → slice_get self.old shard ≡ Some state
+            → NeverFall state.position (reads_of caller shard (record { shards = self.old; cuts = cuts.old.items }) events.now) }
+
+        // Where the bases stand for the lists, so does each cut in which every shard was read.
+        ensures stands { BasesStand self.old → (caller : ℕ) (cut : CutValue) → slice_get cuts.new.items caller ≡ Some cut
+            → ReadsEach caller (record { shards = self.old; cuts = cuts.old.items }) events.now → CutStandsFor cut (lists_of self.old) }
+
+        // There are as many shards and callers as before, and the cuts still have the core's shape.
+        ensures shards_stay { length self.new ≡ length self.old }
+        ensures callers_stay { length cuts.new.items ≡ length cuts.old.items }
+        ensures shapes { All (HasShape (length self.new) (capacity_of self.new)) cuts.new.items }
+    {
+        self.keeps();
+        self.run_in_order(events, cuts);
+    }
+
+    // What the core keeps is known here, since a field is looked at.
+    fn keeps(&self)
+        ensures { IsCore self.now }
+    {
+        let _states = &self.states;
+    }
+
+    fn run_in_order(&mut self, events: &[Event], cuts: &mut Vec<Cut>)
+        requires events { All (IsEventFor (length self.old) (length cuts.old.items)) events.now }
+        requires cuts { All (HasShape (length self.old) (capacity_of self.old)) cuts.old.items }
+        ensures shards { self.new ≡ (run (record { shards = self.old; cuts = cuts.old.items }) events.now).shards }
+        ensures cuts { cuts.new.items ≡ (run (record { shards = self.old; cuts = cuts.old.items }) events.now).cuts }
+    {
+        for event in events {
+            self.step(*event, cuts);
+        }
+    }
+
+    // A shard counts a block.
+    fn fold(&mut self, shard: u32, block: u32)
+        requires within { shard < length self.old }
+        requires block { 1 ≤ block }
+        ensures { self.new ≡ changed (folded block) shard self.old }
+    {
+        self.states[shard as usize].fold_block(block);
+    }
+
+    // A caller reads a shard.
+    fn read(&self, caller: u32, shard: u32, cuts: &mut Vec<Cut>)
+        requires caller { caller < length cuts.old.items }
+        requires shard { shard < length self.now }
+        requires cuts { All (HasShape (length self.now) (capacity_of self.now)) cuts.old.items }
+        ensures { cuts.new.items ≡ changed (with_read shard (slice_get self.now shard)) caller cuts.old.items }
+    {
+        cuts[caller as usize].copy_shard(shard, &self.states[shard as usize]);
+    }
+}
+
+// Looks at each state, so that what each keeps is known of all.
+fn all_are_kept(states: &[ShardState])
+    ensures { All IsShard states.now }
+{
+    for state in states {
+        let _position = state.position();
+    }
+}
