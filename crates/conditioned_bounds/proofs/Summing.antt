@@ -1,5 +1,5 @@
 -- What intervals say of sums of weights.
-use Rattle.std.proofs.Common.{◌≡◌, ℕ, ◌+◌, ◌-◌, ◌*◌, ◌≤◌, List, [], ◌∷◌, length, All, refl, ap, ◌∙◌, arith, pos, ◌-ℤ◌, ◌*ℤ◌, ◌≤ℤ◌}
+use Rattle.std.proofs.Common.{◌≡◌, ℕ, ◌+◌, ◌-◌, ◌*◌, ◌≤◌, List, [], ◌∷◌, length, All, refl, ap, ◌∙◌, arith, ℤ, pos, negsuc, ◌-ℤ◌, ◌*ℤ◌, ◌≤ℤ◌}
 use Rattle.std.specs.List.{sum_by}
 use Rattle.std.proofs.lemmas.List.Sums.{sum_by-cons}
 use Rattle.std.proofs.lemmas.List.Elements.{All-head, All-tail}
@@ -56,3 +56,11 @@ times_difference times ups downs most above within =
     let turned : times * (ups - downs) ≡ (ups - downs) * times = mul_comm times (ups - downs) in
     let few : times * (ups - downs) ≤ most = omega arith in
     rw same (omega (arith, ints))
+
+-- a number that is reached, taken so many times
+pub times_reached : (times most least : ℕ) (top : ℤ) → pos least ≤ℤ top → (pos times *ℤ top) ≤ℤ pos most → times * least ≤ most
+times_reached times most least (pos n) reached within =
+    let fewer : least ≤ n = omega (arith, ints) in
+    let more : times * n ≤ most = omega (arith, ints) in
+    omega (arith, mul-le times least times n (omega arith) fewer)
+times_reached times most least (negsuc n) reached within = absurd (omega (arith, ints))

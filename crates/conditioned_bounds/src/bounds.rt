@@ -1,11 +1,12 @@
 //! Bounds on conditioned weights.
 
-ghost use Rattle.std.specs.Prelude.{◌≡◌, length, IfOk};
-ghost use Rattle.prefix_lattice.specs.Explaining.{closest, kept_pairs};
-ghost use Rattle.conditioned_bounds.specs.Bounds.{bound_of};
+ghost use Rattle.std.specs.Prelude.{◌≡◌, ◌≢◌, ℕ, ◌+◌, ◌*◌, List, length, AllPairs, IfOk, sum_by, pos, ◌-ℤ◌, ◌*ℤ◌, ◌≤ℤ◌};
+ghost use Rattle.prefix_lattice.specs.RecordValue.{RecordValue};
+ghost use Rattle.prefix_lattice.specs.Explaining.{closest, kept_pairs, conditioned_weight};
+ghost use Rattle.conditioned_bounds.specs.Bounds.{bound_of, asked_of, HoldWeights, AreNarrow, AreWeights};
 
 use crate::sums::{sum_of_highs, sum_of_lows};
-use crate::{Intervals, closest, kept_pairs};
+use crate::{Intervals, bounds_hold, closest, kept_pairs};
 use prefix_lattice::{Prefix, Prefixes};
 use std::alloc::{AllocError, Global};
 
@@ -35,15 +36,47 @@ pub fn bound<I: Intervals>(
         parts.pairs ≡ length (kept_pairs (closest prefix.now reported.now))) }
     ensures value { IfOk result (λ parts.
         parts.value ≡ bound_of (I.low intervals.now) (I.high intervals.now) prefix.now reported.now) }
+
+    // Over any records, where the reported lines are distinct:
+    ensures at_least { IfOk result (λ parts. (records : List RecordValue)
+        → AllPairs (λ line other. line ≢ other) reported.now
+        → HoldWeights (I.low intervals.now) (I.high intervals.now) records (asked_of prefix.now reported.now)
+        → pos (conditioned_weight prefix.now reported.now records) ≤ℤ parts.value) }
+    ensures at_most { IfOk result (λ parts. (records : List RecordValue) (times whole : ℕ)
+        → AllPairs (λ line other. line ≢ other) reported.now
+        → HoldWeights (I.low intervals.now) (I.high intervals.now) records (asked_of prefix.now reported.now)
+        → AreNarrow (I.low intervals.now) (I.high intervals.now) times whole (asked_of prefix.now reported.now)
+        → (pos times *ℤ parts.value) ≤ℤ pos (times * conditioned_weight prefix.now reported.now records
+        + (1 + parts.closest + parts.pairs) * whole)) }
+    ensures exact { IfOk result (λ parts. (records : List RecordValue)
+        → AllPairs (λ line other. line ≢ other) reported.now
+        → AreWeights (I.low intervals.now) (I.high intervals.now) records (asked_of prefix.now reported.now)
+        → parts.value ≡ pos (conditioned_weight prefix.now reported.now records)) }
 {
+    bounds_hold();
     let lines = closest(alloc, prefix, reported)?;
     let meets = kept_pairs(alloc, &lines)?;
+    Ok(parts_of(prefix, &lines, &meets, intervals))
+}
+
+/// The bound of a prefix with these closest lines, and these meets of their kept pairs.
+fn parts_of<I: Intervals>(
+    prefix: &Prefix,
+    lines: &Prefixes,
+    meets: &Prefixes,
+    intervals: &I,
+) -> BoundParts
+    ensures value { result.value ≡ pos (I.high intervals.now prefix.now + sum_by (I.high intervals.now) meets.now)
+        -ℤ pos (sum_by (I.low intervals.now) lines.now) }
+    ensures closest { result.closest ≡ length lines.now }
+    ensures pairs { result.pairs ≡ length meets.now }
+{
     let (_, high) = intervals.interval(prefix);
     let highs = u128::from(high) + sum_of_highs(meets.as_slice(), intervals);
     let lows = sum_of_lows(lines.as_slice(), intervals);
-    Ok(BoundParts {
+    BoundParts {
         value: highs as i128 - lows as i128,
         closest: lines.len() as u64,
         pairs: meets.len() as u64,
-    })
+    }
 }

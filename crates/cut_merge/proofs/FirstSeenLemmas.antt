@@ -1,8 +1,10 @@
 -- Keys in first-seen order: one more, many more, and what stands among them.
-use Rattle.std.proofs.Common.{◌≡◌, ℕ, eqb, not, cond, ◌&&◌, ◌||◌, Bool, true, false, List, [], ◌∷◌, ◌++◌, filter, fold, refl, sym, ap, ◌∙◌, subst, if◌then◌else◌}
+use Rattle.std.proofs.Common.{◌≡◌, ◌≢◌, ℕ, ◌≤◌, zero, suc, ◌⊎◌, inl, inr, length, All, AllPairs, Contains, arith, eqb, not, cond, ◌&&◌, ◌||◌, Bool, true, false, List, [], ◌∷◌, ◌++◌, filter, fold, refl, sym, ap, ◌∙◌, subst, if◌then◌else◌}
 use Rattle.std.proofs.lemmas.Bool.{eqb-true, eq-eqb, false≢true}
 use Rattle.std.proofs.lemmas.List.{append_assoc, append-nil}
-use Rattle.std.proofs.lemmas.List.Elements.{filter-append}
+use Rattle.std.proofs.lemmas.List.Elements.{filter-append, All-cons, All-head, All-tail, All-filter, All-weaker, filter_passes}
+use Rattle.std.proofs.lemmas.List.Kept.{AllPairs-cons, AllPairs-filter}
+use Rattle.std.proofs.lemmas.List.Sums.{length-filter, count_by-le-length}
 use Rattle.std.proofs.lemmas.Map.Views.{any-filter_same}
 use Rattle.std.specs.List.{list_any}
 use Rattle.cut_merge.specs.FirstSeen.{first_seen, seen}
@@ -55,3 +57,62 @@ pub first_seen-append : (keys more : List ℕ) → first_seen (keys ++ more) ≡
 first_seen-append keys [] = ap first_seen (append-nil keys)
 first_seen-append keys (key ∷ more) =
     ap first_seen (sym (append_assoc keys (key ∷ []) more)) ∙ first_seen-append (keys ++ key ∷ []) more ∙ ap (λ start. fold seen start more) (first_seen-push keys key)
+
+-- an element of a list is its head or stands in its tail
+contains-cons : (x : ℕ) (xs : List ℕ) (y : ℕ) → Contains (x ∷ xs) y → (x ≡ y) ⊎ Contains xs y
+contains-cons x xs y (zero, below, at) = inl at
+contains-cons x xs y (suc k, below, at) = inr (k, omega arith, at)
+
+pub contains-head : (x : ℕ) (xs : List ℕ) → Contains (x ∷ xs) x
+contains-head x xs = (0, omega arith, refl)
+
+pub contains-tail : (x : ℕ) (xs : List ℕ) (y : ℕ) → Contains xs y → Contains (x ∷ xs) y
+contains-tail x xs y (k, below, at) = (suc k, omega arith, at)
+
+contains-nil : (y : ℕ) → Contains {X = ℕ} [] y → ⊥
+contains-nil y (k, below, at) = omega arith
+
+-- a key that differs from the first stands among the others
+others-contains : (first key : ℕ) (keys : List ℕ) → eqb first key ≡ false → Contains keys key → Contains (others first keys) key
+others-contains first key [] differs there = absurd (contains-nil key there)
+others-contains first key (k ∷ keys) differs there = by (eqb first k) refl (others-contains first key keys differs) (contains-cons k keys key there)
+  where
+    by : (b : Bool) → eqb first k ≡ b → (Contains keys key → Contains (others first keys) key) → (k ≡ key) ⊎ Contains keys key
+        → Contains (cond (not b) (k ∷ others first keys) (others first keys)) key
+    by true same rest (inl is) = absurd (false≢true (sym differs ∙ ap (eqb first) (sym is) ∙ same))
+    by true same rest (inr later) = rest later
+    by false _ rest (inl is) = subst (Contains (k ∷ others first keys)) is (contains-head k (others first keys))
+    by false _ rest (inr later) = contains-tail k (others first keys) key (rest later)
+
+-- each key of a list is seen
+pub first_seen-contains : (keys : List ℕ) (key : ℕ) → Contains keys key → Contains (first_seen keys) key
+first_seen-contains [] key there = there
+first_seen-contains (first ∷ keys) key there = by (eqb first key) refl (first_seen-contains keys key) (contains-cons first keys key there)
+  where
+    by : (b : Bool) → eqb first key ≡ b → (Contains keys key → Contains (first_seen keys) key) → (first ≡ key) ⊎ Contains keys key
+        → Contains (first ∷ others first (first_seen keys)) key
+    by _ _ rest (inl is) = subst (Contains (first ∷ others first (first_seen keys))) is (contains-head first (others first (first_seen keys)))
+    by true same rest (inr _) = subst (Contains (first ∷ others first (first_seen keys))) (eqb-true first key same) (contains-head first (others first (first_seen keys)))
+    by false differs rest (inr later) = contains-tail first (others first (first_seen keys)) key (others-contains first key (first_seen keys) differs (rest later))
+
+-- what holds of each key of a list holds of each that is seen
+pub first_seen-all : (P : ℕ → Type 0) (keys : List ℕ) → All P keys → All P (first_seen keys)
+first_seen-all P [] all = all
+first_seen-all P (first ∷ keys) all =
+    All-cons P first (others first (first_seen keys)) (All-head P first keys all)
+    (All-filter (λ other. not (eqb first other)) P (first_seen keys) (first_seen-all P keys (All-tail P first keys all)))
+
+-- no key is seen twice
+pub first_seen-distinct : (keys : List ℕ) → AllPairs (λ key other. key ≢ other) (first_seen keys)
+first_seen-distinct [] = λ i j d before below. absurd (omega arith)
+first_seen-distinct (first ∷ keys) =
+    AllPairs-cons (λ key other. key ≢ other) first (others first (first_seen keys))
+    (All-weaker (λ other. not (eqb first other) ≡ true) (λ other. first ≢ other) (λ other passes same. false≢true (sym (ap not (eq-eqb first other same)) ∙ passes))
+      (others first (first_seen keys)) (filter_passes (λ other. not (eqb first other)) (first_seen keys)))
+    (AllPairs-filter (λ key other. key ≢ other) (λ other. not (eqb first other)) (first_seen keys) (first_seen-distinct keys))
+
+-- and no more keys are seen than there are
+pub first_seen-length : (keys : List ℕ) → length (first_seen keys) ≤ length keys
+first_seen-length [] = omega arith
+first_seen-length (first ∷ keys) =
+    omega (arith, first_seen-length keys, length-filter (λ other. not (eqb first other)) (first_seen keys), count_by-le-length (λ other. not (eqb first other)) (first_seen keys))

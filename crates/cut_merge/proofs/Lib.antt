@@ -4,3 +4,5 @@ pub mod FirstSeenLemmas
 pub mod MergingTables
 pub mod CutTables
 pub mod MergingCut
+pub mod Spans
+pub mod MonitoredKeys

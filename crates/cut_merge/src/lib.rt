@@ -3,8 +3,10 @@
 #![tactic(auto)]
 
 mod gain;
+mod laws;
 mod merged;
 mod node_merge;
 
 pub use gain::Gain;
+pub use laws::{monitored_keys_are_few, spans_are_narrow, spans_hold_weights};
 pub use merged::Merged;

@@ -72,6 +72,7 @@ impl Merged {
         ensures high { result.1 ≡ (interval_for self.now prefix.now).high }
         ensures ordered { result.0 ≤ result.1 }
         ensures within_total { result.1 ≤ self.now.total }
+        ensures bounded { result.1 < 2 ^ 60 }
     {
         let merge = &self.nodes[usize::from(prefix.node().index())];
         merge.interval(prefix.key())

@@ -1,3 +1,2 @@
 pub mod WordLists
-pub mod Weights
 pub mod Ending

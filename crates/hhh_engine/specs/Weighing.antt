@@ -1,21 +1,17 @@
 -- The weight of a prefix as the program tells it.
-use Rattle.std.specs.Prelude.{ℕ, ◌-◌, ◌*◌, ◌≤◌, List, ◌++◌, map, codes, decimal, Option}
+use Rattle.std.specs.Prelude.{ℕ, ◌-◌, ◌*◌, ◌≤◌, List, ◌++◌, codes, decimal, Option}
 use Rattle.std.specs.Io.KnownBytes.{Appends}
 use Rattle.outside_io.specs.Pieces.{AppendsBeginning}
 use Rattle.prefix_lattice.specs.RecordValue.{RecordValue}
-use Rattle.prefix_lattice.specs.NodeValue.{NodeValue}
 use Rattle.prefix_lattice.specs.PrefixValue.{PrefixValue}
-use Rattle.prefix_lattice.specs.Prefix.{node_of, prefix_at, key_of, weight_of, total_weight}
-use Rattle.space_saving.specs.Table.{Add, Interval, interval_after}
+use Rattle.prefix_lattice.specs.Prefix.{node_of, key_of, weight_of, total_weight}
+use Rattle.space_saving.specs.Table.{Interval, interval_after}
+use Rattle.shard_state.specs.Tables.{adds_of}
 use Rattle.pcap_frames.specs.FrameValue.{FrameValue}
 use Rattle.pcap_frames.specs.Capture.{IsCapture}
 use Rattle.frame_records.specs.FrameRecord.{records_of}
 use Rattle.frame_records.specs.declared.weigh.Weigh.TheVariants.{Bytes}
 use Rattle.hhh_engine.specs.Words.{AskToWeigh}
-
--- what records add to a table at a node: each its weight, for the key of its prefix there
-abbrev pub adds_of : NodeValue → List RecordValue → List Add
-adds_of node records = map (λ rec. record { key = key_of (prefix_at node rec); weight = rec.weight }) records
 
 -- the capacity of the table that weighs a prefix
 abbrev pub weigh_capacity : ℕ

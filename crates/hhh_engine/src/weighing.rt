@@ -2,12 +2,13 @@
 
 ghost use Rattle.std.specs.Prelude.{◌≡◌, ◌≤◌, ◌^◌, List, length, All, IfOk};
 ghost use Rattle.prefix_lattice.specs.RecordValue.{RecordValue};
-ghost use Rattle.hhh_engine.specs.Weighing.{text_for, weigh_text, adds_of, HoldsWeight};
-ghost use Rattle.space_saving.specs.Table.{table_of};
+ghost use Rattle.hhh_engine.specs.Weighing.{text_for, weigh_text, HoldsWeight};
+ghost use Rattle.shard_state.specs.Tables.{records_table};
 
 use crate::decimal_text::push_number;
-use prefix_lattice::{Node, Prefix, Record, keys_tell_covering};
-use space_saving::{PlainTable, Summary, adds_leave_a_table, intervals_hold};
+use prefix_lattice::{Node, Prefix, Record};
+use shard_state::tables_hold_weights;
+use space_saving::{PlainTable, Summary};
 use std::alloc::{AllocError, Global};
 
 // How many prefixes the table of the prefix's node can tell apart.
@@ -21,7 +22,7 @@ pub fn weigh_text(alloc: Global, prefix: &Prefix, records: &[Record]) -> Result<
     ensures text { IfOk result (λ text. text.items ≡ text_for prefix.now records.now) }
     ensures holds { HoldsWeight prefix.now records.now }
 {
-    adds_leave_a_table();
+    tables_hold_weights();
     weight_is_held(prefix);
     let key = prefix.key();
     let table = fold_records(alloc, prefix.node(), records)?;
@@ -33,15 +34,14 @@ pub fn weigh_text(alloc: Global, prefix: &Prefix, records: &[Record]) -> Result<
 fn weight_is_held(prefix: &Prefix)
     ensures { (records : List RecordValue) → All (λ rec. 1 ≤ rec.weight) records → HoldsWeight prefix.now records }
 {
-    keys_tell_covering();
-    intervals_hold();
+    tables_hold_weights();
     let _key = prefix.key();
 }
 
 // The table of the records at a node.
 fn fold_records(alloc: Global, node: Node, records: &[Record]) -> Result<PlainTable, AllocError>
     requires { length records.now ≤ 2 ^ 24 }
-    ensures { IfOk result (λ table. table ≡ record { capacity = 64; entries = table_of 64 (adds_of node records.now) }) }
+    ensures { IfOk result (λ table. table ≡ record { capacity = 64; entries = records_table 64 node records.now }) }
 {
     let mut table = PlainTable::with_capacity(alloc, WEIGH_CAPACITY)?;
     for rec in records {

@@ -1,3 +1,5 @@
 pub mod Rising
 pub mod Nearness
 pub mod Uniqueness
+pub mod Soundness
+pub mod Finding

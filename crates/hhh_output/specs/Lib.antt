@@ -2,3 +2,4 @@ pub mod Threshold
 pub mod Lines
 pub mod Output
 pub mod Sound
+pub mod Selecting

@@ -3,7 +3,9 @@
 
 mod line;
 mod lines;
+mod merged_intervals;
 mod report;
+mod selecting;
 mod thresholds;
 
 pub use line::Line;

@@ -1,12 +1,12 @@
 //! Laws of the lattice. A caller that runs one has it at hand.
 
-ghost use Rattle.std.specs.Prelude.{◌≡◌, ◌≢◌, ◌<◌, ◌≤◌, ◌↔◌, ℕ, List, ◌∷◌, ◌++◌, length, All, AllPairs, true};
+ghost use Rattle.std.specs.Prelude.{◌≡◌, ◌≢◌, ◌<◌, ◌≤◌, ◌↔◌, ℕ, List, ◌∷◌, ◌++◌, length, All, AllPairs, IsSomeAnd, true};
 ghost use Rattle.std.specs.Cmp.{IsTotalOrder};
 ghost use Rattle.prefix_lattice.specs.NodeValue.{level_of};
 ghost use Rattle.prefix_lattice.specs.RecordValue.{RecordValue};
 ghost use Rattle.prefix_lattice.specs.PrefixValue.{PrefixValue, IsPrefix};
 ghost use Rattle.prefix_lattice.specs.Prefix.{covers, node_of};
-ghost use Rattle.prefix_lattice.specs.Lattice.{under, strictly_under, report_order};
+ghost use Rattle.prefix_lattice.specs.Lattice.{under, strictly_under, meet, report_order};
 ghost use Rattle.prefix_lattice.specs.PrefixText.{space, source_part, dest_part, prefix_text, SpellsPrefix};
 ghost use Rattle.prefix_lattice.specs.Explaining.{lines_under, one_covers, closest, kept_pairs, AreIncomparable, ObeysStaircase};
 
@@ -49,6 +49,13 @@ pub fn closest_lines_explain()
     ensures incomparable { (prefix : PrefixValue) (lines : List PrefixValue)
         → AllPairs (λ line other. line ≢ other) lines → AreIncomparable (closest prefix lines) }
     ensures under { (prefix : PrefixValue) (lines : List PrefixValue) → All (λ line. strictly_under line prefix ≡ true) (closest prefix lines) }
+{}
+
+/// A law of meets: the meet of two prefixes is under both, and what is under both is under it.
+pub fn meets_are_greatest()
+    ensures under_both { (prefix other lowest : PrefixValue) → meet prefix other ≡ Some lowest → (under lowest prefix ≡ true) × (under lowest other ≡ true) }
+    ensures greatest { (prefix other lower : PrefixValue) → under lower prefix ≡ true → under lower other ≡ true
+        → IsSomeAnd (meet prefix other) (λ lowest. under lower lowest ≡ true) }
 {}
 
 /// A law of kept pairs: their meets are strictly under what all members are strictly under, and they are prefixes.

@@ -15,7 +15,8 @@ mod side_writing;
 
 pub use decimal::number_of;
 pub use laws::{
-    closest_lines_explain, covering_goes_up, kept_meets_stay_under, prefix_texts_read_back,
+    closest_lines_explain, covering_goes_up, kept_meets_stay_under, meets_are_greatest,
+    prefix_texts_read_back,
     prefixes_are_ordered, report_order_is_total, staircase_law,
 };
 pub use node::Node;

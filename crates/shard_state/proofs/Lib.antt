@@ -5,3 +5,5 @@ pub mod Keyed
 pub mod Folds
 pub mod Shards
 pub mod Cuts
+pub mod Weighing
+pub mod Stands

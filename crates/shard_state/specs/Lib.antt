@@ -5,3 +5,4 @@ pub mod ShardValue
 pub mod Standing
 pub mod SnapshotParts
 pub mod Folding
+pub mod Weights

@@ -4,12 +4,14 @@
 
 mod cut;
 mod folding;
+mod laws;
 mod positions;
 mod shard_state;
 mod snapshot;
 mod snapshot_parts;
 
 pub use cut::Cut;
+pub use laws::{shards_stand, snapshots_hold_weights, tables_hold_weights};
 pub use positions::Positions;
 pub use shard_state::{Folded, ShardState};
 pub use snapshot::Snapshot;

@@ -1,8 +1,7 @@
-use Rattle.hhh_engine.proofs.Weights.{weight_held}
+use Rattle.std.proofs.Common.{arith}
 use Rattle.hhh_engine.proofs.weighing.weight_is_held.Goals as goal
 
 pub returns : goal.returns
-returns c = λ records weighed. weight_held c.args.prefix.now records
-    (record { tell = λ rec. c.keys_tell_covering.ensures c.args.prefix.now rec c.key-key.ensures.prefix })
-    (record { low = c.intervals_hold.ensures.low; high = c.intervals_hold.ensures.high; width = c.intervals_hold.ensures.width })
-    weighed
+returns c = λ records weighed.
+    let held = c.tables_hold_weights.ensures.weight 64 c.args.prefix.now records (omega arith) c.key-key.ensures.prefix weighed in
+    record { low = held.low; high = held.high; width = held.width }

@@ -11,7 +11,7 @@ loop-place-preserved c =
     let entries = c.args.table.now.entries in
     let entry = c.entry.result in
     All-more (λ (e : Entry). IsKeyOf c.args.node e.key) entries c.loop-place.place entry (omega arith) c.loop-place.invariant
-    (subst (λ (e : Entry). IsKeyOf c.args.node e.key) (sym (get_or_from_slice_get entries c.loop-place.place entry entry c.entry.ensures))
+    (subst (λ (e : Entry). IsKeyOf c.args.node e.key) (sym (get_or_from_slice_get entries c.loop-place.place entry entry c.entry.ensures.entry))
     (c.from_key.ensures.accepted.0 (c.is_none.ensures ∙ ap not c.if-is_none.false)))
 
 pub returns : goal.returns

@@ -28,3 +28,11 @@ returns-clause-within_total c =
     let bounded : IsWithinTotal merged.total (interval_of c.index-merge.result.now c.key.result) =
     within_merged merged c.from.result c.key.result c.index-merge.result.now c.self.invariant within c.index-merge.ensures in
     rw (← c.self.view_is) (omega (arith, bounded.within_total, c.interval.ensures.high))
+
+pub returns-clause-bounded : goal.returns-clause-bounded
+returns-clause-bounded c =
+    let merged : MergedValue = record { capacity = c.self.inside.capacity; total = c.self.inside.total; nodes = c.self.inside.nodes.items } in
+    let within : c.from.result < length merged.nodes = omega (arith, c.self.invariant.shape, c.index.ensures.few, c.from.ensures) in
+    let bounded : IsWithinTotal merged.total (interval_of c.index-merge.result.now c.key.result) =
+    within_merged merged c.from.result c.key.result c.index-merge.result.now c.self.invariant within c.index-merge.ensures in
+    omega (arith, bounded.within_total, c.interval.ensures.high, c.self.invariant.bounded)

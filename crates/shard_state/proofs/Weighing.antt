@@ -8,7 +8,9 @@ use Rattle.prefix_lattice.specs.NodeValue.{NodeValue}
 use Rattle.prefix_lattice.specs.Prefix.{covers, node_of, prefix_at, key_of, weight_of, total_weight}
 use Rattle.space_saving.specs.Table.{Add, interval_after, weight_of_key, total_added}
 use Rattle.space_saving.specs.TableFacts.{AreWeighed}
-use Rattle.hhh_engine.specs.Weighing.{adds_of, weighed, HoldsWeight}
+use Rattle.shard_state.specs.Tables.{adds_of}
+use Rattle.shard_state.specs.Weights.{HoldsWeightOver}
+use Rattle.shard_state.proofs.Folds.{add_at}
 
 -- the sum over the elements that pass, by whether the first passes
 filtered_sum : {X : Type 0} (weight : X → ℕ) (test : X → Bool) (x : X) (xs : List X)
@@ -27,24 +29,19 @@ pub record KeysTell (prefix : PrefixValue) : Type 0 where
 weights : (prefix : PrefixValue) (records : List RecordValue) → KeysTell prefix → weight_of_key (key_of prefix) (adds_of (node_of prefix) records) ≡ weight_of prefix records
 weights prefix [] keys = refl
 weights prefix (rec ∷ records) keys =
-    let add_of : RecordValue → Add = λ r. record { key = key_of (prefix_at (node_of prefix) r); weight = r.weight } in
-    filtered_sum (λ (a : Add). a.weight) (λ a. eqb a.key (key_of prefix)) (add_of rec) (map add_of records)
-    ∙ ap (λ b. cond b rec.weight 0 + weight_of_key (key_of prefix) (map add_of records)) (sym (keys.tell rec))
+    let add : RecordValue → Add = add_at (node_of prefix) in
+    filtered_sum (λ (a : Add). a.weight) (λ a. eqb a.key (key_of prefix)) (add rec) (map add records)
+    ∙ ap (λ b. cond b rec.weight 0 + weight_of_key (key_of prefix) (map add records)) (sym (keys.tell rec))
     ∙ ap (λ n. cond (covers prefix rec) rec.weight 0 + n) (weights prefix records keys)
     ∙ sym (filtered_sum (λ (r : RecordValue). r.weight) (covers prefix) rec records)
 
 -- what records add together is what they weigh
-totals : (node : NodeValue) (records : List RecordValue) → total_added (adds_of node records) ≡ total_weight records
+pub totals : (node : NodeValue) (records : List RecordValue) → total_added (adds_of node records) ≡ total_weight records
 totals node [] = refl
 totals node (rec ∷ records) =
-    let add_of : RecordValue → Add = λ r. record { key = key_of (prefix_at node r); weight = r.weight } in
-    sum_by-cons (λ (a : Add). a.weight) (add_of rec) (map add_of records)
+    sum_by-cons (λ (a : Add). a.weight) (add_at node rec) (map (add_at node) records)
     ∙ ap (λ n. rec.weight + n) (totals node records)
     ∙ sym (sum_by-cons (λ (r : RecordValue). r.weight) rec records)
-
--- records that weigh at least 1 add at least 1
-weighed_adds : (node : NodeValue) (records : List RecordValue) → All (λ (r : RecordValue). 1 ≤ r.weight) records → AreWeighed (adds_of node records)
-weighed_adds node records weighed = All-map (λ (a : Add). 1 ≤ a.weight) (λ (r : RecordValue). record { key = key_of (prefix_at node r); weight = r.weight }) records weighed
 
 -- the laws of a table's intervals
 pub record IntervalsHold : Type 0 where
@@ -54,13 +51,14 @@ pub record IntervalsHold : Type 0 where
       → ((interval_after capacity adds key).high - (interval_after capacity adds key).low) * capacity ≤ total_added adds
 
 -- the interval of a prefix holds what it weighs
-pub weight_held : (prefix : PrefixValue) (records : List RecordValue) → KeysTell prefix → IntervalsHold → All (λ (r : RecordValue). 1 ≤ r.weight) records → HoldsWeight prefix records
-weight_held prefix records keys laws weighed_records =
+pub weight_held : (capacity : ℕ) (prefix : PrefixValue) (records : List RecordValue) → KeysTell prefix → IntervalsHold → 1 ≤ capacity
+    → All (λ (r : RecordValue). 1 ≤ r.weight) records → HoldsWeightOver capacity prefix records
+weight_held capacity prefix records keys laws some weighed =
     let adds = adds_of (node_of prefix) records in
-    let are_weighed = weighed_adds (node_of prefix) records weighed_records in
+    let interval = interval_after capacity adds (key_of prefix) in
+    let are_weighed : AreWeighed adds = All-map (λ (a : Add). 1 ≤ a.weight) (add_at (node_of prefix)) records weighed in
     record {
-      low = subst (λ x. (weighed prefix records).low ≤ x) (weights prefix records keys) (laws.low 64 adds (key_of prefix) (omega arith) are_weighed);
-      high = subst (λ x. x ≤ (weighed prefix records).high) (weights prefix records keys) (laws.high 64 adds (key_of prefix) (omega arith) are_weighed);
-      width = subst (λ n. ((weighed prefix records).high - (weighed prefix records).low) * 64 ≤ n) (totals (node_of prefix) records)
-          (laws.width 64 adds (key_of prefix) (omega arith) are_weighed);
+      low = subst (λ x. interval.low ≤ x) (weights prefix records keys) (laws.low capacity adds (key_of prefix) some are_weighed);
+      high = subst (λ x. x ≤ interval.high) (weights prefix records keys) (laws.high capacity adds (key_of prefix) some are_weighed);
+      width = subst (λ n. (interval.high - interval.low) * capacity ≤ n) (totals (node_of prefix) records) (laws.width capacity adds (key_of prefix) some are_weighed);
     }

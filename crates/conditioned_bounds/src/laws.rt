@@ -1,0 +1,58 @@
+//! Laws of bounds. A caller that runs one has it at hand.
+
+ghost use Rattle.std.specs.Prelude.{◌≡◌, ◌≢◌, ℕ, ◌+◌, ◌*◌, List, ◌≤◌, length, All, AllPairs, sum_by, pos, ◌*ℤ◌, ◌≤ℤ◌};
+ghost use Rattle.prefix_lattice.specs.RecordValue.{RecordValue};
+ghost use Rattle.prefix_lattice.specs.PrefixValue.{PrefixValue, IsPrefix};
+ghost use Rattle.prefix_lattice.specs.Prefix.{weight_of};
+ghost use Rattle.prefix_lattice.specs.Explaining.{closest, kept_pairs, conditioned_weight};
+ghost use Rattle.conditioned_bounds.specs.Bounds.{bound_of, asked_of, HoldWeights, AreNarrow, AreWeights};
+
+use prefix_lattice::{
+    closest_lines_explain, covering_goes_up, kept_meets_stay_under, meets_are_greatest,
+    staircase_law,
+};
+
+/// A law of weights: a prefix and the meets of its closest lines' kept pairs weigh together what those lines
+/// and the conditioned weight do.
+pub fn weights_balance()
+    ensures { (prefix : PrefixValue) (lines : List PrefixValue) (records : List RecordValue)
+        → AllPairs (λ line other. line ≢ other) lines
+        → weight_of prefix records + sum_by (λ lowest. weight_of lowest records) (kept_pairs (closest prefix lines))
+        ≡ sum_by (λ line. weight_of line records) (closest prefix lines) + conditioned_weight prefix lines records }
+{
+    covering_goes_up();
+    meets_are_greatest();
+    closest_lines_explain();
+    staircase_law();
+}
+
+/// A law of bounds over distinct lines, whatever the intervals. Where they hold the weights over some records,
+/// the bound is at least the conditioned weight, and above it by no more than their widths, as is each number
+/// that it reaches. Where they are the weights, it is the conditioned weight.
+pub fn bounds_hold()
+    ensures at_least { (low high : PrefixValue → ℕ) (prefix : PrefixValue) (lines : List PrefixValue) (records : List RecordValue)
+        → AllPairs (λ line other. line ≢ other) lines → HoldWeights low high records (asked_of prefix lines)
+        → pos (conditioned_weight prefix lines records) ≤ℤ bound_of low high prefix lines }
+    ensures at_most { (low high : PrefixValue → ℕ) (prefix : PrefixValue) (lines : List PrefixValue) (records : List RecordValue) (times whole : ℕ)
+        → AllPairs (λ line other. line ≢ other) lines → HoldWeights low high records (asked_of prefix lines)
+        → AreNarrow low high times whole (asked_of prefix lines)
+        → (pos times *ℤ bound_of low high prefix lines) ≤ℤ pos (times * conditioned_weight prefix lines records
+        + (1 + length (closest prefix lines) + length (kept_pairs (closest prefix lines))) * whole) }
+    ensures reached { (low high : PrefixValue → ℕ) (prefix : PrefixValue) (lines : List PrefixValue) (records : List RecordValue) (times whole least : ℕ)
+        → AllPairs (λ line other. line ≢ other) lines → HoldWeights low high records (asked_of prefix lines)
+        → AreNarrow low high times whole (asked_of prefix lines) → pos least ≤ℤ bound_of low high prefix lines
+        → times * least ≤ times * conditioned_weight prefix lines records
+        + (1 + length (closest prefix lines) + length (kept_pairs (closest prefix lines))) * whole }
+    ensures exact { (low high : PrefixValue → ℕ) (prefix : PrefixValue) (lines : List PrefixValue) (records : List RecordValue)
+        → AllPairs (λ line other. line ≢ other) lines → AreWeights low high records (asked_of prefix lines)
+        → bound_of low high prefix lines ≡ pos (conditioned_weight prefix lines records) }
+{
+    weights_balance();
+}
+
+/// A law of what a bound asks: the intervals of prefixes alone.
+pub fn only_prefixes_are_asked()
+    ensures { (prefix : PrefixValue) (lines : List PrefixValue) → IsPrefix prefix → All IsPrefix lines → All IsPrefix (asked_of prefix lines) }
+{
+    kept_meets_stay_under();
+}

@@ -1,0 +1,44 @@
+//! What the spans of a cut say of weights, each law the contract of a function that does nothing.
+
+ghost use Rattle.std.specs.Prelude.{◌≡◌, ◌≢◌, ℕ, ◌*◌, ◌≤◌, List, length, All, AllPairs, Contains};
+ghost use Rattle.prefix_lattice.specs.RecordValue.{RecordValue};
+ghost use Rattle.prefix_lattice.specs.NodeValue.{NodeValue, IsNode};
+ghost use Rattle.prefix_lattice.specs.PrefixValue.{PrefixValue, IsPrefix};
+ghost use Rattle.prefix_lattice.specs.Prefix.{node_of, key_of, weight_of, total_weight};
+ghost use Rattle.prefix_lattice.specs.Key.{IsKeyOf};
+ghost use Rattle.shard_state.specs.CutValue.{CutValue, IsCut, positions_of, total_of_cut};
+ghost use Rattle.shard_state.specs.Standing.{CutStandsFor, records_before};
+ghost use Rattle.shard_state.specs.Weights.{Holds};
+ghost use Rattle.cut_merge.specs.Span.{span, monitored_at, IsWithinTotal};
+
+use shard_state::snapshots_hold_weights;
+use space_saving::intervals_are_narrow;
+
+/// Where a cut stands for lists of records, the span of each prefix holds its exact weight over the records
+/// before the positions, and is no wider than the total divided by the capacity.
+pub fn spans_hold_weights()
+    ensures { (cut : CutValue) (lists : List (List RecordValue)) (prefix : PrefixValue) → IsCut cut → CutStandsFor cut lists
+        → All (λ list. All (λ rec. 1 ≤ rec.weight) list) lists → IsPrefix prefix
+        → Holds (span cut prefix) cut.capacity (weight_of prefix (records_before lists (positions_of cut))) (total_of_cut cut) }
+{
+    snapshots_hold_weights();
+}
+
+/// In every cut a span has its ends in order and within the total, and a prefix that no shard monitors has a
+/// high of at most the total divided by the capacity.
+pub fn spans_are_narrow()
+    ensures within { (cut : CutValue) (prefix : PrefixValue) → IsCut cut → IsPrefix prefix → IsWithinTotal (total_of_cut cut) (span cut prefix) }
+    ensures light { (cut : CutValue) (prefix : PrefixValue) → IsCut cut → IsPrefix prefix
+        → ¬ Contains (monitored_at cut (node_of prefix)) (key_of prefix) → (span cut prefix).high * cut.capacity ≤ total_of_cut cut }
+{
+    intervals_are_narrow();
+}
+
+/// The keys that a cut monitors at a node are keys of the node, each stands once, and there are at most as many
+/// as the shards' tables have entries.
+pub fn monitored_keys_are_few()
+    ensures keyed { (cut : CutValue) (node : NodeValue) → IsCut cut → IsNode node → All (IsKeyOf node) (monitored_at cut node) }
+    ensures distinct { (cut : CutValue) (node : NodeValue) → AllPairs (λ key other. key ≢ other) (monitored_at cut node) }
+    ensures few { (cut : CutValue) (node : NodeValue) → IsCut cut → IsNode node
+        → length (monitored_at cut node) ≤ length cut.shards * cut.capacity }
+{}

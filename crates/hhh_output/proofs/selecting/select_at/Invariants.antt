@@ -1,0 +1,5 @@
+use Rattle.hhh_output.proofs.Finding.{Judged}
+use Rattle.hhh_output.proofs.selecting.select_at.Given as goal
+
+abbrev pub invariant-loop-key : goal.invariant-loop-key
+invariant-loop-key l = Judged l.merged l.threshold l.reported l.node l.key-items l.initial.found.items l.found.items l.key-index

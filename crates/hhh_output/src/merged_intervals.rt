@@ -1,0 +1,23 @@
+//! The intervals of merged tables, as bounds ask them.
+
+use conditioned_bounds::Intervals;
+use cut_merge::Merged;
+use prefix_lattice::Prefix;
+
+/// The intervals of merged tables.
+#[derive(Clone, Copy)]
+pub(crate) struct MergedIntervals<'a> {
+    pub(crate) merged: &'a Merged,
+}
+
+impl Intervals for MergedIntervals<'_> {
+    ghost use Rattle.hhh_output.specs.Selecting.{merged_low, merged_high};
+
+    ghost low = { λ s. merged_low s.merged.now };
+
+    ghost high = { λ s. merged_high s.merged.now };
+
+    fn interval(&self, prefix: &Prefix) -> (u64, u64) {
+        self.merged.interval(prefix)
+    }
+}

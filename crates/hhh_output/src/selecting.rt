@@ -1,0 +1,127 @@
+//! Finding the lines of a report: level by level, from the most specific prefixes up, each candidate is
+//! judged by the lines of greater level.
+
+ghost use Rattle.std.specs.Prelude.{◌≡◌, ◌≢◌, ◌+◌, ◌≤◌, ◌<◌, ◌^◌, ◌↔◌, ◌⊎◌, [], ◌++◌, length, All, AllPairs, Contains, IfOk, OnOk, Some};
+ghost use Rattle.std.specs.Option.{option_to_list};
+ghost use Rattle.prefix_lattice.specs.NodeValue.{IsNode, level_of};
+ghost use Rattle.prefix_lattice.specs.Prefix.{node_of};
+ghost use Rattle.cut_merge.specs.Span.{candidates_at};
+ghost use Rattle.hhh_output.specs.declared.line.Line.{Line as LineValue};
+ghost use Rattle.hhh_output.specs.Lines.{prefixes_of};
+ghost use Rattle.hhh_output.specs.Selecting.{IsAsked, IsSelected, AreCandidates, AreDistinct, AreOfLevel, AreDownTo};
+
+use crate::merged_intervals::MergedIntervals;
+use crate::{Line, Lines};
+use conditioned_bounds::bound;
+use cut_merge::Merged;
+use prefix_lattice::{Node, Prefix, Prefixes, prefixes_are_ordered, report_order_is_total};
+use std::alloc::{AllocError, Global};
+
+/// The lines that merged tables ask for, in the order of a report.
+pub(crate) fn select_lines(alloc: Global, merged: &Merged, threshold: u64) -> Result<Lines, AllocError>
+    requires { AreCandidates merged.now }
+    ensures { IfOk result (λ lines. AreDownTo merged.now threshold 9 lines) }
+{
+    prefixes_are_ordered();
+    let mut lines = Lines::new(alloc);
+    let mut reported = Prefixes::new(alloc);
+    for levels in 0..9 {
+        let found = select_level(alloc, merged, threshold, &reported, 8 - levels)?;
+        append(&mut lines, &mut reported, &found)?;
+    }
+    Ok(lines)
+}
+
+// Appends lines, and their prefixes.
+fn append(lines: &mut Lines, reported: &mut Prefixes, found: &[Line]) -> Result<(), AllocError>
+    ensures lines { OnOk result (lines.new ≡ lines.old ++ found.now) }
+    ensures prefixes { OnOk result (reported.new ≡ reported.old ++ prefixes_of found.now) }
+{
+    for line in found {
+        lines.push(*line)?;
+        reported.push(line.prefix)?;
+    }
+    Ok(())
+}
+
+// The lines of a level that merged tables ask for over these lines, in the order of a report.
+fn select_level(
+    alloc: Global,
+    merged: &Merged,
+    threshold: u64,
+    reported: &Prefixes,
+    level: u8,
+) -> Result<Vec<Line>, AllocError>
+    requires { AreCandidates merged.now }
+    ensures { IfOk result (λ found. AreOfLevel merged.now threshold reported.now level found.items) }
+{
+    report_order_is_total();
+    let mut found = Vec::new(alloc);
+    for place in 0..25 {
+        let node = Node::from_index(place).unwrap();
+        if node.level() == level {
+            select_at(alloc, merged, threshold, reported, node, &mut found)?;
+        }
+    }
+    found.sort_by(|line, other| line.prefix.order(&other.prefix))?;
+    Ok(found)
+}
+
+// Adds the lines of a node that merged tables ask for over these lines.
+fn select_at(
+    alloc: Global,
+    merged: &Merged,
+    threshold: u64,
+    reported: &Prefixes,
+    node: Node,
+    found: &mut Vec<Line>,
+) -> Result<(), AllocError>
+    requires is_node { IsNode node }
+    requires candidates { AreCandidates merged.now }
+    requires apart { All (λ line. node_of line.prefix ≢ node) found.old.items }
+    requires distinct { AreDistinct found.old.items }
+    ensures members { OnOk result ((line : LineValue) → Contains found.new.items line
+        ↔ (Contains found.old.items line ⊎ ((node_of line.prefix ≡ node) × IsSelected merged.now threshold reported.now line))) }
+    ensures distinct { OnOk result (AreDistinct found.new.items) }
+    ensures few { OnOk result (length found.new.items ≤ length found.old.items + length (candidates_at merged.now node)) }
+{
+    for key in merged.candidates(node) {
+        let prefix = Prefix::from_key(*key, node).unwrap();
+        let line = line_for(alloc, merged, threshold, reported, prefix)?;
+        push_found(found, line)?;
+    }
+    Ok(())
+}
+
+// Appends a line, if there is one.
+fn push_found(found: &mut Vec<Line>, line: Option<Line>) -> Result<(), AllocError>
+    ensures { OnOk result (found.new.items ≡ found.old.items ++ option_to_list line) }
+{
+    if let Some(line) = line {
+        found.push(line)?;
+    }
+    Ok(())
+}
+
+// The line of a prefix, if merged tables ask for it over these lines.
+fn line_for(
+    alloc: Global,
+    merged: &Merged,
+    threshold: u64,
+    reported: &Prefixes,
+    prefix: Prefix,
+) -> Result<Option<Line>, AllocError>
+    ensures asked { IfOk result (λ found. (line : LineValue) → line.prefix ≡ prefix
+        → (found ≡ Some line) ↔ IsAsked merged.now threshold reported.now line) }
+    ensures prefix { IfOk result (λ found. (line : LineValue) → found ≡ Some line → line.prefix ≡ prefix) }
+{
+    let (lo, hi) = merged.interval(&prefix);
+    if hi < threshold {
+        return Ok(None);
+    }
+    let parts = bound(alloc, &prefix, reported, &MergedIntervals { merged })?;
+    if parts.value < i128::from(threshold) {
+        return Ok(None);
+    }
+    Ok(Some(Line { prefix, lo, hi }))
+}

@@ -1,0 +1,8 @@
+use Rattle.prefix_lattice.proofs.Meets.{meet-under, meet-greatest}
+use Rattle.prefix_lattice.proofs.laws.meets_are_greatest.Goals as goal
+
+pub returns-clause-under_both : goal.returns-clause-under_both
+returns-clause-under_both c = meet-under
+
+pub returns-clause-greatest : goal.returns-clause-greatest
+returns-clause-greatest c = meet-greatest

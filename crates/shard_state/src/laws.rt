@@ -1,0 +1,52 @@
+//! What the tables of shards say of weights, each law the contract of a function that does nothing.
+
+ghost use Rattle.std.specs.Prelude.{◌≡◌, ◌≤◌, ℕ, List, All, length, take};
+ghost use Rattle.prefix_lattice.specs.RecordValue.{RecordValue};
+ghost use Rattle.prefix_lattice.specs.NodeValue.{NodeValue};
+ghost use Rattle.prefix_lattice.specs.PrefixValue.{PrefixValue, IsPrefix};
+ghost use Rattle.prefix_lattice.specs.Prefix.{weight_of, total_weight};
+ghost use Rattle.space_saving.specs.Table.{total_count};
+ghost use Rattle.shard_state.specs.Tables.{records_table};
+ghost use Rattle.shard_state.specs.SnapshotValue.{SnapshotValue, empty_snapshot, total_of};
+ghost use Rattle.shard_state.specs.CutValue.{CutValue, IsCut, positions_of, total_of_cut};
+ghost use Rattle.shard_state.specs.ShardValue.{ShardValue, snapshot_of};
+ghost use Rattle.shard_state.specs.Standing.{StandsFor, CutStandsFor, records_before};
+ghost use Rattle.shard_state.specs.Weights.{Holds, HoldsWeightOver, interval_of};
+
+use prefix_lattice::keys_tell_covering;
+use space_saving::{adds_leave_a_table, intervals_hold};
+
+/// In the table of records at a prefix's node, the interval of the prefix holds its exact weight and is no
+/// wider than the total divided by the capacity (Metwally, Agrawal, El Abbadi 2005), and the counts add up to
+/// the total weight.
+pub fn tables_hold_weights()
+    ensures weight { (capacity : ℕ) (prefix : PrefixValue) (records : List RecordValue) → 1 ≤ capacity → IsPrefix prefix
+        → All (λ rec. 1 ≤ rec.weight) records → HoldsWeightOver capacity prefix records }
+    ensures total { (capacity : ℕ) (node : NodeValue) (records : List RecordValue) → 1 ≤ capacity
+        → total_count (records_table capacity node records) ≡ total_weight records }
+{
+    keys_tell_covering();
+    intervals_hold();
+    adds_leave_a_table();
+}
+
+/// A snapshot that stands for a list holds the weights of the records before its position.
+pub fn snapshots_hold_weights()
+    ensures weight { (snapshot : SnapshotValue) (list : List RecordValue) (prefix : PrefixValue) → StandsFor snapshot list → 1 ≤ snapshot.capacity
+        → IsPrefix prefix → All (λ rec. 1 ≤ rec.weight) list
+        → Holds (interval_of prefix snapshot) snapshot.capacity (weight_of prefix (take snapshot.position list)) (total_of snapshot) }
+    ensures total { (snapshot : SnapshotValue) (list : List RecordValue) → StandsFor snapshot list → 1 ≤ snapshot.capacity
+        → total_of snapshot ≡ total_weight (take snapshot.position list) }
+    ensures cut_total { (cut : CutValue) (lists : List (List RecordValue)) → IsCut cut → CutStandsFor cut lists
+        → total_of_cut cut ≡ total_weight (records_before lists (positions_of cut)) }
+{
+    tables_hold_weights();
+}
+
+/// Empty tables stand for each list, and where its base stands for its list, a shard's snapshot does so at
+/// each position.
+pub fn shards_stand()
+    ensures begins { (capacity : ℕ) (list : List RecordValue) → StandsFor (empty_snapshot capacity) list }
+    ensures goes_on { (shard : ShardValue) → StandsFor shard.base shard.list → shard.base.position ≤ shard.position
+        → shard.position ≤ length shard.list → StandsFor (snapshot_of shard) shard.list }
+{}
