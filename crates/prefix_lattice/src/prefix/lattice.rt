@@ -24,6 +24,7 @@ impl Prefix {
     }
 
     /// Under the other prefix, and not equal to it.
+    #[tactic(auto, using(crate::proofs::Meets::strictly_by_tests))]
     pub fn strictly_under(&self, other: &Prefix) -> bool
         ensures value { result ≡ strictly_under self.now other.now }
         ensures differs { IsTrue result ↔ (IsTrue (under self.now other.now) × (self.now ≢ other.now)) }
