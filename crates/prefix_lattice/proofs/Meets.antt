@@ -67,6 +67,13 @@ strictly-is lower upper first second is_first is_second = by_first first second 
     by_first true second = refl
     by_first false second = refl
 
+-- where a prefix is under another, it is strictly under it unless the other is under it too
+pub strictly_by_tests : (lower upper : PrefixValue) (back : Bool) → under lower upper ≡ true → back ≡ under upper lower
+    → (not back ≡ true) ↔ ((under lower upper ≡ true) × (lower ≢ upper))
+strictly_by_tests lower upper back is_under is_back =
+    let is_strictly : not back ≡ strictly_under lower upper = strictly-is lower upper true back (sym is_under) is_back in
+    subst (λ (test : Bool). (test ≡ true) ↔ ((under lower upper ≡ true) × (lower ≢ upper))) (sym is_strictly) (strictly-differs lower upper)
+
 -- what is under a prefix, and not strictly, is that prefix
 pub same_unless_strictly : (lower upper : PrefixValue) → under lower upper ≡ true → strictly_under lower upper ≡ false → lower ≡ upper
 same_unless_strictly lower upper is_under not_strictly = by_test (under upper lower) refl

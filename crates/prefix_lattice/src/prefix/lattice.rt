@@ -24,6 +24,7 @@ impl Prefix {
     }
 
     /// Under the other prefix, and not equal to it.
+    #[tactic(auto, using(crate::proofs::Meets::strictly_by_tests))]
     pub fn strictly_under(&self, other: &Prefix) -> bool
         ensures value { result ≡ strictly_under self.now other.now }
         ensures differs { IsTrue result ↔ (IsTrue (under self.now other.now) × (self.now ≢ other.now)) }
@@ -47,12 +48,11 @@ impl Prefix {
     pub fn order(&self, other: &Prefix) -> Ordering
         ensures { result ≡ report_order self.now other.now }
     {
-        other
-            .level()
-            .cmp(&self.level())
-            .then(self.source.address().cmp(&other.source.address()))
-            .then(self.source.len().cmp(&other.source.len()))
-            .then(self.dest.address().cmp(&other.dest.address()))
+        let level = other.level().cmp(&self.level());
+        let source = self.source().cmp(&other.source());
+        let source_bytes = self.source.len().cmp(&other.source.len());
+        let dest = self.dest().cmp(&other.dest());
+        level.then(source).then(source_bytes).then(dest)
     }
 }
 
