@@ -3,6 +3,8 @@
 #![tactic(auto)]
 
 mod gain;
+mod merged;
 mod node_merge;
 
 pub use gain::Gain;
+pub use merged::Merged;

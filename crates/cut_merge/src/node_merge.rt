@@ -50,6 +50,33 @@ impl NodeMerge {
         self.missing += missing;
         note_entries(&mut self.gains, table, missing)
     }
+
+    /// The least and the greatest weight that the key can have had.
+    pub(crate) fn interval(&self, key: u64) -> (u64, u64)
+        requires { (interval_of self.now key).high < 2 ^ 64 }
+        ensures low { result.0 ≡ (interval_of self.now key).low }
+        ensures high { result.1 ≡ (interval_of self.now key).high }
+    {
+        let gain = gain_in(&self.gains, key);
+        (gain.low, self.missing + gain.high)
+    }
+
+    /// The keys that some table monitors, in the order in which they were first seen.
+    pub(crate) fn keys(&self) -> &[u64]
+        ensures { result.now ≡ keys_of self.now.gains }
+    {
+        self.gains.keys().as_slice()
+    }
+}
+
+// What is noted for a key.
+fn gain_in(gains: &IndexMap<u64, Gain>, key: u64) -> Gain
+    ensures { result ≡ gain_of key gains.now.entries }
+{
+    match gains.get(&key) {
+        Some(gain) => *gain,
+        None => Gain::NONE,
+    }
 }
 
 // The high of a key that is missing in a table.

@@ -1,5 +1,5 @@
 -- Addresses in text: their four numbers, and that each text spells one address at most.
-use Rattle.std.proofs.Common.{◌≡◌, ℕ, ◌/◌, ◌%◌, ◌^◌, ◌<◌, eqb, List, ◌∷◌, ◌++◌, decimal, refl, sym, arith}
+use Rattle.std.proofs.Common.{◌≡◌, ℕ, ◌/◌, ◌%◌, ◌^◌, ◌<◌, eqb, false, List, ◌∷◌, ◌++◌, decimal, refl, sym, arith}
 use Rattle.std.specs.List.{before_first}
 use Rattle.std.proofs.lemmas.Fmt.{decimal_injective}
 use Rattle.prefix_lattice.specs.PrefixText.{address_text}
@@ -55,13 +55,17 @@ cut_numbers address text first after_first second after_second third fourth spel
     let three = third_number after_second third fourth address cut_third two.1 in
     record { first_is = one.0; second_is = two.0; third_is = three.0; fourth_is = three.1 }
 
+-- an address has no byte that is neither a digit nor a dot
+pub address_lacks : (byte address : ℕ) → byte < 48 → eqb 46 byte ≡ false → Lacks byte (address_text address)
+address_lacks byte address low no_dot =
+    let number : (n : ℕ) → n < 256 → Lacks byte (decimal n) = λ n small. decimal_lacks byte n low (omega arith) in
+    let joined : (n : ℕ) (rest : List ℕ) → n < 256 → Lacks byte rest → Lacks byte (decimal n ++ 46 ∷ rest) =
+    λ n rest small lacks. lacks-append byte (decimal n) (46 ∷ rest) (number n small) (lacks-cons byte 46 rest no_dot lacks) in
+    joined _ _ (omega arith) (joined _ _ (omega arith) (joined _ _ (omega arith) (number (address % 256) (omega arith))))
+
 -- an address has no slash
 pub address_lacks_slash : (address : ℕ) → Lacks 47 (address_text address)
-address_lacks_slash address =
-    let number : (n : ℕ) → n < 256 → Lacks 47 (decimal n) = λ n small. decimal_lacks 47 n (omega arith) (omega arith) in
-    let joined : (n : ℕ) (rest : List ℕ) → n < 256 → Lacks 47 rest → Lacks 47 (decimal n ++ 46 ∷ rest) =
-    λ n rest small lacks. lacks-append 47 (decimal n) (46 ∷ rest) (number n small) (lacks-cons 47 46 rest refl lacks) in
-    joined _ _ (omega arith) (joined _ _ (omega arith) (joined _ _ (omega arith) (number (address % 256) (omega arith))))
+address_lacks_slash address = address_lacks 47 address (omega arith) refl
 
 -- the numbers of an address tell it
 same_numbers : (address other : ℕ) → address < 2 ^ 32 → other < 2 ^ 32

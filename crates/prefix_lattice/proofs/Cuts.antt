@@ -1,10 +1,10 @@
 -- A text cut at a byte.
-use Rattle.std.proofs.Common.{◌≡◌, ℕ, ◌+◌, ◌^◌, ◌<◌, eqb, false, zero, suc, Some, position, List, [], ◌∷◌, ◌++◌, length, take, drop, get_or, decimal, refl, sym, ap, ◌∙◌, arith, take-append-drop, drop-cons, length-append}
-use Rattle.std.specs.List.{before_first, position_or_len}
+use Rattle.std.proofs.Common.{◌≡◌, ℕ, ◌+◌, ◌^◌, ◌<◌, eqb, false, zero, suc, Some, position, List, [], ◌∷◌, ◌++◌, length, take, drop, get_or, decimal, refl, sym, ap, ◌∙◌, arith, take-append-drop, drop-cons, length-append, append_assoc}
+use Rattle.std.specs.List.{before_first, after_first, position_or_len}
 use Rattle.std.proofs.Math.Seq.{take-append_seam, get_or-append_seam}
 use Rattle.std.proofs.Math.ListN.{get_or-append}
 use Rattle.std.proofs.lemmas.Bool.{eqb-true, eq-eqb, ne_eqb}
-use Rattle.std.proofs.lemmas.List.{drop-drop, append_cancel_left}
+use Rattle.std.proofs.lemmas.List.{drop-drop, drop_at, append_cancel_left}
 use Rattle.std.proofs.lemmas.List.Sums.{position_or_len_is}
 use Rattle.std.proofs.lemmas.List.Quantifiers.{position-Some}
 use Rattle.std.proofs.lemmas.Fmt.{decimal_is_IsNumeral, decimal_injective}
@@ -26,13 +26,24 @@ cut_joined byte place text found =
     ∙ ap (λ l. take place text ++ l) (drop-cons text place 0 within ∙ ap (λ b. b ∷ drop (suc place) text) byte_is ∙ ap (λ l. byte ∷ l) behind)
 
 -- the first such byte is the one behind a text that lacks it
-pub first_cut : (byte : ℕ) (front rest : List ℕ) → Lacks byte front → before_first (λ b. eqb b byte) (front ++ byte ∷ rest) ≡ front
-first_cut byte front rest lacks =
-    let place : position_or_len (λ b. eqb b byte) (front ++ byte ∷ rest) ≡ length front =
+first_place : (byte : ℕ) (front rest : List ℕ) → Lacks byte front → position_or_len (λ b. eqb b byte) (front ++ byte ∷ rest) ≡ length front
+first_place byte front rest lacks =
     position_or_len_is (λ b. eqb b byte) (front ++ byte ∷ rest) (length front) 0 (omega (arith, length-append front (byte ∷ rest)))
     (λ k before. ap (λ b. eqb b byte) (get_or-append front (byte ∷ rest) 0 k before) ∙ lacks.each k before)
-    (λ _. ap (λ b. eqb b byte) (get_or-append_seam front byte rest 0) ∙ eq-eqb byte byte refl) in
-    ap (λ k. take k (front ++ byte ∷ rest)) place ∙ take-append_seam front (byte ∷ rest)
+    (λ _. ap (λ b. eqb b byte) (get_or-append_seam front byte rest 0) ∙ eq-eqb byte byte refl)
+
+-- before it stands that text
+pub first_cut : (byte : ℕ) (front rest : List ℕ) → Lacks byte front → before_first (λ b. eqb b byte) (front ++ byte ∷ rest) ≡ front
+first_cut byte front rest lacks =
+    ap (λ k. take k (front ++ byte ∷ rest)) (first_place byte front rest lacks) ∙ take-append_seam front (byte ∷ rest)
+
+-- and after it all that follows
+pub first_cut_behind : (byte : ℕ) (front rest : List ℕ) → Lacks byte front → after_first (λ b. eqb b byte) (front ++ byte ∷ rest) ≡ rest
+first_cut_behind byte front rest lacks =
+    let place : position_or_len (λ b. eqb b byte) (front ++ byte ∷ rest) + 1 ≡ length (front ++ byte ∷ []) =
+    omega (arith, first_place byte front rest lacks, length-append front (byte ∷ [])) in
+    ap (λ k. drop k (front ++ byte ∷ rest)) place ∙ ap (drop (length (front ++ byte ∷ []))) (sym (append_assoc front (byte ∷ []) rest))
+    ∙ drop_at (front ++ byte ∷ []) rest (length (front ++ byte ∷ [])) refl
 
 -- there is one way to cut a text at its first such byte
 pub same_cut : (byte : ℕ) (text before after front rest : List ℕ) → before ≡ before_first (λ b. eqb b byte) text → text ≡ before ++ byte ∷ after

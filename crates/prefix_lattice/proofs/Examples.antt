@@ -7,7 +7,7 @@ use Rattle.prefix_lattice.specs.Key.{IsKeyOf}
 use Rattle.prefix_lattice.specs.PrefixValue.{PrefixValue}
 use Rattle.prefix_lattice.specs.Bytes.{address_bytes, address_of}
 use Rattle.prefix_lattice.specs.Prefix.{covers, weight_of, total_weight, node_of, prefix_at, key_of}
-use Rattle.prefix_lattice.specs.PrefixText.{address_text, side_text}
+use Rattle.prefix_lattice.specs.PrefixText.{address_text, side_text, prefix_text}
 use Rattle.prefix_lattice.specs.Lattice.{under, strictly_under, meet, report_order}
 use Rattle.prefix_lattice.specs.Explaining.{conditioned_weight, closest, kept_pairs}
 
@@ -126,3 +126,6 @@ none_of_the_stairs_is_under_another = refl
 -- the meet of the outer two is under the middle one
 pub neighbours_are_kept : kept_pairs stairs ≡ record { source = 10 ∷ 1 ∷ []; dest = 20 ∷ 1 ∷ 1 ∷ [] } ∷ record { source = 10 ∷ 1 ∷ 1 ∷ []; dest = 20 ∷ 1 ∷ [] } ∷ []
 neighbours_are_kept = refl
+
+pub text_of_a_prefix : prefix_text prefix ≡ side_text (10 ∷ []) ++ (codes " " ++ side_text (20 ∷ 1 ∷ []))
+text_of_a_prefix = refl

@@ -5,5 +5,6 @@ pub mod PrefixValue
 pub mod Prefix
 pub mod Key
 pub mod PrefixText
+pub mod Writing
 pub mod Lattice
 pub mod Explaining

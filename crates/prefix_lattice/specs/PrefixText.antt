@@ -1,6 +1,6 @@
 -- The text of a prefix: how it is spelled, and what is wrong with a text that spells none.
 use Rattle.std.specs.Prelude.{ℕ, ◌≡◌, ◌≢◌, ◌-◌, ◌*◌, ◌^◌, ◌%◌, ◌<◌, ◌≤◌, ◌⊎◌, ◌==◌, List, ◌∷◌, ◌++◌, length, map, decimal}
-use Rattle.std.specs.List.{join_with_byte, before_first}
+use Rattle.std.specs.List.{join_with_byte, before_first, after_first}
 use Rattle.prefix_lattice.specs.Bytes.{address_bytes, address_of, AreLeadingBytes}
 use Rattle.prefix_lattice.specs.PrefixValue.{PrefixValue}
 use Rattle.prefix_lattice.specs.declared.prefix_fault.Side.{Side}
@@ -27,6 +27,21 @@ side_text_of address bytes = address_text address ++ slash ∷ decimal (8 * byte
 -- how one side of a prefix is spelled: zeros stand for what is not kept
 abbrev pub side_text : List ℕ → List ℕ
 side_text front = side_text_of (address_of front) (length front)
+
+-- a space, which stands between the two sides of a prefix
+abbrev pub space : ℕ
+space = 32
+
+-- how a prefix is spelled: its source, a space and its destination
+abbrev pub prefix_text : PrefixValue → List ℕ
+prefix_text prefix = side_text prefix.source ++ space ∷ side_text prefix.dest
+
+-- what stands before the first space of a text, and what stands after it
+abbrev pub source_part : List ℕ → List ℕ
+source_part text = before_first (λ byte. byte == space) text
+
+abbrev pub dest_part : List ℕ → List ℕ
+dest_part text = after_first (λ byte. byte == space) text
 
 -- the text spells this side of a prefix
 pub record SpellsSide (text front : List ℕ) : Type 0 where

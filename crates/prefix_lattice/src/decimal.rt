@@ -1,6 +1,7 @@
-//! Decimal numbers in text.
+//! Decimal numbers in text, read and written.
 
-ghost use Rattle.std.specs.Prelude.{◌≡◌, ◌≢◌, ◌<◌, ◌^◌, ℕ, IfSome, IfNone, decimal};
+ghost use Rattle.std.specs.Prelude.{◌≡◌, ◌≢◌, ◌+◌, ◌<◌, ◌≤◌, ◌^◌, ℕ, length, IfSome, IfNone, decimal};
+ghost use Rattle.prefix_lattice.specs.Writing.{WritesPart};
 
 use itoa::Buffer;
 use std::str;
@@ -22,4 +23,17 @@ pub fn number_of(text: &[u8]) -> Option<u64>
     } else {
         None
     }
+}
+
+/// Writes a number in decimal at a place of a text, where there is room for it, and answers the place behind it.
+/// Other bytes stay.
+pub fn write_number(text: &mut [u8], at: usize, number: u8) -> usize
+    requires { at + length (decimal number) ≤ length text.old }
+    ensures { WritesPart text.old text.new at result (decimal number) }
+{
+    let mut buffer = Buffer::new();
+    let digits = buffer.format(number).as_bytes();
+    let end = at + digits.len();
+    text[at..end].copy_from_slice(digits);
+    end
 }

@@ -1,12 +1,13 @@
 //! Laws of the lattice. A caller that runs one has it at hand.
 
-ghost use Rattle.std.specs.Prelude.{◌≡◌, ◌≢◌, ◌<◌, ◌↔◌, List, All, AllPairs, IsSomeAnd, true};
+ghost use Rattle.std.specs.Prelude.{◌≡◌, ◌≢◌, ◌<◌, ◌≤◌, ◌↔◌, ℕ, List, ◌∷◌, ◌++◌, length, All, AllPairs, IsSomeAnd, true};
 ghost use Rattle.std.specs.Cmp.{IsTotalOrder};
 ghost use Rattle.prefix_lattice.specs.NodeValue.{level_of};
 ghost use Rattle.prefix_lattice.specs.RecordValue.{RecordValue};
 ghost use Rattle.prefix_lattice.specs.PrefixValue.{PrefixValue, IsPrefix};
 ghost use Rattle.prefix_lattice.specs.Prefix.{covers, node_of};
 ghost use Rattle.prefix_lattice.specs.Lattice.{under, strictly_under, meet, report_order};
+ghost use Rattle.prefix_lattice.specs.PrefixText.{space, source_part, dest_part, prefix_text, SpellsPrefix};
 ghost use Rattle.prefix_lattice.specs.Explaining.{lines_under, one_covers, closest, kept_pairs, AreIncomparable, ObeysStaircase};
 
 use std::cmp::Ordering;
@@ -29,6 +30,15 @@ pub fn covering_goes_up()
 pub fn report_order_is_total()
     ensures total { IsTotalOrder report_order }
     ensures apart { (prefix other : PrefixValue) → IsPrefix prefix → IsPrefix other → (report_order prefix other ≡ Ordering.Equal) ↔ (prefix ≡ other) }
+{}
+
+/// A law of texts: the text of a prefix is read back as that prefix, side by side, and what was read is written as it
+/// was. It is at most 37 bytes long.
+pub fn prefix_texts_read_back()
+    ensures read { (prefix : PrefixValue) → IsPrefix prefix → SpellsPrefix (source_part (prefix_text prefix)) (dest_part (prefix_text prefix)) prefix }
+    ensures written { (source dest : List ℕ) (prefix : PrefixValue) → SpellsPrefix source dest prefix → prefix_text prefix ≡ source ++ space ∷ dest }
+    ensures apart { (prefix other : PrefixValue) → IsPrefix prefix → IsPrefix other → prefix_text prefix ≡ prefix_text other → prefix ≡ other }
+    ensures short { (prefix : PrefixValue) → IsPrefix prefix → length (prefix_text prefix) ≤ 37 }
 {}
 
 /// A law of lines: those closest to a prefix explain what all lines under it do, and of distinct lines they are

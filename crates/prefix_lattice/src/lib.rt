@@ -11,11 +11,12 @@ mod prefix_text;
 mod prefixes;
 mod record;
 mod record_list;
+mod side_writing;
 
 pub use decimal::number_of;
 pub use laws::{
     closest_lines_explain, covering_goes_up, kept_meets_stay_under, meets_are_greatest,
-    prefixes_are_ordered, report_order_is_total, staircase_law,
+    prefix_texts_read_back, prefixes_are_ordered, report_order_is_total, staircase_law,
 };
 pub use node::Node;
 pub use prefix::{

@@ -11,6 +11,7 @@ ghost use Rattle.prefix_lattice.specs.declared.prefix_fault.PrefixFault.{PrefixF
 ghost use Rattle.prefix_lattice.specs.Prefix.{covers, node_of, prefix_at, key_of};
 
 mod lattice;
+mod writing;
 
 use crate::kept_bytes::KeptBytes;
 use crate::prefix_text::parse_side;

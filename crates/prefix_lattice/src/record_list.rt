@@ -1,6 +1,6 @@
 //! Records in their order.
 
-ghost use Rattle.std.specs.Prelude.{◌≡◌, ◌==◌, ◌<◌, ◌++◌, [], ◌∷◌, ◌≤◌, ◌^◌, length, All, OnOk, OnErr, slice_get, Some};
+ghost use Rattle.std.specs.Prelude.{◌≡◌, ◌==◌, ◌<◌, ◌++◌, [], ◌∷◌, ◌≤◌, ◌^◌, length, All, IfOk, OnOk, OnErr, slice_get, Some};
 
 use crate::Record;
 use std::alloc::{AllocError, Global};
@@ -71,5 +71,14 @@ impl RecordList {
         ensures bounded { All (λ rec. rec.weight < 2 ^ 32) self.now }
     {
         self.records.as_slice()
+    }
+
+    /// An equal list, with memory for its records alone.
+    pub fn copy(&self, alloc: Global) -> Result<RecordList, AllocError>
+        ensures { IfOk result (λ list. list ≡ self.now) }
+    {
+        Ok(RecordList {
+            records: Vec::from_slice(alloc, &self.records)?,
+        })
     }
 }

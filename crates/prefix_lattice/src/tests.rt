@@ -1,3 +1,6 @@
+mod lattice;
+mod staircase;
+
 use super::*;
 use std::test::Fail;
 
@@ -139,6 +142,7 @@ fn keeps_records_in_order(rt: HostRuntime) -> Result<(), Fail> {
     assert_eq!(rt; list.len(), 2);
     assert_eq!(rt; list.at(1), &second);
     assert_eq!(rt; list.as_slice(), [first, second].as_slice());
+    assert_eq!(rt; list.copy(rt.alloc())?.as_slice(), list.as_slice());
     Ok(())
 }
 

@@ -47,12 +47,11 @@ impl Prefix {
     pub fn order(&self, other: &Prefix) -> Ordering
         ensures { result ≡ report_order self.now other.now }
     {
-        other
-            .level()
-            .cmp(&self.level())
-            .then(self.source.address().cmp(&other.source.address()))
-            .then(self.source.len().cmp(&other.source.len()))
-            .then(self.dest.address().cmp(&other.dest.address()))
+        let level = other.level().cmp(&self.level());
+        let source = self.source().cmp(&other.source());
+        let source_bytes = self.source.len().cmp(&other.source.len());
+        let dest = self.dest().cmp(&other.dest());
+        level.then(source).then(source_bytes).then(dest)
     }
 }
 

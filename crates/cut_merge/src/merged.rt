@@ -1,0 +1,115 @@
+//! The tables of a cut, merged.
+
+ghost use Rattle.std.specs.Prelude.{◌≡◌, ◌^◌, ◌<◌, ◌≤◌, ℕ, IfOk};
+ghost use Rattle.prefix_lattice.specs.NodeValue.{IsNode};
+ghost use Rattle.shard_state.specs.CutValue.{total_of_cut};
+ghost use Rattle.cut_merge.specs.Merging.{interval_of, StandsForTables};
+ghost use Rattle.cut_merge.specs.Span.{node_tables, interval_for, candidates_at, IsWithinTotal, StandsForCut};
+
+use crate::node_merge::NodeMerge;
+use prefix_lattice::{Node, Prefix};
+use shard_state::Cut;
+use space_saving::intervals_are_narrow;
+use std::alloc::{AllocError, Global};
+use std::marker::Model;
+
+/// The tables of all shards of a cut, read as one: each node's keys in the order in which they are first
+/// seen, each with its interval. It is made by one pass over the entries of the cut.
+#[derive(Debug, Drop)]
+pub struct Merged {
+    capacity: u32,
+    total: u64,
+    nodes: Vec<NodeMerge>,
+}
+
+impl Model for Merged {
+    ghost use Rattle.cut_merge.specs.MergedValue.{MergedValue};
+    ghost use Rattle.cut_merge.specs.Span.{IsMerged};
+
+    ghost Value = { MergedValue };
+
+    ghost view = { λ m. record { capacity = m.capacity; total = m.total; nodes = m.nodes.items } };
+
+    ghost invariant = { λ m. IsMerged (record { capacity = m.capacity; total = m.total; nodes = m.nodes.items }) };
+}
+
+impl Merged {
+    /// Merges the tables of a cut.
+    pub fn of(alloc: Global, cut: &Cut) -> Result<Merged, AllocError>
+        requires { total_of_cut cut.now < 2 ^ 60 }
+        ensures { IfOk result (λ merged. StandsForCut merged cut.now) }
+    {
+        let mut nodes = Vec::with_capacity(alloc, 25)?;
+        for place in 0..25 {
+            let node = Node::from_index(place).unwrap();
+            nodes.push(merge_node(alloc, cut, node)?)?;
+        }
+        Ok(Merged {
+            capacity: cut.capacity(),
+            total: total_of_shards(cut),
+            nodes,
+        })
+    }
+
+    /// The weight that the tables counted together, below 2^60.
+    pub fn total(&self) -> u64
+        ensures total { result ≡ self.now.total }
+        ensures bounded { result < 2 ^ 60 }
+    {
+        self.total
+    }
+
+    /// How many entries each table can have.
+    pub fn capacity(&self) -> u32
+        ensures { result ≡ self.now.capacity }
+    {
+        self.capacity
+    }
+
+    /// The least and the greatest weight that the prefix can have had over all shards.
+    pub fn interval(&self, prefix: &Prefix) -> (u64, u64)
+        ensures low { result.0 ≡ (interval_for self.now prefix.now).low }
+        ensures high { result.1 ≡ (interval_for self.now prefix.now).high }
+        ensures ordered { result.0 ≤ result.1 }
+        ensures within_total { result.1 ≤ self.now.total }
+    {
+        let merge = &self.nodes[usize::from(prefix.node().index())];
+        merge.interval(prefix.key())
+    }
+
+    /// The keys that some shard monitors at the node, each once, in the order in which they are first seen
+    /// over shards and places.
+    pub fn candidates(&self, node: Node) -> &[u64]
+        ensures { result.now ≡ candidates_at self.now node }
+    {
+        let merge = &self.nodes[usize::from(node.index())];
+        merge.keys()
+    }
+}
+
+// The tables of a node, merged over the shards of a cut.
+fn merge_node(alloc: Global, cut: &Cut, node: Node) -> Result<NodeMerge, AllocError>
+    requires is_node { IsNode node }
+    requires bounded { total_of_cut cut.now < 2 ^ 60 }
+    ensures stands { IfOk result (λ merge. StandsForTables merge (node_tables node cut.now)) }
+    ensures within { IfOk result (λ merge. (key : ℕ) → IsWithinTotal (total_of_cut cut.now) (interval_of merge key)) }
+{
+    intervals_are_narrow();
+    let mut merge = NodeMerge::new(alloc);
+    for shard in 0..cut.shards() {
+        merge.add(cut.shard(shard).table(node))?;
+    }
+    Ok(merge)
+}
+
+// The weight that the shards of a cut counted together.
+fn total_of_shards(cut: &Cut) -> u64
+    requires { total_of_cut cut.now < 2 ^ 60 }
+    ensures { result ≡ total_of_cut cut.now }
+{
+    let mut total = 0;
+    for shard in 0..cut.shards() {
+        total += cut.shard(shard).total();
+    }
+    total
+}

@@ -1,0 +1,65 @@
+//! Dealing records to shards.
+
+ghost use Rattle.std.specs.Prelude.{◌≡◌, ℕ, ◌≤◌, List, [], length, IfOk};
+ghost use Rattle.std.specs.List.{flat_map, sum_by};
+ghost use Rattle.std.specs.List.Sorted.{IsPermutation};
+ghost use Rattle.prefix_lattice.specs.PrefixValue.{PrefixValue};
+ghost use Rattle.prefix_lattice.specs.RecordValue.{RecordValue};
+ghost use Rattle.prefix_lattice.specs.Prefix.{weight_of, total_weight};
+ghost use Rattle.deal_rules.specs.Dealing.{AreDealt, IsDealing, lists_of};
+
+use crate::{Dealer, Deals, Dealt};
+use prefix_lattice::RecordList;
+use std::alloc::{AllocError, Global};
+
+/// Deals the records, at most 16,777,216, to 1 to 16 shards: each record goes to the shard that the
+/// dealer answers for its place, counted from 0, and keeps its order there. Want of memory drops what was
+/// dealt.
+pub fn deal(
+    alloc: Global,
+    list: &RecordList,
+    dealer: &Dealer,
+    shards: u32,
+) -> Result<Dealt, AllocError>
+    requires some { 1 ≤ shards }
+    requires few { shards ≤ 16 }
+    requires small { length list.now ≤ 16777216 }
+    ensures { IfOk result (λ dealt. IsDealing (⟦<Dealer as Deals>⟧.kind_of dealer.now)
+        (⟦<Dealer as Deals>⟧.may_answer dealer.now) shards list.now dealt) }
+{
+    let mut lists = empty_lists(alloc, shards)?;
+    for place in 0..list.len() {
+        let rec = list.at(place);
+        let shard = dealer.shard(place as u64, rec, shards);
+        lists[shard as usize].push(*rec)?;
+    }
+    Ok(Dealt::of(lists))
+}
+
+// A list with no record for each shard.
+fn empty_lists(alloc: Global, shards: u32) -> Result<Vec<RecordList>, AllocError>
+    ensures { IfOk result (λ lists. lists.items ≡ lists_of shards [] []) }
+{
+    let mut lists = Vec::with_capacity(alloc, shards as usize)?;
+    for _ in 0..shards {
+        lists.push(RecordList::new(alloc))?;
+    }
+    Ok(lists)
+}
+
+/// The lists of a dealing hold its records, none lost and none doubled, so they keep every sum over the
+/// records: their number, the weight of each prefix, and the whole weight.
+pub fn dealing_loses_nothing()
+    ensures permuted { (shards : ℕ) (records : List RecordValue) (numbers : List ℕ) (lists : List (List RecordValue))
+        → AreDealt shards records numbers lists → IsPermutation records (flat_map (λ list. list) lists) }
+    ensures summed { (shards : ℕ) (records : List RecordValue) (numbers : List ℕ) (lists : List (List RecordValue))
+        → AreDealt shards records numbers lists
+        → (weigh : RecordValue → ℕ) → sum_by (sum_by weigh) lists ≡ sum_by weigh records }
+    ensures counted { (shards : ℕ) (records : List RecordValue) (numbers : List ℕ) (lists : List (List RecordValue))
+        → AreDealt shards records numbers lists → sum_by (λ list. length list) lists ≡ length records }
+    ensures weighed { (shards : ℕ) (records : List RecordValue) (numbers : List ℕ) (lists : List (List RecordValue))
+        → AreDealt shards records numbers lists
+        → (prefix : PrefixValue) → sum_by (weight_of prefix) lists ≡ weight_of prefix records }
+    ensures total { (shards : ℕ) (records : List RecordValue) (numbers : List ℕ) (lists : List (List RecordValue))
+        → AreDealt shards records numbers lists → sum_by total_weight lists ≡ total_weight records }
+{}

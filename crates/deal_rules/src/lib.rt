@@ -1,0 +1,18 @@
+//! Dealing records to shards, by a rule that the caller hands in.
+#![tactic(auto)]
+
+mod choosing;
+mod deal_kind;
+mod dealer;
+mod dealers;
+mod dealing;
+mod dealt;
+
+pub use deal_kind::DealKind;
+pub use dealer::{DealRule, Dealer, Deals};
+pub use dealers::Dealers;
+pub use dealing::{deal, dealing_loses_nothing};
+pub use dealt::Dealt;
+
+#[cfg(test)]
+mod tests;

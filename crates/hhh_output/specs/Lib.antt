@@ -1,0 +1,4 @@
+pub mod Threshold
+pub mod Lines
+pub mod Output
+pub mod Sound

@@ -1,0 +1,17 @@
+-- The lines of a report.
+use Rattle.std.specs.Prelude.{ℕ, ◌≡◌, ◌^◌, ◌<◌, ◌≤◌, List, length, map, All, AllPairs}
+use Rattle.std.specs.declared.cmp.Ordering.TheVariants.{Less}
+use Rattle.prefix_lattice.specs.PrefixValue.{PrefixValue, IsPrefix}
+use Rattle.prefix_lattice.specs.Lattice.{report_order}
+use Rattle.hhh_output.specs.declared.line.Line.{Line}
+
+-- the prefixes of some lines
+abbrev pub prefixes_of : List Line → List PrefixValue
+prefixes_of lines = map (λ line. line.prefix) lines
+
+-- what the lines of every report keep: they are few, each has its low at most at its high, and they are in the strict
+-- order of a report, so no two have one prefix
+pub record AreLines (lines : List Line) : Type 0 where
+  pub few : length lines < 2 ^ 24
+  pub ordered : All (λ line. line.lo ≤ line.hi) lines
+  pub rising : AllPairs (λ line later. report_order line.prefix later.prefix ≡ Less) lines

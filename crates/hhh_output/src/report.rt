@@ -1,0 +1,21 @@
+//! A report.
+
+ghost use Rattle.hhh_output.specs.Lines.{AreLines};
+
+use crate::Lines;
+use shard_state::Positions;
+
+/// What is reported of the records before some positions.
+#[derive(Debug, Drop)]
+pub struct Report {
+    /// How many records of each shard are counted.
+    pub positions: Positions,
+    /// What these records weigh together.
+    pub total: u64,
+    /// The weight from which on a prefix is heavy, at least 1.
+    pub threshold: u64,
+    /// The lines, in the order of a report: the level falls, then the source address rises, then its kept
+    /// bytes, then the destination address.
+    pub lines: Lines,
+    ghost are_lines: { AreLines lines },
+}

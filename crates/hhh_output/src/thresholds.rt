@@ -1,0 +1,16 @@
+//! The weight from which on a prefix is heavy.
+
+ghost use Rattle.std.specs.Prelude.{◌≤◌, ◌<◌, ◌^◌};
+ghost use Rattle.hhh_output.specs.Threshold.{IsThreshold};
+
+const MILLION: u128 = 1_000_000;
+
+/// The least weight that is at least 1 and at least `phi` parts per million of the total.
+pub fn threshold(phi: u32, total: u64) -> u64
+    requires phi { phi ≤ 1000000 }
+    requires total { total < 2 ^ 60 }
+    ensures { IsThreshold phi total result }
+{
+    let share = (u128::from(phi) * u128::from(total)).div_ceil(MILLION) as u64;
+    share.max(1)
+}

@@ -1,0 +1,39 @@
+//! Writing one side of the text of a prefix.
+
+ghost use Rattle.std.specs.Prelude.{◌≡◌, ◌+◌, ◌≤◌, ◌∷◌, length, decimal};
+ghost use Rattle.prefix_lattice.specs.Writing.{WritesPart};
+ghost use Rattle.prefix_lattice.specs.PrefixText.{address_text, side_text};
+
+use crate::decimal::write_number;
+use crate::kept_bytes::KeptBytes;
+
+/// Writes an address, a slash and a length in bits at a place of a text, where there is room for the 18 bytes that
+/// they may take, and answers the place behind them. Other bytes stay.
+pub fn write_side(text: &mut [u8], at: usize, side: &KeptBytes) -> usize
+    requires { at + 18 ≤ length text.old }
+    ensures written { WritesPart text.old text.new at result (side_text side.now) }
+    ensures short { result ≤ at + 18 }
+{
+    let end = write_address(text, at, side.address());
+    write_behind(text, end, b'/', 8 * side.len())
+}
+
+fn write_address(text: &mut [u8], at: usize, address: u32) -> usize
+    requires { at + length (address_text address) ≤ length text.old }
+    ensures { WritesPart text.old text.new at result (address_text address) }
+{
+    let [a, b, c, d] = address.to_be_bytes();
+    let end = write_number(text, at, a);
+    let end = write_behind(text, end, b'.', b);
+    let end = write_behind(text, end, b'.', c);
+    write_behind(text, end, b'.', d)
+}
+
+// A byte, and a number behind it.
+fn write_behind(text: &mut [u8], at: usize, mark: u8, number: u8) -> usize
+    requires { at + length (mark ∷ decimal number) ≤ length text.old }
+    ensures { WritesPart text.old text.new at result (mark ∷ decimal number) }
+{
+    text[at] = mark;
+    write_number(text, at + 1, number)
+}

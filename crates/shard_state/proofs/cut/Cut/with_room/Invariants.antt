@@ -1,0 +1,7 @@
+use Rattle.std.proofs.Common.{◌≡◌, replicate}
+use Rattle.shard_state.specs.SnapshotValue.{empty_snapshot}
+use Rattle.shard_state.proofs.cut.Cut.with_room.Given as goal
+
+-- the snapshots so far are empty
+abbrev pub invariant-loop-shard : goal.invariant-loop-shard
+invariant-loop-shard l = l.snapshots.items ≡ replicate l._shard (empty_snapshot l.capacity)

@@ -1,0 +1,10 @@
+use Rattle.std.proofs.Common.{◌≡◌, take, ap, sym, subst}
+use Rattle.prefix_lattice.specs.Prefix.{total_weight}
+use Rattle.space_saving.specs.Table.{total_count}
+use Rattle.shard_state.specs.SnapshotValue.{SnapshotValue, total_of}
+use Rattle.shard_state.proofs.Emptiness.{none_at}
+use Rattle.shard_state.proofs.shard_state.ShardState.start.Goals as goal
+
+pub resume-requires-clause-counted : goal.resume-requires-clause-counted
+resume-requires-clause-counted c =
+    subst (λ (base : SnapshotValue). total_of base ≡ total_weight (take base.position c.args.list)) (sym c.in_ok-base.ensures) (ap total_count (none_at 0))

@@ -1,0 +1,8 @@
+use Rattle.std.proofs.Common.{ap, sym, ◌∙◌}
+use Rattle.shard_state.specs.SnapshotValue.{tables_of}
+use Rattle.shard_state.proofs.Parts.{tables_from_entries}
+use Rattle.shard_state.proofs.snapshot.Snapshot.tables.Goals as goal
+
+pub returns-clause-tables : goal.returns-clause-tables
+returns-clause-tables c =
+    c.as_slice.ensures.value ∙ sym (tables_from_entries c.self.inside.capacity c.self.inside.tables.items c.self.invariant.0) ∙ ap tables_of c.self.view_is

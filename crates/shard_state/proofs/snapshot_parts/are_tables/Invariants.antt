@@ -1,0 +1,13 @@
+use Rattle.std.proofs.Common.{◌≡◌, ℕ, ◌<◌, slice_get, Some}
+use Rattle.prefix_lattice.specs.NodeValue.{node_at}
+use Rattle.space_saving.specs.Table.{TableValue}
+use Rattle.space_saving.specs.TableFacts.{AreEntries}
+use Rattle.shard_state.specs.SnapshotParts.{IsLike}
+use Rattle.shard_state.proofs.snapshot_parts.are_tables.Given as goal
+
+-- the tables so far are alike
+abbrev pub invariant-loop-place : goal.invariant-loop-place
+invariant-loop-place l = record {
+  alike : (k : ℕ) (t : TableValue) → k < l.place → slice_get l.tables k ≡ Some t → IsLike l.capacity l.total (node_at k) t;
+  kept : (k : ℕ) (t : TableValue) → k < l.place → slice_get l.tables k ≡ Some t → AreEntries t.capacity t.entries;
+}

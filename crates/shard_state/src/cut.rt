@@ -1,0 +1,114 @@
+//! One snapshot for each shard.
+
+ghost use Rattle.std.specs.Prelude.{◌≡◌, ◌<◌, ◌≤◌, length, slice_get, slice_set, IfOk, Some};
+ghost use Rattle.shard_state.specs.SnapshotValue.{IsSnapshot};
+ghost use Rattle.shard_state.specs.ShardValue.{snapshot_of};
+ghost use Rattle.shard_state.specs.CutValue.{IsCut, empty_cut, positions_of};
+
+use crate::{Positions, ShardState, Snapshot};
+use std::alloc::{AllocError, Global};
+use std::marker::Model;
+
+/// One snapshot for each of 1 to 128 shards, all of one capacity.
+#[derive(Debug, Drop)]
+pub struct Cut {
+    capacity: u32,
+    shards: Vec<Snapshot>,
+}
+
+impl Model for Cut {
+    ghost use Rattle.shard_state.specs.ShardValue.{snapshot_of};
+    ghost use Rattle.shard_state.specs.CutValue.{CutValue, IsCut};
+
+    ghost Value = { CutValue };
+
+    ghost view = { λ c. record { capacity = c.capacity; shards = c.shards.items } };
+
+    ghost invariant = { λ c. IsCut (record { capacity = c.capacity; shards = c.shards.items }) };
+}
+
+impl Cut {
+    /// Positions 0 and empty tables, with memory for `capacity` entries in each.
+    pub fn with_room(alloc: Global, shards: u32, capacity: u32) -> Result<Cut, AllocError>
+        requires some { 1 ≤ shards }
+        requires few { shards ≤ 128 }
+        requires least { 2 ≤ capacity }
+        requires most { capacity ≤ 4096 }
+        ensures { IfOk result (λ cut. cut ≡ empty_cut shards capacity) }
+    {
+        let mut snapshots = Vec::with_capacity(alloc, shards as usize)?;
+        for _shard in 0..shards {
+            snapshots.push(Snapshot::with_room(alloc, capacity)?)?;
+        }
+        Ok(Cut {
+            capacity,
+            shards: snapshots,
+        })
+    }
+
+    /// How many shards there are.
+    pub fn shards(&self) -> u32
+        ensures shards { result ≡ length self.now.shards }
+        ensures kept { IsCut self.now }
+    {
+        self.shards.len() as u32
+    }
+
+    /// How many entries each table can have, 2 to 4096.
+    pub fn capacity(&self) -> u32
+        ensures capacity { result ≡ self.now.capacity }
+        ensures kept { IsCut self.now }
+    {
+        self.capacity
+    }
+
+    /// The snapshot of a shard.
+    pub fn shard(&self, shard: u32) -> &Snapshot
+        requires { shard < length self.now.shards }
+        ensures shard { slice_get self.now.shards shard ≡ Some result.now }
+        ensures capacity { result.now.capacity ≡ self.now.capacity }
+        ensures kept { IsSnapshot result.now }
+    {
+        &self.shards[shard as usize]
+    }
+
+    /// The positions of the shards, in order.
+    pub fn positions(&self, alloc: Global) -> Result<Positions, AllocError>
+        ensures { IfOk result (λ positions. positions ≡ positions_of self.now) }
+    {
+        let mut positions = Positions::new(alloc);
+        for snapshot in &self.shards {
+            positions.push(snapshot.position())?;
+        }
+        Ok(positions)
+    }
+
+    /// Puts a snapshot of the cut's capacity in a shard's place. The other shards stay.
+    pub fn put_shard(&mut self, shard: u32, snapshot: Snapshot)
+        requires within { shard < length self.old.shards }
+        requires capacity { snapshot.capacity ≡ self.old.capacity }
+        ensures { self.new ≡ record self.old { shards = slice_set self.old.shards shard snapshot } }
+    {
+        let _kept = snapshot.position();
+        self.shards[shard as usize] = snapshot;
+    }
+
+    /// Makes a shard's snapshot that of a state of the cut's capacity. The other shards stay. It takes no
+    /// memory.
+    pub fn copy_shard(&mut self, shard: u32, state: &ShardState)
+        requires within { shard < length self.old.shards }
+        requires capacity { state.now.base.capacity ≡ self.old.capacity }
+        ensures { self.new ≡ record self.old { shards = slice_set self.old.shards shard (snapshot_of state.now) } }
+    {
+        let _kept = state.position();
+        state.copy_into(&mut self.shards[shard as usize]);
+    }
+
+    /// The snapshots of the shards, in order.
+    pub fn into_shards(self) -> Vec<Snapshot>
+        ensures shards { result.items ≡ self.shards }
+        ensures kept { IsCut self }
+    {
+        self.shards
+    }
+}

@@ -1,0 +1,57 @@
+//! Counting records in tables.
+
+ghost use Rattle.std.specs.Prelude.{◌≡◌, ◌+◌, ◌^◌, ◌<◌, ℕ, length, map, slice_get, Some, All, IfOk};
+ghost use Rattle.prefix_lattice.specs.Prefix.{total_weight};
+ghost use Rattle.space_saving.specs.Table.{TableValue, total_count};
+ghost use Rattle.shard_state.specs.Folding.{fold_table, fold_tables};
+
+use crate::snapshot_parts::NODES;
+use prefix_lattice::{Node, Prefix, Record};
+use space_saving::{Flat, PlainTable, Summary};
+use std::alloc::{AllocError, Global};
+
+/// Counts records in each of 25 tables, one table after the other, so that a table's entries stay in the
+/// nearest cache.
+pub(crate) fn count_in_tables(tables: &mut [PlainTable], records: &[Record])
+    requires shape { length tables.old ≡ 25 }
+    requires room { All (λ table. total_count table.entries + total_weight records.now < 2 ^ 56) tables.old }
+    ensures { tables.new ≡ fold_tables 0 tables.old records.now }
+{
+    for place in 0..NODES {
+        let node = Node::from_index(place).unwrap();
+        count_in_table(&mut tables[usize::from(place)], node, records);
+    }
+}
+
+// Counts records in the table of a node.
+fn count_in_table(table: &mut PlainTable, node: Node, records: &[Record])
+    requires { total_count table.old.entries + total_weight records.now < 2 ^ 56 }
+    ensures { table.new ≡ fold_table node records.now table.old }
+{
+    for rec in records {
+        table.add(Prefix::of(rec, node).key(), rec.weight);
+    }
+}
+
+/// Tables with the content of these.
+pub(crate) fn restored(alloc: Global, flats: &[Flat]) -> Result<Vec<PlainTable>, AllocError>
+    ensures { IfOk result (λ tables. tables.items ≡ flats.now) }
+{
+    let mut tables = Vec::with_capacity(alloc, flats.len())?;
+    for flat in flats {
+        tables.push(PlainTable::restore(alloc, flat)?)?;
+    }
+    Ok(tables)
+}
+
+/// Makes flat tables equal to these, each of the capacity of its own. It takes no memory.
+pub(crate) fn copy_tables(tables: &[PlainTable], into: &mut [Flat])
+    requires shape { length into.old ≡ length tables.now }
+    requires capacities { (place : ℕ) (table flat : TableValue) → slice_get tables.now place ≡ Some table
+        → slice_get into.old place ≡ Some flat → flat.capacity ≡ table.capacity }
+    ensures { into.new ≡ tables.now }
+{
+    for place in 0..tables.len() {
+        tables[place].copy_into(&mut into[place]);
+    }
+}

@@ -1,0 +1,131 @@
+//! The state of a shard.
+
+ghost use Rattle.std.specs.Prelude.{◌≡◌, ◌+◌, ◌^◌, ◌≤◌, ◌↔◌, length, take, IfOk};
+ghost use Rattle.std.specs.List.{slice_range};
+ghost use Rattle.prefix_lattice.specs.Prefix.{total_weight};
+ghost use Rattle.shard_state.specs.Tables.{fold_from};
+ghost use Rattle.shard_state.specs.SnapshotValue.{empty_snapshot, total_of};
+ghost use Rattle.shard_state.specs.ShardValue.{IsShard, folded, snapshot_of};
+
+use crate::Snapshot;
+use crate::folding::{count_in_tables, restored};
+use prefix_lattice::{RecordList, keys_are_of_their_node};
+use space_saving::{PlainTable, steps_leave_a_table};
+use std::alloc::{AllocError, Global};
+use std::marker::Model;
+
+/// The positions between which a fold moved a shard: how many records were counted before it and after it.
+#[derive(Clone, Copy, Debug, PartialEq, Eq)]
+pub struct Folded {
+    pub from: u64,
+    pub to: u64,
+}
+
+/// The records of a shard, and 25 tables that counted them up to a position: the tables of the snapshot
+/// that it began with, and each record since, for the key of its prefix at each node.
+#[derive(Debug, Drop)]
+pub struct ShardState {
+    list: RecordList,
+    base: Snapshot,
+    position: u64,
+    tables: Vec<PlainTable>,
+}
+
+impl Model for ShardState {
+    ghost use Rattle.std.specs.Prelude.{◌≡◌};
+    ghost use Rattle.shard_state.specs.SnapshotValue.{tables_of};
+    ghost use Rattle.shard_state.specs.ShardValue.{ShardValue, IsShard, snapshot_of};
+
+    ghost Value = { ShardValue };
+
+    ghost view = { λ s. record { list = s.list; base = s.base; position = s.position } };
+
+    ghost invariant = { λ s. IsShard (record { list = s.list; base = s.base; position = s.position })
+        × (s.tables.items ≡ tables_of (snapshot_of (record { list = s.list; base = s.base; position = s.position }))) };
+}
+
+impl ShardState {
+    /// No record is counted yet. The list has at most 16,777,216 records; it is dropped on refusal.
+    pub fn start(alloc: Global, list: RecordList, capacity: u32) -> Result<ShardState, AllocError>
+        requires few { length list ≤ 2 ^ 24 }
+        requires least { 2 ≤ capacity }
+        requires most { capacity ≤ 4096 }
+        ensures { IfOk result (λ state. state ≡ record { list = list; base = empty_snapshot capacity; position = 0 }) }
+    {
+        let base = Snapshot::with_room(alloc, capacity)?;
+        ShardState::resume(alloc, list, base)
+    }
+
+    /// Goes on from a snapshot that counted the first records of the list, as many as its position says.
+    /// The list has at most 16,777,216 records; list and base are dropped on refusal.
+    pub fn resume(alloc: Global, list: RecordList, base: Snapshot) -> Result<ShardState, AllocError>
+        requires few { length list ≤ 2 ^ 24 }
+        requires within { base.position ≤ length list }
+        requires counted { total_of base ≡ total_weight (take base.position list) }
+        ensures { IfOk result (λ state. state ≡ record { list = list; base = base; position = base.position }) }
+    {
+        let _records = list.as_slice();
+        let position = base.position();
+        let tables = restored(alloc, base.tables())?;
+        Ok(ShardState {
+            list,
+            base,
+            position,
+            tables,
+        })
+    }
+
+    /// Counts a block of at least one more record, or what is left of the list. It takes no memory.
+    pub fn fold_block(&mut self, block: u32) -> Folded
+        requires { 1 ≤ block }
+        ensures state { self.new ≡ folded block self.old }
+        ensures tables { (snapshot_of self.new).tables ≡ fold_from 0 self.old.base.capacity (snapshot_of self.old).tables
+            (slice_range self.old.list result.from result.to) }
+        ensures from { result.from ≡ self.old.position }
+        ensures to { result.to ≡ self.new.position }
+        ensures end { (result.from ≡ result.to) ↔ (self.old.position ≡ length self.old.list) }
+    {
+        steps_leave_a_table();
+        keys_are_of_their_node();
+        let from = self.position;
+        let to = (from + u64::from(block)).min(self.list.len() as u64);
+        let records = &self.list.as_slice()[from as usize..to as usize];
+        count_in_tables(&mut self.tables, records);
+        self.position = to;
+        Folded { from, to }
+    }
+
+    /// How many records are counted.
+    pub fn position(&self) -> u64
+        ensures position { result ≡ self.now.position }
+        ensures within { result ≤ length self.now.list }
+        ensures kept { IsShard self.now }
+    {
+        self.position
+    }
+
+    /// How many records there are, at most 16,777,216.
+    pub fn length(&self) -> u64
+        ensures length { result ≡ length self.now.list }
+        ensures few { result ≤ 2 ^ 24 }
+        ensures kept { IsShard self.now }
+    {
+        self.list.len() as u64
+    }
+
+    /// How many entries each table can have, 2 to 4096.
+    pub fn capacity(&self) -> u32
+        ensures capacity { result ≡ self.now.base.capacity }
+        ensures kept { IsShard self.now }
+    {
+        self.base.capacity()
+    }
+
+    /// Makes a snapshot of the shard's capacity that of the shard. It takes no memory.
+    pub fn copy_into(&self, into: &mut Snapshot)
+        requires { into.old.capacity ≡ self.now.base.capacity }
+        ensures { into.new ≡ snapshot_of self.now }
+    {
+        into.copy_from(self.position, &self.tables);
+    }
+}

@@ -1,0 +1,127 @@
+//! The tables of a shard at one position.
+
+ghost use Rattle.std.specs.Prelude.{◌≡◌, ◌^◌, ◌<◌, ◌≤◌, ◌↔◌, All, IfOk, IfSome, IsSome};
+ghost use Rattle.shard_state.specs.SnapshotValue.{IsSnapshot, empty_snapshot, table_at, tables_of, total_of};
+ghost use Rattle.shard_state.specs.SnapshotParts.{AreParts, copied_from};
+
+use crate::folding::copy_tables;
+use crate::snapshot_parts::{are_tables, empty_tables};
+use prefix_lattice::Node;
+use space_saving::{Flat, PlainTable};
+use std::alloc::{AllocError, Global};
+use std::marker::Model;
+
+/// The most records that a shard can have.
+pub(crate) const MOST_RECORDS: u64 = 1 << 24;
+
+/// The 25 tables of a shard, one for each node of the lattice, and how many of its records they count.
+#[derive(Debug, Drop)]
+pub struct Snapshot {
+    capacity: u32,
+    position: u64,
+    tables: Vec<Flat>,
+}
+
+impl Model for Snapshot {
+    ghost use Rattle.std.specs.Prelude.{◌≡◌, All, map};
+    ghost use Rattle.shard_state.specs.SnapshotValue.{SnapshotValue, IsSnapshot};
+
+    ghost Value = { SnapshotValue };
+
+    ghost view = { λ s. record {
+      capacity = s.capacity;
+      position = s.position;
+      tables = map (λ table. table.entries) s.tables.items;
+    } };
+
+    ghost invariant = { λ s. All (λ table. table.capacity ≡ s.capacity) s.tables.items
+        × IsSnapshot (record { capacity = s.capacity; position = s.position; tables = map (λ table. table.entries) s.tables.items }) };
+}
+
+impl Snapshot {
+    /// Empty tables at position 0, each with memory for `capacity` entries.
+    pub fn with_room(alloc: Global, capacity: u32) -> Result<Snapshot, AllocError>
+        requires least { 2 ≤ capacity }
+        requires most { capacity ≤ 4096 }
+        ensures { IfOk result (λ snapshot. snapshot ≡ empty_snapshot capacity) }
+    {
+        Ok(Snapshot {
+            capacity,
+            position: 0,
+            tables: empty_tables(alloc, capacity)?,
+        })
+    }
+
+    /// The snapshot of these tables, in the order of their nodes' places. `None`, which drops them, comes
+    /// exactly where they are no snapshot: a position above 16,777,216, not 25 tables, capacities or totals
+    /// that differ, or a key with a bit set that its node doesn't keep.
+    pub fn from_tables(position: u64, tables: Vec<Flat>) -> Option<Snapshot>
+        ensures accepted { IsSome result ↔ AreParts position tables.items }
+        ensures position { IfSome result (λ snapshot. snapshot.position ≡ position) }
+        ensures tables { IfSome result (λ snapshot. tables_of snapshot ≡ tables.items) }
+    {
+        if position > MOST_RECORDS {
+            return None;
+        }
+        if !are_tables(&tables) {
+            return None;
+        }
+        Some(Snapshot {
+            capacity: tables[0].capacity(),
+            position,
+            tables,
+        })
+    }
+
+    /// How many records the tables count, at most 16,777,216.
+    pub fn position(&self) -> u64
+        ensures position { result ≡ self.now.position }
+        ensures kept { IsSnapshot self.now }
+    {
+        self.position
+    }
+
+    /// How many entries each table can have, 2 to 4096.
+    pub fn capacity(&self) -> u32
+        ensures capacity { result ≡ self.now.capacity }
+        ensures least { 2 ≤ result }
+        ensures most { result ≤ 4096 }
+    {
+        self.capacity
+    }
+
+    /// The table at a node.
+    pub fn table(&self, node: Node) -> &Flat
+        ensures table { result.now ≡ table_at node self.now }
+        ensures kept { IsSnapshot self.now }
+    {
+        &self.tables[usize::from(node.index())]
+    }
+
+    /// The weight that the records counted have together, which each table counted.
+    pub fn total(&self) -> u64
+        ensures total { result ≡ total_of self.now }
+        ensures bounded { result < 2 ^ 56 }
+        ensures kept { IsSnapshot self.now }
+    {
+        self.tables[0].total()
+    }
+
+    /// All tables, in the order of their nodes' places.
+    pub(crate) fn tables(&self) -> &[Flat]
+        ensures tables { result.now ≡ tables_of self.now }
+        ensures kept { IsSnapshot self.now }
+    {
+        self.tables.as_slice()
+    }
+
+    /// Takes over a position and the content of tables of its capacity.
+    pub(crate) fn copy_from(&mut self, position: u64, tables: &[PlainTable])
+        requires alike { All (λ table. table.capacity ≡ self.old.capacity) tables.now }
+        requires snapshot { IsSnapshot (copied_from self.old.capacity position tables.now) }
+        ensures { self.new ≡ copied_from self.old.capacity position tables.now }
+    {
+        copy_tables(tables, &mut self.tables);
+        self.position = position;
+    }
+}

@@ -1,0 +1,69 @@
+//! Whether tables from outside are those of a snapshot, and empty ones.
+
+ghost use Rattle.std.specs.Prelude.{◌≡◌, ◌<◌, ◌≤◌, ◌↔◌, ℕ, [], length, slice_get, Some, IfOk, IsTrue};
+ghost use Rattle.std.proofs.Math.ListN.{replicate};
+ghost use Rattle.prefix_lattice.specs.NodeValue.{node_at};
+ghost use Rattle.shard_state.specs.SnapshotParts.{IsLike, AreTables};
+ghost use Rattle.shard_state.specs.Tables.{HasKeysOf};
+ghost use Rattle.space_saving.specs.Table.{TableValue};
+ghost use Rattle.space_saving.specs.TableFacts.{AreEntries};
+
+use prefix_lattice::{Node, Prefix};
+use space_saving::Flat;
+use std::alloc::{AllocError, Global};
+
+/// How many nodes the lattice has, and so how many tables a shard has.
+pub(crate) const NODES: u8 = 25;
+
+/// One empty table for each node.
+pub(crate) fn empty_tables(alloc: Global, capacity: u32) -> Result<Vec<Flat>, AllocError>
+    requires least { 2 ≤ capacity }
+    requires most { capacity ≤ 4096 }
+    ensures { IfOk result (λ tables. tables.items ≡ replicate 25 (record { capacity = capacity; entries = [] })) }
+{
+    let mut tables = Vec::with_capacity(alloc, usize::from(NODES))?;
+    for _place in 0..NODES {
+        tables.push(Flat::with_room(alloc, capacity)?)?;
+    }
+    Ok(tables)
+}
+
+/// Whether there are 25 tables of one capacity and one total, each with keys of the node at its place.
+pub(crate) fn are_tables(tables: &[Flat]) -> bool
+    ensures tables { IsTrue result ↔ AreTables tables.now }
+    ensures kept { IsTrue result → (place : ℕ) (table : TableValue) → slice_get tables.now place ≡ Some table → AreEntries table.capacity table.entries }
+{
+    if tables.len() != usize::from(NODES) {
+        return false;
+    }
+    let first = &tables[0];
+    let (capacity, total) = (first.capacity(), first.total());
+    for place in 0..NODES {
+        if !is_like(capacity, total, place, &tables[usize::from(place)]) {
+            return false;
+        }
+    }
+    true
+}
+
+fn is_like(capacity: u32, total: u64, place: u8, table: &Flat) -> bool
+    requires { place < 25 }
+    ensures like { IsTrue result ↔ IsLike capacity total (node_at place) table.now }
+    ensures kept { AreEntries table.now.capacity table.now.entries }
+{
+    let node = Node::from_index(place).unwrap();
+    let counted = table.total();
+    counted == total && table.capacity() == capacity && has_keys_of(node, table)
+}
+
+// Whether each key of the table is one of the node.
+fn has_keys_of(node: Node, table: &Flat) -> bool
+    ensures { IsTrue result ↔ HasKeysOf node table.now.entries }
+{
+    for place in 0..table.len() {
+        if Prefix::from_key(table.entry(place).key, node).is_none() {
+            return false;
+        }
+    }
+    true
+}
