@@ -5,7 +5,7 @@ use Rattle.prefix_lattice.specs.PrefixValue.{PrefixValue}
 use Rattle.prefix_lattice.specs.Prefix.{weight_of}
 use Rattle.prefix_lattice.specs.Explaining.{closest, kept_pairs}
 
--- the bound of a prefix over some lines: its high, less the lows of its closest lines, and the highs of the meets of their kept pairs
+-- the bound of a prefix over some lines: its high and the highs of the meets of its closest lines' kept pairs, less the lows of those lines
 abbrev pub bound_of : (PrefixValue → ℕ) → (PrefixValue → ℕ) → PrefixValue → List PrefixValue → ℤ
 bound_of low high prefix lines =
     pos (high prefix + sum_by high (kept_pairs (closest prefix lines))) -ℤ pos (sum_by low (closest prefix lines))

@@ -21,10 +21,9 @@ pub struct BoundParts {
     pub pairs: u64,
 }
 
-/// The bound of a prefix over the reported lines (Mitzenmacher, Steinke, Thaler 2012): the high of the
-/// prefix, less the lows of its closest lines, and the highs of the meets of their kept pairs. What a record
-/// adds to several of those lines it adds to one meet fewer, so it is taken away once. Want of memory is the
-/// only error.
+/// The bound of a prefix over the reported lines (Mitzenmacher, Steinke, Thaler 2012): its high and the highs
+/// of the meets of its closest lines' kept pairs, less the lows of those lines. A record that some of the lines
+/// cover is covered by one meet fewer, so it is taken away once. Want of memory is the only error.
 pub fn bound<I: Intervals>(
     alloc: Global,
     prefix: &Prefix,

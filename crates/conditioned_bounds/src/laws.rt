@@ -1,6 +1,6 @@
 //! Laws of bounds. A caller that runs one has it at hand.
 
-ghost use Rattle.std.specs.Prelude.{◌≡◌, ◌≢◌, ℕ, ◌+◌, ◌*◌, List, ◌≤◌, length, All, AllPairs, sum_by, pos, ◌*ℤ◌, ◌≤ℤ◌};
+ghost use Rattle.std.specs.Prelude.{◌≡◌, ◌≢◌, ℕ, ◌+◌, ◌*◌, ◌≤◌, List, length, All, AllPairs, sum_by, pos, ◌*ℤ◌, ◌≤ℤ◌};
 ghost use Rattle.prefix_lattice.specs.RecordValue.{RecordValue};
 ghost use Rattle.prefix_lattice.specs.PrefixValue.{PrefixValue, IsPrefix};
 ghost use Rattle.prefix_lattice.specs.Prefix.{weight_of};
