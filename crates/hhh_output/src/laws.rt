@@ -1,9 +1,12 @@
 //! Laws of reports, each the contract of a function that does nothing.
 
-ghost use Rattle.std.specs.Prelude.{◌≡◌, ℕ, ◌*◌, ◌≤◌, List, All};
+ghost use Rattle.std.specs.Prelude.{◌≡◌, ℕ, ◌*◌, ◌≤◌, List, All, Some, length, slice_get};
 ghost use Rattle.prefix_lattice.specs.RecordValue.{RecordValue};
 ghost use Rattle.shard_state.specs.CutValue.{CutValue, IsCut};
 ghost use Rattle.shard_state.specs.Standing.{CutStandsFor};
+ghost use Rattle.shard_state.specs.CoreValue.{CoreValue, HasShape, IsCore, capacity_of, run};
+ghost use Rattle.shard_state.specs.Reads.{BasesStand, ReadsEach, lists_of};
+ghost use Rattle.shard_state.specs.declared.event.Event.{Event};
 ghost use Rattle.hhh_output.specs.declared.report.Report.{Report};
 ghost use Rattle.hhh_output.specs.Lines.{AreLines};
 ghost use Rattle.hhh_output.specs.Output.{IsReportOf};
@@ -13,7 +16,7 @@ ghost use Rattle.hhh_output.specs.Same.{AreSame};
 use conditioned_bounds::{bounds_hold, only_prefixes_are_asked};
 use cut_merge::{spans_are_narrow, spans_hold_weights};
 use prefix_lattice::{prefixes_are_ordered, report_order_is_total};
-use shard_state::snapshots_hold_weights;
+use shard_state::{runs_stand, snapshots_hold_weights};
 
 /// A cut has one report: two that meet the definition show the same.
 pub fn a_cut_has_one_report()
@@ -36,4 +39,18 @@ pub fn reports_are_sound()
     spans_are_narrow();
     only_prefixes_are_asked();
     bounds_hold();
+}
+
+/// Whatever events the core acts on, the report of each cut in which a caller read every shard is sound over
+/// the shards' lists, where their bases stand for them.
+pub fn reports_of_the_core_are_sound()
+    ensures { (core : CoreValue) (events : List Event) (caller : ℕ) (cut : CutValue) (phi : ℕ) (report : Report) → IsCore core.shards
+        → All (HasShape (length core.shards) (capacity_of core.shards)) core.cuts → BasesStand core.shards
+        → All (λ list. All (λ rec. 1 ≤ rec.weight) list) (lists_of core.shards)
+        → slice_get (run core events).cuts caller ≡ Some cut → ReadsEach caller core events → IsCut cut
+        → 2000000 ≤ phi * cut.capacity → AreLines report.lines → IsReportOf cut phi report
+        → IsSound report (lists_of core.shards) cut.capacity phi }
+{
+    runs_stand();
+    reports_are_sound();
 }

@@ -10,7 +10,7 @@ mod reporting;
 mod selecting;
 mod thresholds;
 
-pub use laws::{a_cut_has_one_report, reports_are_sound};
+pub use laws::{a_cut_has_one_report, reports_are_sound, reports_of_the_core_are_sound};
 pub use line::Line;
 pub use lines::Lines;
 pub use report::Report;

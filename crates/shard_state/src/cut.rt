@@ -1,9 +1,9 @@
 //! One snapshot for each shard.
 
-ghost use Rattle.std.specs.Prelude.{◌≡◌, ◌<◌, ◌≤◌, length, slice_get, slice_set, IfOk, Some};
+ghost use Rattle.std.specs.Prelude.{◌≡◌, ◌^◌, ◌<◌, ◌≤◌, length, slice_get, slice_set, IfOk, Some};
 ghost use Rattle.shard_state.specs.SnapshotValue.{IsSnapshot};
 ghost use Rattle.shard_state.specs.ShardValue.{snapshot_of};
-ghost use Rattle.shard_state.specs.CutValue.{IsCut, empty_cut, positions_of};
+ghost use Rattle.shard_state.specs.CutValue.{IsCut, empty_cut, positions_of, total_of_cut};
 
 use crate::{Positions, ShardState, Snapshot};
 use std::alloc::{AllocError, Global};
@@ -50,6 +50,7 @@ impl Cut {
     pub fn shards(&self) -> u32
         ensures shards { result ≡ length self.now.shards }
         ensures kept { IsCut self.now }
+        ensures bounded { length self.now.shards ≤ 16 → total_of_cut self.now < 2 ^ 60 }
     {
         self.shards.len() as u32
     }

@@ -1,6 +1,6 @@
 //! What the tables of shards say of weights, each law the contract of a function that does nothing.
 
-ghost use Rattle.std.specs.Prelude.{◌≡◌, ◌≤◌, ℕ, List, All, length, take};
+ghost use Rattle.std.specs.Prelude.{◌≡◌, ◌≤◌, ℕ, List, All, Some, length, slice_get, take};
 ghost use Rattle.prefix_lattice.specs.RecordValue.{RecordValue};
 ghost use Rattle.prefix_lattice.specs.NodeValue.{NodeValue};
 ghost use Rattle.prefix_lattice.specs.PrefixValue.{PrefixValue, IsPrefix};
@@ -12,6 +12,9 @@ ghost use Rattle.shard_state.specs.CutValue.{CutValue, IsCut, positions_of, tota
 ghost use Rattle.shard_state.specs.ShardValue.{ShardValue, snapshot_of};
 ghost use Rattle.shard_state.specs.Standing.{StandsFor, CutStandsFor, records_before};
 ghost use Rattle.shard_state.specs.Weights.{Holds, HoldsWeightOver, interval_of};
+ghost use Rattle.shard_state.specs.CoreValue.{CoreValue, HasShape, IsCore, capacity_of, run};
+ghost use Rattle.shard_state.specs.Reads.{BasesStand, ReadsEach, lists_of};
+ghost use Rattle.shard_state.specs.declared.event.Event.{Event};
 
 use prefix_lattice::keys_tell_covering;
 use space_saving::{adds_leave_a_table, intervals_hold};
@@ -49,4 +52,11 @@ pub fn shards_stand()
     ensures begins { (capacity : ℕ) (list : List RecordValue) → StandsFor (empty_snapshot capacity) list }
     ensures goes_on { (shard : ShardValue) → StandsFor shard.base shard.list → shard.base.position ≤ shard.position
         → shard.position ≤ length shard.list → StandsFor (snapshot_of shard) shard.list }
+{}
+
+/// In a run of events each cut of a caller that read every shard stands for the lists, where the bases do.
+pub fn runs_stand()
+    ensures { (core : CoreValue) (events : List Event) (caller : ℕ) (cut : CutValue) → IsCore core.shards
+        → All (HasShape (length core.shards) (capacity_of core.shards)) core.cuts → BasesStand core.shards
+        → slice_get (run core events).cuts caller ≡ Some cut → ReadsEach caller core events → CutStandsFor cut (lists_of core.shards) }
 {}
