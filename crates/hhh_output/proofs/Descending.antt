@@ -39,7 +39,7 @@ falls_before line later falls =
     let q = later.prefix in
     let less : nat_cmp (level q) (level p) ≡ Less = ap (λ b. cond b Less (cond (eqb (level q) (level p)) Equal Greater)) (lt-ltb (level q) (level p) falls) in
     ap (λ o. ordering_then o (ordering_then (nat_cmp (address_of p.source) (address_of q.source))
-          (ordering_then (nat_cmp (length p.source) (length q.source)) (nat_cmp (address_of p.dest) (address_of q.dest))))) less
+    (ordering_then (nat_cmp (length p.source) (length q.source)) (nat_cmp (address_of p.dest) (address_of q.dest))))) less
 
 -- two lists in order, where each of the first stands before each of the second
 pairs-append : {X : Type 0} (R : X → X → Type 0) (xs ys : List X) → AllPairs R xs → AllPairs R ys → ((x y : X) → Contains xs x → Contains ys y → R x y) → AllPairs R (xs ++ ys)
@@ -67,8 +67,11 @@ pairs-append {X} R xs ys first second across = λ i j d before below.
 pub down_none : (merged : MergedValue) (threshold : ℕ) → AreDownTo merged threshold 0 []
 down_none merged threshold = record {
   above = λ line there. absurd (no_line line there);
-  members = λ line high. (λ there. absurd (no_line line there), λ selected.
-      let few : level line.prefix ≤ 8 = omega (arith, selected.is_prefix.source.few, selected.is_prefix.dest.few) in absurd (omega arith));
+  members = λ line high. (
+    λ there. absurd (no_line line there),
+    λ selected.
+        let few : level line.prefix ≤ 8 = omega (arith, selected.is_prefix.source.few, selected.is_prefix.dest.few) in absurd (omega arith),
+  );
   rising = λ i j d before below. absurd (omega arith);
   few = omega arith;
 }
@@ -79,7 +82,6 @@ down_none merged threshold = record {
 -- one more level
 module _ (merged : MergedValue) (threshold levels : ℕ) (lines found : List Line) (law : LevelsFall) (some : levels < 9)
     (down : AreDownTo merged threshold levels lines) (of_level : AreOfLevel merged threshold (prefixes_of lines) (8 - levels) found) where
-
   its_level : (line : Line) → Contains found line → level line.prefix ≡ 8 - levels
   its_level line there = ((of_level.members line).0 there).0
 
@@ -88,8 +90,8 @@ module _ (merged : MergedValue) (threshold levels : ℕ) (lines found : List Lin
   unchanged line high =
       ap (closest line.prefix) (map-append (λ (l : Line). l.prefix) lines found)
       ∙ closest-append line.prefix (prefixes_of lines) (prefixes_of found) law
-        (All-map (λ p. level p ≤ level line.prefix) (λ (l : Line). l.prefix) found
-          (All-weaker (Contains found) (λ (l : Line). level l.prefix ≤ level line.prefix) (λ other there. omega (arith, its_level other there, high)) found (All-contains_itself found)))
+      (All-map (λ p. level p ≤ level line.prefix) (λ (l : Line). l.prefix) found
+      (All-weaker (Contains found) (λ (l : Line). level l.prefix ≤ level line.prefix) (λ other there. omega (arith, its_level other there, high)) found (All-contains_itself found)))
 
   pub down_more : AreDownTo merged threshold (levels + 1) (lines ++ found)
   down_more = record {
@@ -103,17 +105,17 @@ module _ (merged : MergedValue) (threshold levels : ℕ) (lines found : List Lin
         | inr new ↦ ((of_level.members line).0 new).1
       ]),
       λ selected.
-        let before = asked_over merged threshold (prefixes_of (lines ++ found)) (prefixes_of lines) line (unchanged line high) selected in
-        elim (cases_lt 8 (level line.prefix + levels)) [
-          | inl above ↦ Contains-append_left lines found line ((down.members line above).1 before)
-          | inr not_above ↦ let here : level line.prefix ≡ 8 - levels = omega arith in
-              Contains-append_right lines found line ((of_level.members line).1 (here, before))
-        ]
+          let before = asked_over merged threshold (prefixes_of (lines ++ found)) (prefixes_of lines) line (unchanged line high) selected in
+          elim (cases_lt 8 (level line.prefix + levels)) [
+            | inl above ↦ Contains-append_left lines found line ((down.members line above).1 before)
+            | inr not_above ↦ let here : level line.prefix ≡ 8 - levels = omega arith in
+                Contains-append_right lines found line ((of_level.members line).1 (here, before))
+          ],
     );
     rising = pairs-append Before lines found down.rising of_level.rising
         (λ line later earlier new.
-          let high : 8 < level line.prefix + levels = down.above line earlier in
-          falls_before line later (omega (arith, its_level later new)));
+        let high : 8 < level line.prefix + levels = down.above line earlier in
+        falls_before line later (omega (arith, its_level later new)));
     few =
         let more : nodes_down (levels + 1) ≡ nodes_down levels + nodes_before (8 - levels) 25 = ap nodes_down (add-one levels) in
         omega (arith, more, down.few, of_level.few, length-append lines found);

@@ -29,10 +29,13 @@ pub record Judged (merged : MergedValue) (threshold : ℕ) (reported : List Pref
 pub judged_none : (merged : MergedValue) (threshold : ℕ) (reported : List PrefixValue) (node : NodeValue) (keys : List ℕ) (old : List Line) → AreDistinct old
     → Judged merged threshold reported node keys old old 0
 judged_none merged threshold reported node keys old distinct = record {
-  members = λ line. (λ there. inl there, λ either. elim either [
-    | inl there ↦ there
-    | inr among ↦ no_key (key_of line.prefix) among.key
-  ]);
+  members = λ line. (
+    λ there. inl there,
+    λ either. elim either [
+      | inl there ↦ there
+      | inr among ↦ no_key (key_of line.prefix) among.key
+    ],
+  );
   distinct = distinct;
   few = omega arith;
 }
@@ -58,7 +61,6 @@ module _ (merged : MergedValue) (threshold : ℕ) (reported : List PrefixValue) 
     (only : (other : PrefixValue) → (Some prefix ≡ Some other) ↔ HasKey node key other)
     (asked : (line : Line) → line.prefix ≡ prefix → (found ≡ Some line) ↔ IsAsked merged threshold reported line)
     (its_prefix : (line : Line) → found ≡ Some line → line.prefix ≡ prefix) where
-
   is_its : HasKey node key prefix
   is_its = (only prefix).0 refl
 
@@ -89,10 +91,10 @@ module _ (merged : MergedValue) (threshold : ℕ) (reported : List PrefixValue) 
       λ either. elim either [
         | inl old_one ↦ (judged.members line).1 (inl old_one)
         | inr among ↦ elim (among_more line among) [
-            | inl earlier ↦ (judged.members line).1 (inr earlier)
-            | inr some ↦ let none_is_some : None ≡ Some line = sym missing ∙ some in cc
-          ]
-      ]
+          | inl earlier ↦ (judged.members line).1 (inr earlier)
+          | inr some ↦ let none_is_some : None ≡ Some line = sym missing ∙ some in cc
+        ]
+      ],
     );
     distinct = judged.distinct;
     few = omega (arith, judged.few);
@@ -110,10 +112,10 @@ module _ (merged : MergedValue) (threshold : ℕ) (reported : List PrefixValue) 
         asked = (asked new new_prefix).0 is;
       } in
       let other_prefix : (k : ℕ) (d : Line) → k < length now → (get_or now k d).prefix ≢ new.prefix = λ k d below same.
-          elim ((judged.members (get_or now k d)).0 (Contains-get_or now k d below)) [
-            | inl old_one ↦ All-contains (λ (l : Line). node_of l.prefix ≢ node) old (get_or now k d) elsewhere old_one (ap node_of (same ∙ new_prefix) ∙ is_its.of_node)
-            | inr among ↦ not_earlier keys place key distinct within read (subst (Contains (take place keys)) (ap key_of same ∙ new_key) among.key)
-          ] in
+      elim ((judged.members (get_or now k d)).0 (Contains-get_or now k d below)) [
+        | inl old_one ↦ All-contains (λ (l : Line). node_of l.prefix ≢ node) old (get_or now k d) elsewhere old_one (ap node_of (same ∙ new_prefix) ∙ is_its.of_node)
+        | inr among ↦ not_earlier keys place key distinct within read (subst (Contains (take place keys)) (ap key_of same ∙ new_key) among.key)
+      ] in
       record {
         members = λ line. (
           λ there. elim (Contains-push_cases now new line there) [
@@ -123,11 +125,11 @@ module _ (merged : MergedValue) (threshold : ℕ) (reported : List PrefixValue) 
           λ either. elim either [
             | inl old_one ↦ Contains-append_left now (new ∷ []) line ((judged.members line).1 (inl old_one))
             | inr among ↦ elim (among_more line among) [
-                | inl earlier ↦ Contains-append_left now (new ∷ []) line ((judged.members line).1 (inr earlier))
-                | inr some ↦ let both : Some new ≡ Some line = sym is ∙ some in
-                    let same : new ≡ line = cc in subst (Contains (now ++ new ∷ [])) same (Contains-push now new)
-              ]
-          ]
+              | inl earlier ↦ Contains-append_left now (new ∷ []) line ((judged.members line).1 (inr earlier))
+              | inr some ↦ let both : Some new ≡ Some line = sym is ∙ some in
+                  let same : new ≡ line = cc in subst (Contains (now ++ new ∷ [])) same (Contains-push now new)
+            ]
+          ],
         );
         distinct = all_pairs_push (λ (line other : Line). line.prefix ≢ other.prefix) now new judged.distinct other_prefix;
         few = omega (arith, judged.few, length_push now new);
@@ -138,23 +140,27 @@ pub judged_all : (merged : MergedValue) (threshold : ℕ) (reported : List Prefi
     → length (candidates_at merged node) ≤ place → Judged merged threshold reported node (candidates_at merged node) old now place
     → (line : Line) → Contains now line ↔ (Contains old line ⊎ ((node_of line.prefix ≡ node) × IsSelected merged threshold reported line))
 judged_all merged threshold reported node old now place done judged line =
-    let all : take place (candidates_at merged node) ≡ candidates_at merged node = take_all place (candidates_at merged node) done in
-    (λ there. elim ((judged.members line).0 there) [
+    let all : take place (candidates_at merged node) ≡ candidates_at merged node = take_all place (candidates_at merged node) done in (
+      λ there. elim ((judged.members line).0 there) [
         | inl old_one ↦ inl old_one
-        | inr among ↦ inr (among.has_key.of_node, record {
+        | inr among ↦ inr (
+          among.has_key.of_node,
+          record {
             is_prefix = among.has_key.is_prefix;
             candidate = subst (λ n. Contains (candidates_at merged n) (key_of line.prefix)) (sym among.has_key.of_node) (subst (λ ks. Contains ks (key_of line.prefix)) all among.key);
             asked = among.asked;
-          })
+          },
+        )
       ],
       λ either. elim either [
         | inl old_one ↦ (judged.members line).1 (inl old_one)
         | inr selected ↦ (judged.members line).1 (inr (record {
-            has_key = record { is_prefix = selected.1.is_prefix; of_node = selected.0; of_key = refl };
-            key = subst (λ ks. Contains ks (key_of line.prefix)) (sym all) (subst (λ n. Contains (candidates_at merged n) (key_of line.prefix)) selected.0 selected.1.candidate);
-            asked = selected.1.asked;
-          }))
-      ])
+          has_key = record { is_prefix = selected.1.is_prefix; of_node = selected.0; of_key = refl };
+          key = subst (λ ks. Contains ks (key_of line.prefix)) (sym all) (subst (λ n. Contains (candidates_at merged n) (key_of line.prefix)) selected.0 selected.1.candidate);
+          asked = selected.1.asked;
+        }))
+      ],
+    )
 
 -- the next key is judged, whether it has a line or not
 module _ (merged : MergedValue) (threshold : ℕ) (reported : List PrefixValue) (node : NodeValue) (keys : List ℕ) (old now : List Line) (place key : ℕ) (prefix : PrefixValue)
@@ -162,7 +168,6 @@ module _ (merged : MergedValue) (threshold : ℕ) (reported : List PrefixValue) 
     (elsewhere : All (λ (line : Line). node_of line.prefix ≢ node) old)
     (distinct : AllPairs (λ k other. k ≢ other) keys) (within : place < length keys) (read : key ≡ get_or keys place key)
     (only : (other : PrefixValue) → (Some prefix ≡ Some other) ↔ HasKey node key other) where
-
   pub judged_more : (found : Option Line) → ((line : Line) → line.prefix ≡ prefix → (found ≡ Some line) ↔ IsAsked merged threshold reported line)
       → ((line : Line) → found ≡ Some line → line.prefix ≡ prefix) → Judged merged threshold reported node keys old (now ++ option_to_list found) (place + 1)
   judged_more None asked its_prefix =

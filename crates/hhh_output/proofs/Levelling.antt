@@ -55,13 +55,12 @@ more_nodes level place = ap (nodes_before level) (add-one place)
 
 module _ (merged : MergedValue) (threshold : ℕ) (reported : List PrefixValue) (level : ℕ) (found : List Line) (place : ℕ) (node : NodeValue)
     (looks : LooksThrough merged threshold reported level found place) (is : node ≡ node_at place) (back : index_of node ≡ place) where
-
   -- a node of another level has none of its lines
   pub looks_past : level_of node ≢ level → LooksThrough merged threshold reported level found (place + 1)
   looks_past other = record {
     members = λ line. (
       λ there. let part = (looks.members line).0 there in let before : index_of (node_of line.prefix) < place = part.0 in (omega arith, part.1, part.2),
-      λ part. (looks.members line).1 (earlier line part, part.1, part.2)
+      λ part. (looks.members line).1 (earlier line part, part.1, part.2),
     );
     distinct = looks.distinct;
     few = omega (arith, looks.few, more_nodes level place, fewer);
@@ -74,6 +73,7 @@ module _ (merged : MergedValue) (threshold : ℕ) (reported : List PrefixValue) 
           let apart : index_of (node_of line.prefix) ≢ place =
           λ same. other (ap level_of (sym (at_place line.prefix node place part.2.is_prefix is same)) ∙ part.1) in
           omega (arith, apart)
+
       fewer : nodes_before level place ≤ nodes_before level (place + 1)
       fewer = omega (arith, more_nodes level place)
 
@@ -81,8 +81,8 @@ module _ (merged : MergedValue) (threshold : ℕ) (reported : List PrefixValue) 
   pub elsewhere : All (λ (line : Line). node_of line.prefix ≢ node) found
   elsewhere = All-weaker (Contains found) (λ (line : Line). node_of line.prefix ≢ node)
       (λ line there same.
-        let before : index_of (node_of line.prefix) < place = ((looks.members line).0 there).0 in
-        let here : index_of (node_of line.prefix) ≡ place = ap index_of same ∙ back in omega arith)
+      let before : index_of (node_of line.prefix) < place = ((looks.members line).0 there).0 in
+      let here : index_of (node_of line.prefix) ≡ place = ap index_of same ∙ back in omega arith)
       found (All-contains_itself found)
 
   -- a node of the level adds its lines
@@ -95,7 +95,7 @@ module _ (merged : MergedValue) (threshold : ℕ) (reported : List PrefixValue) 
         | inl earlier ↦ let part = (looks.members line).0 earlier in let before : index_of (node_of line.prefix) < place = part.0 in (omega arith, part.1, part.2)
         | inr new ↦ let here : index_of (node_of line.prefix) ≡ place = ap index_of new.0 ∙ back in (omega arith, ap level_of new.0 ∙ same, new.1)
       ],
-      λ part. (members line).1 (sides line part (eqb (index_of (node_of line.prefix)) place) refl)
+      λ part. (members line).1 (sides line part (eqb (index_of (node_of line.prefix)) place) refl),
     );
     distinct = distinct;
     few =
@@ -132,7 +132,7 @@ distinct_moved order lines moved moves distinct =
     let still : IsDistinct same_line moved =
     IsDistinct-IsPermutation same_line (λ line other. and_comm (under line.prefix other.prefix) (under other.prefix line.prefix)) lines moved moves apart in
     λ i j d before below same. false≢true (sym (apart_from_distinct same_line moved i j d still before below)
-      ∙ subst (λ p. same_prefix (get_or moved i d).prefix p ≡ true) same (ap (λ b. b && b) (order.reflexive (get_or moved i d).prefix)))
+    ∙ subst (λ p. same_prefix (get_or moved i d).prefix p ≡ true) same (ap (λ b. b && b) (order.reflexive (get_or moved i d).prefix)))
   where
     by : (line other : Line) → line.prefix ≢ other.prefix → (b : Bool) → same_line line other ≡ b → same_line line other ≡ false
     by line other apart true is = let both = and_parts (under line.prefix other.prefix) (under other.prefix line.prefix) is in

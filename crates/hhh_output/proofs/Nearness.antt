@@ -40,7 +40,7 @@ pub closest-append : (prefix : PrefixValue) (lines more : List PrefixValue) → 
     → closest prefix (lines ++ more) ≡ closest prefix lines
 closest-append prefix lines more law low =
     ap greatest (filter-append (λ line. strictly_under line prefix) lines more
-      ∙ ap (λ rest. lines_under prefix lines ++ rest) (none_under prefix more law low) ∙ append-nil (lines_under prefix lines))
+    ∙ ap (λ rest. lines_under prefix lines ++ rest) (none_under prefix more law low) ∙ append-nil (lines_under prefix lines))
 
 -- the lines of a greater level than this
 abbrev pub lines_above : ℕ → List Line → List Line

@@ -34,15 +34,15 @@ same_in_order {X} R apart (x ∷ xs) (y ∷ ys) xs_rise ys_rise there back =
     let after_y : All (R y) ys = pairs-head R y ys ys_rise in
     let heads : x ≡ y = by_place (contains-cons y ys x (there x (contains-head x xs))) (contains-cons x xs y (back y (contains-head y ys))) after_x after_y in
     let tail_there : (z : X) → Contains xs z → Contains ys z = λ z in_xs.
-        elim (contains-cons y ys z (there z (contains-tail x xs z in_xs))) [
-          | inl same ↦ let before : R x x = subst (R x) (sym same ∙ sym heads) (All-contains (R x) xs z after_x in_xs) in absurd (apart x x before before)
-          | inr in_ys ↦ in_ys
-        ] in
+    elim (contains-cons y ys z (there z (contains-tail x xs z in_xs))) [
+      | inl same ↦ let before : R x x = subst (R x) (sym same ∙ sym heads) (All-contains (R x) xs z after_x in_xs) in absurd (apart x x before before)
+      | inr in_ys ↦ in_ys
+    ] in
     let tail_back : (z : X) → Contains ys z → Contains xs z = λ z in_ys.
-        elim (contains-cons x xs z (back z (contains-tail y ys z in_ys))) [
-          | inl same ↦ let before : R y y = subst (R y) (sym same ∙ heads) (All-contains (R y) ys z after_y in_ys) in absurd (apart y y before before)
-          | inr in_xs ↦ in_xs
-        ] in
+    elim (contains-cons x xs z (back z (contains-tail y ys z in_ys))) [
+      | inl same ↦ let before : R y y = subst (R y) (sym same ∙ heads) (All-contains (R y) ys z after_y in_ys) in absurd (apart y y before before)
+      | inr in_xs ↦ in_xs
+    ] in
     ap (λ h. h ∷ xs) heads ∙ ap (λ t. y ∷ t) (same_in_order R apart xs ys (pairs-tail R x xs xs_rise) (pairs-tail R y ys ys_rise) tail_there tail_back)
   where
     by_place : (y ≡ x) ⊎ Contains ys x → (x ≡ y) ⊎ Contains xs y → All (R x) xs → All (R y) ys → x ≡ y

@@ -9,7 +9,6 @@ use Rattle.prefix_lattice.specs.PrefixValue.{PrefixValue, IsPrefix}
 use Rattle.prefix_lattice.specs.Prefix.{node_of, key_of}
 use Rattle.prefix_lattice.specs.Key.{IsKeyOf}
 use Rattle.prefix_lattice.specs.Explaining.{closest, kept_pairs}
-
 use Rattle.shard_state.specs.CutValue.{CutValue, IsCut, total_of_cut}
 use Rattle.cut_merge.specs.MergedValue.{MergedValue}
 use Rattle.cut_merge.specs.Span.{span, monitored_at, candidates_at, interval_for, StandsForCut, IsWithinTotal, Interval}
@@ -50,7 +49,6 @@ all_right P xs ys all = λ k d below. subst P (get_or-append-add xs ys k d) (all
 
 module _ (merged : MergedValue) (cut : CutValue) (stands : StandsForCut merged cut)
     (asked : (prefix : PrefixValue) (lines : List PrefixValue) → IsPrefix prefix → All IsPrefix lines → All IsPrefix (asked_of prefix lines)) where
-
   same_low : (prefix : PrefixValue) → IsPrefix prefix → merged_low merged prefix ≡ low_in cut prefix
   same_low prefix is_prefix = ap (λ (i : Interval). i.low) (stands.intervals prefix is_prefix)
 
@@ -97,7 +95,6 @@ module _ (merged : MergedValue) (cut : CutValue) (stands : StandsForCut merged c
 
   -- the lines down to level 0 are those that the cut asks for
   module _ (threshold : ℕ) (lines : List Line) (down : AreDownTo merged threshold 9 lines) where
-
     all_prefixes : All IsPrefix (prefixes_of lines)
     all_prefixes =
         All-map IsPrefix (λ (l : Line). l.prefix) lines
@@ -106,7 +103,7 @@ module _ (merged : MergedValue) (cut : CutValue) (stands : StandsForCut merged c
     pub lines_of_cut : (line : Line) → Contains lines line ↔ IsLineOf cut threshold (prefixes_of lines) line
     lines_of_cut line = (
       λ there. line_selected threshold (prefixes_of lines) line all_prefixes ((down.members line (omega arith)).0 there),
-      λ is. (down.members line (omega arith)).1 (selected_line threshold (prefixes_of lines) line all_prefixes is)
+      λ is. (down.members line (omega arith)).1 (selected_line threshold (prefixes_of lines) line all_prefixes is),
     )
 
     -- and they are lines of a report
@@ -115,8 +112,8 @@ module _ (merged : MergedValue) (cut : CutValue) (stands : StandsForCut merged c
       few = omega (arith, down.few);
       ordered = All-weaker (Contains lines) (λ (l : Line). l.lo ≤ l.hi)
           (λ line there.
-            let is = (lines_of_cut line).0 there in
-            omega (arith, is.low, is.high, (within line.prefix is.is_prefix).ordered))
+          let is = (lines_of_cut line).0 there in
+          omega (arith, is.low, is.high, (within line.prefix is.is_prefix).ordered))
           lines (All-contains_itself lines);
       rising = down.rising;
     }

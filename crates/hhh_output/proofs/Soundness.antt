@@ -60,11 +60,11 @@ distinct_prefixes order [] rising = λ i j d before below. absurd (omega arith)
 distinct_prefixes order (line ∷ lines) rising =
     AllPairs-cons (λ prefix other. prefix ≢ other) line.prefix (prefixes_of lines)
     (All-map (λ other. line.prefix ≢ other) (λ (l : Line). l.prefix) lines
-      (All-weaker (Before line) (λ (other : Line). line.prefix ≢ other.prefix)
-        (λ other before same.
-          let back : Before other line = subst (λ p. report_order p line.prefix ≡ Less) same (subst (λ p. report_order line.prefix p ≡ Less) (sym same) before) in
-          before-apart order line other before back)
-        lines (pairs-head Before line lines rising)))
+    (All-weaker (Before line) (λ (other : Line). line.prefix ≢ other.prefix)
+    (λ other before same.
+    let back : Before other line = subst (λ p. report_order p line.prefix ≡ Less) same (subst (λ p. report_order line.prefix p ≡ Less) (sym same) before) in
+    before-apart order line other before back)
+    lines (pairs-head Before line lines rising)))
     (distinct_prefixes order lines (pairs-tail Before line lines rising))
 
 -- what holds of each line of a report, shown of any line that it contains
@@ -79,8 +79,10 @@ conditioned-le-weight prefix lines (rec ∷ records) =
   where
     kept : List RecordValue
     kept = filter (λ (r : RecordValue). covers prefix r && not (one_covers (lines_under prefix lines) r)) records
+
     covered : List RecordValue
     covered = filter (covers prefix) records
+
     by : (b c : Bool) → sum_by (λ (r : RecordValue). r.weight) kept ≤ sum_by (λ (r : RecordValue). r.weight) covered
         → sum_by (λ (r : RecordValue). r.weight) (cond (b && not c) (rec ∷ kept) kept) ≤ sum_by (λ (r : RecordValue). r.weight) (cond b (rec ∷ covered) covered)
     by true true rest = omega (arith, rest, sum_by-cons (λ (r : RecordValue). r.weight) rec covered)
@@ -151,37 +153,42 @@ left_out cut lists phi report reports prefix is_prefix missing =
           (subst (λ n. high_in cut prefix * cut.capacity ≤ n) (sym reports.is_report.total) (holds.light prefix is_prefix unknown)) in
           omega (arith, light, few, span_holds.high)
       | inl monitored ↦ elim (cases_lt (high_in cut prefix) report.threshold) [
-          | inl light ↦ omega (arith, light, few, span_holds.high)
-          | inr heavy ↦ elim (cases_lt (high_in cut prefix + sum_by (high_in cut) (kept_pairs (closest prefix lines))) (report.threshold + sum_by (low_in cut) (closest prefix lines))) [
-              | inl explained ↦
-                  let least = holds.at_least (low_in cut) (high_in cut) prefix lines records (distinct_prefixes holds.order report.lines reports.kept.rising)
-                      (hold_asked cut lists holds prefix lines is_prefix (report_prefixes cut lists phi report reports)) in
-                  omega (arith, ints, least, explained)
-              | inr unexplained ↦
-                  let line : Line = record { prefix = prefix; lo = low_in cut prefix; hi = high_in cut prefix } in
-                  let is : IsLineOf cut report.threshold lines line = record {
-                    is_prefix = is_prefix;
-                    low = refl;
-                    high = refl;
-                    monitored = monitored;
-                    heavy = heavy;
-                    unexplained = omega (arith, ints, unexplained);
-                  } in
-                  absurd (missing (contains_prefix report.lines line ((reports.is_report.lines line).1 is)))
-            ]
+        | inl light ↦ omega (arith, light, few, span_holds.high)
+        | inr heavy ↦ elim (cases_lt (high_in cut prefix + sum_by (high_in cut) (kept_pairs (closest prefix lines))) (report.threshold + sum_by (low_in cut) (closest prefix lines))) [
+          | inl explained ↦
+              let least = holds.at_least (low_in cut) (high_in cut) prefix lines records (distinct_prefixes holds.order report.lines reports.kept.rising)
+              (hold_asked cut lists holds prefix lines is_prefix (report_prefixes cut lists phi report reports)) in
+              omega (arith, ints, least, explained)
+          | inr unexplained ↦
+              let line : Line = record { prefix = prefix; lo = low_in cut prefix; hi = high_in cut prefix } in
+              let is : IsLineOf cut report.threshold lines line = record {
+                is_prefix = is_prefix;
+                low = refl;
+                high = refl;
+                monitored = monitored;
+                heavy = heavy;
+                unexplained = omega (arith, ints, unexplained);
+              } in
+              absurd (missing (contains_prefix report.lines line ((reports.is_report.lines line).1 is)))
         ]
+      ]
     ]
   where
     lines : List PrefixValue
     lines = prefixes_of report.lines
+
     records : List RecordValue
     records = records_before lists (positions_of cut)
+
     holds : CutHolds cut lists
     holds = reports.holds
+
     span_holds : Holds (span cut prefix) cut.capacity (weight_of prefix records) (total_of_cut cut)
     span_holds = holds.spans prefix is_prefix
+
     few : conditioned_weight prefix lines records ≤ weight_of prefix records
     few = conditioned-le-weight prefix lines records
+
     contains_prefix : (ls : List Line) (line : Line) → Contains ls line → Contains (prefixes_of ls) line.prefix
     contains_prefix [] line there = absurd (contains-nil line there)
     contains_prefix (l ∷ ls) line there = elim (contains-cons l ls line there) [
@@ -204,23 +211,23 @@ report_is_sound cut lists phi report reports =
       threshold = is.threshold;
       interval = subst (λ rs. All (HoldsWeight rs) report.lines) (sym at)
           (each_line (HoldsWeight records) report.lines (λ line there.
-            let l = line_of line there in
-            let span_holds = holds.spans line.prefix l.is_prefix in
-            record { low = omega (arith, l.low, span_holds.low); high = omega (arith, l.high, span_holds.high) }));
+          let l = line_of line there in
+          let span_holds = holds.spans line.prefix l.is_prefix in
+          record { low = omega (arith, l.low, span_holds.low); high = omega (arith, l.high, span_holds.high) }));
       width = each_line (IsNarrow cut.capacity report.total) report.lines (λ line there.
           let l = line_of line there in
           subst (λ n. (n - line.lo) * cut.capacity ≤ report.total) (sym l.high)
           (subst (λ n. (high_in cut line.prefix - n) * cut.capacity ≤ report.total) (sym l.low)
-            (subst (λ n. (high_in cut line.prefix - low_in cut line.prefix) * cut.capacity ≤ n) (sym is.total) (holds.spans line.prefix l.is_prefix).width)));
+          (subst (λ n. (high_in cut line.prefix - low_in cut line.prefix) * cut.capacity ≤ n) (sym is.total) (holds.spans line.prefix l.is_prefix).width)));
       heavy = each_line (λ line. report.threshold ≤ line.hi) report.lines (λ line there. (line_of line there).heavy);
       justified = subst (λ rs. All (IsJustified cut.capacity report.threshold (prefixes_of report.lines) rs) report.lines) (sym at)
           (each_line (IsJustified cut.capacity report.threshold (prefixes_of report.lines) records) report.lines (λ line there.
-            let l = line_of line there in
-            holds.reached (low_in cut) (high_in cut) line.prefix (prefixes_of report.lines) records cut.capacity (total_weight records) report.threshold
-            (distinct_prefixes holds.order report.lines reports.kept.rising)
-            (hold_asked cut lists holds line.prefix (prefixes_of report.lines) l.is_prefix prefixes)
-            (narrow_asked cut lists holds line.prefix (prefixes_of report.lines) l.is_prefix prefixes)
-            l.unexplained));
+          let l = line_of line there in
+          holds.reached (low_in cut) (high_in cut) line.prefix (prefixes_of report.lines) records cut.capacity (total_weight records) report.threshold
+          (distinct_prefixes holds.order report.lines reports.kept.rising)
+          (hold_asked cut lists holds line.prefix (prefixes_of report.lines) l.is_prefix prefixes)
+          (narrow_asked cut lists holds line.prefix (prefixes_of report.lines) l.is_prefix prefixes)
+          l.unexplained));
       complete = λ prefix is_prefix missing.
           subst (λ rs. conditioned_weight prefix (prefixes_of report.lines) rs < report.threshold) (sym at) (left_out cut lists phi report reports prefix is_prefix missing);
     }

@@ -62,9 +62,9 @@ same_above order least lines other kept other_kept there back =
     let above : Line → Bool = λ line. ltb least (level line.prefix) in
     let one_way : (xs ys : List Line) → AreThere (suc least) xs ys → (line : Line) → Contains (filter above xs) line → Contains (filter above ys) line =
     λ xs ys to line is.
-        let parts = filtered-there above xs line is in
-        let high : least < level line.prefix = ltb-true least (level line.prefix) parts.1 in
-        filtered-back above ys line (to line (omega arith) parts.0) parts.1 in
+    let parts = filtered-there above xs line is in
+    let high : least < level line.prefix = ltb-true least (level line.prefix) parts.1 in
+    filtered-back above ys line (to line (omega arith) parts.0) parts.1 in
     same_in_order Before (before-apart order) (lines_above least lines) (lines_above least other)
     (AllPairs-filter Before above lines kept.rising) (AllPairs-filter Before above other other_kept.rising)
     (one_way lines other there) (one_way other lines back)
@@ -84,20 +84,20 @@ same_from : (cut : CutValue) (threshold : ℕ) (lines other : List Line) → IsT
 same_from cut threshold lines other order law makes other_makes zero least done =
     let none : (xs : List Line) → MakesLines cut threshold xs → (line : Line) → least ≤ level line.prefix → Contains xs line → ⊥ =
     λ xs made line high there.
-        let is : IsLineOf cut threshold (prefixes_of xs) line = (made.asked line).0 there in
-        let few : level line.prefix ≤ 8 = level-few line.prefix is.is_prefix in omega arith in
+    let is : IsLineOf cut threshold (prefixes_of xs) line = (made.asked line).0 there in
+    let few : level line.prefix ≤ 8 = level-few line.prefix is.is_prefix in omega arith in
     (λ line high there. absurd (none lines makes line high there), λ line high there. absurd (none other other_makes line high there))
 same_from cut threshold lines other order law makes other_makes (suc steps) least done =
     let one_way : (xs ys : List Line) → MakesLines cut threshold xs → MakesLines cut threshold ys
-        → ((least : ℕ) → 9 ≤ least + steps → AreThere least xs ys × AreThere least ys xs) → AreThere least xs ys =
+    → ((least : ℕ) → 9 ≤ least + steps → AreThere least xs ys × AreThere least ys xs) → AreThere least xs ys =
     λ xs ys made other_made rest line high there.
-        let here = level line.prefix in
-        let above = rest (suc here) (omega arith) in
-        let is : IsLineOf cut threshold (prefixes_of xs) line = (made.asked line).0 there in
-        let same : closest line.prefix (prefixes_of xs) ≡ closest line.prefix (prefixes_of ys) =
-        sym (closest-above line.prefix xs law) ∙ ap (λ l. closest line.prefix (prefixes_of l)) (same_above order here xs ys made.kept other_made.kept above.0 above.1)
-        ∙ closest-above line.prefix ys law in
-        (other_made.asked line).1 (line_over cut threshold (prefixes_of xs) (prefixes_of ys) line same is) in
+    let here = level line.prefix in
+    let above = rest (suc here) (omega arith) in
+    let is : IsLineOf cut threshold (prefixes_of xs) line = (made.asked line).0 there in
+    let same : closest line.prefix (prefixes_of xs) ≡ closest line.prefix (prefixes_of ys) =
+    sym (closest-above line.prefix xs law) ∙ ap (λ l. closest line.prefix (prefixes_of l)) (same_above order here xs ys made.kept other_made.kept above.0 above.1)
+    ∙ closest-above line.prefix ys law in
+    (other_made.asked line).1 (line_over cut threshold (prefixes_of xs) (prefixes_of ys) line same is) in
     let rest : (least : ℕ) → 9 ≤ least + steps → AreThere least lines other × AreThere least other lines =
     λ above enough. same_from cut threshold lines other order law makes other_makes steps above enough in
     (one_way lines other makes other_makes rest, one_way other lines other_makes makes (λ above enough. ((rest above enough).1, (rest above enough).0)))

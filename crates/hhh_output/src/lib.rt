@@ -16,3 +16,6 @@ pub use lines::Lines;
 pub use report::Report;
 pub use reporting::report_of;
 pub use thresholds::threshold;
+
+#[cfg(test)]
+mod tests;

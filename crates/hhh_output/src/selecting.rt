@@ -18,7 +18,11 @@ use prefix_lattice::{Node, Prefix, Prefixes, prefixes_are_ordered, report_order_
 use std::alloc::{AllocError, Global};
 
 /// The lines that merged tables ask for, in the order of a report.
-pub(crate) fn select_lines(alloc: Global, merged: &Merged, threshold: u64) -> Result<Lines, AllocError>
+pub(crate) fn select_lines(
+    alloc: Global,
+    merged: &Merged,
+    threshold: u64,
+) -> Result<Lines, AllocError>
     requires { AreCandidates merged.now }
     ensures { IfOk result (λ lines. AreDownTo merged.now threshold 9 lines) }
 {

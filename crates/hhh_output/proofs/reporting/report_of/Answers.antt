@@ -9,9 +9,11 @@ select_lines-requires c =
     let kept = c.positions.ensures.kept in
     let cut = c.args.cut.now in
     candidates_of_cut c.in_ok-merged.merged cut kept c.in_ok-merged.ensures
-    (record { keyed = λ node is_node. c.monitored_keys_are_few.ensures.keyed cut node kept is_node;
-        distinct = λ node. c.monitored_keys_are_few.ensures.distinct cut node;
-        few = λ node is_node. c.monitored_keys_are_few.ensures.few cut node kept is_node })
+    (record {
+      keyed = λ node is_node. c.monitored_keys_are_few.ensures.keyed cut node kept is_node;
+      distinct = λ node. c.monitored_keys_are_few.ensures.distinct cut node;
+      few = λ node is_node. c.monitored_keys_are_few.ensures.few cut node kept is_node;
+    })
 
 pub invariant_of-result : goal.invariant_of-result
 invariant_of-result c =
@@ -36,10 +38,10 @@ returns-clause-sound c = λ lists stands weighed.
     let cut = c.args.cut.now in
     c.reports_are_sound.ensures cut lists c.args.phi _ c.positions.ensures.kept stands weighed c.requires.wide
     (lines_kept c.in_ok-merged.merged cut c.in_ok-merged.ensures c.only_prefixes_are_asked.ensures c.threshold-threshold.result c.in_ok-lines.lines c.in_ok-lines.ensures
-      (λ prefix is_prefix. c.spans_are_narrow.ensures.within cut prefix c.positions.ensures.kept is_prefix))
+    (λ prefix is_prefix. c.spans_are_narrow.ensures.within cut prefix c.positions.ensures.kept is_prefix))
     (record {
-        positions = c.in_ok-positions.ensures.positions;
-        total = c.total-total.ensures.total ∙ c.in_ok-merged.ensures.total;
-        threshold = c.threshold-threshold.ensures;
-        lines = lines_of_cut c.in_ok-merged.merged cut c.in_ok-merged.ensures c.only_prefixes_are_asked.ensures c.threshold-threshold.result c.in_ok-lines.lines c.in_ok-lines.ensures;
-      })
+      positions = c.in_ok-positions.ensures.positions;
+      total = c.total-total.ensures.total ∙ c.in_ok-merged.ensures.total;
+      threshold = c.threshold-threshold.ensures;
+      lines = lines_of_cut c.in_ok-merged.merged cut c.in_ok-merged.ensures c.only_prefixes_are_asked.ensures c.threshold-threshold.result c.in_ok-lines.lines c.in_ok-lines.ensures;
+    })

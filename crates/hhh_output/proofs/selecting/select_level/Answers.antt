@@ -41,4 +41,4 @@ returns c =
     (subst (LooksThrough c.args.merged.now c.args.threshold c.args.reported.now c.args.level c.loop-place.found.items) end c.loop-place.invariant)
     c.sort_by.ensures.permutation
     (c.in_ok-sort_by.ensures.sorted (λ line other. is_lt (report_order line.prefix other.prefix)) (ranks_by order.total (λ (line : Line). line.prefix))
-      (answers_always _ _ _ (λ f a r after called. search rules)))
+    (answers_always _ _ _ (λ f a r after called. search rules)))
