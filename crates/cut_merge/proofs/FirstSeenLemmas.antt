@@ -7,7 +7,8 @@ use Rattle.std.proofs.lemmas.List.Kept.{AllPairs-cons, AllPairs-filter}
 use Rattle.std.proofs.lemmas.List.Sums.{length-filter, count_by-le-length}
 use Rattle.std.proofs.lemmas.Map.Views.{any-filter_same}
 use Rattle.std.specs.List.{list_any}
-use Rattle.cut_merge.specs.FirstSeen.{first_seen, seen}
+use Rattle.cut_merge.specs.FirstSeen.{first_seen}
+use Rattle.cut_merge.specs.Merging.{seen}
 
 -- the keys that differ from a first one
 abbrev others : ℕ → List ℕ → List ℕ

@@ -8,7 +8,7 @@ use Rattle.prefix_lattice.specs.Key.{IsKeyOf}
 use Rattle.space_saving.specs.declared.entry.Entry.{Entry}
 use Rattle.shard_state.specs.SnapshotValue.{SnapshotValue, IsSnapshot, table_at}
 use Rattle.shard_state.specs.CutValue.{CutValue, IsCut}
-use Rattle.cut_merge.specs.Merging.{table_keys}
+use Rattle.cut_merge.specs.Tables.{table_keys}
 use Rattle.cut_merge.specs.Span.{node_tables, monitored_at}
 use Rattle.cut_merge.proofs.FirstSeenLemmas.{first_seen-all, first_seen-length}
 
