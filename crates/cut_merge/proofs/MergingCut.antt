@@ -1,5 +1,5 @@
 -- Merging the tables of a node, shard by shard.
-use Rattle.std.proofs.Common.{◌≡◌, ℕ, ◌+◌, ◌*◌, ◌/◌, ◌%◌, ◌<◌, ◌≤◌, ◌^◌, List, [], ◌∷◌, ◌++◌, length, map, take, get_or, slice_get, slice_index_or, sum_by, All, Some, inl, inr, refl, sym, ap, ◌∙◌, subst, arith}
+use Rattle.std.proofs.Common.{◌≡◌, ℕ, ◌+◌, ◌*◌, ◌/◌, ◌%◌, ◌<◌, ◌≤◌, ◌^◌, List, [], ◌∷◌, ◌++◌, length, take, get_or, slice_get, slice_index_or, Some, inl, inr, refl, sym, ap, ◌∙◌, subst, arith}
 use Rattle.std.proofs.lemmas.Bool.{cases_lt}
 use Rattle.std.proofs.lemmas.List.{take_more, get_or_default, get_or_append_left, get_or_push, get_or_past, length_push}
 use Rattle.std.proofs.lemmas.List.Sums.{sum_by-take-le}
@@ -7,14 +7,12 @@ use Rattle.std.proofs.lemmas.List.Elements.{All-take, All-get_or}
 use Rattle.std.proofs.lemmas.Option.{get_or_from_slice_get, slice_get_within, slice_get-map}
 use Rattle.std.specs.Option.{option_map}
 use Rattle.prefix_lattice.specs.NodeValue.{NodeValue, IsNode, index_of, node_at}
-use Rattle.prefix_lattice.specs.PrefixValue.{PrefixValue, IsPrefix}
 use Rattle.prefix_lattice.specs.Prefix.{node_of, key_of}
-use Rattle.space_saving.specs.Table.{TableValue, Interval, total_count}
-use Rattle.shard_state.specs.SnapshotValue.{SnapshotValue, IsSnapshot, table_at, total_of}
+use Rattle.space_saving.specs.Table.{TableValue, total_count}
+use Rattle.shard_state.specs.SnapshotValue.{SnapshotValue, table_at}
 use Rattle.shard_state.specs.CutValue.{CutValue, IsCut, total_of_cut}
 use Rattle.cut_merge.specs.NodeMergeValue.{NodeMergeValue}
 use Rattle.cut_merge.specs.MergedValue.{MergedValue}
-use Rattle.cut_merge.specs.Tables.{merged_interval}
 use Rattle.cut_merge.specs.Merging.{IsBounded, interval_of, AddsTable, StandsForTables}
 use Rattle.cut_merge.specs.Span.{node_tables, IsWithinTotal}
 use Rattle.cut_merge.specs.Standing.{nothing_merged, IsMerged, StandsForCut}
@@ -119,7 +117,7 @@ pub merged_stands : (cut : CutValue) (nodes : List NodeMergeValue) → MergesNod
 merged_stands cut nodes merges =
     let at : (node : NodeValue) → IsNode node → StandsForTables (slice_index_or nodes (index_of node) nothing_merged) (node_tables node cut) =
     λ node is_node. subst (λ n. StandsForTables (slice_index_or nodes (index_of node) nothing_merged) (node_tables n cut)) (node-place node is_node)
-        (merges.stands (index_of node) (omega (arith, is_node.source, is_node.dest))) in
+    (merges.stands (index_of node) (omega (arith, is_node.source, is_node.dest))) in
     record {
       capacity = refl;
       total = refl;

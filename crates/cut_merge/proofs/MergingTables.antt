@@ -1,19 +1,17 @@
 -- What is merged stands for the tables that were merged in.
-use Rattle.std.proofs.Common.{◌≡◌, ℕ, ◌+◌, ◌-◌, ◌≤◌, List, [], ◌∷◌, ◌++◌, length, sum_by, fold, Option, None, Some, refl, sym, ap, ◌∙◌, arith, All}
+use Rattle.std.proofs.Common.{◌≡◌, ℕ, ◌+◌, ◌-◌, ◌≤◌, List, [], ◌∷◌, ◌++◌, sum_by, fold, Option, None, Some, refl, sym, ap, ◌∙◌, arith, All}
 use Rattle.std.proofs.lemmas.List.{append-nil}
 use Rattle.std.proofs.lemmas.List.Sums.{sum_by_push, sum_by-cons}
 use Rattle.std.proofs.lemmas.List.Elements.{All-head, All-tail}
 use Rattle.std.proofs.lemmas.Grind.{flat_map-append}
 use Rattle.std.specs.List.{flat_map}
-use Rattle.std.specs.Map.{keys_of}
 use Rattle.space_saving.specs.declared.entry.Entry.{Entry}
 use Rattle.space_saving.specs.Table.{TableValue, Interval, entry_of, interval_in, interval_from, total_count}
-use Rattle.space_saving.specs.TableFacts.{IsTable}
 use Rattle.cut_merge.specs.declared.gain.Gain.{Gain}
 use Rattle.cut_merge.specs.FirstSeen.{first_seen}
-use Rattle.cut_merge.specs.Merging.{IsBounded, seen, missing_high, gain_from, interval_of, AddsTable, StandsForTables}
-use Rattle.cut_merge.specs.Tables.{merged_interval, table_keys, monitored_keys}
-use Rattle.cut_merge.specs.Gains.{gain_of, plus}
+use Rattle.cut_merge.specs.Merging.{IsBounded, seen, missing_high, gain_from, AddsTable, StandsForTables}
+use Rattle.cut_merge.specs.Tables.{merged_interval, table_keys}
+use Rattle.cut_merge.specs.Gains.{gain_of}
 use Rattle.cut_merge.specs.NodeMergeValue.{NodeMergeValue}
 use Rattle.cut_merge.proofs.FirstSeenLemmas.{first_seen-append}
 

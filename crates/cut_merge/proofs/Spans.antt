@@ -1,5 +1,5 @@
 -- What spans say of weights, shard by shard.
-use Rattle.std.proofs.Common.{◌≡◌, ℕ, ◌+◌, ◌-◌, ◌*◌, ◌≤◌, List, [], ◌∷◌, ◌++◌, length, map, take, sum_by, filter, eqb, Bool, true, false, All, Contains, None, Some, if◌then◌else◌, refl, sym, ap, ◌∙◌, subst, add-mul, arith}
+use Rattle.std.proofs.Common.{◌≡◌, ℕ, ◌+◌, ◌-◌, ◌*◌, ◌≤◌, List, [], ◌∷◌, ◌++◌, map, take, sum_by, filter, eqb, Bool, true, false, All, Contains, None, Some, if◌then◌else◌, refl, sym, ap, ◌∙◌, subst, add-mul, arith}
 use Rattle.std.proofs.lemmas.Bool.{eqb-true}
 use Rattle.std.proofs.lemmas.List.Sums.{sum_by-cons, sum_by-append}
 use Rattle.std.proofs.lemmas.List.Elements.{All-head, All-tail, filter-append, Contains-append_left, Contains-append_right}
@@ -7,7 +7,7 @@ use Rattle.std.specs.List.{AllZip, flat_map}
 use Rattle.prefix_lattice.specs.RecordValue.{RecordValue}
 use Rattle.prefix_lattice.specs.NodeValue.{NodeValue, IsNode}
 use Rattle.prefix_lattice.specs.PrefixValue.{PrefixValue, IsPrefix}
-use Rattle.prefix_lattice.specs.Prefix.{covers, node_of, key_of, weight_of, total_weight}
+use Rattle.prefix_lattice.specs.Prefix.{covers, node_of, key_of, weight_of}
 use Rattle.space_saving.specs.declared.entry.Entry.{Entry}
 use Rattle.space_saving.specs.Table.{TableValue, entry_of, interval_in, interval_from, total_count}
 use Rattle.space_saving.specs.TableFacts.{IsTable}
@@ -41,7 +41,7 @@ Weighed list = All (λ (rec : RecordValue). 1 ≤ rec.weight) list
 shards_hold : SnapshotsHold → (capacity : ℕ) (prefix : PrefixValue) → 1 ≤ capacity → IsPrefix prefix → (shards : List SnapshotValue) (lists : List (List RecordValue))
     → All (λ (s : SnapshotValue). s.capacity ≡ capacity) shards → AllZip StandsFor shards lists → All Weighed lists
     → Holds (merged_interval (map (table_at (node_of prefix)) shards) (key_of prefix)) capacity
-      (weight_of prefix (records_before lists (map (λ (s : SnapshotValue). s.position) shards))) (sum_by total_of shards)
+    (weight_of prefix (records_before lists (map (λ (s : SnapshotValue). s.position) shards))) (sum_by total_of shards)
 shards_hold law capacity prefix some is_prefix [] [] alike stand weighed = record { low = omega arith; high = omega arith; width = omega arith }
 shards_hold law capacity prefix some is_prefix [] (list ∷ lists) alike stand weighed = absurd stand
 shards_hold law capacity prefix some is_prefix (shard ∷ shards) [] alike stand weighed = absurd stand
@@ -69,11 +69,16 @@ shards_hold law capacity prefix some is_prefix (shard ∷ shards) (list ∷ list
       high = most;
       width =
           let apart : (merged_interval (table ∷ tables) key).high - (merged_interval (table ∷ tables) key).low
-              ≡ ((interval_of prefix shard).high - (interval_of prefix shard).low) + ((merged_interval tables key).high - (merged_interval tables key).low) =
+          ≡ ((interval_of prefix shard).high - (interval_of prefix shard).low) + ((merged_interval tables key).high - (merged_interval tables key).low) =
           omega (arith, low, high, first_ordered, rest_ordered) in
           subst (λ n. n * capacity ≤ sum_by total_of (shard ∷ shards)) (sym apart)
-          (omega (arith, total, first.width, rest.width,
-            add-mul ((interval_of prefix shard).high - (interval_of prefix shard).low) ((merged_interval tables key).high - (merged_interval tables key).low) capacity));
+          (omega (
+            arith,
+            total,
+            first.width,
+            rest.width,
+            add-mul ((interval_of prefix shard).high - (interval_of prefix shard).low) ((merged_interval tables key).high - (merged_interval tables key).low) capacity,
+          ));
     }
 
 -- where a cut stands for lists, the span of each prefix holds its weight
@@ -114,7 +119,7 @@ light_shards law capacity node key is_node (shard ∷ shards) alike kept missing
     subst (λ m. (interval_in table key).high * m ≤ total_of shard) same
     (subst (λ n. n * shard.capacity ≤ total_of shard) width (subst (λ n. ((interval_in table key).high - (interval_in table key).low) * shard.capacity ≤ n) of_shard.counted narrow)) in
     let rest = light_shards law capacity node key is_node shards (All-tail (λ (s : SnapshotValue). s.capacity ≡ capacity) shard shards alike) (All-tail IsSnapshot shard shards kept)
-        (λ there. missing (Contains-append_right (table_keys table) (flat_map table_keys tables) key there)) in
+    (λ there. missing (Contains-append_right (table_keys table) (flat_map table_keys tables) key there)) in
     let high = sum_by-cons (λ (t : TableValue). (interval_in t key).high) table tables in
     subst (λ n. n * capacity ≤ sum_by total_of (shard ∷ shards)) (sym high)
     (omega (arith, first, rest, sum_by-cons total_of shard shards, add-mul (interval_in table key).high (merged_interval tables key).high capacity))

@@ -1,5 +1,5 @@
 -- Tables of one node, one for each shard, read together.
-use Rattle.std.specs.Prelude.{ℕ, ◌+◌, List, map, sum_by}
+use Rattle.std.specs.Prelude.{ℕ, List, map, sum_by}
 use Rattle.std.specs.List.{flat_map}
 use Rattle.space_saving.specs.Table.{TableValue, Interval, interval_in}
 use Rattle.cut_merge.specs.FirstSeen.{first_seen}

@@ -92,7 +92,11 @@ fn missing_in(table: &Flat) -> u64
 }
 
 // Notes what each entry of a table gains, beyond what a missing key has there.
-fn note_entries(gains: &mut IndexMap<u64, Gain>, table: &Flat, missing: u64) -> Result<(), AllocError>
+fn note_entries(
+    gains: &mut IndexMap<u64, Gain>,
+    table: &Flat,
+    missing: u64,
+) -> Result<(), AllocError>
     requires missing { missing ≡ missing_high table.now }
     requires low { (key : ℕ) → (gain_of key gains.old.entries).low + total_count table.now.entries < 2 ^ 64 }
     requires high { (key : ℕ) → (gain_of key gains.old.entries).high + total_count table.now.entries < 2 ^ 64 }

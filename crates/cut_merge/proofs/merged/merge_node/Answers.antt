@@ -1,6 +1,5 @@
-use Rattle.std.proofs.Common.{◌≡◌, ℕ, ◌<◌, ◌≤◌, ◌^◌, ap, subst, arith}
+use Rattle.std.proofs.Common.{ap, subst, arith}
 use Rattle.space_saving.specs.Table.{TableValue, total_count}
-use Rattle.shard_state.specs.SnapshotValue.{table_at}
 use Rattle.cut_merge.specs.Merging.{AddsTable}
 use Rattle.cut_merge.proofs.MergingCut.{within_cut, one_more_shard}
 use Rattle.cut_merge.proofs.merged.merge_node.Goals as goal

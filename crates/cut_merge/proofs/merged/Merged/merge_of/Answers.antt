@@ -1,4 +1,4 @@
-use Rattle.std.proofs.Common.{◌≡◌, ◌<◌, length, arith}
+use Rattle.std.proofs.Common.{◌<◌, length, arith}
 use Rattle.cut_merge.specs.MergedValue.{MergedValue}
 use Rattle.cut_merge.proofs.MergingCut.{within_merged}
 use Rattle.cut_merge.proofs.merged.Merged.merge_of.Goals as goal
