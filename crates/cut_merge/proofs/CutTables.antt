@@ -1,5 +1,5 @@
 -- The tables of a cut at a node.
-use Rattle.std.proofs.Common.{◌≡◌, ℕ, ◌+◌, ◌-◌, ◌*◌, ◌≤◌, List, [], ◌∷◌, length, map, sum_by, All, None, refl, sym, ap, ◌∙◌, subst, arith}
+use Rattle.std.proofs.Common.{◌≡◌, ℕ, ◌+◌, ◌*◌, ◌^◌, ◌<◌, ◌≤◌, List, [], ◌∷◌, length, map, sum_by, All, None, refl, sym, ap, ◌∙◌, subst, arith}
 use Rattle.std.proofs.lemmas.List.Sums.{sum_by-cons}
 use Rattle.std.proofs.lemmas.List.Elements.{All-head, All-tail, All-nil, All-cons}
 use Rattle.prefix_lattice.specs.NodeValue.{NodeValue, IsNode}
@@ -9,21 +9,24 @@ use Rattle.space_saving.specs.TableFacts.{IsTable}
 use Rattle.shard_state.specs.SnapshotValue.{SnapshotValue, IsSnapshot, table_at, total_of}
 use Rattle.shard_state.specs.CutValue.{CutValue, IsCut, total_of_cut}
 use Rattle.cut_merge.specs.Span.{node_tables}
-use Rattle.cut_merge.proofs.MergingTables.{IsBounded, counted}
+use Rattle.cut_merge.specs.Merging.{IsBounded}
+use Rattle.cut_merge.proofs.MergingTables.{counted}
 
--- the law of intervals in one table
-pub record IntervalsAreNarrow : Type 0 where
+-- what the law of intervals says of every table
+pub record IntervalsAreBounded : Type 0 where
   pub ordered : (capacity : ℕ) (entries : List Entry) (key : ℕ) → IsTable capacity entries
       → (interval_in (record { capacity = capacity; entries = entries }) key).low ≤ (interval_in (record { capacity = capacity; entries = entries }) key).high
   pub within_total : (capacity : ℕ) (entries : List Entry) (key : ℕ) → IsTable capacity entries
       → (interval_in (record { capacity = capacity; entries = entries }) key).high ≤ total_count entries
-  pub narrow : (capacity : ℕ) (entries : List Entry) (key : ℕ) → IsTable capacity entries
-      → ((interval_in (record { capacity = capacity; entries = entries }) key).high - (interval_in (record { capacity = capacity; entries = entries }) key).low) * capacity ≤ total_count entries
   pub above_missing : (capacity : ℕ) (entries : List Entry) (key : ℕ) → IsTable capacity entries
       → (interval_from None (record { capacity = capacity; entries = entries })).high ≤ (interval_in (record { capacity = capacity; entries = entries }) key).high
 
--- a table of a snapshot is bounded
-bounded_table : (node : NodeValue) (snapshot : SnapshotValue) (key : ℕ) → IntervalsAreNarrow → IsNode node → IsSnapshot snapshot → IsBounded (table_at node snapshot) key
+-- in every cut the intervals of the tables at a node are bounded
+abbrev pub TablesAreBounded : Type 0
+TablesAreBounded = (cut : CutValue) (node : NodeValue) (key : ℕ) → IsCut cut → IsNode node → All (IsBounded key) (node_tables node cut)
+
+-- so it is in a table of a snapshot
+bounded_table : (node : NodeValue) (snapshot : SnapshotValue) (key : ℕ) → IntervalsAreBounded → IsNode node → IsSnapshot snapshot → IsBounded key (table_at node snapshot)
 bounded_table node snapshot key law is_node kept =
     let t = table_at node snapshot in
     let table = ((kept.tables node is_node).are_entries).is_table in
@@ -33,17 +36,17 @@ bounded_table node snapshot key law is_node kept =
       above_missing = law.above_missing t.capacity t.entries key table;
     }
 
--- so are the tables of all shards
-bounded_tables : (node : NodeValue) (shards : List SnapshotValue) (key : ℕ) → IntervalsAreNarrow → IsNode node → All IsSnapshot shards
-    → All (λ table. IsBounded table key) (map (table_at node) shards)
-bounded_tables node [] key law is_node kept = All-nil (λ table. IsBounded table key)
+-- and in those of all shards
+bounded_tables : (node : NodeValue) (shards : List SnapshotValue) (key : ℕ) → IntervalsAreBounded → IsNode node → All IsSnapshot shards
+    → All (IsBounded key) (map (table_at node) shards)
+bounded_tables node [] key law is_node kept = All-nil (IsBounded key)
 bounded_tables node (snapshot ∷ shards) key law is_node kept =
-    All-cons (λ table. IsBounded table key) (table_at node snapshot) (map (table_at node) shards)
+    All-cons (IsBounded key) (table_at node snapshot) (map (table_at node) shards)
     (bounded_table node snapshot key law is_node (All-head IsSnapshot snapshot shards kept))
     (bounded_tables node shards key law is_node (All-tail IsSnapshot snapshot shards kept))
 
-pub bounded_at : (node : NodeValue) (cut : CutValue) (key : ℕ) → IntervalsAreNarrow → IsNode node → IsCut cut → All (λ table. IsBounded table key) (node_tables node cut)
-bounded_at node cut key law is_node kept = bounded_tables node cut.shards key law is_node kept.kept
+pub bounded_at : IntervalsAreBounded → TablesAreBounded
+bounded_at law cut node key kept is_node = bounded_tables node cut.shards key law is_node kept.kept
 
 -- what they count together is the total of the cut
 counted_shards : (node : NodeValue) (shards : List SnapshotValue) → IsNode node → All IsSnapshot shards → counted (map (table_at node) shards) ≡ sum_by total_of shards
@@ -56,3 +59,16 @@ counted_shards node (snapshot ∷ shards) is_node kept =
 
 pub counted-at : (node : NodeValue) (cut : CutValue) → IsNode node → IsCut cut → counted (node_tables node cut) ≡ total_of_cut cut
 counted-at node cut is_node kept = counted_shards node cut.shards is_node kept.kept
+
+-- each shard counted less than 2^56
+light_shards : (shards : List SnapshotValue) → All IsSnapshot shards → sum_by total_of shards + length shards ≤ length shards * 2 ^ 56
+light_shards [] kept = omega arith
+light_shards (snapshot ∷ shards) kept =
+    let node : NodeValue = record { source_bytes = 0; dest_bytes = 0 } in
+    let table = (All-head IsSnapshot snapshot shards kept).tables node (record { source = omega arith; dest = omega arith }) in
+    let small : total_of snapshot < 2 ^ 56 = subst (λ n. n < 2 ^ 56) table.counted table.are_entries.bounded in
+    omega (arith, small, light_shards shards (All-tail IsSnapshot snapshot shards kept), sum_by-cons total_of snapshot shards)
+
+-- so at most 16 of them counted less than 2^60 together
+pub small_cut : (cut : CutValue) → IsCut cut → length cut.shards ≤ 16 → total_of_cut cut < 2 ^ 60
+small_cut cut kept few = omega (arith, kept.some, few, light_shards cut.shards kept.kept)

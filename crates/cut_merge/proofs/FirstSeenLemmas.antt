@@ -1,5 +1,5 @@
 -- Keys in first-seen order: one more, many more, and what stands among them.
-use Rattle.std.proofs.Common.{◌≡◌, ◌≢◌, ℕ, ◌≤◌, zero, suc, ◌⊎◌, inl, inr, length, All, AllPairs, Contains, arith, eqb, not, cond, ◌&&◌, ◌||◌, Bool, true, false, List, [], ◌∷◌, ◌++◌, filter, fold, refl, sym, ap, ◌∙◌, subst, if◌then◌else◌}
+use Rattle.std.proofs.Common.{◌≡◌, ◌≢◌, ℕ, ◌≤◌, zero, suc, ◌⊎◌, inl, inr, length, All, AllPairs, Contains, arith, eqb, not, cond, ◌||◌, Bool, true, false, List, [], ◌∷◌, ◌++◌, filter, fold, refl, sym, ap, ◌∙◌, subst, if◌then◌else◌}
 use Rattle.std.proofs.lemmas.Bool.{eqb-true, eq-eqb, false≢true}
 use Rattle.std.proofs.lemmas.List.{append_assoc, append-nil}
 use Rattle.std.proofs.lemmas.List.Elements.{filter-append, All-cons, All-head, All-tail, All-filter, All-weaker, filter_passes}
@@ -7,7 +7,8 @@ use Rattle.std.proofs.lemmas.List.Kept.{AllPairs-cons, AllPairs-filter}
 use Rattle.std.proofs.lemmas.List.Sums.{length-filter, count_by-le-length}
 use Rattle.std.proofs.lemmas.Map.Views.{any-filter_same}
 use Rattle.std.specs.List.{list_any}
-use Rattle.cut_merge.specs.FirstSeen.{first_seen, seen}
+use Rattle.cut_merge.specs.FirstSeen.{first_seen}
+use Rattle.cut_merge.specs.Merging.{seen}
 
 -- the keys that differ from a first one
 abbrev others : ℕ → List ℕ → List ℕ
@@ -49,7 +50,7 @@ first_seen-push (first ∷ keys) key =
         ∙ ap (λ b. if b || list_any (λ other. eqb key other) (others first (first_seen keys)) then first ∷ others first (first_seen keys) else first ∷ others first (first_seen keys) ++ key ∷ []) (sym same)
     by false differs = ap (λ rest. first ∷ rest) (others-seen_other first key (first_seen keys) differs)
         ∙ (elim (list_any (λ other. eqb key other) (others first (first_seen keys))) as (λ b. first ∷ (if b then others first (first_seen keys) else others first (first_seen keys) ++ key ∷ [])
-            ≡ (if b then first ∷ others first (first_seen keys) else first ∷ others first (first_seen keys) ++ key ∷ [])) [ true ↦ refl | false ↦ refl ])
+        ≡ (if b then first ∷ others first (first_seen keys) else first ∷ others first (first_seen keys) ++ key ∷ [])) [ true ↦ refl | false ↦ refl ])
         ∙ ap (λ b. if b || list_any (λ other. eqb key other) (others first (first_seen keys)) then first ∷ others first (first_seen keys) else first ∷ others first (first_seen keys) ++ key ∷ []) (sym differs)
 
 -- and so of many
@@ -108,7 +109,7 @@ first_seen-distinct [] = λ i j d before below. absurd (omega arith)
 first_seen-distinct (first ∷ keys) =
     AllPairs-cons (λ key other. key ≢ other) first (others first (first_seen keys))
     (All-weaker (λ other. not (eqb first other) ≡ true) (λ other. first ≢ other) (λ other passes same. false≢true (sym (ap not (eq-eqb first other same)) ∙ passes))
-      (others first (first_seen keys)) (filter_passes (λ other. not (eqb first other)) (first_seen keys)))
+    (others first (first_seen keys)) (filter_passes (λ other. not (eqb first other)) (first_seen keys)))
     (AllPairs-filter (λ key other. key ≢ other) (λ other. not (eqb first other)) (first_seen keys) (first_seen-distinct keys))
 
 -- and no more keys are seen than there are

@@ -1,3 +1,4 @@
+pub mod Examples
 pub mod Noting
 pub mod NotingEntries
 pub mod FirstSeenLemmas

@@ -1,5 +1,5 @@
 -- Merging the tables of a node, shard by shard.
-use Rattle.std.proofs.Common.{◌≡◌, ℕ, ◌+◌, ◌*◌, ◌/◌, ◌%◌, ◌<◌, ◌≤◌, ◌^◌, List, [], ◌∷◌, ◌++◌, length, map, take, get_or, slice_get, slice_index_or, sum_by, All, Some, inl, inr, refl, sym, ap, ◌∙◌, subst, arith}
+use Rattle.std.proofs.Common.{◌≡◌, ℕ, ◌+◌, ◌*◌, ◌/◌, ◌%◌, ◌<◌, ◌≤◌, ◌^◌, List, [], ◌∷◌, ◌++◌, length, take, get_or, slice_get, slice_index_or, Some, inl, inr, refl, sym, ap, ◌∙◌, subst, arith}
 use Rattle.std.proofs.lemmas.Bool.{cases_lt}
 use Rattle.std.proofs.lemmas.List.{take_more, get_or_default, get_or_append_left, get_or_push, get_or_past, length_push}
 use Rattle.std.proofs.lemmas.List.Sums.{sum_by-take-le}
@@ -7,17 +7,17 @@ use Rattle.std.proofs.lemmas.List.Elements.{All-take, All-get_or}
 use Rattle.std.proofs.lemmas.Option.{get_or_from_slice_get, slice_get_within, slice_get-map}
 use Rattle.std.specs.Option.{option_map}
 use Rattle.prefix_lattice.specs.NodeValue.{NodeValue, IsNode, index_of, node_at}
-use Rattle.prefix_lattice.specs.PrefixValue.{PrefixValue, IsPrefix}
 use Rattle.prefix_lattice.specs.Prefix.{node_of, key_of}
-use Rattle.space_saving.specs.Table.{TableValue, Interval, total_count}
-use Rattle.shard_state.specs.SnapshotValue.{SnapshotValue, IsSnapshot, table_at, total_of}
+use Rattle.space_saving.specs.Table.{TableValue, total_count}
+use Rattle.shard_state.specs.SnapshotValue.{SnapshotValue, table_at}
 use Rattle.shard_state.specs.CutValue.{CutValue, IsCut, total_of_cut}
 use Rattle.cut_merge.specs.NodeMergeValue.{NodeMergeValue}
 use Rattle.cut_merge.specs.MergedValue.{MergedValue}
-use Rattle.cut_merge.specs.Merging.{merged_interval, interval_of, AddsTable, StandsForTables}
-use Rattle.cut_merge.specs.Span.{node_tables, nothing_merged, IsWithinTotal, IsMerged, StandsForCut}
-use Rattle.cut_merge.proofs.MergingTables.{IsBounded, IsMergedBounded, counted, merged_bounded, stands_for_more}
-use Rattle.cut_merge.proofs.CutTables.{IntervalsAreNarrow, bounded_at, counted-at}
+use Rattle.cut_merge.specs.Merging.{IsBounded, interval_of, AddsTable, StandsForTables}
+use Rattle.cut_merge.specs.Span.{node_tables, IsWithinTotal}
+use Rattle.cut_merge.specs.Standing.{nothing_merged, IsMerged, StandsForCut}
+use Rattle.cut_merge.proofs.MergingTables.{IsMergedBounded, counted, merged_bounded, stands_for_more}
+use Rattle.cut_merge.proofs.CutTables.{TablesAreBounded, counted-at}
 
 -- the table of a shard stands at its place among the tables of the node
 table-place : (node : NodeValue) (cut : CutValue) (shard : ℕ) (snapshot : SnapshotValue) → slice_get cut.shards shard ≡ Some snapshot
@@ -25,18 +25,18 @@ table-place : (node : NodeValue) (cut : CutValue) (shard : ℕ) (snapshot : Snap
 table-place node cut shard snapshot at = slice_get-map (table_at node) cut.shards shard ∙ ap (option_map (table_at node)) at
 
 -- merged tables of some shards say no more than the total of the cut
-pub within_cut : (node : NodeValue) (cut : CutValue) (shards key : ℕ) (merge : NodeMergeValue) → IntervalsAreNarrow → IsNode node → IsCut cut
+pub within_cut : (node : NodeValue) (cut : CutValue) (shards key : ℕ) (merge : NodeMergeValue) → TablesAreBounded → IsNode node → IsCut cut
     → StandsForTables merge (take shards (node_tables node cut)) → IsWithinTotal (total_of_cut cut) (interval_of merge key)
 within_cut node cut shards key merge law is_node kept stands =
     let tables = node_tables node cut in
     let bounded : IsMergedBounded (take shards tables) key =
-    merged_bounded (take shards tables) key (All-take (λ table. IsBounded table key) shards tables (bounded_at node cut key law is_node kept)) in
+    merged_bounded (take shards tables) key (All-take (IsBounded key) shards tables (law cut node key kept is_node)) in
     let few : counted (take shards tables) ≤ total_of_cut cut =
     subst (λ n. counted (take shards tables) ≤ n) (counted-at node cut is_node kept) (sum_by-take-le (λ (t : TableValue). total_count t.entries) tables shards) in
     subst (IsWithinTotal (total_of_cut cut)) (sym (stands.intervals key)) (record { ordered = bounded.ordered; within_total = omega (arith, few, bounded.within_total) })
 
 -- one more shard
-pub one_more_shard : (node : NodeValue) (cut : CutValue) (shard : ℕ) (snapshot : SnapshotValue) (old new : NodeMergeValue) → IntervalsAreNarrow → IsNode node → IsCut cut
+pub one_more_shard : (node : NodeValue) (cut : CutValue) (shard : ℕ) (snapshot : SnapshotValue) (old new : NodeMergeValue) → TablesAreBounded → IsNode node → IsCut cut
     → slice_get cut.shards shard ≡ Some snapshot → StandsForTables old (take shard (node_tables node cut)) → AddsTable old (table_at node snapshot) new
     → StandsForTables new (take (shard + 1) (node_tables node cut))
 one_more_shard node cut shard snapshot old new law is_node kept at stands adds =
@@ -46,8 +46,8 @@ one_more_shard node cut shard snapshot old new law is_node kept at stands adds =
     let within = slice_get_within tables shard table place in
     let read : get_or tables shard table ≡ table = get_or_from_slice_get tables shard table table place in
     let more : take (shard + 1) tables ≡ take shard tables ++ table ∷ [] = take_more tables shard table within ∙ ap (λ t. take shard tables ++ t ∷ []) read in
-    let bounded : (key : ℕ) → IsBounded table key =
-    λ key. subst (λ t. IsBounded t key) read (All-get_or (λ t. IsBounded t key) tables shard table within (bounded_at node cut key law is_node kept)) in
+    let bounded : (key : ℕ) → IsBounded key table =
+    λ key. subst (IsBounded key) read (All-get_or (IsBounded key) tables shard table within (law cut node key kept is_node)) in
     subst (StandsForTables new) (sym more) (stands_for_more old new (take shard tables) table bounded stands adds)
 
 -- an interval of merged tables at a place
@@ -117,7 +117,7 @@ pub merged_stands : (cut : CutValue) (nodes : List NodeMergeValue) → MergesNod
 merged_stands cut nodes merges =
     let at : (node : NodeValue) → IsNode node → StandsForTables (slice_index_or nodes (index_of node) nothing_merged) (node_tables node cut) =
     λ node is_node. subst (λ n. StandsForTables (slice_index_or nodes (index_of node) nothing_merged) (node_tables n cut)) (node-place node is_node)
-        (merges.stands (index_of node) (omega (arith, is_node.source, is_node.dest))) in
+    (merges.stands (index_of node) (omega (arith, is_node.source, is_node.dest))) in
     record {
       capacity = refl;
       total = refl;

@@ -1,26 +1,19 @@
 -- What is merged stands for the tables that were merged in.
-use Rattle.std.proofs.Common.{◌≡◌, ℕ, ◌+◌, ◌-◌, ◌≤◌, List, [], ◌∷◌, ◌++◌, length, sum_by, fold, Option, None, Some, refl, sym, ap, ◌∙◌, arith, All}
+use Rattle.std.proofs.Common.{◌≡◌, ℕ, ◌+◌, ◌-◌, ◌≤◌, List, [], ◌∷◌, ◌++◌, sum_by, fold, Option, None, Some, refl, sym, ap, ◌∙◌, arith, All}
 use Rattle.std.proofs.lemmas.List.{append-nil}
 use Rattle.std.proofs.lemmas.List.Sums.{sum_by_push, sum_by-cons}
 use Rattle.std.proofs.lemmas.List.Elements.{All-head, All-tail}
 use Rattle.std.proofs.lemmas.Grind.{flat_map-append}
 use Rattle.std.specs.List.{flat_map}
-use Rattle.std.specs.Map.{keys_of}
 use Rattle.space_saving.specs.declared.entry.Entry.{Entry}
 use Rattle.space_saving.specs.Table.{TableValue, Interval, entry_of, interval_in, interval_from, total_count}
-use Rattle.space_saving.specs.TableFacts.{IsTable}
 use Rattle.cut_merge.specs.declared.gain.Gain.{Gain}
-use Rattle.cut_merge.specs.FirstSeen.{first_seen, seen}
-use Rattle.cut_merge.specs.Gains.{gain_of, plus}
+use Rattle.cut_merge.specs.FirstSeen.{first_seen}
+use Rattle.cut_merge.specs.Merging.{IsBounded, seen, missing_high, gain_from, AddsTable, StandsForTables}
+use Rattle.cut_merge.specs.Tables.{merged_interval, table_keys}
+use Rattle.cut_merge.specs.Gains.{gain_of}
 use Rattle.cut_merge.specs.NodeMergeValue.{NodeMergeValue}
-use Rattle.cut_merge.specs.Merging.{merged_interval, table_keys, monitored_keys, missing_high, gain_from, interval_of, AddsTable, StandsForTables}
 use Rattle.cut_merge.proofs.FirstSeenLemmas.{first_seen-append}
-
--- what is so of every interval of a table: the ends are in order and within the total, and above a missing key's
-pub record IsBounded (table : TableValue) (key : ℕ) : Type 0 where
-  pub ordered : (interval_in table key).low ≤ (interval_in table key).high
-  pub within_total : (interval_in table key).high ≤ total_count table.entries
-  pub above_missing : missing_high table ≤ (interval_in table key).high
 
 -- what an entry gains is its low, and its high less that of a missing key
 low-gain : (table : TableValue) (found : Option Entry) → (gain_from table found).low ≡ (interval_from found table).low
@@ -36,7 +29,7 @@ pub stands_for_none : StandsForTables (record { gains = []; missing = 0 }) []
 stands_for_none = record { intervals = λ key. refl; keys = refl }
 
 -- one more table
-pub stands_for_more : (old new : NodeMergeValue) (tables : List TableValue) (table : TableValue) → ((key : ℕ) → IsBounded table key)
+pub stands_for_more : (old new : NodeMergeValue) (tables : List TableValue) (table : TableValue) → ((key : ℕ) → IsBounded key table)
     → StandsForTables old tables → AddsTable old table new → StandsForTables new (tables ++ table ∷ [])
 stands_for_more old new tables table bounded stands adds = record {
   intervals = λ key.
@@ -67,11 +60,11 @@ pub record IsMergedBounded (tables : List TableValue) (key : ℕ) : Type 0 where
   pub ordered : (merged_interval tables key).low ≤ (merged_interval tables key).high
   pub within_total : (merged_interval tables key).high ≤ counted tables
 
-pub merged_bounded : (tables : List TableValue) (key : ℕ) → All (λ table. IsBounded table key) tables → IsMergedBounded tables key
+pub merged_bounded : (tables : List TableValue) (key : ℕ) → All (IsBounded key) tables → IsMergedBounded tables key
 merged_bounded [] key all = record { ordered = omega arith; within_total = omega arith }
 merged_bounded (table ∷ tables) key all =
-    let first : IsBounded table key = All-head (λ t. IsBounded t key) table tables all in
-    let rest : IsMergedBounded tables key = merged_bounded tables key (All-tail (λ t. IsBounded t key) table tables all) in
+    let first : IsBounded key table = All-head (IsBounded key) table tables all in
+    let rest : IsMergedBounded tables key = merged_bounded tables key (All-tail (IsBounded key) table tables all) in
     let lows = sum_by-cons (λ (t : TableValue). (interval_in t key).low) table tables in
     let highs = sum_by-cons (λ (t : TableValue). (interval_in t key).high) table tables in
     let totals = sum_by-cons (λ (t : TableValue). total_count t.entries) table tables in

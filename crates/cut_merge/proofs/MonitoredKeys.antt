@@ -1,5 +1,5 @@
 -- The keys that a cut monitors at a node.
-use Rattle.std.proofs.Common.{◌≡◌, ℕ, ◌+◌, ◌*◌, ◌≤◌, List, [], ◌∷◌, ◌++◌, length, map, All, refl, sym, ap, ◌∙◌, subst, add-mul, length-append, arith}
+use Rattle.std.proofs.Common.{◌≡◌, ℕ, ◌*◌, ◌≤◌, List, [], ◌∷◌, length, map, All, subst, add-mul, length-append, arith}
 use Rattle.std.proofs.lemmas.List.{length-map}
 use Rattle.std.proofs.lemmas.List.Elements.{All-nil, All-head, All-tail, All-append, All-map}
 use Rattle.std.specs.List.{flat_map}
@@ -8,7 +8,7 @@ use Rattle.prefix_lattice.specs.Key.{IsKeyOf}
 use Rattle.space_saving.specs.declared.entry.Entry.{Entry}
 use Rattle.shard_state.specs.SnapshotValue.{SnapshotValue, IsSnapshot, table_at}
 use Rattle.shard_state.specs.CutValue.{CutValue, IsCut}
-use Rattle.cut_merge.specs.Merging.{table_keys}
+use Rattle.cut_merge.specs.Tables.{table_keys}
 use Rattle.cut_merge.specs.Span.{node_tables, monitored_at}
 use Rattle.cut_merge.proofs.FirstSeenLemmas.{first_seen-all, first_seen-length}
 

@@ -1,11 +1,11 @@
 -- What one more noted gain changes.
-use Rattle.std.proofs.Common.{◌≡◌, ℕ, eqb, cond, ◌||◌, Bool, true, false, List, [], ◌∷◌, ◌++◌, Option, None, Some, IsSome, is_some, refl, zero-add, ◌+◌, sym, ap, ◌∙◌, if◌then◌else◌}
+use Rattle.std.proofs.Common.{◌≡◌, ℕ, eqb, cond, ◌||◌, Bool, true, false, List, [], ◌∷◌, ◌++◌, None, Some, is_some, refl, zero-add, ◌+◌, sym, ap, ◌∙◌, if◌then◌else◌}
 use Rattle.std.proofs.lemmas.Bool.{eqb-true}
 use Rattle.std.specs.List.{list_any}
 use Rattle.std.specs.Map.{lookup, keys_of}
 use Rattle.cut_merge.specs.declared.gain.Gain.{Gain}
 use Rattle.cut_merge.specs.Gains.{gain_of, noted, plus, no_gain}
-use Rattle.cut_merge.specs.FirstSeen.{seen}
+use Rattle.cut_merge.specs.Merging.{seen}
 
 -- a key has an entry exactly where it stands among the keys
 some_among : (key : ℕ) (gains : List (ℕ × Gain)) → is_some (lookup (λ other. eqb key other) gains) ≡ list_any (λ other. eqb key other) (keys_of gains)
@@ -62,5 +62,6 @@ notes_next key old between new before both more first second there is =
     by : (other : ℕ) (b : Bool) → eqb key other ≡ b → cond b (Some both) (lookup (λ k. eqb other k) between) ≡ cond b (Some both) (lookup (λ k. eqb other k) old)
     by other true same = refl
     by other false differs = first other ∙ ap (λ b. cond b (Some more) (lookup (λ k. eqb other k) old)) differs
+
     puts : Puts key old new both
     puts other = second other ∙ by other (eqb key other) refl

@@ -1,6 +1,6 @@
 -- What is noted of the entries of a table, one after another.
-use Rattle.std.proofs.Common.{◌≡◌, ℕ, ◌+◌, ◌-◌, eqb, cond, Bool, true, false, List, [], ◌∷◌, ◌++◌, length, map, take, fold, slice_get, Option, None, Some, refl, sym, ap, ◌∙◌, subst, zero-add, add-zero, if◌then◌else◌}
-use Rattle.std.proofs.lemmas.Bool.{eqb-true, eq-eqb, false≢true}
+use Rattle.std.proofs.Common.{◌≡◌, ℕ, ◌+◌, eqb, cond, Bool, true, false, List, [], ◌∷◌, ◌++◌, map, take, fold, slice_get, None, Some, refl, sym, ap, ◌∙◌, subst, add-zero, if◌then◌else◌}
+use Rattle.std.proofs.lemmas.Bool.{eqb-true}
 use Rattle.std.proofs.lemmas.List.{take_more, map-append}
 use Rattle.std.proofs.lemmas.List.Sums.{fold_push}
 use Rattle.std.proofs.lemmas.Option.{get_or_from_slice_get, slice_get_within}
@@ -8,9 +8,8 @@ use Rattle.std.specs.Map.{keys_of}
 use Rattle.space_saving.specs.Table.{TableValue, entry_of}
 use Rattle.space_saving.specs.declared.entry.Entry.{Entry}
 use Rattle.cut_merge.specs.declared.gain.Gain.{Gain}
-use Rattle.cut_merge.specs.FirstSeen.{seen}
+use Rattle.cut_merge.specs.Merging.{seen, gain_from}
 use Rattle.cut_merge.specs.Gains.{gain_of, plus, no_gain}
-use Rattle.cut_merge.specs.Merging.{gain_from, table_keys}
 use Rattle.cut_merge.proofs.Noting.{Notes}
 
 -- the entries before a place are noted

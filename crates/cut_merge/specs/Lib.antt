@@ -1,6 +1,8 @@
 pub mod FirstSeen
+pub mod Tables
+pub mod Span
 pub mod Gains
 pub mod NodeMergeValue
 pub mod Merging
 pub mod MergedValue
-pub mod Span
+pub mod Standing

@@ -1,32 +1,27 @@
--- Tables of one node read as one: intervals add up, and the keys of all of them are known.
-use Rattle.std.specs.Prelude.{ℕ, ◌≡◌, ◌+◌, ◌-◌, List, Option, None, Some, map, fold, sum_by}
-use Rattle.std.specs.List.{flat_map}
+-- How tables of one node are merged, one after another: what is kept of them, and what that says.
+use Rattle.std.specs.Prelude.{ℕ, ◌≡◌, ◌==◌, ◌+◌, ◌-◌, ◌≤◌, List, [], ◌∷◌, ◌++◌, Option, None, Some, fold, if◌then◌else◌}
+use Rattle.std.specs.List.{list_any}
 use Rattle.std.specs.Map.{keys_of}
 use Rattle.space_saving.specs.Table.{TableValue, Interval, entry_of, interval_in, interval_from, total_count}
 use Rattle.space_saving.specs.declared.entry.Entry.{Entry}
 use Rattle.cut_merge.specs.declared.gain.Gain.{Gain}
-use Rattle.cut_merge.specs.FirstSeen.{first_seen, seen}
 use Rattle.cut_merge.specs.Gains.{gain_of, plus, no_gain}
 use Rattle.cut_merge.specs.NodeMergeValue.{NodeMergeValue}
+use Rattle.cut_merge.specs.Tables.{merged_interval, table_keys, monitored_keys}
 
--- the interval of a key over some tables: their lows and highs, each added up
-abbrev pub merged_interval : List TableValue → ℕ → Interval
-merged_interval tables key = record {
-  low = sum_by (λ table. (interval_in table key).low) tables;
-  high = sum_by (λ table. (interval_in table key).high) tables;
-}
-
--- the keys of a table, in the order of its entries
-abbrev pub table_keys : TableValue → List ℕ
-table_keys table = map (λ entry. entry.key) table.entries
-
--- the keys that some table monitors, each once, in the order in which they are first seen over tables and places
-abbrev pub monitored_keys : List TableValue → List ℕ
-monitored_keys tables = first_seen (flat_map table_keys tables)
+-- the keys that were seen once one more is: a new one goes behind the others
+abbrev pub seen : List ℕ → ℕ → List ℕ
+seen keys key = if list_any (λ other. key == other) keys then keys else keys ++ key ∷ []
 
 -- the high of a key that is missing in a table
 abbrev pub missing_high : TableValue → ℕ
 missing_high table = (interval_from None table).high
+
+-- an interval of a table has its ends in order and within what the table counted, and its high isn't below that of a missing key
+pub record IsBounded (key : ℕ) (table : TableValue) : Type 0 where
+  pub ordered : (interval_in table key).low ≤ (interval_in table key).high
+  pub within_total : (interval_in table key).high ≤ total_count table.entries
+  pub above_missing : missing_high table ≤ (interval_in table key).high
 
 -- what a table adds to the gain of a key, by the entry that the key has there
 abbrev pub gain_from : TableValue → Option Entry → Gain

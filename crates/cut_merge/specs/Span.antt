@@ -1,16 +1,13 @@
--- The intervals and the monitored prefixes of a cut, and what merged tables say of them.
-use Rattle.std.specs.Prelude.{ℕ, ◌≡◌, ◌^◌, ◌<◌, ◌≤◌, List, [], length, map, slice_index_or}
-use Rattle.std.specs.Map.{keys_of}
-use Rattle.prefix_lattice.specs.NodeValue.{NodeValue, IsNode, index_of}
-use Rattle.prefix_lattice.specs.PrefixValue.{PrefixValue, IsPrefix}
+-- The intervals and the monitored prefixes of a cut.
+use Rattle.std.specs.Prelude.{ℕ, ◌≤◌, List, map}
+use Rattle.prefix_lattice.specs.NodeValue.{NodeValue}
+use Rattle.prefix_lattice.specs.PrefixValue.{PrefixValue}
 use Rattle.prefix_lattice.specs.Prefix.{node_of, key_of}
 use Rattle.space_saving.specs.Table.{TableValue}
 pub use Rattle.space_saving.specs.Table.{Interval}
 use Rattle.shard_state.specs.SnapshotValue.{table_at}
-use Rattle.shard_state.specs.CutValue.{CutValue, total_of_cut}
-use Rattle.cut_merge.specs.Merging.{merged_interval, monitored_keys, interval_of}
-use Rattle.cut_merge.specs.NodeMergeValue.{NodeMergeValue}
-use Rattle.cut_merge.specs.MergedValue.{MergedValue}
+use Rattle.shard_state.specs.CutValue.{CutValue}
+use Rattle.cut_merge.specs.Tables.{merged_interval, monitored_keys}
 
 -- the tables of a node, one for each shard of a cut
 abbrev pub node_tables : NodeValue → CutValue → List TableValue
@@ -24,36 +21,7 @@ span cut prefix = merged_interval (node_tables (node_of prefix) cut) (key_of pre
 abbrev pub monitored_at : CutValue → NodeValue → List ℕ
 monitored_at cut node = monitored_keys (node_tables node cut)
 
--- nothing merged
-abbrev pub nothing_merged : NodeMergeValue
-nothing_merged = record { gains = []; missing = 0 }
-
--- the merged tables of a node
-abbrev pub merge_at : NodeValue → MergedValue → NodeMergeValue
-merge_at node merged = slice_index_or merged.nodes (index_of node) nothing_merged
-
--- what merged tables say of a prefix
-abbrev pub interval_for : MergedValue → PrefixValue → Interval
-interval_for merged prefix = interval_of (merge_at (node_of prefix) merged) (key_of prefix)
-
--- the keys that merged tables know at a node
-abbrev pub candidates_at : MergedValue → NodeValue → List ℕ
-candidates_at merged node = keys_of (merge_at node merged).gains
-
--- merged tables stand for a cut: their capacity and total, the interval of each prefix and the candidates of each node are the cut's
-pub record StandsForCut (merged : MergedValue) (cut : CutValue) : Type 0 where
-  pub capacity : merged.capacity ≡ cut.capacity
-  pub total : merged.total ≡ total_of_cut cut
-  pub intervals : (prefix : PrefixValue) → IsPrefix prefix → interval_for merged prefix ≡ span cut prefix
-  pub candidates : (node : NodeValue) → IsNode node → candidates_at merged node ≡ monitored_at cut node
-
--- a merged interval has its ends in order, and within the total
+-- an interval has its ends in order, and within a total
 pub record IsWithinTotal (total : ℕ) (interval : Interval) : Type 0 where
   pub ordered : interval.low ≤ interval.high
   pub within_total : interval.high ≤ total
-
--- what merged tables keep: there are 25 nodes, and no interval is above the total, which is below 2^60
-pub record IsMerged (merged : MergedValue) : Type 0 where
-  pub bounded : merged.total < 2 ^ 60
-  pub shape : length merged.nodes ≡ 25
-  pub intervals : (place key : ℕ) → IsWithinTotal merged.total (interval_of (slice_index_or merged.nodes place nothing_merged) key)

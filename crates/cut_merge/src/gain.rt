@@ -4,19 +4,19 @@ ghost use Rattle.std.specs.Prelude.{◌≡◌, ◌+◌, ◌^◌, ◌<◌};
 
 /// What the tables that monitor a key add to its interval, beyond what a key has that none monitors.
 #[derive(Clone, Copy, Debug, PartialEq, Eq)]
-pub struct Gain {
+pub(crate) struct Gain {
     /// The sum of their lows.
-    pub low: u64,
+    pub(crate) low: u64,
     /// The sum of their highs, less what each would have as the high of a missing key.
-    pub high: u64,
+    pub(crate) high: u64,
 }
 
 impl Gain {
     /// Nothing: no table monitors the key.
-    pub const NONE: Gain = Gain { low: 0, high: 0 };
+    pub(crate) const NONE: Gain = Gain { low: 0, high: 0 };
 
     /// Both gains together.
-    pub fn plus(self, more: Gain) -> Gain
+    pub(crate) fn plus(self, more: Gain) -> Gain
         requires low { self.low + more.low < 2 ^ 64 }
         requires high { self.high + more.high < 2 ^ 64 }
         ensures low { result.low ≡ self.low + more.low }

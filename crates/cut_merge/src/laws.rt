@@ -1,6 +1,6 @@
 //! What the spans of a cut say of weights, each law the contract of a function that does nothing.
 
-ghost use Rattle.std.specs.Prelude.{◌≡◌, ◌≢◌, ℕ, ◌*◌, ◌≤◌, List, length, All, AllPairs, Contains};
+ghost use Rattle.std.specs.Prelude.{◌≡◌, ◌≢◌, ℕ, ◌*◌, ◌^◌, ◌<◌, ◌≤◌, List, length, All, AllPairs, Contains};
 ghost use Rattle.prefix_lattice.specs.RecordValue.{RecordValue};
 ghost use Rattle.prefix_lattice.specs.NodeValue.{NodeValue, IsNode};
 ghost use Rattle.prefix_lattice.specs.PrefixValue.{PrefixValue, IsPrefix};
@@ -9,7 +9,8 @@ ghost use Rattle.prefix_lattice.specs.Key.{IsKeyOf};
 ghost use Rattle.shard_state.specs.CutValue.{CutValue, IsCut, positions_of, total_of_cut};
 ghost use Rattle.shard_state.specs.Standing.{CutStandsFor, records_before};
 ghost use Rattle.shard_state.specs.Weights.{Holds};
-ghost use Rattle.cut_merge.specs.Span.{span, monitored_at, IsWithinTotal};
+ghost use Rattle.cut_merge.specs.Span.{node_tables, span, monitored_at, IsWithinTotal};
+ghost use Rattle.cut_merge.specs.Merging.{IsBounded};
 
 use shard_state::snapshots_hold_weights;
 use space_saving::intervals_are_narrow;
@@ -31,6 +32,7 @@ pub fn spans_are_narrow()
     ensures light { (cut : CutValue) (prefix : PrefixValue) → IsCut cut → IsPrefix prefix
         → ¬ Contains (monitored_at cut (node_of prefix)) (key_of prefix) → (span cut prefix).high * cut.capacity ≤ total_of_cut cut }
 {
+    tables_are_bounded();
     intervals_are_narrow();
 }
 
@@ -42,3 +44,16 @@ pub fn monitored_keys_are_few()
     ensures few { (cut : CutValue) (node : NodeValue) → IsCut cut → IsNode node
         → length (monitored_at cut node) ≤ length cut.shards * cut.capacity }
 {}
+
+/// The tables of a cut of at most 16 shards can be merged: they counted less than 2^60 together.
+pub fn small_cuts_can_be_merged()
+    ensures { (cut : CutValue) → IsCut cut → length cut.shards ≤ 16 → total_of_cut cut < 2 ^ 60 }
+{}
+
+/// In the tables of a cut each interval has its ends in order and within what its table counted, and no high
+/// is below that of a key that the table misses. So sums of them don't wrap.
+pub(crate) fn tables_are_bounded()
+    ensures { (cut : CutValue) (node : NodeValue) (key : ℕ) → IsCut cut → IsNode node → All (IsBounded key) (node_tables node cut) }
+{
+    intervals_are_narrow();
+}

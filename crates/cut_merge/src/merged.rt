@@ -2,14 +2,15 @@
 
 ghost use Rattle.std.specs.Prelude.{◌≡◌, ◌^◌, ◌<◌, ◌≤◌, ℕ, IfOk};
 ghost use Rattle.prefix_lattice.specs.NodeValue.{IsNode};
-ghost use Rattle.shard_state.specs.CutValue.{total_of_cut};
+ghost use Rattle.shard_state.specs.CutValue.{CutValue, total_of_cut};
 ghost use Rattle.cut_merge.specs.Merging.{interval_of, StandsForTables};
-ghost use Rattle.cut_merge.specs.Span.{node_tables, interval_for, candidates_at, IsWithinTotal, StandsForCut};
+ghost use Rattle.cut_merge.specs.Span.{node_tables, span, monitored_at, IsWithinTotal};
+ghost use Rattle.cut_merge.specs.Standing.{merge_at, interval_for, candidates_at, StandsForCut};
 
+use crate::laws::tables_are_bounded;
 use crate::node_merge::NodeMerge;
 use prefix_lattice::{Node, Prefix};
 use shard_state::Cut;
-use space_saving::intervals_are_narrow;
 use std::alloc::{AllocError, Global};
 use std::marker::Model;
 
@@ -24,7 +25,7 @@ pub struct Merged {
 
 impl Model for Merged {
     ghost use Rattle.cut_merge.specs.MergedValue.{MergedValue};
-    ghost use Rattle.cut_merge.specs.Span.{IsMerged};
+    ghost use Rattle.cut_merge.specs.Standing.{IsMerged};
 
     ghost Value = { MergedValue };
 
@@ -66,25 +67,35 @@ impl Merged {
         self.capacity
     }
 
-    /// The least and the greatest weight that the prefix can have had over all shards.
+    /// The least and the greatest weight that the prefix can have had over all shards, whether or not one
+    /// monitors it.
     pub fn interval(&self, prefix: &Prefix) -> (u64, u64)
         ensures low { result.0 ≡ (interval_for self.now prefix.now).low }
         ensures high { result.1 ≡ (interval_for self.now prefix.now).high }
+        ensures of_cut { (cut : CutValue) → StandsForCut self.now cut → span cut prefix.now ≡ record { low = result.0; high = result.1 } }
         ensures ordered { result.0 ≤ result.1 }
         ensures within_total { result.1 ≤ self.now.total }
         ensures bounded { result.1 < 2 ^ 60 }
     {
-        let merge = &self.nodes[usize::from(prefix.node().index())];
-        merge.interval(prefix.key())
+        self.merge_of(prefix.node()).interval(prefix.key())
     }
 
     /// The keys that some shard monitors at the node, each once, in the order in which they are first seen
     /// over shards and places.
     pub fn candidates(&self, node: Node) -> &[u64]
-        ensures { result.now ≡ candidates_at self.now node }
+        ensures known { result.now ≡ candidates_at self.now node }
+        ensures of_cut { (cut : CutValue) → StandsForCut self.now cut → result.now ≡ monitored_at cut node }
     {
-        let merge = &self.nodes[usize::from(node.index())];
-        merge.keys()
+        self.merge_of(node).keys()
+    }
+
+    // The merged tables of a node.
+    fn merge_of(&self, node: Node) -> &NodeMerge
+        ensures merge { result.now ≡ merge_at node self.now }
+        ensures within { (key : ℕ) → IsWithinTotal self.now.total (interval_of result.now key) }
+        ensures bounded { self.now.total < 2 ^ 60 }
+    {
+        &self.nodes[usize::from(node.index())]
     }
 }
 
@@ -95,7 +106,7 @@ fn merge_node(alloc: Global, cut: &Cut, node: Node) -> Result<NodeMerge, AllocEr
     ensures stands { IfOk result (λ merge. StandsForTables merge (node_tables node cut.now)) }
     ensures within { IfOk result (λ merge. (key : ℕ) → IsWithinTotal (total_of_cut cut.now) (interval_of merge key)) }
 {
-    intervals_are_narrow();
+    tables_are_bounded();
     let mut merge = NodeMerge::new(alloc);
     for shard in 0..cut.shards() {
         merge.add(cut.shard(shard).table(node))?;

@@ -3,11 +3,11 @@
 ghost use Rattle.std.specs.Prelude.{◌≡◌, ◌==◌, ◌+◌, ◌^◌, ◌<◌, ◌≤◌, ℕ, [], OnOk, fold, if◌then◌else◌};
 ghost use Rattle.std.specs.Map.{keys_of};
 ghost use Rattle.space_saving.specs.Table.{entry_of, total_count};
-ghost use Rattle.cut_merge.specs.FirstSeen.{seen};
+ghost use Rattle.cut_merge.specs.Merging.{seen, interval_of, missing_high, gain_from, AddsTable};
+ghost use Rattle.cut_merge.specs.Tables.{table_keys};
 ghost use Rattle.cut_merge.specs.Gains.{gain_of, plus};
-ghost use Rattle.cut_merge.specs.Merging.{interval_of, missing_high, gain_from, table_keys, AddsTable};
 
-use crate::Gain;
+use crate::gain::Gain;
 use indexmap::IndexMap;
 use space_saving::Flat;
 use std::alloc::{AllocError, Global};
@@ -92,7 +92,11 @@ fn missing_in(table: &Flat) -> u64
 }
 
 // Notes what each entry of a table gains, beyond what a missing key has there.
-fn note_entries(gains: &mut IndexMap<u64, Gain>, table: &Flat, missing: u64) -> Result<(), AllocError>
+fn note_entries(
+    gains: &mut IndexMap<u64, Gain>,
+    table: &Flat,
+    missing: u64,
+) -> Result<(), AllocError>
     requires missing { missing ≡ missing_high table.now }
     requires low { (key : ℕ) → (gain_of key gains.old.entries).low + total_count table.now.entries < 2 ^ 64 }
     requires high { (key : ℕ) → (gain_of key gains.old.entries).high + total_count table.now.entries < 2 ^ 64 }

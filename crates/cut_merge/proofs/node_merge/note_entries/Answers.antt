@@ -9,5 +9,5 @@ loop-place-preserved c =
     notes_more c.args.table.now c.args.gains.now.entries c.loop-place.gains.entries c.note.new.gains.entries c.loop-place.place e
     c.loop-place.invariant c.entry-entry.ensures.entry c.entry-entry.ensures.apart
     (subst (λ (missing : ℕ). Notes e.key c.loop-place.gains.entries c.note.new.gains.entries (record { low = e.count - e.error; high = e.count - missing }))
-      c.requires.missing c.in_ok-note.ensures.gain)
+    c.requires.missing c.in_ok-note.ensures.gain)
     c.in_ok-note.ensures.keys
