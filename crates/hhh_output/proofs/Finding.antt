@@ -9,7 +9,7 @@ use Rattle.prefix_lattice.specs.PrefixValue.{PrefixValue, IsPrefix}
 use Rattle.prefix_lattice.specs.Prefix.{node_of, key_of}
 use Rattle.prefix_lattice.specs.Key.{HasKey}
 use Rattle.cut_merge.specs.MergedValue.{MergedValue}
-use Rattle.cut_merge.specs.Span.{candidates_at}
+use Rattle.cut_merge.specs.Standing.{candidates_at}
 use Rattle.hhh_output.specs.declared.line.Line.{Line}
 use Rattle.hhh_output.specs.Selecting.{IsAsked, IsSelected, AreDistinct}
 

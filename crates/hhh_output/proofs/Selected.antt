@@ -11,7 +11,8 @@ use Rattle.prefix_lattice.specs.Key.{IsKeyOf}
 use Rattle.prefix_lattice.specs.Explaining.{closest, kept_pairs}
 use Rattle.shard_state.specs.CutValue.{CutValue, IsCut, total_of_cut}
 use Rattle.cut_merge.specs.MergedValue.{MergedValue}
-use Rattle.cut_merge.specs.Span.{span, monitored_at, candidates_at, interval_for, StandsForCut, IsWithinTotal, Interval}
+use Rattle.cut_merge.specs.Span.{span, monitored_at, IsWithinTotal, Interval}
+use Rattle.cut_merge.specs.Standing.{candidates_at, interval_for, StandsForCut}
 use Rattle.conditioned_bounds.specs.Bounds.{bound_of, asked_of}
 use Rattle.hhh_output.specs.declared.line.Line.{Line}
 use Rattle.hhh_output.specs.Lines.{prefixes_of, AreLines}

@@ -7,7 +7,7 @@ use Rattle.prefix_lattice.specs.Prefix.{node_of, key_of}
 use Rattle.prefix_lattice.specs.Key.{IsKeyOf}
 use Rattle.prefix_lattice.specs.Lattice.{report_order}
 use Rattle.cut_merge.specs.MergedValue.{MergedValue}
-use Rattle.cut_merge.specs.Span.{interval_for, candidates_at}
+use Rattle.cut_merge.specs.Standing.{interval_for, candidates_at}
 use Rattle.conditioned_bounds.specs.Bounds.{bound_of}
 use Rattle.hhh_output.specs.declared.line.Line.{Line}
 use Rattle.hhh_output.specs.Lines.{prefixes_of}

@@ -1,4 +1,4 @@
-ghost use Rattle.std.specs.Prelude.{◌≡◌, ◌≤◌, length, IfOk};
+ghost use Rattle.std.specs.Prelude.{◌≤◌};
 
 use super::*;
 use prefix_lattice::{Prefix, Record, RecordList};
@@ -47,9 +47,7 @@ const CROSSING: [&[Packet]; 1] = [&[
 ]];
 
 /// A record of one packet for each of these, in order.
-fn list_of(alloc: Global, packets: &[Packet]) -> Result<RecordList, Fail>
-    ensures { IfOk result (λ list. length list ≡ length packets.now) }
-{
+fn list_of(alloc: Global, packets: &[Packet]) -> Result<RecordList, Fail> {
     let mut list = RecordList::new(alloc);
     for (src, dst) in packets {
         list.push(Record::new(*src, *dst, 1).ok_or("a weight of 0")?)?;
@@ -71,8 +69,9 @@ fn cut_at(
     assert!(rt; !lists.is_empty() && lists.len() <= 16);
     let mut cut = Cut::with_room(alloc, lists.len() as u32, capacity)?;
     for (shard, packets) in lists.iter().enumerate() {
-        assert!(rt; packets.len() <= 16);
-        let mut state = ShardState::start(alloc, list_of(alloc, packets)?, capacity)?;
+        let list = list_of(alloc, packets)?;
+        assert!(rt; list.len() <= 16);
+        let mut state = ShardState::start(alloc, list, capacity)?;
         let position = positions.get(shard).copied().ok_or("a position")?;
         if position > 0 {
             state.fold_block(position);

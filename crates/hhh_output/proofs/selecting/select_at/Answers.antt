@@ -2,7 +2,7 @@ use Rattle.std.proofs.Common.{◌≡◌, ℕ, ◌+◌, ◌≤◌, ◌↔◌, Lis
 use Rattle.std.proofs.lemmas.List.{get_or_default}
 use Rattle.prefix_lattice.specs.PrefixValue.{PrefixValue}
 use Rattle.prefix_lattice.specs.Key.{HasKey}
-use Rattle.cut_merge.specs.Span.{candidates_at}
+use Rattle.cut_merge.specs.Standing.{candidates_at}
 use Rattle.hhh_output.specs.declared.line.Line.{Line}
 use Rattle.hhh_output.proofs.Finding.{Judged, judged_more, judged_all}
 use Rattle.hhh_output.proofs.selecting.select_at.Goals as goal
@@ -12,7 +12,7 @@ loop-key-preserved c =
     let keys = c.candidates-key-items.result.now in
     let key = get_or keys c.loop-key.key-index 0 in
     let distinct : AllPairs (λ key other. key ≢ other) keys =
-    subst (AllPairs (λ (key : ℕ) other. key ≢ other)) (sym c.candidates-key-items.ensures) (c.requires.candidates.distinct c.args.node c.requires.is_node) in
+    subst (AllPairs (λ (key : ℕ) other. key ≢ other)) (sym c.candidates-key-items.ensures.known) (c.requires.candidates.distinct c.args.node c.requires.is_node) in
     subst (λ lines. Judged c.args.merged.now c.args.threshold c.args.reported.now c.args.node keys c.args.found.now.items lines (c.loop-key.key-index + 1)) (sym c.in_ok-push_found.ensures)
     (judged_more c.args.merged.now c.args.threshold c.args.reported.now c.args.node keys c.args.found.now.items c.loop-key.found.items c.loop-key.key-index key c.unwrap-prefix.result
     c.loop-key.invariant c.requires.apart distinct c.loop-key-test.true (get_or_default keys c.loop-key.key-index 0 key c.loop-key-test.true)
@@ -22,6 +22,6 @@ loop-key-preserved c =
 pub returns-clause-members : goal.returns-clause-members
 returns-clause-members c =
     let keys = c.candidates-key-items.result.now in
-    let done : length (candidates_at c.args.merged.now c.args.node) ≤ c.loop-key.key-index = subst (λ (ks : List ℕ). length ks ≤ c.loop-key.key-index) c.candidates-key-items.ensures c.loop-key-test.false in
+    let done : length (candidates_at c.args.merged.now c.args.node) ≤ c.loop-key.key-index = subst (λ (ks : List ℕ). length ks ≤ c.loop-key.key-index) c.candidates-key-items.ensures.known c.loop-key-test.false in
     judged_all c.args.merged.now c.args.threshold c.args.reported.now c.args.node c.args.found.now.items c.loop-key.found.items c.loop-key.key-index done
-    (subst (λ ks. Judged c.args.merged.now c.args.threshold c.args.reported.now c.args.node ks c.args.found.now.items c.loop-key.found.items c.loop-key.key-index) c.candidates-key-items.ensures c.loop-key.invariant)
+    (subst (λ ks. Judged c.args.merged.now c.args.threshold c.args.reported.now c.args.node ks c.args.found.now.items c.loop-key.found.items c.loop-key.key-index) c.candidates-key-items.ensures.known c.loop-key.invariant)
