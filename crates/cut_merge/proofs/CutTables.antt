@@ -45,6 +45,7 @@ bounded_tables node (snapshot ∷ shards) key law is_node kept =
     (bounded_table node snapshot key law is_node (All-head IsSnapshot snapshot shards kept))
     (bounded_tables node shards key law is_node (All-tail IsSnapshot snapshot shards kept))
 
+-- so the law of intervals bounds those of every cut
 pub bounded_at : IntervalsAreBounded → TablesAreBounded
 bounded_at law cut node key kept is_node = bounded_tables node cut.shards key law is_node kept.kept
 
@@ -57,6 +58,7 @@ counted_shards node (snapshot ∷ shards) is_node kept =
     ∙ ap (λ n. total_of snapshot + n) (counted_shards node shards is_node (All-tail IsSnapshot snapshot shards kept))
     ∙ sym (sum_by-cons total_of snapshot shards)
 
+-- at each node
 pub counted-at : (node : NodeValue) (cut : CutValue) → IsNode node → IsCut cut → counted (node_tables node cut) ≡ total_of_cut cut
 counted-at node cut is_node kept = counted_shards node cut.shards is_node kept.kept
 

@@ -12,9 +12,11 @@ use Rattle.cut_merge.specs.FirstSeen.{first_seen}
 use Rattle.cut_merge.specs.Tables.{merged_interval, monitored_keys}
 use Rattle.cut_merge.specs.Span.{span, monitored_at}
 
+-- each key stands where it is seen first
 pub keys_are_seen_once : first_seen (3 ∷ 1 ∷ 3 ∷ 2 ∷ 1 ∷ []) ≡ 3 ∷ 1 ∷ 2 ∷ []
 keys_are_seen_once = refl
 
+-- of no keys none is seen
 pub no_key_is_seen : first_seen [] ≡ []
 no_key_is_seen = refl
 
@@ -42,6 +44,7 @@ key_in_the_full_table = refl
 pub key_in_no_table : merged_interval tables 1 ≡ record { low = 0; high = 3 }
 key_in_no_table = refl
 
+-- the keys of the first table, and then none that is new
 pub keys_of_all_tables : monitored_keys tables ≡ 8 ∷ 5 ∷ []
 keys_of_all_tables = refl
 
@@ -68,6 +71,7 @@ host_prefix host = record { source = 10 ∷ 0 ∷ 0 ∷ host ∷ []; dest = 20 �
 pub span_of_a_host : span cut (host_prefix 1) ≡ record { low = 2; high = 3 }
 span_of_a_host = refl
 
+-- one entry in each shard counts all hosts of 10.0.0.0/24
 pub span_of_all_hosts : span cut (record { source = 10 ∷ 0 ∷ 0 ∷ []; dest = 20 ∷ 0 ∷ 0 ∷ 1 ∷ [] }) ≡ record { low = 6; high = 6 }
 span_of_all_hosts = refl
 
@@ -75,5 +79,6 @@ span_of_all_hosts = refl
 pub hosts_of_both_shards : monitored_at cut (record { source_bytes = 4; dest_bytes = 0 }) ≡ 0x0a00000200000000 ∷ 0x0a00000100000000 ∷ 0x0a00000300000000 ∷ 0x0a00000400000000 ∷ []
 hosts_of_both_shards = refl
 
+-- three packets in each shard
 pub total_of_both_shards : total_of_cut cut ≡ 6
 total_of_both_shards = refl

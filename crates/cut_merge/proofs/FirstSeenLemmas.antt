@@ -24,6 +24,7 @@ others-seen_same first key keys same =
           ∙ ap (λ b. others first keys ++ cond (not b) (key ∷ []) []) (eq-eqb first key k) ∙ append-nil (others first keys)
     ])
 
+-- and another key, which stays among them
 others-seen_other : (first key : ℕ) (keys : List ℕ) → eqb key first ≡ false → others first (seen keys key) ≡ seen (others first keys) key
 others-seen_other first key keys differs =
     let apart : eqb first key ≡ false = by_cases (eqb first key) refl in
@@ -64,12 +65,15 @@ contains-cons : (x : ℕ) (xs : List ℕ) (y : ℕ) → Contains (x ∷ xs) y �
 contains-cons x xs y (zero, below, at) = inl at
 contains-cons x xs y (suc k, below, at) = inr (k, omega arith, at)
 
+-- the head stands in the list
 pub contains-head : (x : ℕ) (xs : List ℕ) → Contains (x ∷ xs) x
 contains-head x xs = (0, omega arith, refl)
 
+-- so does what stands in the tail
 pub contains-tail : (x : ℕ) (xs : List ℕ) (y : ℕ) → Contains xs y → Contains (x ∷ xs) y
 contains-tail x xs y (k, below, at) = (suc k, omega arith, at)
 
+-- nothing stands in the empty list
 contains-nil : (y : ℕ) → Contains {X = ℕ} [] y → ⊥
 contains-nil y (k, below, at) = omega arith
 

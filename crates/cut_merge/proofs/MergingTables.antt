@@ -15,11 +15,12 @@ use Rattle.cut_merge.specs.Gains.{gain_of}
 use Rattle.cut_merge.specs.NodeMergeValue.{NodeMergeValue}
 use Rattle.cut_merge.proofs.FirstSeenLemmas.{first_seen-append}
 
--- what an entry gains is its low, and its high less that of a missing key
+-- what a table adds to the low of a key is its low there
 low-gain : (table : TableValue) (found : Option Entry) → (gain_from table found).low ≡ (interval_from found table).low
 low-gain table None = refl
 low-gain table (Some entry) = refl
 
+-- and to the high, what its high there is above that of a missing key
 high-gain : (table : TableValue) (found : Option Entry) → (gain_from table found).high ≡ (interval_from found table).high - missing_high table
 high-gain table None = omega arith
 high-gain table (Some entry) = refl
@@ -60,6 +61,7 @@ pub record IsMergedBounded (tables : List TableValue) (key : ℕ) : Type 0 where
   pub ordered : (merged_interval tables key).low ≤ (merged_interval tables key).high
   pub within_total : (merged_interval tables key).high ≤ counted tables
 
+-- where it is so of each table
 pub merged_bounded : (tables : List TableValue) (key : ℕ) → All (IsBounded key) tables → IsMergedBounded tables key
 merged_bounded [] key all = record { ordered = omega arith; within_total = omega arith }
 merged_bounded (table ∷ tables) key all =

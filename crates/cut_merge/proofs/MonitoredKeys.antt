@@ -16,6 +16,7 @@ use Rattle.cut_merge.proofs.FirstSeenLemmas.{first_seen-all, first_seen-length}
 abbrev pub node_keys : CutValue → NodeValue → List ℕ
 node_keys cut node = flat_map table_keys (node_tables node cut)
 
+-- each table has keys of its node
 keyed_shards : (node : NodeValue) → IsNode node → (shards : List SnapshotValue) → All IsSnapshot shards → All (IsKeyOf node) (flat_map table_keys (map (table_at node) shards))
 keyed_shards node is_node [] kept = All-nil (IsKeyOf node)
 keyed_shards node is_node (shard ∷ shards) kept =
@@ -27,6 +28,7 @@ keyed_shards node is_node (shard ∷ shards) kept =
 pub monitored_keyed : (cut : CutValue) (node : NodeValue) → IsCut cut → IsNode node → All (IsKeyOf node) (monitored_at cut node)
 monitored_keyed cut node kept is_node = first_seen-all (IsKeyOf node) (node_keys cut node) (keyed_shards node is_node cut.shards kept.kept)
 
+-- each table has at most as many entries as its capacity says
 few_in_shards : (node : NodeValue) (capacity : ℕ) → IsNode node → (shards : List SnapshotValue) → All (λ (s : SnapshotValue). s.capacity ≡ capacity) shards → All IsSnapshot shards
     → length (flat_map table_keys (map (table_at node) shards)) ≤ length shards * capacity
 few_in_shards node capacity is_node [] alike kept = omega arith

@@ -43,6 +43,7 @@ notes-puts key old new gain more puts is other = ap noted (puts other) ∙ by (e
     by true same = is ∙ ap (λ k. plus (gain_of k old) more) (eqb-true key other same)
     by false _ = refl
 
+-- nothing and a gain are that gain
 plus-nothing : (more : Gain) → plus no_gain more ≡ more
 plus-nothing more =
     let pair : ℕ → ℕ → Gain = λ low high. record { low = low; high = high } in

@@ -17,6 +17,7 @@ pub record NotesEntries (table : TableValue) (old now : List (ℕ × Gain)) (pla
   pub gains : (key : ℕ) → gain_of key now ≡ plus (gain_of key old) (gain_from table (entry_of key (take place table.entries)))
   pub keys : keys_of now ≡ fold seen (keys_of old) (map (λ (entry : Entry). entry.key) (take place table.entries))
 
+-- a gain and nothing are that gain
 nothing-plus : (gain : Gain) → plus gain no_gain ≡ gain
 nothing-plus gain =
     let pair : ℕ → ℕ → Gain = λ low high. record { low = low; high = high } in
@@ -31,6 +32,7 @@ entry_of-push_other : (key : ℕ) (es : List Entry) (e : Entry) → eqb e.key ke
 entry_of-push_other key [] e differs = ap (λ b. if b then Some e else None) differs
 entry_of-push_other key (f ∷ fs) e differs = ap (λ rest. if eqb f.key key then Some f else rest) (entry_of-push_other key fs e differs)
 
+-- and where it is the first of its key
 entry_of-push_own : (key : ℕ) (es : List Entry) (e : Entry) → entry_of key es ≡ None → eqb e.key key ≡ true → entry_of key (es ++ e ∷ []) ≡ Some e
 entry_of-push_own key [] e missing same = ap (λ b. if b then Some e else None) same
 entry_of-push_own key (f ∷ fs) e missing same =

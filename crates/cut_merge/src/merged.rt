@@ -120,8 +120,8 @@ fn total_of_shards(cut: &Cut) -> u64
     ensures { result ≡ total_of_cut cut.now }
 {
     let mut total = 0;
-    for shard in 0..cut.shards() {
-        total += cut.shard(shard).total();
+    for place in 0..cut.shards() {
+        total += cut.shard(place).total();
     }
     total
 }

@@ -4,10 +4,10 @@ use Rattle.std.proofs.lemmas.Option.{get_or_from_slice_get, slice_get_within}
 use Rattle.shard_state.specs.SnapshotValue.{total_of}
 use Rattle.cut_merge.proofs.merged.total_of_shards.Goals as goal
 
-pub loop-shard-preserved : goal.loop-shard-preserved
-loop-shard-preserved c =
+pub loop-place-preserved : goal.loop-place-preserved
+loop-place-preserved c =
     let shards = c.args.cut.now.shards in
     let snapshot = c.shard.result.now in
-    let within = slice_get_within shards c.loop-shard.shard snapshot c.shard.ensures.shard in
-    let at = get_or_from_slice_get shards c.loop-shard.shard snapshot snapshot c.shard.ensures.shard in
-    omega (arith, c.loop-shard.invariant, c.total-total.ensures.total, sum_by_more total_of shards c.loop-shard.shard snapshot within, ap total_of at)
+    let within = slice_get_within shards c.loop-place.place snapshot c.shard.ensures.shard in
+    let at = get_or_from_slice_get shards c.loop-place.place snapshot snapshot c.shard.ensures.shard in
+    omega (arith, c.loop-place.invariant, c.total-total.ensures.total, sum_by_more total_of shards c.loop-place.place snapshot within, ap total_of at)

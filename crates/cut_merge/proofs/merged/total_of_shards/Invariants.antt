@@ -2,5 +2,5 @@ use Rattle.std.proofs.Common.{◌≡◌, take, sum_by}
 use Rattle.shard_state.specs.SnapshotValue.{total_of}
 use Rattle.cut_merge.proofs.merged.total_of_shards.Given as goal
 
-abbrev pub invariant-loop-shard : goal.invariant-loop-shard
-invariant-loop-shard l = l.total ≡ sum_by total_of (take l.shard l.cut.shards)
+abbrev pub invariant-loop-place : goal.invariant-loop-place
+invariant-loop-place l = l.total ≡ sum_by total_of (take l.place l.cut.shards)
