@@ -11,3 +11,4 @@ pub mod Changes
 pub mod Events
 pub mod Runs
 pub mod Cores
+pub mod Examples

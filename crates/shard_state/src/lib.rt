@@ -19,3 +19,6 @@ pub use positions::Positions;
 pub use shard_core::Core;
 pub use shard_state::{Folded, ShardState};
 pub use snapshot::Snapshot;
+
+#[cfg(test)]
+mod tests;
