@@ -1,20 +1,17 @@
 -- The lines of a report, level after level.
-use Rattle.std.proofs.Common.{◌≡◌, ◌≢◌, ℕ, ◌+◌, ◌-◌, ◌*◌, ◌<◌, ◌≤◌, ◌↔◌, ◌⊎◌, inl, inr, eqb, ltb, cond, Bool, true, false, suc, List, [], ◌∷◌, ◌++◌, length, map, get_or, sum_by, All, AllPairs, Contains, pos, ◌-ℤ◌, ◌≤ℤ◌, refl, sym, ap, ◌∙◌, subst, add-one, length-append, arith}
-use Rattle.std.specs.declared.cmp.Ordering.{Ordering}
+use Rattle.std.proofs.Common.{◌≡◌, ℕ, ◌+◌, ◌-◌, ◌<◌, ◌≤◌, inl, inr, eqb, cond, List, [], ◌++◌, length, get_or, sum_by, AllPairs, Contains, pos, ◌-ℤ◌, ◌≤ℤ◌, refl, sym, ap, ◌∙◌, subst, add-one, length-append, arith}
 use Rattle.std.specs.declared.cmp.Ordering.TheVariants.{Less, Equal, Greater}
 use Rattle.std.specs.Ordering.{nat_cmp, ordering_then}
 use Rattle.std.proofs.lemmas.Bool.{cases_lt, lt-ltb}
 use Rattle.std.proofs.lemmas.List.{map-append, get_or_append_left, get_or-append_right}
 use Rattle.std.proofs.lemmas.List.Elements.{All-weaker, All-contains_itself, All-map, Contains-append_left, Contains-append_right, Contains-append_cases, Contains-get_or}
 use Rattle.prefix_lattice.specs.Bytes.{address_of}
-use Rattle.prefix_lattice.specs.PrefixValue.{PrefixValue, IsPrefix}
-use Rattle.prefix_lattice.specs.Prefix.{node_of}
-use Rattle.prefix_lattice.specs.Lattice.{report_order}
+use Rattle.prefix_lattice.specs.PrefixValue.{PrefixValue}
 use Rattle.prefix_lattice.specs.Explaining.{closest, kept_pairs}
 use Rattle.cut_merge.specs.MergedValue.{MergedValue}
 use Rattle.hhh_output.specs.declared.line.Line.{Line}
 use Rattle.hhh_output.specs.Lines.{prefixes_of}
-use Rattle.hhh_output.specs.Selecting.{merged_low, merged_high, IsAsked, IsSelected, AreOfLevel, AreDownTo, nodes_before, nodes_down, most_candidates}
+use Rattle.hhh_output.specs.Selecting.{merged_low, merged_high, IsSelected, AreOfLevel, AreDownTo, nodes_before, nodes_down}
 use Rattle.hhh_output.proofs.Uniqueness.{Before}
 use Rattle.hhh_output.proofs.Nearness.{level, LevelsFall, closest-append}
 

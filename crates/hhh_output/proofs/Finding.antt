@@ -5,7 +5,7 @@ use Rattle.std.specs.Option.{option_to_list}
 use Rattle.std.proofs.lemmas.List.Elements.{Contains-push, Contains-push_cases, Contains-append_left, All-contains, Contains-get_or}
 use Rattle.std.proofs.lemmas.List.Quantifiers.{all_pairs_push}
 use Rattle.prefix_lattice.specs.NodeValue.{NodeValue}
-use Rattle.prefix_lattice.specs.PrefixValue.{PrefixValue, IsPrefix}
+use Rattle.prefix_lattice.specs.PrefixValue.{PrefixValue}
 use Rattle.prefix_lattice.specs.Prefix.{node_of, key_of}
 use Rattle.prefix_lattice.specs.Key.{HasKey}
 use Rattle.cut_merge.specs.MergedValue.{MergedValue}

@@ -1,5 +1,5 @@
 -- Only lines of a greater level are near a prefix.
-use Rattle.std.proofs.Common.{◌≡◌, ℕ, ◌<◌, ◌≤◌, ltb, cond, ◌&&◌, not, Bool, true, false, List, [], ◌∷◌, ◌++◌, map, filter, sum_by, All, pos, ◌-ℤ◌, ◌≤ℤ◌, ◌+◌, refl, sym, ap, ◌∙◌, subst, arith}
+use Rattle.std.proofs.Common.{◌≡◌, ℕ, ◌<◌, ◌≤◌, ltb, cond, Bool, true, false, List, [], ◌∷◌, ◌++◌, filter, sum_by, All, pos, ◌-ℤ◌, ◌≤ℤ◌, ◌+◌, refl, sym, ap, ◌∙◌, subst, arith}
 use Rattle.std.proofs.lemmas.Bool.{lt-ltb, false≢true}
 use Rattle.std.proofs.lemmas.List.{append-nil}
 use Rattle.std.proofs.lemmas.List.Elements.{filter-append, All-head, All-tail}
@@ -11,7 +11,7 @@ use Rattle.prefix_lattice.specs.Explaining.{lines_under, greatest, closest, kept
 use Rattle.shard_state.specs.CutValue.{CutValue}
 use Rattle.hhh_output.specs.declared.line.Line.{Line}
 use Rattle.hhh_output.specs.Lines.{prefixes_of}
-use Rattle.hhh_output.specs.Output.{low_in, high_in, IsUnexplained, IsLineOf}
+use Rattle.hhh_output.specs.Output.{low_in, high_in, IsLineOf}
 
 -- the level of a prefix
 abbrev pub level : PrefixValue → ℕ

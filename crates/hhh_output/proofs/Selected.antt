@@ -1,9 +1,9 @@
 -- What is selected from merged tables that stand for a cut is the report of the cut.
-use Rattle.std.proofs.Common.{◌≡◌, ℕ, ◌+◌, ◌*◌, ◌<◌, ◌≤◌, ◌^◌, ◌↔◌, ◌≢◌, List, [], ◌∷◌, ◌++◌, length, map, get_or, sum_by, All, AllPairs, Contains, pos, ◌-ℤ◌, ◌≤ℤ◌, refl, sym, ap, ◌∙◌, subst, length-append, arith}
+use Rattle.std.proofs.Common.{◌≡◌, ℕ, ◌+◌, ◌*◌, ◌≤◌, ◌↔◌, ◌≢◌, List, [], ◌∷◌, ◌++◌, length, sum_by, All, AllPairs, Contains, pos, ◌-ℤ◌, ◌≤ℤ◌, refl, sym, ap, ◌∙◌, subst, length-append, arith}
 use Rattle.std.proofs.lemmas.List.{get_or_append_left, get_or-append-add}
 use Rattle.std.proofs.lemmas.List.Sums.{sum_by-cons}
 use Rattle.std.proofs.lemmas.List.Elements.{All-head, All-tail, All-weaker, All-contains_itself, All-map}
-use Rattle.std.proofs.Math.Nat.{mul-le-mul_left, mul_comm}
+use Rattle.std.proofs.Math.Nat.{mul-le-mul_left}
 use Rattle.prefix_lattice.specs.NodeValue.{NodeValue, IsNode}
 use Rattle.prefix_lattice.specs.PrefixValue.{PrefixValue, IsPrefix}
 use Rattle.prefix_lattice.specs.Prefix.{node_of, key_of}
@@ -12,12 +12,12 @@ use Rattle.prefix_lattice.specs.Explaining.{closest, kept_pairs}
 use Rattle.shard_state.specs.CutValue.{CutValue, IsCut, total_of_cut}
 use Rattle.cut_merge.specs.MergedValue.{MergedValue}
 use Rattle.cut_merge.specs.Span.{span, monitored_at, IsWithinTotal, Interval}
-use Rattle.cut_merge.specs.Standing.{candidates_at, interval_for, StandsForCut}
+use Rattle.cut_merge.specs.Standing.{StandsForCut}
 use Rattle.conditioned_bounds.specs.Bounds.{bound_of, asked_of}
 use Rattle.hhh_output.specs.declared.line.Line.{Line}
 use Rattle.hhh_output.specs.Lines.{prefixes_of, AreLines}
 use Rattle.hhh_output.specs.Output.{low_in, high_in, IsLineOf}
-use Rattle.hhh_output.specs.Selecting.{merged_low, merged_high, IsSelected, AreCandidates, AreDownTo, most_candidates, nodes_down}
+use Rattle.hhh_output.specs.Selecting.{merged_low, merged_high, IsSelected, AreCandidates, AreDownTo}
 
 -- the laws of monitored keys
 pub record KeysAreFew (cut : CutValue) : Type 0 where

@@ -1,12 +1,12 @@
 -- The report of a cut that stands for lists is sound over them.
-use Rattle.std.proofs.Common.{◌≡◌, ◌≢◌, ℕ, ◌+◌, ◌-◌, ◌*◌, ◌<◌, ◌≤◌, eqb, cond, ◌&&◌, not, Bool, true, false, List, [], ◌∷◌, ◌++◌, length, map, filter, sum_by, All, AllPairs, Contains, ◌⊎◌, inl, inr, pos, ◌-ℤ◌, ◌≤ℤ◌, refl, sym, ap, ◌∙◌, subst, arith}
+use Rattle.std.proofs.Common.{◌≡◌, ◌≢◌, ℕ, ◌+◌, ◌-◌, ◌*◌, ◌<◌, ◌≤◌, eqb, cond, ◌&&◌, not, Bool, true, false, List, [], ◌∷◌, length, map, filter, sum_by, All, AllPairs, Contains, ◌⊎◌, inl, inr, pos, ◌≤ℤ◌, refl, sym, ap, ◌∙◌, subst, arith}
 use Rattle.std.proofs.lemmas.Bool.{cases_lt, eqb-true, eq-eqb, false≢true}
 use Rattle.std.proofs.lemmas.Int.{ints}
 use Rattle.std.proofs.lemmas.List.Sums.{sum_by-cons}
-use Rattle.std.proofs.lemmas.List.Elements.{All-weaker, All-contains_itself, All-contains, All-map, All-nil}
+use Rattle.std.proofs.lemmas.List.Elements.{All-weaker, All-contains_itself, All-map}
 use Rattle.std.proofs.lemmas.List.Kept.{AllPairs-cons}
 use Rattle.std.proofs.Math.Nat.{mul-le-mul_left, mul_comm, mul_assoc}
-use Rattle.std.specs.List.{AllZip, list_any}
+use Rattle.std.specs.List.{AllZip}
 use Rattle.std.specs.declared.cmp.Ordering.TheVariants.{Less}
 use Rattle.std.specs.Cmp.{IsTotalOrder}
 use Rattle.prefix_lattice.specs.RecordValue.{RecordValue}
@@ -15,10 +15,10 @@ use Rattle.prefix_lattice.specs.Prefix.{covers, node_of, key_of, weight_of, tota
 use Rattle.prefix_lattice.specs.Lattice.{report_order}
 use Rattle.prefix_lattice.specs.Explaining.{lines_under, one_covers, conditioned_weight, closest, kept_pairs}
 use Rattle.shard_state.specs.SnapshotValue.{SnapshotValue}
-use Rattle.shard_state.specs.CutValue.{CutValue, IsCut, positions_of, total_of_cut}
+use Rattle.shard_state.specs.CutValue.{CutValue, positions_of, total_of_cut}
 use Rattle.shard_state.specs.Standing.{StandsFor, CutStandsFor, records_before}
 use Rattle.shard_state.specs.Weights.{Holds}
-use Rattle.cut_merge.specs.Span.{span, monitored_at, IsWithinTotal}
+use Rattle.cut_merge.specs.Span.{span, monitored_at}
 use Rattle.conditioned_bounds.specs.Bounds.{bound_of, asked_of, HoldWeights, AreNarrow}
 use Rattle.hhh_output.specs.declared.line.Line.{Line}
 use Rattle.hhh_output.specs.declared.report.Report.{Report}

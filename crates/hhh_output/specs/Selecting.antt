@@ -1,5 +1,5 @@
 -- How the lines of a report are found among the candidates of merged tables, level by level.
-use Rattle.std.specs.Prelude.{ℕ, ◌≡◌, ◌≢◌, ◌+◌, ◌-◌, ◌*◌, ◌<◌, ◌≤◌, ◌==◌, ◌↔◌, ◌⊎◌, zero, suc, List, length, if◌then◌else◌, All, AllPairs, Contains, pos, ◌≤ℤ◌}
+use Rattle.std.specs.Prelude.{ℕ, ◌≡◌, ◌≢◌, ◌+◌, ◌-◌, ◌*◌, ◌<◌, ◌≤◌, ◌==◌, ◌↔◌, zero, suc, List, length, if◌then◌else◌, All, AllPairs, Contains, pos, ◌≤ℤ◌}
 use Rattle.std.specs.declared.cmp.Ordering.TheVariants.{Less}
 use Rattle.prefix_lattice.specs.NodeValue.{NodeValue, IsNode, node_at, level_of}
 use Rattle.prefix_lattice.specs.PrefixValue.{PrefixValue, IsPrefix}

@@ -1,7 +1,5 @@
-use Rattle.std.proofs.Common.{◌≡◌, ℕ, sym, subst, ap, ◌∙◌, rules}
-use Rattle.hhh_output.specs.Lines.{AreLines}
-use Rattle.hhh_output.specs.Selecting.{AreDownTo}
-use Rattle.hhh_output.proofs.Selected.{KeysAreFew, candidates_of_cut, lines_of_cut, lines_kept}
+use Rattle.std.proofs.Common.{◌∙◌}
+use Rattle.hhh_output.proofs.Selected.{candidates_of_cut, lines_of_cut, lines_kept}
 use Rattle.hhh_output.proofs.reporting.report_of.Goals as goal
 
 pub select_lines-requires : goal.select_lines-requires
