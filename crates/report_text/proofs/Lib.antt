@@ -1,0 +1,5 @@
+pub mod Parts
+pub mod Words
+pub mod Apart
+pub mod InOrder
+pub mod Examples

@@ -1,0 +1,3 @@
+pub mod Positions
+pub mod Text
+pub mod Apart

@@ -1,0 +1,14 @@
+//! The text of reports and of the lines around them.
+#![tactic(auto)]
+
+mod laws;
+mod mark;
+mod printing;
+mod putting;
+
+pub use laws::report_texts_are_apart;
+pub use mark::Mark;
+pub use printing::{print, print_positions, print_tail};
+
+#[cfg(test)]
+mod tests;

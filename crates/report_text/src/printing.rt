@@ -1,0 +1,81 @@
+//! The text of reports and of the lines around them.
+
+ghost use Rattle.std.specs.Prelude.{◌≡◌, ◌≤◌, ◌++◌, OnOk, OnErr};
+ghost use Rattle.report_text.specs.Positions.{ArePositions};
+ghost use Rattle.report_text.specs.Text.{report_text, mark_text, tail_text};
+
+use crate::Mark;
+use crate::putting::{put, put_lines, put_number, put_positions};
+use frame_records::Records;
+use hhh_output::Report;
+use shard_state::Positions;
+use std::alloc::AllocError;
+
+// The most bytes that a line of a report takes: `line `, a prefix and two numbers.
+const LINE_ROOM: usize = 85;
+
+// The most bytes that the other lines of a report take: 16 positions, two numbers and the words.
+const REPORT_ROOM: usize = 409;
+
+// The most bytes that a line of 16 positions takes, at the longer of its two words.
+const POSITIONS_ROOM: usize = 343;
+
+// The most bytes that the last three lines take: four numbers and the words.
+const TAIL_ROOM: usize = 103;
+
+/// Appends the text of a report of 1 to 16 shards: the lines `report`, `at` and the positions, `total` and
+/// `threshold` with their numbers, for each line of the report `line`, the prefix, its low and its high, and then
+/// `done`. Each ends by a line feed. All room is taken first, so after an `Err` the bytes are as before.
+pub fn print(report: &Report, into: &mut Vec<u8>) -> Result<(), AllocError>
+    requires positions { ArePositions report.now.positions }
+    requires threshold { 1 ≤ report.now.threshold }
+    ensures ok { OnOk result (into.new.items ≡ into.old.items ++ report_text report.now) }
+    ensures err { OnErr result (into.new.items ≡ into.old.items) }
+{
+    let lines = report.lines.as_slice();
+    into.reserve(REPORT_ROOM + LINE_ROOM * lines.len())?;
+    put(into, b"report\n");
+    put_positions(into, b"at", report.positions.as_slice());
+    put_number(into, b"total ", report.total);
+    put_number(into, b"\nthreshold ", report.threshold);
+    put(into, b"\n");
+    put_lines(into, lines);
+    put(into, b"done\n");
+    Ok(())
+}
+
+/// Appends the line `opened` or `saved` with the positions of 1 to 16 shards. All room is taken first, so after an
+/// `Err` the bytes are as before.
+pub fn print_positions(
+    mark: Mark,
+    positions: &Positions,
+    into: &mut Vec<u8>,
+) -> Result<(), AllocError>
+    requires { ArePositions positions.now }
+    ensures ok { OnOk result (into.new.items ≡ into.old.items ++ mark_text mark positions.now) }
+    ensures err { OnErr result (into.new.items ≡ into.old.items) }
+{
+    let name: &[u8] = match mark {
+        Mark::Opened => b"opened",
+        Mark::Saved => b"saved",
+    };
+    into.reserve(POSITIONS_ROOM)?;
+    put_positions(into, name, positions.as_slice());
+    Ok(())
+}
+
+/// Appends the last lines of a session: `frames` with the number of frames that were read, `skipped` with the numbers
+/// of those skipped as not IPv4, as short and for a bad header, and `end`. All room is taken first, so after an `Err`
+/// the bytes are as before.
+pub fn print_tail(records: &Records, into: &mut Vec<u8>) -> Result<(), AllocError>
+    ensures ok { OnOk result (into.new.items ≡ into.old.items ++ tail_text records.now) }
+    ensures err { OnErr result (into.new.items ≡ into.old.items) }
+{
+    into.reserve(TAIL_ROOM)?;
+    put_number(into, b"frames ", records.frames);
+    put_number(into, b"\nskipped ", records.not_ipv4);
+    put_number(into, b" ", records.short);
+    put_number(into, b" ", records.bad_header);
+    put(into, b"\nend\n");
+    Ok(())
+}

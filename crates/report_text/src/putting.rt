@@ -1,0 +1,81 @@
+//! Putting parts of a text behind it, where there is room for them already.
+
+ghost use Rattle.std.specs.Prelude.{◌≡◌, ◌+◌, ◌*◌, ◌≤◌, ◌∷◌, ◌++◌, length, decimal, vec_len, vec_capacity};
+ghost use Rattle.prefix_lattice.specs.PrefixText.{prefix_text};
+ghost use Rattle.report_text.specs.Text.{line_text, lines_text, positions_line};
+
+use hhh_output::Line;
+use itoa::Buffer;
+use prefix_lattice::Prefix;
+
+/// Puts bytes behind a text.
+pub(crate) fn put(text: &mut Vec<u8>, bytes: &[u8])
+    requires { vec_len text.old + length bytes.now ≤ vec_capacity text.old }
+    ensures text { text.new.items ≡ text.old.items ++ bytes.now }
+    ensures length { vec_len text.new ≡ vec_len text.old + length bytes.now }
+    ensures room { vec_capacity text.old ≤ vec_capacity text.new }
+{
+    text.extend_from_slice(bytes).unwrap();
+}
+
+/// Puts bytes and a number in decimal behind a text. A number takes 20 bytes at most.
+pub(crate) fn put_number(text: &mut Vec<u8>, before: &[u8], number: u64)
+    requires { vec_len text.old + length before.now + 20 ≤ vec_capacity text.old }
+    ensures text { text.new.items ≡ text.old.items ++ before.now ++ decimal number }
+    ensures length { vec_len text.new ≤ vec_len text.old + length before.now + 20 }
+    ensures room { vec_capacity text.old ≤ vec_capacity text.new }
+{
+    let mut buffer = Buffer::new();
+    put(text, before);
+    put(text, buffer.format(number).as_bytes());
+}
+
+/// Puts a line of positions behind a text. A position takes 21 bytes at most, with the space before it.
+pub(crate) fn put_positions(text: &mut Vec<u8>, name: &[u8], positions: &[u64])
+    requires { vec_len text.old + length name.now + 21 * length positions.now + 1 ≤ vec_capacity text.old }
+    ensures text { text.new.items ≡ text.old.items ++ positions_line name.now positions.now }
+    ensures length { vec_len text.new ≤ vec_len text.old + length name.now + 21 * length positions.now + 1 }
+    ensures room { vec_capacity text.old ≤ vec_capacity text.new }
+{
+    put(text, name);
+    for position in positions {
+        put_number(text, b" ", *position);
+    }
+    put(text, b"\n");
+}
+
+/// Puts the lines of a report behind a text. A line takes 85 bytes at most.
+pub(crate) fn put_lines(text: &mut Vec<u8>, lines: &[Line])
+    requires { vec_len text.old + 85 * length lines.now ≤ vec_capacity text.old }
+    ensures text { text.new.items ≡ text.old.items ++ lines_text lines.now }
+    ensures length { vec_len text.new ≤ vec_len text.old + 85 * length lines.now }
+    ensures room { vec_capacity text.old ≤ vec_capacity text.new }
+{
+    for line in lines {
+        put_line(text, line);
+    }
+}
+
+fn put_line(text: &mut Vec<u8>, line: &Line)
+    requires { vec_len text.old + 85 ≤ vec_capacity text.old }
+    ensures text { text.new.items ≡ text.old.items ++ line_text line.now }
+    ensures length { vec_len text.new ≤ vec_len text.old + 85 }
+    ensures room { vec_capacity text.old ≤ vec_capacity text.new }
+{
+    put(text, b"line ");
+    put_prefix(text, &line.prefix);
+    put_number(text, b" ", line.lo);
+    put_number(text, b" ", line.hi);
+    put(text, b"\n");
+}
+
+fn put_prefix(text: &mut Vec<u8>, prefix: &Prefix)
+    requires { vec_len text.old + 37 ≤ vec_capacity text.old }
+    ensures text { text.new.items ≡ text.old.items ++ prefix_text prefix.now }
+    ensures length { vec_len text.new ≤ vec_len text.old + 37 }
+    ensures room { vec_capacity text.old ≤ vec_capacity text.new }
+{
+    let mut written = [0; 37];
+    let len = prefix.write_text(&mut written);
+    put(text, &written[..len]);
+}
