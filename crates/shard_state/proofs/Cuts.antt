@@ -23,7 +23,7 @@ total_of_cut-bounded cut is few =
     let each : All (λ (s : SnapshotValue). total_of s ≤ 2 ^ 56 - 1) cut.shards =
     All-weaker IsSnapshot (λ (s : SnapshotValue). total_of s ≤ 2 ^ 56 - 1)
     (λ s kept.
-      let root = kept.tables (record { source_bytes = 0; dest_bytes = 0 }) (record { source = omega arith; dest = omega arith }) in
-      omega (arith, root.counted, root.are_entries.bounded)) cut.shards is.kept in
+    let root = kept.tables (record { source_bytes = 0; dest_bytes = 0 }) (record { source = omega arith; dest = omega arith }) in
+    omega (arith, root.counted, root.are_entries.bounded)) cut.shards is.kept in
     let all = sum_by-le total_of (2 ^ 56 - 1) cut.shards each in
     omega (arith, all, few)
