@@ -1,8 +1,8 @@
 -- What snapshots and cuts stand for.
-use Rattle.std.proofs.Common.{◌≡◌, ℕ, ◌+◌, ◌≤◌, List, [], ◌∷◌, length, take, map, sum_by, All, refl, sym, ap, ◌∙◌, arith, subst}
+use Rattle.std.proofs.Common.{◌≡◌, ℕ, ◌+◌, ◌*◌, ◌≤◌, ◌<◌, ◌^◌, List, [], ◌∷◌, length, take, map, sum_by, All, refl, sym, ap, ◌∙◌, arith, subst}
 use Rattle.std.specs.List.{slice_range, AllZip}
-use Rattle.std.proofs.lemmas.List.Sums.{sum_by-cons, sum_by-append}
-use Rattle.std.proofs.lemmas.List.Elements.{All-head, All-tail, All-take}
+use Rattle.std.proofs.lemmas.List.Sums.{sum_by-cons, sum_by-append, sum_by-le}
+use Rattle.std.proofs.lemmas.List.Elements.{All-head, All-tail, All-take, All-weaker}
 use Rattle.prefix_lattice.specs.RecordValue.{RecordValue}
 use Rattle.prefix_lattice.specs.NodeValue.{NodeValue, IsNode, index_of, node_at}
 use Rattle.prefix_lattice.specs.PrefixValue.{PrefixValue, IsPrefix}
@@ -81,3 +81,13 @@ totals_before (snapshot ∷ snapshots) (list ∷ lists) hold stand kept =
 pub cut_total_stands : (cut : CutValue) (lists : List (List RecordValue)) → TablesHold → IsCut cut → CutStandsFor cut lists
     → total_of_cut cut ≡ total_weight (records_before lists (positions_of cut))
 cut_total_stands cut lists hold is stands = totals_before cut.shards lists hold stands.shards is.kept
+
+-- at most 16 totals below 2^56 are together below 2^60
+pub total_fits : (cut : CutValue) → IsCut cut → length cut.shards ≤ 16 → total_of_cut cut < 2 ^ 60
+total_fits cut is few =
+    let root : IsNode (node_at 0) = IsNode-node_at 0 (omega arith) in
+    let each : All (λ (s : SnapshotValue). total_of s ≤ 72057594037927935) cut.shards =
+    All-weaker IsSnapshot (λ (s : SnapshotValue). total_of s ≤ 72057594037927935)
+    (λ s is_snapshot. let small : total_of s < 2 ^ 56 = (is_snapshot.tables (node_at 0) root).are_entries.bounded in omega arith) cut.shards is.kept in
+    let sum : total_of_cut cut ≤ length cut.shards * 72057594037927935 = sum_by-le total_of 72057594037927935 cut.shards each in
+    omega arith

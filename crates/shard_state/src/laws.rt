@@ -1,6 +1,6 @@
 //! What the tables of shards say of weights, each law the contract of a function that does nothing.
 
-ghost use Rattle.std.specs.Prelude.{◌≡◌, ◌≤◌, ℕ, List, All, length, take};
+ghost use Rattle.std.specs.Prelude.{◌≡◌, ◌^◌, ◌<◌, ◌≤◌, ℕ, List, All, length, take};
 ghost use Rattle.prefix_lattice.specs.RecordValue.{RecordValue};
 ghost use Rattle.prefix_lattice.specs.NodeValue.{NodeValue};
 ghost use Rattle.prefix_lattice.specs.PrefixValue.{PrefixValue, IsPrefix};
@@ -49,4 +49,9 @@ pub fn shards_stand()
     ensures begins { (capacity : ℕ) (list : List RecordValue) → StandsFor (empty_snapshot capacity) list }
     ensures goes_on { (shard : ShardValue) → StandsFor shard.base shard.list → shard.base.position ≤ shard.position
         → shard.position ≤ length shard.list → StandsFor (snapshot_of shard) shard.list }
+{}
+
+/// The total of a cut of at most 16 shards is below 2^60.
+pub fn cut_totals_fit()
+    ensures { (cut : CutValue) → IsCut cut → length cut.shards ≤ 16 → total_of_cut cut < 2 ^ 60 }
 {}

@@ -14,7 +14,7 @@ mod snapshot_parts;
 
 pub use cut::Cut;
 pub use event::Event;
-pub use laws::{shards_stand, snapshots_hold_weights, tables_hold_weights};
+pub use laws::{cut_totals_fit, shards_stand, snapshots_hold_weights, tables_hold_weights};
 pub use positions::Positions;
 pub use shard_core::Core;
 pub use shard_state::{Folded, ShardState};
