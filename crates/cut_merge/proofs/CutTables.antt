@@ -1,5 +1,5 @@
 -- The tables of a cut at a node.
-use Rattle.std.proofs.Common.{◌≡◌, ℕ, ◌+◌, ◌*◌, ◌^◌, ◌<◌, ◌≤◌, List, [], ◌∷◌, length, map, sum_by, All, None, refl, sym, ap, ◌∙◌, subst, arith}
+use Rattle.std.proofs.Common.{◌≡◌, ℕ, ◌+◌, ◌≤◌, List, [], ◌∷◌, map, sum_by, All, None, refl, sym, ap, ◌∙◌}
 use Rattle.std.proofs.lemmas.List.Sums.{sum_by-cons}
 use Rattle.std.proofs.lemmas.List.Elements.{All-head, All-tail, All-nil, All-cons}
 use Rattle.prefix_lattice.specs.NodeValue.{NodeValue, IsNode}
@@ -61,16 +61,3 @@ counted_shards node (snapshot ∷ shards) is_node kept =
 -- at each node
 pub counted-at : (node : NodeValue) (cut : CutValue) → IsNode node → IsCut cut → counted (node_tables node cut) ≡ total_of_cut cut
 counted-at node cut is_node kept = counted_shards node cut.shards is_node kept.kept
-
--- each shard counted less than 2^56
-light_shards : (shards : List SnapshotValue) → All IsSnapshot shards → sum_by total_of shards + length shards ≤ length shards * 2 ^ 56
-light_shards [] kept = omega arith
-light_shards (snapshot ∷ shards) kept =
-    let node : NodeValue = record { source_bytes = 0; dest_bytes = 0 } in
-    let table = (All-head IsSnapshot snapshot shards kept).tables node (record { source = omega arith; dest = omega arith }) in
-    let small : total_of snapshot < 2 ^ 56 = subst (λ n. n < 2 ^ 56) table.counted table.are_entries.bounded in
-    omega (arith, small, light_shards shards (All-tail IsSnapshot snapshot shards kept), sum_by-cons total_of snapshot shards)
-
--- so at most 16 of them counted less than 2^60 together
-pub small_cut : (cut : CutValue) → IsCut cut → length cut.shards ≤ 16 → total_of_cut cut < 2 ^ 60
-small_cut cut kept few = omega (arith, kept.some, few, light_shards cut.shards kept.kept)

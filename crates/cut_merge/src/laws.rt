@@ -45,11 +45,6 @@ pub fn monitored_keys_are_few()
         → length (monitored_at cut node) ≤ length cut.shards * cut.capacity }
 {}
 
-/// The tables of a cut of at most 16 shards can be merged: they counted less than 2^60 together.
-pub fn small_cuts_can_be_merged()
-    ensures { (cut : CutValue) → IsCut cut → length cut.shards ≤ 16 → total_of_cut cut < 2 ^ 60 }
-{}
-
 /// In the tables of a cut each interval has its ends in order and within what its table counted, and no high
 /// is below that of a key that the table misses. So sums of them don't wrap.
 pub(crate) fn tables_are_bounded()

@@ -7,9 +7,7 @@ mod laws;
 mod merged;
 mod node_merge;
 
-pub use laws::{
-    monitored_keys_are_few, small_cuts_can_be_merged, spans_are_narrow, spans_hold_weights,
-};
+pub use laws::{monitored_keys_are_few, spans_are_narrow, spans_hold_weights};
 pub use merged::Merged;
 
 #[cfg(test)]

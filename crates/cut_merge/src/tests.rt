@@ -68,8 +68,7 @@ fn merged(rt: &impl Abort, alloc: Global) -> Result<Merged, AllocError> {
     let mut cut = Cut::with_room(alloc, 2, 4)?;
     cut.copy_shard(0, &folded(rt, alloc, &FIRST)?);
     cut.copy_shard(1, &folded(rt, alloc, &SECOND)?);
-    small_cuts_can_be_merged();
-    let _shards = cut.shards();
+    assert!(rt; cut.shards() <= 16);
     Merged::of(alloc, &cut)
 }
 

@@ -7,7 +7,8 @@ use Rattle.prefix_lattice.specs.PrefixText.{side_text, prefix_text}
 use Rattle.hhh_output.specs.declared.line.Line.{Line}
 use Rattle.hhh_output.specs.declared.report.Report.{Report}
 use Rattle.report_text.specs.Text.{line_text, lines_text, report_text}
-use Rattle.report_text.specs.Apart.{IsTold, IsTellable, SayTheSame}
+use Rattle.report_text.specs.Apart.{IsTold, IsTellable}
+use Rattle.hhh_output.specs.Same.{AreSame}
 use Rattle.report_text.proofs.Parts.{spaced, join-spaced}
 use Rattle.report_text.proofs.Words.{unlike, word-apart, number-apart, side-word, positions-apart}
 
@@ -79,7 +80,7 @@ opens-report report =
     ∙ report_opens (codes "report\n") (codes "at") (flat_map spaced report.positions) (codes "\n") (codes "total ") (decimal report.total) (codes "threshold ") (decimal report.threshold) (lines_text report.lines) (codes "done\n")
 
 -- reports that have one text say the same
-pub report-apart : PrefixTextsAreApart → (report other : Report) → IsTellable report → IsTellable other → report_text report ≡ report_text other → SayTheSame report other
+pub report-apart : PrefixTextsAreApart → (report other : Report) → IsTellable report → IsTellable other → report_text report ≡ report_text other → AreSame report other
 report-apart law report other is other_is same =
     let positions = positions-apart report.positions other.positions _ _ (by-recursion _ report.positions is.positions) (by-recursion _ other.positions other_is.positions)
     (ap (drop 9) (sym (opens-report report) ∙ same ∙ opens-report other)) in

@@ -1,4 +1,4 @@
--- Reports that have one text are the same.
+-- Reports whose numbers and prefixes can be told.
 use Rattle.std.specs.Prelude.{◌≡◌, ◌<◌, ◌^◌, All}
 use Rattle.prefix_lattice.specs.PrefixValue.{IsPrefix}
 use Rattle.hhh_output.specs.declared.line.Line.{Line}
@@ -16,10 +16,3 @@ pub record IsTellable (report : Report) : Type 0 where
   pub total : report.total < 2 ^ 64
   pub threshold : report.threshold < 2 ^ 64
   pub lines : All IsTold report.lines
-
--- the reports say the same
-pub record SayTheSame (report other : Report) : Type 0 where
-  pub positions : report.positions ≡ other.positions
-  pub total : report.total ≡ other.total
-  pub threshold : report.threshold ≡ other.threshold
-  pub lines : report.lines ≡ other.lines

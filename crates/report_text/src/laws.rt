@@ -1,15 +1,16 @@
 //! Laws of texts. A caller that runs one has it at hand.
 
 ghost use Rattle.std.specs.Prelude.{◌≡◌};
+ghost use Rattle.hhh_output.specs.Same.{AreSame};
 ghost use Rattle.hhh_output.specs.declared.report.Report.{Report};
 ghost use Rattle.report_text.specs.Text.{report_text};
-ghost use Rattle.report_text.specs.Apart.{IsTellable, SayTheSame};
+ghost use Rattle.report_text.specs.Apart.{IsTellable};
 
 use prefix_lattice::prefix_texts_read_back;
 
-/// A law of reports: those that have one text say the same.
+/// A law of reports: those that have one text show the same.
 pub fn report_texts_are_apart()
-    ensures { (report other : Report) → IsTellable report → IsTellable other → report_text report ≡ report_text other → SayTheSame report other }
+    ensures { (report other : Report) → IsTellable report → IsTellable other → report_text report ≡ report_text other → AreSame report other }
 {
     prefix_texts_read_back();
 }
