@@ -1,0 +1,27 @@
+-- The commands, and what each takes.
+use Rattle.std.specs.Prelude.{◌≡◌, List, [], ◌∷◌, codes}
+use Rattle.command_words.specs.Arguments.{Text, Argument, Form, AreWellFormed}
+use Rattle.command_words.specs.declared.command_word.CommandWord.{CommandWord}
+use Rattle.command_words.specs.declared.command_word.CommandWord.TheVariants.{Weigh, Report}
+
+-- the word of a command, which is the first of the command line
+abbrev pub word_of : CommandWord → Text
+word_of Weigh = codes "weigh"
+word_of Report = codes "report"
+
+-- what each command takes
+abbrev pub form_of : CommandWord → Form
+form_of Weigh = record {
+  positionals = codes "SRC" ∷ codes "DST" ∷ [];
+  options = codes "capture" ∷ codes "weigh" ∷ [];
+}
+form_of Report = record {
+  positionals = [];
+  options = codes "capture" ∷ codes "weigh" ∷ codes "shards" ∷ codes "capacity" ∷ codes "phi" ∷ codes "deal" ∷ [];
+}
+
+-- the words are a command's word and, behind it, well-formed words that spell these arguments
+pub record AreWordsOf (words : List Text) (command : CommandWord) (arguments : List Argument) : Type 0 where
+  pub behind : List Text
+  pub begun : words ≡ word_of command ∷ behind
+  pub well_formed : AreWellFormed (form_of command) behind arguments

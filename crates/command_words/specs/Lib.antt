@@ -1,0 +1,7 @@
+pub mod Arguments
+pub mod Forms
+pub mod Options
+pub mod Settings
+pub mod Words
+pub mod Matches
+pub mod Paths

@@ -1,0 +1,62 @@
+-- What the options of a command line set.
+use Rattle.std.specs.Prelude.{ℕ, ◌≡◌, ◌*◌, ◌<◌, ◌≤◌, Bool, false, List, codes, decimal, Option, Some, None}
+use Rattle.frame_records.specs.declared.weigh.Weigh.{Weigh}
+use Rattle.frame_records.specs.declared.weigh.Weigh.TheVariants as weighing
+use Rattle.deal_rules.specs.declared.deal_kind.DealKind.{DealKind}
+use Rattle.deal_rules.specs.declared.deal_kind.DealKind.TheVariants as dealing
+use Rattle.command_words.specs.Arguments.{Text, Argument, value_of}
+use Rattle.command_words.specs.Options.{name_of, kind_of, IsNumber, IsAllowed}
+use Rattle.command_words.specs.declared.opt.Opt.{Opt}
+use Rattle.command_words.specs.declared.opt.Opt.TheVariants.{Weigh as ByWeigh, Shards, Capacity, Phi, Deal}
+use Rattle.command_words.specs.declared.settings.Settings.{Settings}
+
+-- the values that options have, where they stand
+abbrev pub Values : Type 0
+Values = Opt → Option Text
+
+-- the values that arguments give
+abbrev pub values_in : List Argument → Values
+values_in arguments = λ opt. value_of (name_of opt) arguments
+
+-- the number that an option sets: the default where it doesn't stand, else what it says, within its limits
+abbrev pub SetsNumber : Opt → ℕ → Option Text → ℕ → Type 0
+SetsNumber opt default None value = value ≡ default
+SetsNumber opt default (Some text) value = IsNumber text value × IsAllowed (kind_of opt) value
+
+-- the words for how traffic is weighed
+abbrev pub weigh_text : Weigh → Text
+weigh_text weighing.Bytes = codes "bytes"
+weigh_text weighing.Packets = codes "packets"
+
+-- the words for how records are dealt
+abbrev pub deal_text : DealKind → Text
+deal_text dealing.RoundRobin = codes "round"
+deal_text dealing.BySource = codes "source"
+deal_text dealing.Free = codes "free"
+
+-- how traffic is weighed: by bytes where nothing is said
+abbrev pub SetsWeigh : Option Text → Weigh → Type 0
+SetsWeigh None weigh = weigh ≡ weighing.Bytes
+SetsWeigh (Some text) weigh = text ≡ weigh_text weigh
+
+-- how records are dealt: in turn where nothing is said
+abbrev pub SetsDeal : Option Text → DealKind → Type 0
+SetsDeal None deal = deal ≡ dealing.RoundRobin
+SetsDeal (Some text) deal = text ≡ deal_text deal
+
+-- what values set, with the defaults of all that no option says
+pub record SetsSettings (values : Values) (settings : Settings) : Type 0 where
+  pub weigh : SetsWeigh (values ByWeigh) settings.weigh
+  pub shards : SetsNumber Shards 4 (values Shards) settings.shards
+  pub capacity : SetsNumber Capacity 512 (values Capacity) settings.capacity
+  pub phi : SetsNumber Phi 10000 (values Phi) settings.phi
+  pub deal : SetsDeal (values Deal) settings.deal
+  pub block : settings.block ≡ 1024
+  pub workers : settings.workers ≡ 4
+  pub callers : settings.callers ≡ 0
+  pub rounds : settings.rounds ≡ 0
+  pub store : settings.store ≡ false
+
+-- tables of this capacity can't hide a prefix of this share: phi times capacity is at least 2,000,000
+abbrev pub IsWide : Settings → Type 0
+IsWide settings = 2000000 ≤ settings.phi * settings.capacity

@@ -1,0 +1,117 @@
+-- What the words of a command line ask, or the first thing that is wrong with them.
+use Rattle.std.specs.Prelude.{⊤, ℕ, ◌≡◌, ◌≢◌, ◌<◌, List, [], ◌∷◌, map, Option, Some, None}
+use Rattle.std.specs.Borrow.{Bor}
+use Rattle.prefix_lattice.specs.PrefixValue.{PrefixValue}
+use Rattle.prefix_lattice.specs.PrefixText.{SpellsPrefix, HasPrefixFault}
+use Rattle.prefix_lattice.specs.declared.prefix_fault.PrefixFault.{PrefixFault}
+use Rattle.command_words.specs.Arguments.{Text, Argument, positionals_in, value_of, AreWellFormed}
+use Rattle.command_words.specs.Forms.{word_of, form_of, AreWordsOf}
+use Rattle.command_words.specs.Options.{Kind, kind_of, place_of, IsGood, IsNoNumber, IsOutside, IsNoChoice}
+use Rattle.command_words.specs.Settings.{Values, values_in, SetsSettings, IsWide}
+use Rattle.command_words.specs.declared.command.Command.{Command}
+use Rattle.command_words.specs.declared.command.Command.TheVariants as command
+use Rattle.command_words.specs.declared.command_word.CommandWord.{CommandWord}
+use Rattle.command_words.specs.declared.command_word.CommandWord.TheVariants.{Weigh, Report}
+use Rattle.command_words.specs.declared.opt.Opt.{Opt}
+use Rattle.command_words.specs.declared.settings.Settings.{Settings}
+use Rattle.command_words.specs.declared.words_kind.WordsKind.{WordsKind}
+use Rattle.command_words.specs.declared.words_kind.WordsKind.TheVariants.{NoCommand, UnknownCommand, Refused, BadPrefix, BadNumber, OutOfLimits, BadChoice, Bound}
+
+-- the texts of the words
+abbrev pub texts : List (Bor Text) → List Text
+texts words = map (λ word. word.now) words
+
+-- the positionals SRC and DST, in this order
+abbrev pub HasSides : List Argument → Text → Text → Type 0
+HasSides arguments source dest = positionals_in arguments ≡ source ∷ dest ∷ []
+
+-- the words ask for the weight of a prefix
+pub record AskToWeigh (words : List Text) (prefix : PrefixValue) (settings : Settings) : Type 0 where
+  pub arguments : List Argument
+  pub are_words : AreWordsOf words Weigh arguments
+  pub source : Text
+  pub dest : Text
+  pub sides : HasSides arguments source dest
+  pub spelled : SpellsPrefix source dest prefix
+  pub set : SetsSettings (values_in arguments) settings
+
+-- the words ask for a report
+pub record AskToReport (words : List Text) (settings : Settings) : Type 0 where
+  pub arguments : List Argument
+  pub are_words : AreWordsOf words Report arguments
+  pub set : SetsSettings (values_in arguments) settings
+  pub wide : IsWide settings
+
+-- what the words ask for
+abbrev pub AskFor : List Text → Command → Type 0
+AskFor words (command.Weigh prefix settings) = AskToWeigh words prefix settings
+AskFor words (command.Report settings) = AskToReport words settings
+
+-- the positionals of the command are good: those of `weigh` spell a prefix
+abbrev pub HasGoodPositionals : CommandWord → List Argument → Type 0
+HasGoodPositionals Weigh arguments = (source : Text) × (dest : Text) × HasSides arguments source dest × ((prefix : PrefixValue) × SpellsPrefix source dest prefix)
+HasGoodPositionals Report arguments = ⊤
+
+-- the positionals of `weigh` have this fault
+pub record HasBadPrefix (words : List Text) (fault : PrefixFault) : Type 0 where
+  pub arguments : List Argument
+  pub are_words : AreWordsOf words Weigh arguments
+  pub source : Text
+  pub dest : Text
+  pub sides : HasSides arguments source dest
+  pub has_fault : HasPrefixFault source dest fault
+
+-- the option has a bad value, and each option before it a good one
+pub record IsFirstBad (IsBad : Kind → Text → Type 0) (values : Values) (opt : Opt) : Type 0 where
+  pub before : (other : Opt) → place_of other < place_of opt → IsGood other (values other)
+  pub text : Text
+  pub value : values opt ≡ Some text
+  pub is_bad : IsBad (kind_of opt) text
+
+-- the first thing that is wrong with values
+abbrev pub HasValueFault : Values → WordsKind → Type 0
+HasValueFault values (BadNumber opt) = IsFirstBad IsNoNumber values opt
+HasValueFault values (OutOfLimits opt) = IsFirstBad IsOutside values opt
+HasValueFault values (BadChoice opt) = IsFirstBad IsNoChoice values opt
+HasValueFault values _ = ⊥
+
+-- the fault that a number can have: it is none, or one that the option can't have
+abbrev pub IsBadNumber : Opt → Option Text → WordsKind → Type 0
+IsBadNumber opt None kind = ⊥
+IsBadNumber opt (Some text) (BadNumber at) = (at ≡ opt) × IsNoNumber (kind_of opt) text
+IsBadNumber opt (Some text) (OutOfLimits at) = (at ≡ opt) × IsOutside (kind_of opt) text
+IsBadNumber opt (Some text) _ = ⊥
+
+-- the fault that a choice can have: it is none of the words of the option
+abbrev pub IsBadChoice : Opt → Option Text → WordsKind → Type 0
+IsBadChoice opt None kind = ⊥
+IsBadChoice opt (Some text) (BadChoice at) = (at ≡ opt) × IsNoChoice (kind_of opt) text
+IsBadChoice opt (Some text) _ = ⊥
+
+-- the words are well formed and their positionals good, and their values have this fault
+pub record HasBadValue (words : List Text) (kind : WordsKind) : Type 0 where
+  pub command : CommandWord
+  pub arguments : List Argument
+  pub are_words : AreWordsOf words command arguments
+  pub positionals : HasGoodPositionals command arguments
+  pub has_fault : HasValueFault (values_in arguments) kind
+
+-- each value of a report is good, and its tables are too small for its share
+pub record IsTooNarrow (words : List Text) : Type 0 where
+  pub arguments : List Argument
+  pub are_words : AreWordsOf words Report arguments
+  pub settings : Settings
+  pub set : SetsSettings (values_in arguments) settings
+  pub narrow : IsWide settings → ⊥
+
+-- the first thing that is wrong with the words: the command, then their form, then the prefix, then the values in the order of the
+-- options, then the bound
+abbrev pub HasWordsFault : List Text → WordsKind → Type 0
+HasWordsFault words NoCommand = words ≡ []
+HasWordsFault words UnknownCommand = (first : Text) × (behind : List Text) × (words ≡ first ∷ behind) × ((command : CommandWord) → first ≢ word_of command)
+HasWordsFault words Refused = (command : CommandWord) × (behind : List Text) × (words ≡ word_of command ∷ behind) × ((arguments : List Argument) → AreWellFormed (form_of command) behind arguments → ⊥)
+HasWordsFault words (BadPrefix fault) = HasBadPrefix words fault
+HasWordsFault words (BadNumber opt) = HasBadValue words (BadNumber opt)
+HasWordsFault words (OutOfLimits opt) = HasBadValue words (OutOfLimits opt)
+HasWordsFault words (BadChoice opt) = HasBadValue words (BadChoice opt)
+HasWordsFault words Bound = IsTooNarrow words

@@ -1,0 +1,13 @@
+//! What a command line asks for.
+
+use crate::Settings;
+use prefix_lattice::Prefix;
+
+/// A command with all that its words say.
+#[derive(Clone, Copy, Debug, PartialEq, Eq)]
+pub enum Command {
+    /// `weigh SRC DST`: the weight of one prefix.
+    Weigh { prefix: Prefix, settings: Settings },
+    /// `report`: the prefixes that carry heavy load which no more specific reported prefix explains.
+    Report(Settings),
+}

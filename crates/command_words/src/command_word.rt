@@ -1,0 +1,61 @@
+//! The words that name commands, and what each command takes.
+
+ghost use Rattle.std.specs.Prelude.{◌≡◌, ◌≢◌, map, IfSome, IfNone};
+ghost use Rattle.command_words.specs.Forms.{word_of, form_of};
+ghost use Rattle.command_words.specs.declared.command_word.CommandWord.{CommandWord};
+
+/// The first word of a command line.
+#[derive(Clone, Copy, Debug, PartialEq, Eq)]
+pub enum CommandWord {
+    Weigh,
+    Report,
+}
+
+static WEIGH_POSITIONALS: [&str; 2] = ["SRC", "DST"];
+static WEIGH_OPTIONS: [&str; 2] = ["capture", "weigh"];
+static REPORT_POSITIONALS: [&str; 0] = [];
+static REPORT_OPTIONS: [&str; 6] = ["capture", "weigh", "shards", "capacity", "phi", "deal"];
+
+impl CommandWord {
+    /// The command that a word names, if it names one.
+    pub fn of(word: &str) -> Option<CommandWord>
+        ensures some { IfSome result (λ command. word.now ≡ word_of command) }
+        ensures none { IfNone result ((command : CommandWord) → word.now ≢ word_of command) }
+    {
+        match word {
+            "weigh" => Some(CommandWord::Weigh),
+            "report" => Some(CommandWord::Report),
+            _ => None,
+        }
+    }
+
+    /// The word.
+    pub fn word(self) -> &'static str
+        ensures { result.now ≡ word_of self }
+    {
+        match self {
+            CommandWord::Weigh => "weigh",
+            CommandWord::Report => "report",
+        }
+    }
+
+    /// What the positionals of the command are for, in their order.
+    pub fn positionals(self) -> &'static [&'static str]
+        ensures { map (λ name. name.now) result.now ≡ (form_of self).positionals }
+    {
+        match self {
+            CommandWord::Weigh => WEIGH_POSITIONALS.as_slice(),
+            CommandWord::Report => REPORT_POSITIONALS.as_slice(),
+        }
+    }
+
+    /// The names of the command's options.
+    pub fn options(self) -> &'static [&'static str]
+        ensures { map (λ name. name.now) result.now ≡ (form_of self).options }
+    {
+        match self {
+            CommandWord::Weigh => WEIGH_OPTIONS.as_slice(),
+            CommandWord::Report => REPORT_OPTIONS.as_slice(),
+        }
+    }
+}

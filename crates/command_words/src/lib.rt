@@ -1,0 +1,23 @@
+//! The words of a command line: what they ask, or the first thing that is wrong with them.
+#![tactic(auto)]
+
+mod command;
+mod command_word;
+mod opt;
+mod parsing;
+mod path_texts;
+mod reading;
+mod scanning;
+mod settings;
+mod values;
+mod words_kind;
+
+pub use command::Command;
+pub use opt::Opt;
+pub use path_texts::{PathTexts, paths};
+pub use reading::read_words;
+pub use settings::Settings;
+pub use words_kind::{WordsKind, WordsRefusal};
+
+#[cfg(test)]
+mod tests;

@@ -1,0 +1,94 @@
+//! Reading the words of a command line.
+
+ghost use Rattle.std.specs.Prelude.{◌≡◌, ◌⊎◌, List, Ok, Err, IfOk, IfErr};
+ghost use Rattle.command_words.specs.Arguments.{Text};
+ghost use Rattle.command_words.specs.Matches.{TellsWords};
+ghost use Rattle.command_words.specs.Words.{texts, AskFor, HasWordsFault};
+ghost use Rattle.command_words.specs.declared.command.Command.{Command};
+ghost use Rattle.command_words.specs.declared.command_word.CommandWord.{CommandWord};
+ghost use Rattle.command_words.specs.declared.command_word.CommandWord.TheVariants.{Weigh, Report};
+ghost use Rattle.command_words.specs.declared.words_kind.WordsKind.{WordsKind};
+ghost use Rattle.command_words.specs.declared.words_kind.WordsRefusal.TheVariants.{Bad, OutOfMemory};
+
+use crate::command_word::CommandWord;
+use crate::parsing::parse;
+use crate::scanning::are_well_formed;
+use crate::values::{is_wide, settings_of};
+use crate::{Command, WordsKind, WordsRefusal};
+use clap::ArgMatches;
+use prefix_lattice::Prefix;
+use std::alloc::Global;
+
+/// A command line: what it asks for, and what `clap` found in it.
+#[derive(Drop)]
+pub(crate) struct CommandLine<'a> {
+    pub(crate) command: Command,
+    pub(crate) matches: ArgMatches<'a>,
+}
+
+/// What the words ask for: a command's word, and behind it the command's positionals and options in any
+/// order. An option is `--name` and its value, or `--name=value`. Options that don't stand have their
+/// defaults.
+///
+/// Words that ask for nothing are refused for the first thing that is wrong with them: the command, then the
+/// form of the words, then the prefix, then the values in the order of `Opt`, each as a number before its
+/// limits, then the bound on `phi` times the capacity.
+pub fn read_words(alloc: Global, words: &[&str]) -> Result<Command, WordsRefusal>
+    ensures ok { IfOk result (AskFor (texts words.now)) }
+    ensures bad { (kind : WordsKind) → result ≡ Err (Bad kind) → HasWordsFault (texts words.now) kind }
+    ensures complete { (command : Command) → AskFor (texts words.now) command → (result ≡ Ok command) ⊎ (result ≡ Err OutOfMemory) }
+    ensures exact { (kind : WordsKind) → HasWordsFault (texts words.now) kind → (result ≡ Err (Bad kind)) ⊎ (result ≡ Err OutOfMemory) }
+{
+    Ok(read_line(alloc, words)?.command)
+}
+
+/// Reads the words.
+pub(crate) fn read_line<'a>(alloc: Global, words: &'a [&'a str]) -> Result<CommandLine<'a>, WordsRefusal>
+    ensures ok { IfOk result (λ line. AskFor (texts words.entry.now) line.command) }
+    ensures told { IfOk result (λ line. (command : CommandWord) × TellsWords (texts words.entry.now) command line.matches) }
+    ensures bad { (kind : WordsKind) → result ≡ Err (Bad kind) → HasWordsFault (texts words.entry.now) kind }
+{
+    let Some((first, behind)) = words.split_first() else {
+        return Err(WordsRefusal::Bad(WordsKind::NoCommand));
+    };
+    let Some(command) = CommandWord::of(first) else {
+        return Err(WordsRefusal::Bad(WordsKind::UnknownCommand));
+    };
+    if !are_well_formed(command, behind) {
+        return Err(WordsRefusal::Bad(WordsKind::Refused));
+    }
+    let matches = parse(alloc, command, behind)?;
+    let command = match command {
+        CommandWord::Weigh => weigh_command(&matches)?,
+        CommandWord::Report => report_command(&matches)?,
+    };
+    Ok(CommandLine { command, matches })
+}
+
+// What words that begin with `weigh` ask for.
+fn weigh_command(matches: &ArgMatches<'_>) -> Result<Command, WordsKind>
+    requires { (words : List Text) × TellsWords words Weigh matches.now }
+    ensures ok { (words : List Text) → TellsWords words Weigh matches.now → IfOk result (AskFor words) }
+    ensures err { (words : List Text) → TellsWords words Weigh matches.now → IfErr result (HasWordsFault words) }
+{
+    let source = matches.get_str("SRC").unwrap();
+    let dest = matches.get_str("DST").unwrap();
+    let prefix = match Prefix::parse(source.as_bytes(), dest.as_bytes()) {
+        Ok(prefix) => prefix,
+        Err(fault) => return Err(WordsKind::BadPrefix(fault)),
+    };
+    let settings = settings_of(matches)?;
+    Ok(Command::Weigh { prefix, settings })
+}
+
+// What words that begin with `report` ask for.
+fn report_command(matches: &ArgMatches<'_>) -> Result<Command, WordsKind>
+    ensures ok { (words : List Text) → TellsWords words Report matches.now → IfOk result (AskFor words) }
+    ensures err { (words : List Text) → TellsWords words Report matches.now → IfErr result (HasWordsFault words) }
+{
+    let settings = settings_of(matches)?;
+    if !is_wide(&settings) {
+        return Err(WordsKind::Bound);
+    }
+    Ok(Command::Report(settings))
+}

@@ -1,0 +1,89 @@
+//! Whether words are well formed.
+
+ghost use Rattle.std.specs.Prelude.{◌≡◌, ◌↔◌, ◌≤◌, List, drop, length, Contains, IfSome, IfNone, IsTrue};
+ghost use Rattle.command_words.specs.Arguments.{Argument, AreWellFormed, Begins, IsValue, SpellsAll, Text, names_in, text_at, option_name, FitsRest};
+ghost use Rattle.command_words.specs.Forms.{form_of};
+ghost use Rattle.command_words.specs.Words.{texts};
+
+use crate::command_word::CommandWord;
+
+/// Whether the words behind a command's word are well formed: they are its positionals, each once, and
+/// options of its own, each at most once, in any order.
+pub(crate) fn are_well_formed(command: CommandWord, behind: &[&str]) -> bool
+    ensures { IsTrue result ↔ ((arguments : List Argument) × AreWellFormed (form_of command) (texts behind.now) arguments) }
+{
+    fit(command, behind, command.positionals().len())
+}
+
+// Whether the words spell so many positionals, and options of the command, none of them twice.
+fn fit(command: CommandWord, words: &[&str], positionals: usize) -> bool
+    ensures { IsTrue result ↔ ((arguments : List Argument) × FitsRest (form_of command) positionals (texts words.now) arguments) }
+{
+    let Some(front) = front_of(words) else {
+        return words.is_empty() && positionals == 0;
+    };
+    let others = &words[front.words..];
+    match front.option {
+        None => positionals > 0 && fit(command, others, positionals - 1),
+        Some(name) => {
+            command.options().contains(&name) && !stands(others, name) && fit(command, others, positionals)
+        }
+    }
+}
+
+// Whether an option of this name stands among the arguments that the words spell.
+fn stands(words: &[&str], name: &str) -> bool
+    ensures { (arguments : List Argument) → SpellsAll (texts words.now) arguments → IsTrue result ↔ Contains (names_in arguments) name.now }
+{
+    let mut others = words;
+    while let Some(front) = front_of(others) {
+        if front.option == Some(name) {
+            return true;
+        }
+        others = &others[front.words..];
+    }
+    false
+}
+
+// The argument at the front of some words.
+#[derive(Drop)]
+struct Front<'a> {
+    // How many words spell it.
+    words: usize,
+    // The name of its option, or `None` for a positional.
+    option: Option<&'a str>,
+}
+
+// The argument that stands at the front of the words, if one does.
+fn front_of<'a>(words: &[&'a str]) -> Option<Front<'a>>
+    ensures fits { IfSome result (λ front. front.words ≤ length words.now) }
+    ensures some { IfSome result (λ front. (argument : Argument) × Begins (texts words.now) argument (drop front.words (texts words.now))
+        × (text_at front.option ≡ option_name argument)) }
+    ensures none { IfNone result ((argument : Argument) (others : List Text) → Begins (texts words.now) argument others → ⊥) }
+{
+    let (word, others) = words.split_first()?;
+    let Some(text) = word.strip_prefix("--") else {
+        return is_value(word).then_some(Front {
+            words: 1,
+            option: None,
+        });
+    };
+    if let Some((name, value)) = text.split_once('=') {
+        return is_value(value).then_some(Front {
+            words: 1,
+            option: Some(name),
+        });
+    }
+    let value = others.first()?;
+    is_value(value).then_some(Front {
+        words: 2,
+        option: Some(text),
+    })
+}
+
+// Whether a text can be a positional or a value.
+fn is_value(text: &str) -> bool
+    ensures { IsTrue result ↔ IsValue text.now }
+{
+    !text.is_empty() && !text.starts_with('-')
+}

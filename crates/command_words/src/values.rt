@@ -1,0 +1,122 @@
+//! What the values of options set.
+
+ghost use Rattle.std.specs.Prelude.{◌≡◌, ◌↔◌, IfOk, IfErr, IsTrue};
+ghost use Rattle.command_words.specs.Arguments.{text_at};
+ghost use Rattle.command_words.specs.Options.{kind_of, number};
+ghost use Rattle.command_words.specs.Settings.{SetsDeal, SetsNumber, SetsSettings, SetsWeigh, IsWide};
+ghost use Rattle.command_words.specs.Matches.{values_told};
+ghost use Rattle.command_words.specs.Words.{HasValueFault, IsBadChoice, IsBadNumber};
+ghost use Rattle.command_words.specs.declared.words_kind.WordsKind.TheVariants.{BadChoice};
+ghost use Rattle.command_words.specs.declared.opt.Opt.TheVariants.{Weigh as ByWeigh, Deal};
+
+use crate::{Opt, Settings, WordsKind};
+use clap::ArgMatches;
+use deal_rules::DealKind;
+use frame_records::Weigh;
+use prefix_lattice::number_of;
+
+// An option that takes a number.
+struct Numeric {
+    opt: Opt,
+    least: u32,
+    greatest: u32,
+    default: u32,
+}
+
+const SHARDS: Numeric = Numeric {
+    opt: Opt::Shards,
+    least: 1,
+    greatest: 16,
+    default: 4,
+};
+
+const CAPACITY: Numeric = Numeric {
+    opt: Opt::Capacity,
+    least: 2,
+    greatest: 4096,
+    default: 512,
+};
+
+const PHI: Numeric = Numeric {
+    opt: Opt::Phi,
+    least: 1,
+    greatest: 1_000_000,
+    default: 10_000,
+};
+
+// What `phi` times the capacity must be, so that no table hides a heavy prefix.
+const LEAST_WIDTH: u64 = 2_000_000;
+
+/// What the options set, or the first of their values that is wrong.
+pub(crate) fn settings_of(matches: &ArgMatches<'_>) -> Result<Settings, WordsKind>
+    ensures ok { IfOk result (SetsSettings (values_told matches.now)) }
+    ensures err { IfErr result (HasValueFault (values_told matches.now)) }
+{
+    let weigh = weigh_of(matches.get_str(Opt::Weigh.name()))?;
+    let shards = SHARDS.read(matches.get_str(Opt::Shards.name()))?;
+    let capacity = CAPACITY.read(matches.get_str(Opt::Capacity.name()))?;
+    let phi = PHI.read(matches.get_str(Opt::Phi.name()))?;
+    let deal = deal_of(matches.get_str(Opt::Deal.name()))?;
+    Ok(Settings {
+        shards,
+        capacity,
+        phi,
+        block: 1024,
+        workers: 4,
+        callers: 0,
+        rounds: 0,
+        weigh,
+        deal,
+        store: false,
+    })
+}
+
+/// Whether tables of the capacity are large enough for the share.
+pub(crate) fn is_wide(settings: &Settings) -> bool
+    ensures { IsTrue result ↔ IsWide settings.now }
+{
+    u64::from(settings.phi) * u64::from(settings.capacity) >= LEAST_WIDTH
+}
+
+impl Numeric {
+    // The number that the option sets, by its text if it stands.
+    fn read(&self, text: Option<&str>) -> Result<u32, WordsKind>
+        requires { kind_of self.now.opt ≡ number self.now.least self.now.greatest }
+        ensures ok { IfOk result (SetsNumber self.now.opt self.now.default (text_at text.entry)) }
+        ensures err { IfErr result (IsBadNumber self.now.opt (text_at text.entry)) }
+    {
+        let Some(text) = text else {
+            return Ok(self.default);
+        };
+        let Some(value) = number_of(text.as_bytes()) else {
+            return Err(WordsKind::BadNumber(self.opt));
+        };
+        if value < u64::from(self.least) || u64::from(self.greatest) < value {
+            return Err(WordsKind::OutOfLimits(self.opt));
+        }
+        Ok(value as u32)
+    }
+}
+
+fn weigh_of(text: Option<&str>) -> Result<Weigh, WordsKind>
+    ensures ok { IfOk result (SetsWeigh (text_at text.entry)) }
+    ensures err { IfErr result (λ kind. IsBadChoice ByWeigh (text_at text.entry) kind) }
+{
+    match text {
+        None | Some("bytes") => Ok(Weigh::Bytes),
+        Some("packets") => Ok(Weigh::Packets),
+        Some(_) => Err(WordsKind::BadChoice(Opt::Weigh)),
+    }
+}
+
+fn deal_of(text: Option<&str>) -> Result<DealKind, WordsKind>
+    ensures ok { IfOk result (SetsDeal (text_at text.entry)) }
+    ensures err { IfErr result (λ kind. IsBadChoice Deal (text_at text.entry) kind) }
+{
+    match text {
+        None | Some("round") => Ok(DealKind::RoundRobin),
+        Some("source") => Ok(DealKind::BySource),
+        Some("free") => Ok(DealKind::Free),
+        Some(_) => Err(WordsKind::BadChoice(Opt::Deal)),
+    }
+}
