@@ -5,3 +5,4 @@ pub mod Settings
 pub mod Words
 pub mod Matches
 pub mod Paths
+pub mod Parser

@@ -30,7 +30,7 @@ impl CommandWord {
     }
 
     /// The word.
-    pub fn word(self) -> &'static str
+    pub fn word<'a>(self) -> &'a str
         ensures { result.now ≡ word_of self }
     {
         match self {
@@ -40,7 +40,7 @@ impl CommandWord {
     }
 
     /// What the positionals of the command are for, in their order.
-    pub fn positionals(self) -> &'static [&'static str]
+    pub fn positionals<'a>(self) -> &'a [&'a str]
         ensures { map (λ name. name.now) result.now ≡ (form_of self).positionals }
     {
         match self {
@@ -50,7 +50,7 @@ impl CommandWord {
     }
 
     /// The names of the command's options.
-    pub fn options(self) -> &'static [&'static str]
+    pub fn options<'a>(self) -> &'a [&'a str]
         ensures { map (λ name. name.now) result.now ≡ (form_of self).options }
     {
         match self {

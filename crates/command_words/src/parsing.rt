@@ -1,9 +1,11 @@
 //! Reading well-formed words with `clap`.
 
-ghost use Rattle.std.specs.Prelude.{List, IfOk};
+ghost use Rattle.std.specs.Prelude.{◌≡◌, List, IfOk};
+ghost use Rattle.clap.specs.Words.{app_of};
 ghost use Rattle.command_words.specs.Arguments.{Argument, AreWellFormed};
-ghost use Rattle.command_words.specs.Forms.{form_of};
+ghost use Rattle.command_words.specs.Forms.{form_of, word_of};
 ghost use Rattle.command_words.specs.Matches.{Tells};
+ghost use Rattle.command_words.specs.Parser.{parser_for, with_options, with_positionals};
 ghost use Rattle.command_words.specs.Words.{texts};
 
 use crate::command_word::CommandWord;
@@ -29,14 +31,41 @@ pub(crate) fn parse<'a>(
 }
 
 // What reads the words of a command: it has the command's positionals and options, and no other word has a meaning.
-fn parser_of<'a>(alloc: Global, command: CommandWord) -> Result<Command<'a>, AllocError> {
-    let mut parser = Command::new(alloc, command.word())
+fn parser_of<'a>(alloc: Global, command: CommandWord) -> Result<Command<'a>, AllocError>
+    ensures { IfOk result (λ parser. app_of parser ≡ parser_for (word_of command) (form_of command)) }
+{
+    let parser = Command::new(alloc, command.word())
         .no_binary_name(true)
         .disable_help_flag(true);
-    for name in command.positionals() {
+    let parser = take_positionals(alloc, parser, command.positionals())?;
+    take_options(alloc, parser, command.options())
+}
+
+// The parser, with positionals of these names.
+fn take_positionals<'a>(
+    alloc: Global,
+    parser: Command<'a>,
+    names: &'a [&'a str],
+) -> Result<Command<'a>, AllocError>
+    ensures { IfOk result (λ after. app_of after ≡ with_positionals (app_of parser.entry) (texts names.entry.now)) }
+{
+    let mut parser = parser;
+    for name in names {
         parser = parser.arg(Arg::new(alloc, name))?;
     }
-    for name in command.options() {
+    Ok(parser)
+}
+
+// The parser, with options of these names.
+fn take_options<'a>(
+    alloc: Global,
+    parser: Command<'a>,
+    names: &'a [&'a str],
+) -> Result<Command<'a>, AllocError>
+    ensures { IfOk result (λ after. app_of after ≡ with_options (app_of parser.entry) (texts names.entry.now)) }
+{
+    let mut parser = parser;
+    for name in names {
         parser = parser.arg(Arg::new(alloc, name).long(name))?;
     }
     Ok(parser)
