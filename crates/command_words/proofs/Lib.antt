@@ -1,3 +1,5 @@
 pub mod OneReading
 pub mod Building
+pub mod Rows
 pub mod Walking
+pub mod Fitting

@@ -4,7 +4,6 @@ use Rattle.std.specs.Prelude.{⊤, fold}
 use Rattle.std.specs.List.{list_any}
 use Rattle.std.specs.Str.{bytes_eq}
 use Rattle.std.proofs.lemmas.Bool.{ne_eqb, or_parts, and_from, and_parts}
-use Rattle.std.proofs.lemmas.Slice.Eq.{bytes_eq-Decides}
 use Rattle.std.proofs.lemmas.List.Sums.{fold-append}
 use Rattle.clap.proofs.CutLemmas.{after_first-at, before_first-Lacks, before_first-at, list_any-Lacks, list_any-at}
 use Rattle.clap.specs.Lexer.{usize_max, long_of, short_of, has_byte}
@@ -13,16 +12,12 @@ use Rattle.clap.specs.Takes.{settle_passes, turn_passes, use_passes, walk_passes
 use Rattle.clap.specs.Walk.{Held, Row, Rule, Walk, arg_by_id, arg_by_index, arg_by_long, at_row, has_row, idle, is_pending, more_values, pushed, settled, used, walked, without}
 use Rattle.clap.specs.Walk.{option as awaits}
 use Rattle.clap.specs.Words.{new_rule}
-use Rattle.clap.specs.declared.builder.value_parser.Reading.TheVariants.{AsWritten}
 use Rattle.clap.specs.declared.parser.matches.ValueSource.TheVariants.{CommandLine}
 use Rattle.command_words.specs.Arguments.{Text, Argument, positional, option, hyphen, equals_sign, IsValue, IsName, SpellsAll, long}
 use Rattle.command_words.specs.Parser.{option_rule}
+use Rattle.command_words.proofs.Rows.{row, told, same_text}
 
 -- ---- rows
-
--- what is found for a name that has this value
-abbrev pub row : Text → Text → Row
-row name value = record { id = name; values = value ∷ []; count = None; source = Some CommandLine; reading = AsWritten }
 
 -- a change at a row that isn't there
 at_no_row : (id : Text) (change : Row → List Row) (missing rows : List Row) → has_row id rows ≡ false → at_row id change missing rows ≡ rows ++ missing
@@ -96,9 +91,6 @@ no_dashes (byte ∷ name) named = refl
 no_dashes_with : (name value : Text) → IsNamed name → bytes_eq (long name ++ equals_sign ∷ value) (hyphen ∷ hyphen ∷ []) ≡ false
 no_dashes_with [] value named = absurd (named.named refl)
 no_dashes_with (byte ∷ name) value named = refl
-
-same_text : (text : Text) → bytes_eq text text ≡ true
-same_text text = (bytes_eq-Decides text text).1 refl
 
 -- ---- the walk
 
@@ -246,13 +238,6 @@ Fit s position (id ∷ ids) rows (positional text ∷ arguments) = (arg_by_index
     × Fit s (min (position + 1) usize_max) ids (rows ++ row id text ∷ []) arguments
 Fit s position ids rows (option name value ∷ arguments) = (arg_by_long s.rules name ≡ Some (built_option name)) × (arg_by_id s.rules name ≡ Some (built_option name))
     × (name ≢ []) × (has_row name rows ≡ false) × Fit s position ids (rows ++ row name value ∷ []) arguments
-
--- the rows that arguments give
-abbrev pub told : List Text → List Argument → List Row
-told ids [] = []
-told [] (positional text ∷ arguments) = told [] arguments
-told (id ∷ ids) (positional text ∷ arguments) = row id text ∷ told ids arguments
-told ids (option name value ∷ arguments) = row name value ∷ told ids arguments
 
 -- where the walk stands in the end
 abbrev pub last_position : ℕ → List Argument → ℕ
