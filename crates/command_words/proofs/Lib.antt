@@ -3,3 +3,4 @@ pub mod Building
 pub mod Rows
 pub mod Walking
 pub mod Fitting
+pub mod Taking

@@ -26,7 +26,7 @@ pub apart_tail : (text : Text) (others : List Text) → AllPairs (λ a b. a ≢ 
 apart_tail text others apart = λ earlier later default before within. apart (suc earlier) (suc later) default (omega arith) (omega arith)
 
 -- what holds of each text holds of the one at a place
-at_place : (P : Text → Type 0) (place : ℕ) (name : Text) (texts : List Text) → slice_get texts place ≡ Some name → All P texts → P name
+pub at_place : (P : Text → Type 0) (place : ℕ) (name : Text) (texts : List Text) → slice_get texts place ≡ Some name → All P texts → P name
 at_place P place name [] at all = let wrong : ⊥ = cc in absurd wrong
 at_place P zero name (text ∷ texts) at all = let same : text ≡ name = cc in subst P same (All-head P text texts all)
 at_place P (suc place) name (text ∷ texts) at all = at_place P place name texts at (All-tail P text texts all)

@@ -1,10 +1,22 @@
-use Rattle.std.proofs.Common.{rules}
-use Rattle.command_words.proofs.Walking.{value_apart}
-use Rattle.command_words.proofs.Fitting.{fit}
+use Rattle.std.proofs.Common.{◌≡◌, ◌∙◌, true≢false, ap, sym}
+use Rattle.clap.specs.Words.{App, app_of, is_simple, kind_of, matches_of, takes}
+use Rattle.clap.specs.declared.error.kind.ErrorKind.TheVariants.{OutOfMemory}
+use Rattle.command_words.specs.Words.{texts}
+use Rattle.command_words.proofs.Taking.{parser, rows_tell, simple_parser, well_formed_found, well_formed_taken}
 use Rattle.command_words.proofs.parsing.parse.Goals as goal
 
+-- the parser takes well-formed words, so that it fails for want of memory alone
 pub unreachable-requires : goal.unreachable-requires
-unreachable-requires c = ?
+unreachable-requires c =
+    let words = texts c.args.behind.now in
+    let taken = ap (λ (app : App). takes app words) c.in_ok-parser_of.ensures ∙ well_formed_taken c.args.command words c.requires.0 c.requires.1 in
+    let kind : c.kind.result ≡ OutOfMemory = c.kind.ensures ∙ c.in-Err.ensures.passes taken in
+    true≢false (sym (rw kind at c.eq.ensures) ∙ c.if-eq.false)
 
+-- what it finds are the rows of the arguments
 pub returns-in-Ok : goal.returns-in-Ok
-returns-in-Ok c = ?
+returns-in-Ok c arguments well_formed =
+    let words = texts c.args.behind.now in
+    let simple = ap is_simple c.in_ok-parser_of.ensures ∙ simple_parser c.args.command in
+    let found = ap (λ (app : App). matches_of app words) c.in_ok-parser_of.ensures ∙ well_formed_found c.args.command words arguments well_formed in
+    rows_tell c.args.command arguments c.in-Ok.matches well_formed.of_form ((c.in-Ok.ensures.matches simple).0 ∙ found)
