@@ -1,12 +1,11 @@
--- How `clap` walks over the words of one argument.
-use Rattle.std.proofs.Common.{◌≡◌, ◌≢◌, ◌∙◌, ◌+◌, ◌&&◌, ◌||◌, ◌==◌, ◌++◌, ◌<◌, length, ℕ, Bool, true, false, cond, List, [], ◌∷◌, Option, Some, None, refl, sym, ap, ap₂, min, arith, append-nil, append_assoc, inl, inr}
+-- How `clap` walks over words that spell arguments.
+use Rattle.std.proofs.Common.{◌≡◌, ◌≢◌, ◌∙◌, ◌+◌, ◌&&◌, ◌||◌, ◌==◌, ◌++◌, ◌<◌, length, ℕ, Bool, true, false, cond, List, [], ◌∷◌, Some, None, refl, ap, ap₂, min, append-nil, append_assoc, inl, inr}
 use Rattle.std.specs.Prelude.{⊤, fold}
-use Rattle.std.specs.List.{list_any}
 use Rattle.std.specs.Str.{bytes_eq}
 use Rattle.std.proofs.lemmas.Bool.{ne_eqb, or_parts, and_from, and_parts}
 use Rattle.std.proofs.lemmas.List.Sums.{fold-append}
 use Rattle.clap.proofs.CutLemmas.{after_first-at, before_first-Lacks, before_first-at, list_any-Lacks, list_any-at}
-use Rattle.clap.specs.Lexer.{usize_max, long_of, short_of, has_byte}
+use Rattle.clap.specs.Lexer.{usize_max, long_of, short_of}
 use Rattle.clap.specs.Simple.{Shape, filled, with_index}
 use Rattle.clap.specs.Takes.{settle_passes, turn_passes, use_passes, walk_passes}
 use Rattle.clap.specs.Walk.{Held, Row, Rule, Walk, arg_by_id, arg_by_index, arg_by_long, at_row, has_row, idle, is_pending, more_values, pushed, settled, used, walked, without}
@@ -55,14 +54,14 @@ positional_use_passes again place name value rows none = rw none refl
 
 -- ---- words
 
--- a value is no word that begins with a hyphen
+-- a value is no flag and no `--`
 pub value_apart : (text : Text) → IsValue text → (long_of text ≡ None) × (short_of text ≡ None) × (bytes_eq text (hyphen ∷ hyphen ∷ []) ≡ false)
 value_apart [] is_value = absurd is_value
 value_apart (byte ∷ text) is_value =
     let apart : (byte == hyphen) ≡ false = ne_eqb byte hyphen is_value in
     (rw apart refl, rw apart refl, rw apart refl)
 
--- a name, and the two words that it stands in
+-- a text that names an option in the words
 pub record IsNamed (name : Text) : Type 0 where
   pub is_name : IsName name
   pub named : name ≢ []
@@ -175,9 +174,9 @@ module _ (s : Shape) (held : Held) (rows : List Row) (holds : Holds s held rows)
   reaches_positional name value is_value placed known none =
       let apart = value_apart value is_value in
       let passes : turn_passes s [] (standing held position) value ≡ true =
-          rw (apart.2, apart.0, apart.1, placed) (positional_passes_or (is_pending (built_positional position name) held.pending) _ holds.passes) in
+      rw (apart.2, apart.0, apart.1, placed) (positional_passes_or (is_pending (built_positional position name) held.pending) _ holds.passes) in
       let is : walked s.rules [] (standing held position) value ≡ standing (pending_value name value) (min (position + 1) usize_max) =
-          rw (apart.2, apart.0, apart.1, placed) (ap (λ (h : Held). standing (pushed name value h) (min (position + 1) usize_max)) (not_pending (is_pending (built_positional position name) held.pending) held)) in
+      rw (apart.2, apart.0, apart.1, placed) (ap (λ (h : Held). standing (pushed name value h) (min (position + 1) usize_max)) (not_pending (is_pending (built_positional position name) held.pending) held)) in
       reaches_by s (standing held position) value (min (position + 1) usize_max) (rows ++ row name value ∷ []) (pending_value name value) passes is (pending_positional position name value known none)
 
   -- the walk behind a word that names an option
@@ -229,15 +228,28 @@ module _ (s : Shape) (held : Held) (rows : List Row) (holds : Holds s held rows)
 
 -- ---- all words
 
--- the arguments stand in a parser: each has its rule, and none has a row before
+-- an option stands in a parser
+pub record Knows (s : Shape) (name : Text) : Type 0 where
+  pub met : arg_by_long s.rules name ≡ Some (built_option name)
+  pub known : arg_by_id s.rules name ≡ Some (built_option name)
+  pub named : name ≢ []
+
+-- a positional stands at a place of a parser
+pub record HasPlace (s : Shape) (position : ℕ) (id : Text) : Type 0 where
+  pub placed : arg_by_index s.rules position ≡ Some (built_positional position id)
+  pub known : arg_by_id s.rules id ≡ Some (built_positional position id)
+
+-- no row is of this name
+abbrev pub IsNew : List Row → Text → Type 0
+IsNew rows name = has_row name rows ≡ false
+
+-- arguments stand in a parser, from a place of its positionals on, and none has a row before
 abbrev pub Fit : Shape → ℕ → List Text → List Row → List Argument → Type 0
 Fit s position ids rows [] = ⊤
 Fit s position [] rows (positional text ∷ arguments) = ⊥
-Fit s position (id ∷ ids) rows (positional text ∷ arguments) = (arg_by_index s.rules position ≡ Some (built_positional position id))
-    × (arg_by_id s.rules id ≡ Some (built_positional position id)) × (has_row id rows ≡ false)
-    × Fit s (min (position + 1) usize_max) ids (rows ++ row id text ∷ []) arguments
-Fit s position ids rows (option name value ∷ arguments) = (arg_by_long s.rules name ≡ Some (built_option name)) × (arg_by_id s.rules name ≡ Some (built_option name))
-    × (name ≢ []) × (has_row name rows ≡ false) × Fit s position ids (rows ++ row name value ∷ []) arguments
+Fit s position (id ∷ ids) rows (positional text ∷ arguments) =
+    HasPlace s position id × IsNew rows id × Fit s (min (position + 1) usize_max) ids (rows ++ row id text ∷ []) arguments
+Fit s position ids rows (option name value ∷ arguments) = Knows s name × IsNew rows name × Fit s position ids (rows ++ row name value ∷ []) arguments
 
 -- where the walk stands in the end
 abbrev pub last_position : ℕ → List Argument → ℕ
@@ -263,13 +275,13 @@ reaches_all s words (positional text ∷ arguments) [] position rows held spelle
 reaches_all s words (positional text ∷ arguments) (id ∷ ids) position rows held spelled fit holds =
     reaches_more s (standing held position) words spelled.1.front spelled.0 (min (position + 1) usize_max) (last_position position (positional text ∷ arguments)) rows (told ids arguments) (row id text)
     spelled.1.parted
-    (rw spelled.1.spelled.1 (reaches_positional s held rows holds position id text spelled.1.spelled.0 fit.0 fit.1 fit.2))
-    (λ after behind. reaches_all s spelled.0 arguments ids (min (position + 1) usize_max) (rows ++ row id text ∷ []) after spelled.2 fit.3 behind)
+    (rw spelled.1.spelled.1 (reaches_positional s held rows holds position id text spelled.1.spelled.0 fit.0.placed fit.0.known fit.1))
+    (λ after behind. reaches_all s spelled.0 arguments ids (min (position + 1) usize_max) (rows ++ row id text ∷ []) after spelled.2 fit.2 behind)
 reaches_all s words (option name value ∷ arguments) ids position rows held spelled fit holds =
     reaches_more s (standing held position) words spelled.1.front spelled.0 position (last_position position arguments) rows (told ids arguments) (row name value)
     spelled.1.parted
     (elim spelled.1.spelled.2 [
-      | inl apart ↦ rw apart (reaches_option s held rows holds position name value (record { is_name = spelled.1.spelled.0; named = fit.2 }) spelled.1.spelled.1 fit.0 fit.1 fit.3)
-      | inr joined ↦ rw joined (reaches_joined s held rows holds position name value (record { is_name = spelled.1.spelled.0; named = fit.2 }) spelled.1.spelled.1 fit.0 fit.1 fit.3)
+      | inl apart ↦ rw apart (reaches_option s held rows holds position name value (record { is_name = spelled.1.spelled.0; named = fit.0.named }) spelled.1.spelled.1 fit.0.met fit.0.known fit.1)
+      | inr joined ↦ rw joined (reaches_joined s held rows holds position name value (record { is_name = spelled.1.spelled.0; named = fit.0.named }) spelled.1.spelled.1 fit.0.met fit.0.known fit.1)
     ])
-    (λ after behind. reaches_all s spelled.0 arguments ids position (rows ++ row name value ∷ []) after spelled.2 fit.4 behind)
+    (λ after behind. reaches_all s spelled.0 arguments ids position (rows ++ row name value ∷ []) after spelled.2 fit.2 behind)

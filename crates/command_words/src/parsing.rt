@@ -44,12 +44,11 @@ fn parser_of<'a>(alloc: Global, command: CommandWord) -> Result<Command<'a>, All
 // The parser, with positionals of these names.
 fn take_positionals<'a>(
     alloc: Global,
-    parser: Command<'a>,
+    mut parser: Command<'a>,
     names: &'a [&'a str],
 ) -> Result<Command<'a>, AllocError>
     ensures { IfOk result (λ after. app_of after ≡ with_positionals (app_of parser.entry) (texts names.entry.now)) }
 {
-    let mut parser = parser;
     for name in names {
         parser = parser.arg(Arg::new(alloc, name))?;
     }
@@ -59,12 +58,11 @@ fn take_positionals<'a>(
 // The parser, with options of these names.
 fn take_options<'a>(
     alloc: Global,
-    parser: Command<'a>,
+    mut parser: Command<'a>,
     names: &'a [&'a str],
 ) -> Result<Command<'a>, AllocError>
     ensures { IfOk result (λ after. app_of after ≡ with_options (app_of parser.entry) (texts names.entry.now)) }
 {
-    let mut parser = parser;
     for name in names {
         parser = parser.arg(Arg::new(alloc, name).long(name))?;
     }

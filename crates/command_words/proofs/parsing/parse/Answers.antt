@@ -1,8 +1,8 @@
 use Rattle.std.proofs.Common.{◌≡◌, ◌∙◌, true≢false, ap, sym}
-use Rattle.clap.specs.Words.{App, app_of, is_simple, kind_of, matches_of, takes}
+use Rattle.clap.specs.Words.{App, is_simple, matches_of, takes}
 use Rattle.clap.specs.declared.error.kind.ErrorKind.TheVariants.{OutOfMemory}
 use Rattle.command_words.specs.Words.{texts}
-use Rattle.command_words.proofs.Taking.{parser, rows_tell, simple_parser, well_formed_found, well_formed_taken}
+use Rattle.command_words.proofs.Taking.{rows_tell, simple_parser, well_formed_found, well_formed_taken}
 use Rattle.command_words.proofs.parsing.parse.Goals as goal
 
 -- the parser takes well-formed words, so that it fails for want of memory alone

@@ -1,6 +1,5 @@
 use Rattle.std.proofs.Common.{rules, []}
-use Rattle.clap.specs.Words.{Rule, app_of, new_rule, rule_of}
-use Rattle.command_words.specs.Arguments.{Text}
+use Rattle.clap.specs.Words.{app_of, rule_of}
 use Rattle.command_words.specs.Parser.{option_rule}
 use Rattle.command_words.proofs.Building.{rule_more}
 use Rattle.command_words.proofs.parsing.take_options.Goals as goal
