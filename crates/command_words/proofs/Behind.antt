@@ -1,0 +1,93 @@
+-- What is left of the arguments behind the first one.
+use Rattle.std.proofs.Common.{◌≡◌, ◌≢◌, ◌<◌, ◌+◌, ◌↔◌, refl, sym, ap, ap₂, ◌∙◌, subst, List, [], ◌∷◌, length, ℕ, zero, Option, Some, None, arith, get_or}
+use Rattle.std.specs.List.{All, AllPairs, Contains}
+use Rattle.std.proofs.lemmas.List.Elements.{All-nil, All-cons, All-head, All-tail, All-contains}
+use Rattle.std.proofs.lemmas.List.Kept.{AllPairs-cons}
+use Rattle.command_words.specs.Arguments.{Text, Argument, positional, option, Form, Begins, SpellsAll, FitsRest, positionals_in, names_in, option_name}
+use Rattle.command_words.proofs.OneReading.{begins_once, never_empty}
+
+-- what a list contains, by its first element and the others
+contains_later : {X : Type 0} (x y : X) (xs : List X) → Contains xs y → Contains (x ∷ xs) y
+contains_later x y xs h = (suc h.0, omega (arith, h.1), h.2)
+
+contains_first : {X : Type 0} (x y : X) (xs : List X) → x ≡ y → Contains (x ∷ xs) y
+contains_first x y xs same = (0, omega arith, same)
+
+contains_other : {X : Type 0} (x y : X) (xs : List X) → (x ≡ y → ⊥) → Contains (x ∷ xs) y → Contains xs y
+contains_other x y xs other (zero, within, same) = absurd (other same)
+contains_other x y xs other (suc k, within, same) = (k, omega arith, same)
+
+contains_none : {X : Type 0} (y : X) → Contains [] y → ⊥
+contains_none y h = omega (arith, h.1)
+
+pairs-head : {X : Type 0} (R : X → X → Type 0) (x : X) (xs : List X) → AllPairs R (x ∷ xs) → All (R x) xs
+pairs-head R x xs pairs = λ k d within. pairs 0 (suc k) d (omega arith) (omega arith)
+
+pairs-tail : {X : Type 0} (R : X → X → Type 0) (x : X) (xs : List X) → AllPairs R (x ∷ xs) → AllPairs R xs
+pairs-tail R x xs pairs = λ i j d before within. pairs (suc i) (suc j) d (omega arith) (omega arith)
+
+-- arguments whose first is known: the others stand behind it
+pub record Follow (argument : Argument) (others : List Text) (arguments : List Argument) : Type 0 where
+  pub rest : List Argument
+  pub are : arguments ≡ argument ∷ rest
+  pub spelled : SpellsAll others rest
+
+-- words that begin with an argument spell no list but those that begin with it
+pub follow : (words others : List Text) (argument : Argument) (arguments : List Argument) → Begins words argument others → SpellsAll words arguments → Follow argument others arguments
+follow words others argument [] begins spelled = absurd (never_empty argument others (subst (λ ws. Begins ws argument others) spelled begins))
+follow words others argument (first ∷ rest) begins spelled =
+    let once = begins_once words others spelled.0 argument first begins spelled.1 in
+    record { rest = rest; are = ap (λ a. a ∷ rest) (sym once.0); spelled = subst (λ ws. SpellsAll ws rest) (sym once.1) spelled.2 }
+
+-- words that begin with no argument spell none
+pub none_spelled : (words : List Text) (arguments : List Argument) → ((argument : Argument) (others : List Text) → Begins words argument others → ⊥) → SpellsAll words arguments → arguments ≡ []
+none_spelled words [] never spelled = refl
+none_spelled words (first ∷ rest) never spelled = absurd (never first spelled.0 spelled.1)
+
+-- an option's name is the first, and a positional has none
+pub names_by_name : (argument : Argument) (rest : List Argument) (name : Text) → option_name argument ≡ Some name → names_in (argument ∷ rest) ≡ name ∷ names_in rest
+names_by_name (positional text) rest name is = cc
+names_by_name (option other value) rest name is = let same : other ≡ name = cc in ap (λ n. n ∷ names_in rest) same
+
+-- an argument of another name than this changes nothing about where this name stands
+pub same_names : (argument : Argument) (rest : List Argument) (name : Text) → (option_name argument ≡ Some name → ⊥) → Contains (names_in (argument ∷ rest)) name ↔ Contains (names_in rest) name
+same_names (positional text) rest name other = (λ h. h, λ h. h)
+same_names (option first value) rest name other = (contains_other first name (names_in rest) (λ same. other (ap Some same)), contains_later first name (names_in rest))
+
+-- the rest of some arguments, which the words spell, and in which a name stands just where it stands in all of them
+pub record LeavesNames (words : List Text) (arguments : List Argument) (name : Text) : Type 0 where
+  pub rest : List Argument
+  pub spelled : SpellsAll words rest
+  pub same : Contains (names_in arguments) name ↔ Contains (names_in rest) name
+
+-- all of them, at the start
+pub leaves_all : (words : List Text) (arguments : List Argument) (name : Text) → SpellsAll words arguments → LeavesNames words arguments name
+leaves_all words arguments name spelled = record { rest = arguments; spelled = spelled; same = (λ h. h, λ h. h) }
+
+-- and the others, behind an argument of another name
+pub leaves_others : (words others : List Text) (argument : Argument) (arguments : List Argument) (name : Text) → Begins words argument others → (option_name argument ≡ Some name → ⊥)
+    → LeavesNames words arguments name → LeavesNames others arguments name
+leaves_others words others argument arguments name begins other leaves =
+    let behind = follow words others argument leaves.rest begins leaves.spelled in
+    let same = same_names argument behind.rest name other in
+    record {
+      rest = behind.rest;
+      spelled = behind.spelled;
+      same = (
+        λ h. same.0 (subst (λ rest. Contains (names_in rest) name) behind.are (leaves.same.0 h)),
+        λ h. leaves.same.1 (subst (λ rest. Contains (names_in rest) name) (sym behind.are) (same.1 h))
+      );
+    }
+
+-- a name stands where the argument at the front has it
+pub stands_here : (words others : List Text) (argument : Argument) (arguments : List Argument) (name : Text) → Begins words argument others → option_name argument ≡ Some name
+    → LeavesNames words arguments name → Contains (names_in arguments) name
+stands_here words others argument arguments name begins is leaves =
+    let behind = follow words others argument leaves.rest begins leaves.spelled in
+    leaves.same.1 (subst (λ names. Contains names name) (sym (ap names_in behind.are ∙ names_by_name argument behind.rest name is)) (contains_first name name (names_in behind.rest) refl))
+
+-- and nowhere once no argument is left
+pub stands_nowhere : (words : List Text) (arguments : List Argument) (name : Text) → ((argument : Argument) (others : List Text) → Begins words argument others → ⊥)
+    → LeavesNames words arguments name → Contains (names_in arguments) name → ⊥
+stands_nowhere words arguments name never leaves h =
+    contains_none name (subst (λ rest. Contains (names_in rest) name) (none_spelled words leaves.rest never leaves.spelled) (leaves.same.0 h))
