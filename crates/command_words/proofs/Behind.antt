@@ -1,9 +1,11 @@
 -- What is left of the arguments behind the first one.
-use Rattle.std.proofs.Common.{◌≡◌, ◌≢◌, ◌<◌, ◌+◌, ◌↔◌, refl, sym, ap, ap₂, ◌∙◌, subst, List, [], ◌∷◌, length, ℕ, zero, Option, Some, None, arith, get_or}
+use Rattle.std.proofs.Common.{◌≡◌, ◌≢◌, ◌<◌, ◌+◌, ◌-◌, ◌↔◌, take, drop, Bor, refl, sym, ap, ap₂, ◌∙◌, subst, List, [], ◌∷◌, length, ℕ, zero, suc, Option, Some, None, arith, get_or}
 use Rattle.std.specs.List.{All, AllPairs, Contains}
 use Rattle.std.proofs.lemmas.List.Elements.{All-nil, All-cons, All-head, All-tail, All-contains}
+use Rattle.std.proofs.lemmas.List.{take_rest, drop-drop}
 use Rattle.std.proofs.lemmas.List.Kept.{AllPairs-cons}
 use Rattle.command_words.specs.Arguments.{Text, Argument, positional, option, Form, Begins, SpellsAll, FitsRest, positionals_in, names_in, option_name}
+use Rattle.command_words.specs.Words.{texts}
 use Rattle.command_words.proofs.OneReading.{begins_once, never_empty}
 
 -- what a list contains, by its first element and the others
@@ -91,3 +93,15 @@ pub stands_nowhere : (words : List Text) (arguments : List Argument) (name : Tex
     → LeavesNames words arguments name → Contains (names_in arguments) name → ⊥
 stands_nowhere words arguments name never leaves h =
     contains_none name (subst (λ rest. Contains (names_in rest) name) (none_spelled words leaves.rest never leaves.spelled) (leaves.same.0 h))
+
+-- the argument at the front of the words from a place on, in the form that a range has, begins those words
+pub begins_from : (words : List (Bor Text)) (from step : ℕ) (found : Option Text) → (argument : Argument) × Begins (texts (take (length words - from) (drop from words))) argument (texts (drop step (take (length words - from) (drop from words)))) × (found ≡ option_name argument)
+    → (argument : Argument) × Begins (texts (drop from words)) argument (texts (drop (from + step) words)) × (found ≡ option_name argument)
+begins_from words from step found (argument, begins, is) = (argument,
+    subst (λ ws. Begins (texts (drop from words)) argument (texts ws)) (drop-drop step from words)
+    (subst (λ ws. Begins (texts ws) argument (texts (drop step ws))) (take_rest words from) begins), is)
+
+-- and where none stands there, none begins them
+pub none_from : (words : List (Bor Text)) (from : ℕ) → ((argument : Argument) (others : List Text) → Begins (texts (take (length words - from) (drop from words))) argument others → ⊥)
+    → (argument : Argument) (others : List Text) → Begins (texts (drop from words)) argument others → ⊥
+none_from words from never argument others begins = never argument others (subst (λ ws. Begins (texts ws) argument others) (sym (take_rest words from)) begins)
