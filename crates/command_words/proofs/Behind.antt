@@ -6,27 +6,8 @@ use Rattle.std.proofs.lemmas.List.{take_rest, drop-drop}
 use Rattle.std.proofs.lemmas.List.Kept.{AllPairs-cons}
 use Rattle.command_words.specs.Arguments.{Text, Argument, positional, option, Form, Begins, SpellsAll, FitsRest, positionals_in, names_in, option_name}
 use Rattle.command_words.specs.Words.{texts}
+use Rattle.command_words.proofs.Elements.{contains_later, contains_first, contains_other, contains_none, pairs-head, pairs-tail}
 use Rattle.command_words.proofs.OneReading.{begins_once, never_empty}
-
--- what a list contains, by its first element and the others
-contains_later : {X : Type 0} (x y : X) (xs : List X) → Contains xs y → Contains (x ∷ xs) y
-contains_later x y xs h = (suc h.0, omega (arith, h.1), h.2)
-
-contains_first : {X : Type 0} (x y : X) (xs : List X) → x ≡ y → Contains (x ∷ xs) y
-contains_first x y xs same = (0, omega arith, same)
-
-contains_other : {X : Type 0} (x y : X) (xs : List X) → (x ≡ y → ⊥) → Contains (x ∷ xs) y → Contains xs y
-contains_other x y xs other (zero, within, same) = absurd (other same)
-contains_other x y xs other (suc k, within, same) = (k, omega arith, same)
-
-contains_none : {X : Type 0} (y : X) → Contains [] y → ⊥
-contains_none y h = omega (arith, h.1)
-
-pairs-head : {X : Type 0} (R : X → X → Type 0) (x : X) (xs : List X) → AllPairs R (x ∷ xs) → All (R x) xs
-pairs-head R x xs pairs = λ k d within. pairs 0 (suc k) d (omega arith) (omega arith)
-
-pairs-tail : {X : Type 0} (R : X → X → Type 0) (x : X) (xs : List X) → AllPairs R (x ∷ xs) → AllPairs R xs
-pairs-tail R x xs pairs = λ i j d before within. pairs (suc i) (suc j) d (omega arith) (omega arith)
 
 -- arguments whose first is known: the others stand behind it
 pub record Follow (argument : Argument) (others : List Text) (arguments : List Argument) : Type 0 where
@@ -105,3 +86,17 @@ begins_from words from step found (argument, begins, is) = (argument,
 pub none_from : (words : List (Bor Text)) (from : ℕ) → ((argument : Argument) (others : List Text) → Begins (texts (take (length words - from) (drop from words))) argument others → ⊥)
     → (argument : Argument) (others : List Text) → Begins (texts (drop from words)) argument others → ⊥
 none_from words from never argument others begins = never argument others (subst (λ ws. Begins (texts ws) argument others) (sym (take_rest words from)) begins)
+
+-- the argument at the front of all the words, with those behind it in the form that a range has
+pub begins_range : (words : List (Bor Text)) (step : ℕ) (found : Option Text) → (argument : Argument) × Begins (texts words) argument (texts (drop step words)) × (found ≡ option_name argument)
+    → (argument : Argument) × Begins (texts words) argument (texts (take (length words - step) (drop step words))) × (found ≡ option_name argument)
+begins_range words step found (argument, begins, is) = (argument, subst (λ ws. Begins (texts words) argument (texts ws)) (sym (take_rest words step)) begins, is)
+
+-- there are no words just where there are no texts
+pub no_texts : (words : List (Bor Text)) → length words ≡ 0 → texts words ≡ []
+no_texts [] none = refl
+no_texts (word ∷ words) none = absurd (omega (arith, none))
+
+pub no_words : (words : List (Bor Text)) → texts words ≡ [] → length words ≡ 0
+no_words [] none = refl
+no_words (word ∷ words) none = cc

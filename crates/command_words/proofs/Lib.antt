@@ -1,3 +1,5 @@
-pub mod OneReading
-pub mod Fronts
 pub mod Behind
+pub mod Elements
+pub mod Fitting
+pub mod Fronts
+pub mod OneReading
