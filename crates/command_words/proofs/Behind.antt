@@ -1,12 +1,10 @@
 -- What is left of the arguments behind the first one.
-use Rattle.std.proofs.Common.{◌≡◌, ◌≢◌, ◌<◌, ◌+◌, ◌-◌, ◌↔◌, take, drop, Bor, refl, sym, ap, ap₂, ◌∙◌, subst, List, [], ◌∷◌, length, ℕ, zero, suc, Option, Some, None, arith, get_or}
-use Rattle.std.specs.List.{All, AllPairs, Contains}
-use Rattle.std.proofs.lemmas.List.Elements.{All-nil, All-cons, All-head, All-tail, All-contains}
+use Rattle.std.proofs.Common.{◌≡◌, ◌+◌, ◌-◌, ◌↔◌, take, drop, Bor, refl, sym, ap, ◌∙◌, subst, List, [], ◌∷◌, length, ℕ, Option, Some, arith}
+use Rattle.std.specs.List.{Contains}
 use Rattle.std.proofs.lemmas.List.{take_rest, drop-drop}
-use Rattle.std.proofs.lemmas.List.Kept.{AllPairs-cons}
-use Rattle.command_words.specs.Arguments.{Text, Argument, positional, option, Form, Begins, SpellsAll, FitsRest, positionals_in, names_in, option_name}
+use Rattle.command_words.specs.Arguments.{Text, Argument, positional, option, Begins, SpellsAll, names_in, option_name}
 use Rattle.command_words.specs.Words.{texts}
-use Rattle.command_words.proofs.Elements.{contains_later, contains_first, contains_other, contains_none, pairs-head, pairs-tail}
+use Rattle.command_words.proofs.Elements.{contains_later, contains_first, contains_other, contains_none}
 use Rattle.command_words.proofs.OneReading.{begins_once, never_empty}
 
 -- arguments whose first is known: the others stand behind it

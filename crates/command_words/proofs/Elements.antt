@@ -1,5 +1,5 @@
 -- The elements of a list, by its first and the others.
-use Rattle.std.proofs.Common.{◌≡◌, ◌<◌, ◌↔◌, refl, sym, subst, List, [], ◌∷◌, length, map, ℕ, zero, suc, Bool, true, false, ◌||◌, arith, Bor}
+use Rattle.std.proofs.Common.{◌≡◌, ◌↔◌, refl, sym, subst, List, [], ◌∷◌, map, ℕ, zero, suc, Bool, true, false, ◌||◌, arith, Bor}
 use Rattle.std.specs.Bool.{IsTrue, Decides}
 use Rattle.std.specs.List.{All, AllPairs, Contains, list_any}
 use Rattle.std.specs.Str.{bytes_eq}

@@ -1,9 +1,10 @@
 -- Which words fit a form, by the argument at their front.
-use Rattle.std.proofs.Common.{◌≡◌, ◌≢◌, ◌+◌, ◌-◌, ◌<◌, refl, sym, ap, ◌∙◌, subst, List, [], ◌∷◌, length, ℕ, Option, Some, None, arith}
+use Rattle.std.proofs.Common.{◌≡◌, ◌≢◌, ◌-◌, ◌<◌, ◌↔◌, sym, ap, ◌∙◌, subst, List, [], ◌∷◌, length, ℕ, Some, None, arith}
 use Rattle.std.specs.List.{All, AllPairs, Contains}
 use Rattle.std.proofs.lemmas.List.Elements.{All-nil, All-cons, All-head, All-tail, All-contains, Contains-get_or}
 use Rattle.std.proofs.lemmas.List.Kept.{AllPairs-cons}
-use Rattle.command_words.specs.Arguments.{Text, Argument, positional, option, Form, Begins, SpellsAll, FitsRest, positionals_in, names_in, option_name}
+use Rattle.command_words.specs.Arguments.{Text, Argument, positional, option, Form, AreWellFormed, Begins, SpellsAll, positionals_in, names_in, option_name}
+use Rattle.command_words.specs.Scanning.{FitsRest}
 use Rattle.command_words.proofs.Behind.{follow, none_spelled}
 use Rattle.command_words.proofs.Elements.{pairs-head, pairs-tail}
 
@@ -94,3 +95,9 @@ fit_option form positionals words others (option first value) name begins is (ar
       };
       apart = λ stands. All-contains (λ other. first ≢ other) (names_in behind.rest) name (pairs-head (λ n other. n ≢ other) first (names_in behind.rest) once) stands same;
     }
+
+-- as many positionals as the form has
+pub well_formed_fit : (form : Form) (positionals : ℕ) (words : List Text) → positionals ≡ length form.positionals → Fit form positionals words ↔ ((arguments : List Argument) × AreWellFormed form words arguments)
+well_formed_fit form positionals words count =
+    (λ (arguments, fits). (arguments, record { spelled = fits.spelled; of_form = record { as_many = fits.as_many ∙ count; known = fits.known; once = fits.once } }),
+    λ (arguments, formed). (arguments, record { spelled = formed.spelled; as_many = formed.of_form.as_many ∙ sym count; known = formed.of_form.known; once = formed.of_form.once }))

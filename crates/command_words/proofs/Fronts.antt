@@ -1,5 +1,5 @@
 -- What stands at the front of words, by what their first word is.
-use Rattle.std.proofs.Common.{◌≡◌, ◌≢◌, ◌<◌, ◌⊎◌, inl, inr, refl, sym, ap, ◌∙◌, subst, ◌++◌, List, [], ◌∷◌, length, drop, get_or, ℕ, Bor, Bool, true, false, Option, None, arith}
+use Rattle.std.proofs.Common.{◌≡◌, ◌≢◌, ◌<◌, inl, inr, refl, sym, ap, ◌∙◌, subst, ◌++◌, List, [], ◌∷◌, length, drop, get_or, ℕ, Bor, Bool, true, false, Option, None, arith}
 use Rattle.std.specs.Bool.{IsTrue, then_some}
 use Rattle.std.specs.Option.{IfSome, IfNone}
 use Rattle.std.proofs.lemmas.Bool.{false≢true}

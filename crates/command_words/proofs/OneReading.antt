@@ -1,8 +1,7 @@
 -- Words spell one list of arguments at most.
-use Rattle.std.proofs.Common.{◌≡◌, ◌≢◌, ◌⊎◌, inl, inr, refl, sym, ap, ap₂, ◌∙◌, subst, ◌++◌, List, [], ◌∷◌, zero, arith, ℕ}
-use Rattle.std.specs.List.{All}
+use Rattle.std.proofs.Common.{◌≡◌, ◌≢◌, ◌⊎◌, inl, inr, refl, sym, ap, ap₂, ◌∙◌, subst, ◌++◌, List, [], ◌∷◌, arith, ℕ}
 use Rattle.std.proofs.lemmas.List.Elements.{All-drop}
-use Rattle.command_words.specs.Arguments.{Text, Argument, positional, option, hyphen, equals_sign, IsValue, IsName, long, Spells, Begins, SpellsAll}
+use Rattle.command_words.specs.Arguments.{Text, Argument, positional, option, hyphen, equals_sign, IsValue, IsName, long, Begins, SpellsAll}
 
 -- equal lists have equal heads and equal rests
 pub same_head : {A : Type 0} (x y : A) (xs ys : List A) → Path (List A) (x ∷ xs) (y ∷ ys) → x ≡ y

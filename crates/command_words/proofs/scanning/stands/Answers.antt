@@ -1,4 +1,4 @@
-use Rattle.std.proofs.Common.{◌≡◌, ◌≤◌, ◌-◌, refl, sym, ◌∙◌, length, arith}
+use Rattle.std.proofs.Common.{◌≤◌, ◌-◌, refl, sym, ◌∙◌, length, arith}
 use Rattle.std.proofs.lemmas.Bool.{false≢true}
 use Rattle.std.proofs.lemmas.List.{length-drop, take_rest}
 use Rattle.command_words.proofs.Behind.{begins_from, none_from, leaves_others, stands_here, stands_nowhere}
