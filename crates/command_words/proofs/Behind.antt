@@ -25,7 +25,7 @@ pub none_spelled : (words : List Text) (arguments : List Argument) → ((argumen
 none_spelled words [] never spelled = refl
 none_spelled words (first ∷ rest) never spelled = absurd (never first spelled.0 spelled.1)
 
--- an option's name is the first, and a positional has none
+-- the name of an option at the front is the first name
 pub names_by_name : (argument : Argument) (rest : List Argument) (name : Text) → option_name argument ≡ Some name → names_in (argument ∷ rest) ≡ name ∷ names_in rest
 names_by_name (positional text) rest name is = cc
 names_by_name (option other value) rest name is = let same : other ≡ name = cc in ap (λ n. n ∷ names_in rest) same
@@ -56,7 +56,7 @@ leaves_others words others argument arguments name begins other leaves =
       spelled = behind.spelled;
       same = (
         λ h. same.0 (subst (λ rest. Contains (names_in rest) name) behind.are (leaves.same.0 h)),
-        λ h. leaves.same.1 (subst (λ rest. Contains (names_in rest) name) (sym behind.are) (same.1 h))
+        λ h. leaves.same.1 (subst (λ rest. Contains (names_in rest) name) (sym behind.are) (same.1 h)),
       );
     }
 
@@ -76,9 +76,12 @@ stands_nowhere words arguments name never leaves h =
 -- the argument at the front of the words from a place on, in the form that a range has, begins those words
 pub begins_from : (words : List (Bor Text)) (from step : ℕ) (found : Option Text) → (argument : Argument) × Begins (texts (take (length words - from) (drop from words))) argument (texts (drop step (take (length words - from) (drop from words)))) × (found ≡ option_name argument)
     → (argument : Argument) × Begins (texts (drop from words)) argument (texts (drop (from + step) words)) × (found ≡ option_name argument)
-begins_from words from step found (argument, begins, is) = (argument,
-    subst (λ ws. Begins (texts (drop from words)) argument (texts ws)) (drop-drop step from words)
-    (subst (λ ws. Begins (texts ws) argument (texts (drop step ws))) (take_rest words from) begins), is)
+begins_from words from step found (argument, begins, is) = (
+  argument,
+  subst (λ ws. Begins (texts (drop from words)) argument (texts ws)) (drop-drop step from words)
+      (subst (λ ws. Begins (texts ws) argument (texts (drop step ws))) (take_rest words from) begins),
+  is,
+)
 
 -- and where none stands there, none begins them
 pub none_from : (words : List (Bor Text)) (from : ℕ) → ((argument : Argument) (others : List Text) → Begins (texts (take (length words - from) (drop from words))) argument others → ⊥)
@@ -90,11 +93,12 @@ pub begins_range : (words : List (Bor Text)) (step : ℕ) (found : Option Text) 
     → (argument : Argument) × Begins (texts words) argument (texts (take (length words - step) (drop step words))) × (found ≡ option_name argument)
 begins_range words step found (argument, begins, is) = (argument, subst (λ ws. Begins (texts words) argument (texts ws)) (sym (take_rest words step)) begins, is)
 
--- there are no words just where there are no texts
+-- no words have no texts
 pub no_texts : (words : List (Bor Text)) → length words ≡ 0 → texts words ≡ []
 no_texts [] none = refl
 no_texts (word ∷ words) none = absurd (omega (arith, none))
 
+-- and no texts stand for no words
 pub no_words : (words : List (Bor Text)) → texts words ≡ [] → length words ≡ 0
 no_words [] none = refl
 no_words (word ∷ words) none = cc

@@ -12,15 +12,17 @@ use Rattle.command_words.proofs.OneReading.{same_head, same_rest, no_list, same_
 abbrev pub IsShort : Text → Type 0
 IsShort word = (rest : Text) → word ≡ hyphen ∷ hyphen ∷ rest → ⊥
 
--- what `then_some` gives where the test holds, and where it doesn't
+-- what `then_some` gives, it gives where the test holds
 pub given_if : {T : Type 0} (test : Bool) (value : T) (given : Option T) (P : T → Type 0) → given ≡ then_some test value → (IsTrue test → P value) → IfSome given P
 given_if true value given P is h = subst (λ g. IfSome g P) (sym is) (h refl)
 given_if false value given P is h = subst (λ g. IfSome g P) (sym is) tt
 
+-- it gives nothing where the test fails
 pub none_unless : {T : Type 0} (test : Bool) (value : T) (given : Option T) (P : Type 0) → given ≡ then_some test value → ((IsTrue test → ⊥) → P) → IfNone given P
 none_unless true value given P is h = subst (λ g. IfNone g P) (sym is) tt
 none_unless false value given P is h = subst (λ g. IfNone g P) (sym is) (h (λ e. false≢true e))
 
+-- nothing was given, so what holds then holds
 pub none_given : {T : Type 0} (given : Option T) (P : Type 0) → given ≡ None → P → IfNone given P
 none_given given P is h = subst (λ g. IfNone g P) (sym is) h
 

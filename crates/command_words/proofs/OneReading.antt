@@ -3,13 +3,15 @@ use Rattle.std.proofs.Common.{◌≡◌, ◌≢◌, ◌⊎◌, inl, inr, refl, s
 use Rattle.std.proofs.lemmas.List.Elements.{All-drop}
 use Rattle.command_words.specs.Arguments.{Text, Argument, positional, option, hyphen, equals_sign, IsValue, IsName, long, Begins, SpellsAll}
 
--- equal lists have equal heads and equal rests
+-- equal lists have equal heads
 pub same_head : {A : Type 0} (x y : A) (xs ys : List A) → Path (List A) (x ∷ xs) (y ∷ ys) → x ≡ y
 same_head x y xs ys same = cc
 
+-- and equal rests
 pub same_rest : {A : Type 0} (x y : A) (xs ys : List A) → Path (List A) (x ∷ xs) (y ∷ ys) → xs ≡ ys
 same_rest x y xs ys same = cc
 
+-- no list with an element is empty
 pub no_list : {A : Type 0} (x : A) (xs : List A) → Path (List A) [] (x ∷ xs) → ⊥
 no_list x xs same = cc
 
@@ -20,6 +22,7 @@ name_head byte name h = h 0 byte (omega arith)
 name_rest : (byte : ℕ) (name : Text) → IsName (byte ∷ name) → IsName name
 name_rest byte name h = All-drop (λ b. b ≢ equals_sign) 1 (byte ∷ name) h
 
+-- a name isn't what has an `=`
 pub no_equals_sign : (name other value : Text) → IsName name → name ≡ other ++ equals_sign ∷ value → ⊥
 no_equals_sign [] [] value is_name same = no_list _ _ same
 no_equals_sign [] (x ∷ other) value is_name same = no_list _ _ same
@@ -59,6 +62,7 @@ no_positional words others more text name value is_value one (inr two) = no_hyph
 abbrev pub OptionWords : List Text → Text → Text → List Text → Type 0
 OptionWords words name value others = (words ≡ long name ∷ value ∷ others) ⊎ (words ≡ (long name ++ equals_sign ∷ value) ∷ others)
 
+-- equal words have equal texts behind their hyphens
 pub same_behind_hyphens : (text other : Text) → Path Text (hyphen ∷ hyphen ∷ text) (hyphen ∷ hyphen ∷ other) → text ≡ other
 same_behind_hyphens text other same = cc
 
@@ -77,6 +81,7 @@ options_once words others more name value other worth is_name is_other (inr one)
     let apart = parted_once name other value worth is_name is_other (same_behind_hyphens _ _ (same_head _ _ _ _ same)) in
     (ap₂ option apart.0 apart.1, same_rest _ _ _ _ same)
 
+-- words that begin with an option begin with one of its two forms
 pub option_words : (words front others : List Text) (name value : Text) → words ≡ front ++ others
     → (front ≡ long name ∷ value ∷ []) ⊎ (front ≡ (long name ++ equals_sign ∷ value) ∷ []) → OptionWords words name value others
 option_words words front others name value parted (inl one) = inl (words_are words front others _ parted one)

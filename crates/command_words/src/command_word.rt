@@ -12,8 +12,11 @@ pub enum CommandWord {
 }
 
 static WEIGH_POSITIONALS: [&str; 2] = ["SRC", "DST"];
+
 static WEIGH_OPTIONS: [&str; 2] = ["capture", "weigh"];
+
 static REPORT_POSITIONALS: [&str; 0] = [];
+
 static REPORT_OPTIONS: [&str; 6] = ["capture", "weigh", "shards", "capacity", "phi", "deal"];
 
 impl CommandWord {

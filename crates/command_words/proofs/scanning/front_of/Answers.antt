@@ -22,9 +22,11 @@ returns-in-Some-split_once-clause-some c =
     let stripped = c.in-Some.ensures.cases in
     let parts = split_parts equals_sign c.in-Some.text.now (Some (c.in-Some-split_once.name, c.in-Some-split_once.value)) c.in-Some-split_once.ensures.cases (omega arith) in
     given_if _ _ _ _ c.then_some-in-Some-split_once.ensures
-    (λ test. (option name value,
-    begins_joined _ _ _ name value c.in_ok-word.ensures.cases.0 (is_long _ _ _ stripped.1.1 stripped.2 ∙ ap long parts.0) (is_name name parts.1) (c.is_value-in-Some-split_once.ensures.0 test),
-    refl))
+    (λ test. (
+      option name value,
+      begins_joined _ _ _ name value c.in_ok-word.ensures.cases.0 (is_long _ _ _ stripped.1.1 stripped.2 ∙ ap long parts.0) (is_name name parts.1) (c.is_value-in-Some-split_once.ensures.0 test),
+      refl,
+    ))
 
 pub returns-in-Some-split_once-clause-none : goal.returns-in-Some-split_once-clause-none
 returns-in-Some-split_once-clause-none c =
@@ -48,9 +50,11 @@ returns-clause-some c =
     let stripped = c.in-Some.ensures.cases in
     let lacks = split_parts equals_sign c.in-Some.text.now None c.in_default-split_once.ensures.cases (omega arith) in
     given_if _ _ _ _ c.then_some-2.ensures
-    (λ test. (option c.in-Some.text.now c.in_ok-value.value.now.now,
-    begins_apart _ _ _ _ _ c.in-Some.text.now c.in_ok-word.ensures.cases.0 c.in_ok-value.ensures.cases.0 (is_long _ _ _ stripped.1.1 stripped.2) (is_name _ lacks) (c.is_value-2.ensures.0 test),
-    refl))
+    (λ test. (
+      option c.in-Some.text.now c.in_ok-value.value.now.now,
+      begins_apart _ _ _ _ _ c.in-Some.text.now c.in_ok-word.ensures.cases.0 c.in_ok-value.ensures.cases.0 (is_long _ _ _ stripped.1.1 stripped.2) (is_name _ lacks) (c.is_value-2.ensures.0 test),
+      refl,
+    ))
 
 pub returns-clause-none : goal.returns-clause-none
 returns-clause-none c =
