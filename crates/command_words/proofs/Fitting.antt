@@ -1,70 +1,117 @@
--- Arguments of a form stand in a parser that has what the form names.
-use Rattle.std.proofs.Common.{◌≡◌, ◌≢◌, ◌+◌, ◌++◌, ℕ, false, List, [], ◌∷◌, length, min, refl, sym, arith}
-use Rattle.std.specs.Prelude.{⊤, Contains}
-use Rattle.std.specs.List.{All, AllPairs}
-use Rattle.std.specs.Str.{bytes_eq}
-use Rattle.std.proofs.lemmas.Bool.{or_parts, or_from}
-use Rattle.std.proofs.lemmas.List.Elements.{All-head, All-tail}
-use Rattle.clap.specs.Lexer.{usize_max}
-use Rattle.clap.specs.Simple.{Shape}
-use Rattle.clap.specs.Walk.{Row, has_row}
-use Rattle.command_words.specs.Arguments.{Text, Argument, positional, option, positionals_in, names_in}
-use Rattle.command_words.proofs.Rows.{apart_head, apart_tail, other_text, row}
-use Rattle.command_words.proofs.Walking.{Fit, HasPlace, IsNew, Knows}
+-- Which words fit a form, by the argument at their front.
+use Rattle.std.proofs.Common.{◌≡◌, ◌≢◌, ◌-◌, ◌<◌, ◌↔◌, sym, ap, ◌∙◌, subst, List, [], ◌∷◌, length, ℕ, Some, None, arith}
+use Rattle.std.specs.List.{All, AllPairs, Contains}
+use Rattle.std.proofs.lemmas.List.Elements.{All-nil, All-cons, All-head, All-tail, All-contains, Contains-get_or}
+use Rattle.std.proofs.lemmas.List.Kept.{AllPairs-cons}
+use Rattle.command_words.specs.Arguments.{Text, Argument, positional, option, Form, AreWellFormed, Begins, SpellsAll, positionals_in, names_in, option_name}
+use Rattle.command_words.specs.Scanning.{FitsRest}
+use Rattle.command_words.proofs.Behind.{follow, none_spelled}
+use Rattle.command_words.proofs.Elements.{pairs-head, pairs-tail}
 
--- one more row is of no other name
-has_row_more : (name id value : Text) (rows : List Row) → has_row name rows ≡ false → id ≢ name → has_row name (rows ++ row id value ∷ []) ≡ false
-has_row_more name id value [] none apart = or_from _ _ (other_text id name apart) refl
-has_row_more name id value (r ∷ rows) none apart =
-    let parts = or_parts (bytes_eq r.id name) _ none in
-    or_from _ _ parts.0 (has_row_more name id value rows parts.1 apart)
+-- the words spell so many positionals, and options of the form, none of them twice
+abbrev pub Fit : Form → ℕ → List Text → Type 0
+Fit form positionals words = (arguments : List Argument) × FitsRest form positionals words arguments
 
--- none of the names has a row
-abbrev pub AreNew : List Row → List Text → Type 0
-AreNew rows names = All (IsNew rows) names
+-- no words fit where nothing is asked for
+pub none_fit : (form : Form) (positionals : ℕ) (words : List Text) → words ≡ [] → positionals ≡ 0 → Fit form positionals words
+none_fit form positionals words none zero = (
+  [],
+  record {
+    spelled = none;
+    as_many = sym zero;
+    known = All-nil (λ name. Contains form.options name);
+    once = λ i j d before within. absurd (omega (arith, within));
+  },
+)
 
-are_new_more : (id value : Text) (rows : List Row) (names : List Text) → AreNew rows names → All (λ name. id ≢ name) names → AreNew (rows ++ row id value ∷ []) names
-are_new_more id value rows names none apart = λ place default within. has_row_more _ id value rows (none place default within) (apart place default within)
+-- words that begin with no argument fit only so
+pub fit_none : (form : Form) (positionals : ℕ) (words : List Text) → ((argument : Argument) (others : List Text) → Begins words argument others → ⊥) → Fit form positionals words
+    → (words ≡ []) × (positionals ≡ 0)
+fit_none form positionals words never (arguments, fits) =
+    let none = none_spelled words arguments never fits.spelled in
+    (subst (SpellsAll words) none fits.spelled, sym fits.as_many ∙ ap (λ list. length (positionals_in list)) none)
 
--- positionals stand in a parser from a place on
-abbrev pub Places : Shape → ℕ → List Text → Type 0
-Places s position [] = ⊤
-Places s position (id ∷ ids) = HasPlace s position id × Places s (min (position + 1) usize_max) ids
+-- words with a positional at their front fit where those behind it fit with one positional less
+pub positional_fits : (form : Form) (positionals : ℕ) (words others : List Text) (argument : Argument) → Begins words argument others → None ≡ option_name argument → 0 < positionals
+    → Fit form (positionals - 1) others → Fit form positionals words
+positional_fits form positionals words others (positional text) begins is more (arguments, fits) = (
+  positional text ∷ arguments,
+  record {
+    spelled = (others, begins, fits.spelled);
+    as_many = omega (arith, fits.as_many);
+    known = fits.known;
+    once = fits.once;
+  },
+)
+positional_fits form positionals words others (option name value) begins is more fits = cc
 
-module _ (options : List Text) where
-  -- a name is no option's
-  abbrev pub IsNoOption : Text → Type 0
-  IsNoOption id = (name : Text) → Contains options name → id ≢ name
+-- and only where they do
+pub fit_positional : (form : Form) (positionals : ℕ) (words others : List Text) (argument : Argument) → Begins words argument others → None ≡ option_name argument
+    → Fit form positionals words → (0 < positionals) × Fit form (positionals - 1) others
+fit_positional form positionals words others (option name value) begins is fits = cc
+fit_positional form positionals words others (positional text) begins is (arguments, fits) =
+    let behind = follow words others (positional text) arguments begins fits.spelled in
+    let as_many : length (positionals_in (positional text ∷ behind.rest)) ≡ positionals = subst (λ list. length (positionals_in list) ≡ positionals) behind.are fits.as_many in (
+      omega (arith, as_many),
+      (
+        behind.rest,
+        record {
+          spelled = behind.spelled;
+          as_many = omega (arith, as_many);
+          known = subst (λ list. All (λ name. Contains form.options name) (names_in list)) behind.are fits.known;
+          once = subst (λ list. AllPairs (λ name other. name ≢ other) (names_in list)) behind.are fits.once;
+        },
+      ),
+    )
 
-  -- none of the names is an option's
-  abbrev pub AreNoOptions : List Text → Type 0
-  AreNoOptions ids = All IsNoOption ids
+-- words with an option at their front fit where the form knows it, those behind it fit, and it doesn't stand among them
+pub option_fits : (form : Form) (positionals : ℕ) (words others : List Text) (argument : Argument) (name : Text) → Begins words argument others → Some name ≡ option_name argument
+    → Contains form.options name → ((arguments : List Argument) → SpellsAll others arguments → Contains (names_in arguments) name → ⊥) → Fit form positionals others → Fit form positionals words
+option_fits form positionals words others (positional text) name begins is known apart fits = cc
+option_fits form positionals words others (option first value) name begins is known apart (arguments, fits) =
+    let same : name ≡ first = cc in
+    let names = names_in arguments in (
+      option first value ∷ arguments,
+      record {
+        spelled = (others, begins, fits.spelled);
+        as_many = fits.as_many;
+        known = All-cons (λ n. Contains form.options n) first names (subst (Contains form.options) same known) fits.known;
+        once = AllPairs-cons (λ n other. n ≢ other) first names
+            (λ k d within is_here. apart arguments fits.spelled (subst (Contains names) (sym (same ∙ is_here)) (Contains-get_or names k d within))) fits.once;
+      },
+    )
 
-  no_names : (id : Text) (names : List Text) → IsNoOption id → All (λ name. Contains options name) names → All (λ name. id ≢ name) names
-  no_names id names apart known = λ place default within. apart _ (known place default within)
+-- the form knows a name, and the arguments that fit behind it don't have it
+pub record FitsBehind (form : Form) (positionals : ℕ) (others : List Text) (name : Text) : Type 0 where
+  pub known : Contains form.options name
+  pub rest : List Argument
+  pub fits : FitsRest form positionals others rest
+  pub apart : Contains (names_in rest) name → ⊥
 
-  no_ids : (name : Text) (ids : List Text) → Contains options name → AreNoOptions ids → All (λ id. name ≢ id) ids
-  no_ids name ids known apart = λ place default within same. apart place default within name known (sym same)
+-- words with an option at their front fit only so
+pub fit_option : (form : Form) (positionals : ℕ) (words others : List Text) (argument : Argument) (name : Text) → Begins words argument others → Some name ≡ option_name argument
+    → Fit form positionals words → FitsBehind form positionals others name
+fit_option form positionals words others (positional text) name begins is fits = cc
+fit_option form positionals words others (option first value) name begins is (arguments, fits) =
+    let behind = follow words others (option first value) arguments begins fits.spelled in
+    let known = subst (λ list. All (λ n. Contains form.options n) (names_in list)) behind.are fits.known in
+    let once = subst (λ list. AllPairs (λ n other. n ≢ other) (names_in list)) behind.are fits.once in
+    let same : first ≡ name = cc in
+    record {
+      known = subst (Contains form.options) same (All-head (λ n. Contains form.options n) first (names_in behind.rest) known);
+      rest = behind.rest;
+      fits = record {
+        spelled = behind.spelled;
+        as_many = subst (λ list. length (positionals_in list) ≡ positionals) behind.are fits.as_many;
+        known = All-tail (λ n. Contains form.options n) first (names_in behind.rest) known;
+        once = pairs-tail (λ n other. n ≢ other) first (names_in behind.rest) once;
+      };
+      apart = λ stands. All-contains (λ other. first ≢ other) (names_in behind.rest) name (pairs-head (λ n other. n ≢ other) first (names_in behind.rest) once) stands same;
+    }
 
-  -- arguments of a form, with rows before them that are none of theirs
-  pub fit : (s : Shape) → ((name : Text) → Contains options name → Knows s name) → (position : ℕ) (ids : List Text) (rows : List Row) (arguments : List Argument)
-      → Places s position ids → AreNoOptions ids → AllPairs (λ a b. a ≢ b) ids → length (positionals_in arguments) ≡ length ids
-      → All (λ name. Contains options name) (names_in arguments) → AllPairs (λ a b. a ≢ b) (names_in arguments) → AreNew rows ids → AreNew rows (names_in arguments)
-      → Fit s position ids rows arguments
-  fit s knows position ids rows [] places apart distinct as_many known once fresh unused = tt
-  fit s knows position [] rows (positional text ∷ arguments) places apart distinct as_many known once fresh unused = absurd (omega arith)
-  fit s knows position (id ∷ ids) rows (positional text ∷ arguments) places apart distinct as_many known once fresh unused = (
-    places.0,
-    All-head (IsNew rows) id ids fresh,
-    fit s knows (min (position + 1) usize_max) ids (rows ++ row id text ∷ []) arguments places.1 (All-tail IsNoOption id ids apart) (apart_tail id ids distinct) (omega arith) known once
-        (are_new_more id text rows ids (All-tail (IsNew rows) id ids fresh) (apart_head id ids distinct))
-        (are_new_more id text rows (names_in arguments) unused (no_names id (names_in arguments) (All-head IsNoOption id ids apart) known)),
-  )
-  fit s knows position ids rows (option name value ∷ arguments) places apart distinct as_many known once fresh unused =
-      let here = All-head (λ n. Contains options n) name (names_in arguments) known in (
-        knows name here,
-        All-head (IsNew rows) name (names_in arguments) unused,
-        fit s knows position ids (rows ++ row name value ∷ []) arguments places apart distinct as_many (All-tail (λ n. Contains options n) name (names_in arguments) known) (apart_tail name (names_in arguments) once)
-            (are_new_more name value rows ids fresh (no_ids name ids here apart))
-            (are_new_more name value rows (names_in arguments) (All-tail (IsNew rows) name (names_in arguments) unused) (apart_head name (names_in arguments) once)),
-      )
+-- words that fit with as many positionals as the form has are well formed
+pub well_formed_fit : (form : Form) (positionals : ℕ) (words : List Text) → positionals ≡ length form.positionals → Fit form positionals words ↔ ((arguments : List Argument) × AreWellFormed form words arguments)
+well_formed_fit form positionals words count = (
+  λ (arguments, fits). (arguments, record { spelled = fits.spelled; of_form = record { as_many = fits.as_many ∙ count; known = fits.known; once = fits.once } }),
+  λ (arguments, formed). (arguments, record { spelled = formed.spelled; as_many = formed.of_form.as_many ∙ sym count; known = formed.of_form.known; once = formed.of_form.once }),
+)

@@ -1,6 +1,10 @@
 pub mod OneReading
+pub mod Fronts
+pub mod Behind
+pub mod Elements
+pub mod Fitting
 pub mod Building
 pub mod Rows
 pub mod Walking
-pub mod Fitting
+pub mod Naming
 pub mod Taking

@@ -1,16 +1,17 @@
 -- Words spell one list of arguments at most.
-use Rattle.std.proofs.Common.{◌≡◌, ◌≢◌, ◌⊎◌, inl, inr, refl, sym, ap, ap₂, ◌∙◌, subst, ◌++◌, List, [], ◌∷◌, zero, arith, ℕ}
-use Rattle.std.specs.List.{All}
+use Rattle.std.proofs.Common.{◌≡◌, ◌≢◌, ◌⊎◌, inl, inr, refl, sym, ap, ap₂, ◌∙◌, subst, ◌++◌, List, [], ◌∷◌, arith, ℕ}
 use Rattle.std.proofs.lemmas.List.Elements.{All-drop}
-use Rattle.command_words.specs.Arguments.{Text, Argument, positional, option, hyphen, equals_sign, IsValue, IsName, long, Spells, Begins, SpellsAll}
+use Rattle.command_words.specs.Arguments.{Text, Argument, positional, option, hyphen, equals_sign, IsValue, IsName, long, Begins, SpellsAll}
 
--- equal lists have equal heads and equal rests
+-- equal lists have equal heads
 pub same_head : {A : Type 0} (x y : A) (xs ys : List A) → Path (List A) (x ∷ xs) (y ∷ ys) → x ≡ y
 same_head x y xs ys same = cc
 
+-- and equal rests
 pub same_rest : {A : Type 0} (x y : A) (xs ys : List A) → Path (List A) (x ∷ xs) (y ∷ ys) → xs ≡ ys
 same_rest x y xs ys same = cc
 
+-- no list with an element is empty
 pub no_list : {A : Type 0} (x : A) (xs : List A) → Path (List A) [] (x ∷ xs) → ⊥
 no_list x xs same = cc
 
@@ -21,14 +22,15 @@ name_head byte name h = h 0 byte (omega arith)
 name_rest : (byte : ℕ) (name : Text) → IsName (byte ∷ name) → IsName name
 name_rest byte name h = All-drop (λ b. b ≢ equals_sign) 1 (byte ∷ name) h
 
-no_equals_sign : (name other value : Text) → IsName name → name ≡ other ++ equals_sign ∷ value → ⊥
+-- a name isn't what has an `=`
+pub no_equals_sign : (name other value : Text) → IsName name → name ≡ other ++ equals_sign ∷ value → ⊥
 no_equals_sign [] [] value is_name same = no_list _ _ same
 no_equals_sign [] (x ∷ other) value is_name same = no_list _ _ same
 no_equals_sign (byte ∷ name) [] value is_name same = name_head byte name is_name (same_head _ _ _ _ same)
 no_equals_sign (byte ∷ name) (x ∷ other) value is_name same = no_equals_sign name other value (name_rest byte name is_name) (same_rest _ _ _ _ same)
 
 -- what stands before the first `=`, and what stands behind it, are told apart
-parted_once : (name other value more : Text) → IsName name → IsName other → name ++ equals_sign ∷ value ≡ other ++ equals_sign ∷ more → (name ≡ other) × (value ≡ more)
+pub parted_once : (name other value more : Text) → IsName name → IsName other → name ++ equals_sign ∷ value ≡ other ++ equals_sign ∷ more → (name ≡ other) × (value ≡ more)
 parted_once [] [] value more is_name is_other same = (refl, same_rest _ _ _ _ same)
 parted_once [] (x ∷ other) value more is_name is_other same = absurd (name_head x other is_other (sym (same_head _ _ _ _ same)))
 parted_once (byte ∷ name) [] value more is_name is_other same = absurd (name_head byte name is_name (same_head _ _ _ _ same))
@@ -37,12 +39,12 @@ parted_once (byte ∷ name) (x ∷ other) value more is_name is_other same =
     (ap₂ (λ b bs. b ∷ bs) (same_head _ _ _ _ same) behind.0, behind.1)
 
 -- a value is no word that begins with a hyphen
-no_hyphen : (text rest : Text) → IsValue text → text ≡ hyphen ∷ rest → ⊥
+pub no_hyphen : (text rest : Text) → IsValue text → text ≡ hyphen ∷ rest → ⊥
 no_hyphen [] rest is_value same = is_value
 no_hyphen (byte ∷ text) rest is_value same = is_value (same_head _ _ _ _ same)
 
 -- words that begin with an argument begin with one of its spellings
-words_are : (words front others spelling : List Text) → words ≡ front ++ others → front ≡ spelling → words ≡ spelling ++ others
+pub words_are : (words front others spelling : List Text) → words ≡ front ++ others → front ≡ spelling → words ≡ spelling ++ others
 words_are words front others spelling parted same = parted ∙ ap (λ f. f ++ others) same
 
 -- two positionals
@@ -57,10 +59,11 @@ no_positional words others more text name value is_value one (inl two) = no_hyph
 no_positional words others more text name value is_value one (inr two) = no_hyphen text (hyphen ∷ (name ++ equals_sign ∷ value)) is_value (same_head _ _ _ _ (sym one ∙ two))
 
 -- the two forms of an option
-abbrev OptionWords : List Text → Text → Text → List Text → Type 0
+abbrev pub OptionWords : List Text → Text → Text → List Text → Type 0
 OptionWords words name value others = (words ≡ long name ∷ value ∷ others) ⊎ (words ≡ (long name ++ equals_sign ∷ value) ∷ others)
 
-same_behind_hyphens : (text other : Text) → Path Text (hyphen ∷ hyphen ∷ text) (hyphen ∷ hyphen ∷ other) → text ≡ other
+-- equal words have equal texts behind their hyphens
+pub same_behind_hyphens : (text other : Text) → Path Text (hyphen ∷ hyphen ∷ text) (hyphen ∷ hyphen ∷ other) → text ≡ other
 same_behind_hyphens text other same = cc
 
 options_once : (words others more : List Text) (name value other worth : Text) → IsName name → IsName other → OptionWords words name value others → OptionWords words other worth more
@@ -78,7 +81,8 @@ options_once words others more name value other worth is_name is_other (inr one)
     let apart = parted_once name other value worth is_name is_other (same_behind_hyphens _ _ (same_head _ _ _ _ same)) in
     (ap₂ option apart.0 apart.1, same_rest _ _ _ _ same)
 
-option_words : (words front others : List Text) (name value : Text) → words ≡ front ++ others
+-- words that begin with an option begin with one of its two forms
+pub option_words : (words front others : List Text) (name value : Text) → words ≡ front ++ others
     → (front ≡ long name ∷ value ∷ []) ⊎ (front ≡ (long name ++ equals_sign ∷ value) ∷ []) → OptionWords words name value others
 option_words words front others name value parted (inl one) = inl (words_are words front others _ parted one)
 option_words words front others name value parted (inr one) = inr (words_are words front others _ parted one)

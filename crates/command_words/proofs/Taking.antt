@@ -20,7 +20,7 @@ use Rattle.command_words.specs.Matches.{Tells}
 use Rattle.command_words.specs.Parser.{parser_for}
 use Rattle.command_words.specs.declared.command_word.CommandWord.{CommandWord}
 use Rattle.command_words.specs.declared.command_word.CommandWord.TheVariants.{Weigh, Report}
-use Rattle.command_words.proofs.Fitting.{AreNoOptions, IsNoOption, Places, fit}
+use Rattle.command_words.proofs.Naming.{AreNoOptions, IsNoOption, Places, fit}
 use Rattle.command_words.proofs.OneReading.{no_list}
 use Rattle.command_words.proofs.Rows.{at_place, same_text, told, told_option, told_positional}
 use Rattle.command_words.proofs.Walking.{Knows, Reaches, built_option, last_position, reaches_all, standing}

@@ -91,10 +91,3 @@ pub record AreOfForm (form : Form) (arguments : List Argument) : Type 0 where
 pub record AreWellFormed (form : Form) (words : List Text) (arguments : List Argument) : Type 0 where
   pub spelled : SpellsAll words arguments
   pub of_form : AreOfForm form arguments
-
--- the words spell so many positionals and options of a form, none of them twice
-pub record FitsRest (form : Form) (positionals : ℕ) (words : List Text) (arguments : List Argument) : Type 0 where
-  pub spelled : SpellsAll words arguments
-  pub as_many : length (positionals_in arguments) ≡ positionals
-  pub known : All (λ name. Contains form.options name) (names_in arguments)
-  pub once : AllPairs (λ name other. name ≢ other) (names_in arguments)

@@ -1,6 +1,6 @@
 //! The words that name commands, and what each command takes.
 
-ghost use Rattle.std.specs.Prelude.{◌≡◌, ◌≢◌, map, IfSome, IfNone};
+ghost use Rattle.std.specs.Prelude.{◌≡◌, ◌≢◌, ◌↔◌, map, Contains, IfSome, IfNone, IsTrue};
 ghost use Rattle.command_words.specs.Forms.{word_of, form_of};
 ghost use Rattle.command_words.specs.declared.command_word.CommandWord.{CommandWord};
 
@@ -60,5 +60,12 @@ impl CommandWord {
             CommandWord::Weigh => WEIGH_OPTIONS.as_slice(),
             CommandWord::Report => REPORT_OPTIONS.as_slice(),
         }
+    }
+
+    /// Whether the command has an option of this name.
+    pub fn has_option(self, name: &str) -> bool
+        ensures { IsTrue result ↔ Contains (form_of self).options name.now }
+    {
+        self.options().contains(&name)
     }
 }

@@ -1,8 +1,9 @@
 //! Whether words are well formed.
 
-ghost use Rattle.std.specs.Prelude.{◌≡◌, ◌↔◌, ◌≤◌, List, drop, length, Contains, IfSome, IfNone, IsTrue};
-ghost use Rattle.command_words.specs.Arguments.{Argument, AreWellFormed, Begins, IsValue, SpellsAll, Text, names_in, text_at, option_name, FitsRest};
+ghost use Rattle.std.specs.Prelude.{◌≡◌, ◌↔◌, ◌<◌, ◌≤◌, List, drop, length, Contains, Some, IfSome, IfNone, IsTrue};
+ghost use Rattle.command_words.specs.Arguments.{Argument, AreWellFormed, Begins, IsValue, SpellsAll, Text, names_in, text_at, option_name};
 ghost use Rattle.command_words.specs.Forms.{form_of};
+ghost use Rattle.command_words.specs.Scanning.{FitsRest};
 ghost use Rattle.command_words.specs.Words.{texts};
 
 use crate::command_word::CommandWord;
@@ -15,7 +16,8 @@ pub(crate) fn are_well_formed(command: CommandWord, behind: &[&str]) -> bool
     fit(command, behind, command.positionals().len())
 }
 
-// Whether the words spell so many positionals, and options of the command, none of them twice.
+// Whether the words spell so many positionals, and options of the command, none of them twice. An argument that
+// doesn't fit ends it, so it calls itself at most once for each positional and each option of the command.
 fn fit(command: CommandWord, words: &[&str], positionals: usize) -> bool
     ensures { IsTrue result ↔ ((arguments : List Argument) × FitsRest (form_of command) positionals (texts words.now) arguments) }
 {
@@ -23,30 +25,34 @@ fn fit(command: CommandWord, words: &[&str], positionals: usize) -> bool
         return words.is_empty() && positionals == 0;
     };
     let others = &words[front.words..];
-    match front.option {
-        None => positionals > 0 && fit(command, others, positionals - 1),
-        Some(name) => {
-            command.options().contains(&name) && !stands(others, name) && fit(command, others, positionals)
-        }
+    let Some(name) = front.option else {
+        return positionals > 0 && fit(command, others, positionals - 1);
+    };
+    if !command.has_option(name) {
+        return false;
     }
+    if stands(others, name) {
+        return false;
+    }
+    fit(command, others, positionals)
 }
 
 // Whether an option of this name stands among the arguments that the words spell.
 fn stands(words: &[&str], name: &str) -> bool
     ensures { (arguments : List Argument) → SpellsAll (texts words.now) arguments → IsTrue result ↔ Contains (names_in arguments) name.now }
 {
-    let mut others = words;
-    while let Some(front) = front_of(others) {
-        if front.option == Some(name) {
+    let mut from = 0;
+    'fronts: while let Some(front) = front_of(&words[from..]) {
+        if front.names(name) {
             return true;
         }
-        others = &others[front.words..];
+        from += front.words;
     }
     false
 }
 
 // The argument at the front of some words.
-#[derive(Drop)]
+#[derive(Clone, Copy)]
 struct Front<'a> {
     // How many words spell it.
     words: usize,
@@ -54,10 +60,22 @@ struct Front<'a> {
     option: Option<&'a str>,
 }
 
+impl Front<'_> {
+    // Whether it is an option of this name.
+    fn names(&self, name: &str) -> bool
+        ensures { IsTrue result ↔ (text_at self.now.option ≡ Some name.now) }
+    {
+        match self.option {
+            Some(option) => option == name,
+            None => false,
+        }
+    }
+}
+
 // The argument that stands at the front of the words, if one does.
 fn front_of<'a>(words: &[&'a str]) -> Option<Front<'a>>
-    ensures fits { IfSome result (λ front. front.words ≤ length words.now) }
-    ensures some { IfSome result (λ front. (argument : Argument) × Begins (texts words.now) argument (drop front.words (texts words.now))
+    ensures fits { IfSome result (λ front. (0 < front.words) × (front.words ≤ length words.now)) }
+    ensures some { IfSome result (λ front. (argument : Argument) × Begins (texts words.now) argument (texts (drop front.words words.now))
         × (text_at front.option ≡ option_name argument)) }
     ensures none { IfNone result ((argument : Argument) (others : List Text) → Begins (texts words.now) argument others → ⊥) }
 {
@@ -74,7 +92,7 @@ fn front_of<'a>(words: &[&'a str]) -> Option<Front<'a>>
             option: Some(name),
         });
     }
-    let value = others.first()?;
+    let (value, _) = others.split_first()?;
     is_value(value).then_some(Front {
         words: 2,
         option: Some(text),
