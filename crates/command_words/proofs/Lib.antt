@@ -1,2 +1,5 @@
 pub mod OneReading
 pub mod GoodValues
+pub mod OneValueFault
+pub mod OneMeaning
+pub mod ToldWords
