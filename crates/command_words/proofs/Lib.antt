@@ -3,3 +3,4 @@ pub mod GoodValues
 pub mod OneValueFault
 pub mod OneMeaning
 pub mod ToldWords
+pub mod FirstWord
