@@ -1,5 +1,6 @@
 -- Values that options may have, and the first one that is bad.
-use Rattle.std.proofs.Common.{◌≡◌, ◌<◌, ◌≤◌, ◌⊎◌, inl, inr, ◌==◌, ℕ, suc, cond, List, [], ◌∷◌, Option, Some, None, Bor, refl, sym, ap, ◌∙◌, subst, arith, codes}
+use Rattle.std.proofs.Common.{◌≡◌, ◌<◌, ◌≤◌, ◌⊎◌, inl, inr, ◌==◌, ℕ, suc, List, [], ◌∷◌, Option, Some, None, Bor, refl, sym, ap, ◌∙◌, subst, arith, codes}
+use Rattle.std.specs.Prelude.{if◌then◌else◌}
 use Rattle.std.proofs.lemmas.Bool.{cases_lt}
 use Rattle.frame_records.specs.declared.weigh.Weigh.{Weigh}
 use Rattle.frame_records.specs.declared.weigh.Weigh.TheVariants as weighing
@@ -20,13 +21,7 @@ use Rattle.command_words.specs.declared.words_kind.WordsKind.TheVariants.{NoComm
 -- the option at a place
 abbrev opt_at : ℕ → Opt
 opt_at place =
-    cond (place == 0) opt.Weigh (
-      cond (place == 1) opt.Shards (
-        cond (place == 2) opt.Capacity (
-          cond (place == 3) opt.Phi opt.Deal
-        )
-      )
-    )
+    if place == 0 then opt.Weigh else if place == 1 then opt.Shards else if place == 2 then opt.Capacity else if place == 3 then opt.Phi else opt.Deal
 
 at_place : (opt : Opt) → opt_at (place_of opt) ≡ opt
 at_place opt.Weigh = refl
@@ -56,11 +51,12 @@ good_before_next values opt told same before good other below = go (cases_lt (pl
     go (inl under) = before other under
     go (inr over) = subst (λ o. IsGood o (values o)) (same_opt opt other (omega arith)) (subst (λ t. IsGood opt t) (sym same) good)
 
--- a number that is set is good
-pub allowed_is_good : (kind : Kind) (text : Text) (value : ℕ) → IsNumber text value → IsAllowed kind value → IsGoodText kind text
+-- a number that an option may have is good
+allowed_is_good : (kind : Kind) (text : Text) (value : ℕ) → IsNumber text value → IsAllowed kind value → IsGoodText kind text
 allowed_is_good (number least greatest) text value is_number allowed = (value, is_number, allowed)
 allowed_is_good (choice words) text value is_number allowed = absurd allowed
 
+-- a number that is set is good
 pub number_is_good : (opt : Opt) (default : ℕ) (told : Option Text) (value : ℕ) → SetsNumber opt default told value → IsGood opt told
 number_is_good opt default None value sets = tt
 number_is_good opt default (Some text) value sets = allowed_is_good (kind_of opt) text value sets.0 sets.1

@@ -47,8 +47,7 @@ same_command word other same = sym (at_word word) ∙ ap command_at same ∙ at_
 one_words : (words : List Text) (word other : CommandWord) (arguments more : List Argument) → AreWordsOf words word arguments → AreWordsOf words other more
     → (word ≡ other) × (arguments ≡ more)
 one_words words word other arguments more one two =
-    let same = sym one.begun ∙ two.begun in
-    (
+    let same = sym one.begun ∙ two.begun in (
       same_command word other (same_head _ _ _ _ same),
       one_reading one.behind arguments more one.well_formed.spelled (subst (λ behind. SpellsAll behind more) (sym (same_rest _ _ _ _ same)) two.well_formed.spelled),
     )

@@ -18,20 +18,20 @@ use Rattle.command_words.specs.declared.words_kind.WordsKind.TheVariants.{NoComm
 use Rattle.command_words.proofs.GoodValues.{same_opt, number_is_good, weigh_is_good, deal_is_good}
 
 -- a text is one number at most
-pub one_number : (text : Text) (value other : ℕ) → IsNumber text value → IsNumber text other → value ≡ other
+one_number : (text : Text) (value other : ℕ) → IsNumber text value → IsNumber text other → value ≡ other
 one_number text value other one two = decimal_injective value other one.bounded two.bounded (sym one.spelled ∙ two.spelled)
 
 -- what a bad value is: it is no good one
-abbrev pub IsNoGood : (Kind → Text → Type 0) → Type 0
+abbrev IsNoGood : (Kind → Text → Type 0) → Type 0
 IsNoGood IsBad = (kind : Kind) (text : Text) → IsGoodText kind text → IsBad kind text → ⊥
 
 -- a text that is no number is not good
-pub no_number_is_bad : IsNoGood IsNoNumber
+no_number_is_bad : IsNoGood IsNoNumber
 no_number_is_bad (number least greatest) text good bad = bad good.0 good.1
 no_number_is_bad (choice words) text good bad = bad
 
 -- a number outside the limits is not good
-pub outside_is_bad : IsNoGood IsOutside
+outside_is_bad : IsNoGood IsOutside
 outside_is_bad (number least greatest) text good bad = go (one_number text good.0 bad.0 good.1 bad.1) bad.2
   where
     go : good.0 ≡ bad.0 → (bad.0 < least) ⊎ (greatest < bad.0) → ⊥
@@ -40,35 +40,35 @@ outside_is_bad (number least greatest) text good bad = go (one_number text good.
 outside_is_bad (choice words) text good bad = bad
 
 -- a text that is none of the words is not good
-pub no_choice_is_bad : IsNoGood IsNoChoice
+no_choice_is_bad : IsNoGood IsNoChoice
 no_choice_is_bad (number least greatest) text good bad = bad
 no_choice_is_bad (choice words) text good bad = bad good
 
 -- bad in two ways that can't both be
-abbrev pub AreApart : (Kind → Text → Type 0) → (Kind → Text → Type 0) → Type 0
+abbrev AreApart : (Kind → Text → Type 0) → (Kind → Text → Type 0) → Type 0
 AreApart IsBad IsWorse = (kind : Kind) (text : Text) → IsBad kind text → IsWorse kind text → ⊥
 
 -- no number is outside the limits
-pub no_number_outside : AreApart IsNoNumber IsOutside
+no_number_outside : AreApart IsNoNumber IsOutside
 no_number_outside (number least greatest) text bad worse = bad worse.0 worse.1
 no_number_outside (choice words) text bad worse = bad
 
 -- no option takes numbers and words
-pub no_number_no_choice : AreApart IsNoNumber IsNoChoice
+no_number_no_choice : AreApart IsNoNumber IsNoChoice
 no_number_no_choice (number least greatest) text bad worse = worse
 no_number_no_choice (choice words) text bad worse = bad
 
-pub outside_no_choice : AreApart IsOutside IsNoChoice
+outside_no_choice : AreApart IsOutside IsNoChoice
 outside_no_choice (number least greatest) text bad worse = worse
 outside_no_choice (choice words) text bad worse = bad
 
 -- an option with a bad value has no good one
-pub bad_is_no_good : (IsBad : Kind → Text → Type 0) (values : Values) (opt : Opt) → IsNoGood IsBad → IsFirstBad IsBad values opt → IsGood opt (values opt) → ⊥
+bad_is_no_good : (IsBad : Kind → Text → Type 0) (values : Values) (opt : Opt) → IsNoGood IsBad → IsFirstBad IsBad values opt → IsGood opt (values opt) → ⊥
 bad_is_no_good IsBad values opt is_no_good bad good =
     is_no_good (kind_of opt) bad.text (subst (λ told. IsGood opt told) bad.value good) bad.is_bad
 
 -- two first bad values are those of one option
-pub one_place : (IsBad IsWorse : Kind → Text → Type 0) (values : Values) (opt other : Opt) → IsNoGood IsBad → IsNoGood IsWorse
+one_place : (IsBad IsWorse : Kind → Text → Type 0) (values : Values) (opt other : Opt) → IsNoGood IsBad → IsNoGood IsWorse
     → IsFirstBad IsBad values opt → IsFirstBad IsWorse values other → opt ≡ other
 one_place IsBad IsWorse values opt other bad_no_good worse_no_good bad worse = go (cases_lt (place_of opt) (place_of other)) (cases_lt (place_of other) (place_of opt))
   where
@@ -87,7 +87,7 @@ bad_once IsBad IsWorse values opt apart bad worse =
     same_some text other same = cc
 
 -- values don't have two first faults that are apart
-pub bad_in_one_way : (IsBad IsWorse : Kind → Text → Type 0) (values : Values) (opt other : Opt) → IsNoGood IsBad → IsNoGood IsWorse → AreApart IsBad IsWorse
+bad_in_one_way : (IsBad IsWorse : Kind → Text → Type 0) (values : Values) (opt other : Opt) → IsNoGood IsBad → IsNoGood IsWorse → AreApart IsBad IsWorse
     → IsFirstBad IsBad values opt → IsFirstBad IsWorse values other → ⊥
 bad_in_one_way IsBad IsWorse values opt other bad_no_good worse_no_good apart bad worse =
     bad_once IsBad IsWorse values opt apart bad
@@ -119,7 +119,7 @@ one_value_fault values (BadChoice at) _ one two = absurd two
 one_value_fault values _ other one two = absurd one
 
 -- values that set something are all good
-pub set_is_good : (values : Values) (settings : Settings) → SetsSettings values settings → (at : Opt) → IsGood at (values at)
+set_is_good : (values : Values) (settings : Settings) → SetsSettings values settings → (at : Opt) → IsGood at (values at)
 set_is_good values settings set opt.Weigh = weigh_is_good (values opt.Weigh) settings.weigh set.weigh
 set_is_good values settings set opt.Shards = number_is_good opt.Shards 4 (values opt.Shards) settings.shards set.shards
 set_is_good values settings set opt.Capacity = number_is_good opt.Capacity 512 (values opt.Capacity) settings.capacity set.capacity

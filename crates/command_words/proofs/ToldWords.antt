@@ -18,12 +18,12 @@ use Rattle.command_words.specs.declared.words_kind.WordsKind.{WordsKind}
 use Rattle.command_words.specs.declared.words_kind.WordsKind.TheVariants.{NoCommand, UnknownCommand, Refused, BadPrefix, BadNumber, OutOfLimits, BadChoice, Bound}
 
 -- the byte that a name begins with: what a positional is for begins with a capital letter, which is at most 90
-abbrev pub first_byte : Text → ℕ
+abbrev first_byte : Text → ℕ
 first_byte [] = 0
 first_byte (first ∷ rest) = first
 
 -- a name that begins with a small letter is not that of a positional
-pub no_positional : (word : CommandWord) (name : Text) → 90 < first_byte name → Contains (form_of word).positionals name → ⊥
+no_positional : (word : CommandWord) (name : Text) → 90 < first_byte name → Contains (form_of word).positionals name → ⊥
 no_positional Weigh name small has = go has.0 has.1 has.2
   where
     go : (place : ℕ) → place < 2 → slice_index_or (codes "SRC" ∷ codes "DST" ∷ []) place name ≡ name → ⊥
@@ -86,7 +86,7 @@ told_is_found None told text is told_is = cc
 told_is_found (Some word) told text is told_is = refl
 
 -- what is found is the text that is told
-pub found_is_told : (found : Option (Bor Text)) (told : Option Text) (text : Text) (word : Bor Text) → text_at found ≡ told → told ≡ Some text → found ≡ Some word → word.now ≡ text
+found_is_told : (found : Option (Bor Text)) (told : Option Text) (text : Text) (word : Bor Text) → text_at found ≡ told → told ≡ Some text → found ≡ Some word → word.now ≡ text
 found_is_told found told text word is told_is found_is = same_some word.now text (sym (ap text_at found_is) ∙ is ∙ told_is)
   where
     same_some : (text other : Text) → Path (Option Text) (Some text) (Some other) → text ≡ other

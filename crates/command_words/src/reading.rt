@@ -52,7 +52,10 @@ fn command_in(alloc: Global, words: &[&str]) -> Result<Command, WordsRefusal>
 }
 
 /// Reads the words.
-pub(crate) fn read_line<'a>(alloc: Global, words: &'a [&'a str]) -> Result<CommandLine<'a>, WordsRefusal>
+pub(crate) fn read_line<'a>(
+    alloc: Global,
+    words: &'a [&'a str],
+) -> Result<CommandLine<'a>, WordsRefusal>
     ensures ok { IfOk result (λ line. AskFor (texts words.entry.now) line.command) }
     ensures told { IfOk result (λ line. (command : CommandWord) × TellsWords (texts words.entry.now) command line.matches) }
     ensures bad { (kind : WordsKind) → result ≡ Err (Bad kind) → HasWordsFault (texts words.entry.now) kind }

@@ -21,7 +21,7 @@ pub command_of-requires : goal.command_of-requires
 command_of-requires c = (
   texts c.args.words.now,
   tells_behind c.args.words.now c.in-Some.first.now c.in-Some.behind.now c.in-Some-of.command c.in_ok-matches.matches c.in-Some.ensures.cases.0 c.in-Some-of.ensures.some
-  (c.are_well_formed.ensures.0 c.if-not-are_well_formed.false) c.in_ok-matches.ensures,
+      (c.are_well_formed.ensures.0 c.if-not-are_well_formed.false) c.in_ok-matches.ensures,
 )
 
 pub returns-clause-ok : goal.returns-clause-ok

@@ -1,8 +1,6 @@
 -- What `clap` found for SRC and DST are the two sides of the words.
-use Rattle.std.proofs.Common.{List, refl, codes, subst}
+use Rattle.std.proofs.Common.{refl, subst}
 use Rattle.std.proofs.lemmas.Result.{err_from_is_err_and}
-use Rattle.command_words.specs.Arguments.{Text}
-use Rattle.command_words.specs.Matches.{TellsWords}
 use Rattle.command_words.specs.Settings.{SetsSettings}
 use Rattle.command_words.specs.Words.{HasSides}
 use Rattle.command_words.specs.declared.command_word.CommandWord.TheVariants.{Weigh}
@@ -36,8 +34,8 @@ returns-in-Err-clause-err c = λ words tells. record {
 pub returns-in_err-settings-clause-err : goal.returns-in_err-settings-clause-err
 returns-in_err-settings-clause-err c = λ words tells.
     let sides : HasSides tells.arguments c.as_bytes.result.now c.as_bytes-2.result.now =
-        found_sides words c.args.matches.now tells c.get_str.result c.get_str-2.result c.unwrap-source.result c.unwrap-dest.result c.get_str.ensures c.get_str-2.ensures
-        c.unwrap-source.ensures c.unwrap-dest.ensures _ _ c.as_bytes.ensures.value c.as_bytes-2.ensures.value in
+    found_sides words c.args.matches.now tells c.get_str.result c.get_str-2.result c.unwrap-source.result c.unwrap-dest.result c.get_str.ensures c.get_str-2.ensures
+    c.unwrap-source.ensures c.unwrap-dest.ensures _ _ c.as_bytes.ensures.value c.as_bytes-2.ensures.value in
     let p = err_from_is_err_and c.from_residual.result c.from_residual.ensures.1 in
     rw (p.1, p.2)
     (told_fault words Weigh c.args.matches.now tells c.in_err-settings.field-0.0 (c.as_bytes.result.now, c.as_bytes-2.result.now, sides, (c.in-Ok.prefix, (c.in-Ok.ensures.ok c.in-Ok.prefix).0 refl))
