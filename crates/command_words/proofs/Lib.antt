@@ -8,3 +8,8 @@ pub mod Rows
 pub mod Walking
 pub mod Naming
 pub mod Taking
+pub mod GoodValues
+pub mod OneValueFault
+pub mod OneMeaning
+pub mod ToldWords
+pub mod FirstWord

@@ -10,6 +10,7 @@ ghost use Rattle.command_words.specs.declared.words_kind.WordsRefusal.TheVariant
 use crate::WordsRefusal;
 use crate::reading::read_line;
 use outside_io::PathText;
+use prefix_lattice::prefix_texts_have_one_reading;
 use std::alloc::Global;
 
 /// The paths that options name.
@@ -26,6 +27,16 @@ pub fn paths(alloc: Global, words: &[&str]) -> Result<PathTexts, WordsRefusal>
     ensures bad { (kind : WordsKind) → result ≡ Err (Bad kind) → HasWordsFault (texts words.now) kind }
     ensures complete { (command : Command) → AskFor (texts words.now) command → IsOk result ⊎ (result ≡ Err OutOfMemory) }
     ensures exact { (kind : WordsKind) → HasWordsFault (texts words.now) kind → (result ≡ Err (Bad kind)) ⊎ (result ≡ Err OutOfMemory) }
+{
+    prefix_texts_have_one_reading();
+    paths_in(alloc, words)
+}
+
+// The paths that the words name, or what is wrong with them.
+fn paths_in(alloc: Global, words: &[&str]) -> Result<PathTexts, WordsRefusal>
+    ensures ok { IfOk result (NamesPaths (texts words.now)) }
+    ensures asked { IfOk result (λ _. (command : Command) × AskFor (texts words.now) command) }
+    ensures bad { (kind : WordsKind) → result ≡ Err (Bad kind) → HasWordsFault (texts words.now) kind }
 {
     let line = read_line(alloc, words)?;
     let capture = line.matches.get_str("capture").unwrap_or("-");

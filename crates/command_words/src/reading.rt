@@ -16,7 +16,7 @@ use crate::scanning::are_well_formed;
 use crate::values::{is_wide, settings_of};
 use crate::{Command, WordsKind, WordsRefusal};
 use clap::ArgMatches;
-use prefix_lattice::Prefix;
+use prefix_lattice::{Prefix, prefix_texts_have_one_reading};
 use std::alloc::Global;
 
 /// A command line: what it asks for, and what `clap` found in it.
@@ -39,11 +39,23 @@ pub fn read_words(alloc: Global, words: &[&str]) -> Result<Command, WordsRefusal
     ensures complete { (command : Command) → AskFor (texts words.now) command → (result ≡ Ok command) ⊎ (result ≡ Err OutOfMemory) }
     ensures exact { (kind : WordsKind) → HasWordsFault (texts words.now) kind → (result ≡ Err (Bad kind)) ⊎ (result ≡ Err OutOfMemory) }
 {
+    prefix_texts_have_one_reading();
+    command_in(alloc, words)
+}
+
+// What the words ask for, or what is wrong with them.
+fn command_in(alloc: Global, words: &[&str]) -> Result<Command, WordsRefusal>
+    ensures ok { IfOk result (AskFor (texts words.now)) }
+    ensures bad { (kind : WordsKind) → result ≡ Err (Bad kind) → HasWordsFault (texts words.now) kind }
+{
     Ok(read_line(alloc, words)?.command)
 }
 
 /// Reads the words.
-pub(crate) fn read_line<'a>(alloc: Global, words: &'a [&'a str]) -> Result<CommandLine<'a>, WordsRefusal>
+pub(crate) fn read_line<'a>(
+    alloc: Global,
+    words: &'a [&'a str],
+) -> Result<CommandLine<'a>, WordsRefusal>
     ensures ok { IfOk result (λ line. AskFor (texts words.entry.now) line.command) }
     ensures told { IfOk result (λ line. (command : CommandWord) × TellsWords (texts words.entry.now) command line.matches) }
     ensures bad { (kind : WordsKind) → result ≡ Err (Bad kind) → HasWordsFault (texts words.entry.now) kind }
@@ -58,11 +70,22 @@ pub(crate) fn read_line<'a>(alloc: Global, words: &'a [&'a str]) -> Result<Comma
         return Err(WordsRefusal::Bad(WordsKind::Refused));
     }
     let matches = parse(alloc, command, behind)?;
-    let command = match command {
-        CommandWord::Weigh => weigh_command(&matches)?,
-        CommandWord::Report => report_command(&matches)?,
-    };
-    Ok(CommandLine { command, matches })
+    Ok(CommandLine {
+        command: command_of(command, &matches)?,
+        matches,
+    })
+}
+
+// What words that begin with a command's word ask for.
+fn command_of(word: CommandWord, matches: &ArgMatches<'_>) -> Result<Command, WordsKind>
+    requires { (words : List Text) × TellsWords words word matches.now }
+    ensures ok { (words : List Text) → TellsWords words word matches.now → IfOk result (AskFor words) }
+    ensures err { (words : List Text) → TellsWords words word matches.now → IfErr result (HasWordsFault words) }
+{
+    match word {
+        CommandWord::Weigh => weigh_command(matches),
+        CommandWord::Report => report_command(matches),
+    }
 }
 
 // What words that begin with `weigh` ask for.

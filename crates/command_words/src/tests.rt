@@ -17,17 +17,101 @@ const DEFAULTS: Settings = Settings {
     store: false,
 };
 
+// Words with a space between each two, and what is wrong with them.
+const BAD_WORDS: [(&str, WordsKind); 38] = [
+    ("", WordsKind::NoCommand),
+    ("way", WordsKind::UnknownCommand),
+    ("Report", WordsKind::UnknownCommand),
+    ("--shards 1 report", WordsKind::UnknownCommand),
+    // the form
+    ("weigh", WordsKind::Refused),
+    ("weigh 0.0.0.0/0", WordsKind::Refused),
+    ("weigh 0.0.0.0/0 0.0.0.0/0 0.0.0.0/0", WordsKind::Refused),
+    ("weigh 0.0.0.0/0 0.0.0.0/0 --shards 1", WordsKind::Refused),
+    ("report x", WordsKind::Refused),
+    ("report -h", WordsKind::Refused),
+    ("report --help", WordsKind::Refused),
+    ("report --", WordsKind::Refused),
+    ("report --shard 1", WordsKind::Refused),
+    ("report --store S", WordsKind::Refused),
+    ("report --shards", WordsKind::Refused),
+    ("report --shards --phi", WordsKind::Refused),
+    ("report --shards=", WordsKind::Refused),
+    ("report --shards 1 --shards 1", WordsKind::Refused),
+    ("report --shards 1 --shards=1", WordsKind::Refused),
+    // the prefix
+    (
+        "weigh 10.1.2 0.0.0.0/0",
+        WordsKind::BadPrefix(PrefixFault::BadAddress(Side::Source)),
+    ),
+    (
+        "weigh 10.1.0.0/15 0.0.0.0/0",
+        WordsKind::BadPrefix(PrefixFault::BadLength(Side::Source)),
+    ),
+    (
+        "weigh 10.1.2.0/16 0.0.0.0/0",
+        WordsKind::BadPrefix(PrefixFault::LooseBits(Side::Source)),
+    ),
+    (
+        "weigh 0.0.0.0/0 10.1.2.0/16",
+        WordsKind::BadPrefix(PrefixFault::LooseBits(Side::Dest)),
+    ),
+    (
+        "weigh 10.1.2 0.0.0.0/0 --weigh x",
+        WordsKind::BadPrefix(PrefixFault::BadAddress(Side::Source)),
+    ),
+    // the values
+    (
+        "weigh 0.0.0.0/0 --weigh=x 0.0.0.0/0",
+        WordsKind::BadChoice(Opt::Weigh),
+    ),
+    ("report --shards 01", WordsKind::BadNumber(Opt::Shards)),
+    ("report --shards +1", WordsKind::BadNumber(Opt::Shards)),
+    (
+        "report --shards 18446744073709551616",
+        WordsKind::BadNumber(Opt::Shards),
+    ),
+    (
+        "report --shards 18446744073709551615",
+        WordsKind::OutOfLimits(Opt::Shards),
+    ),
+    ("report --shards 0", WordsKind::OutOfLimits(Opt::Shards)),
+    ("report --shards 17", WordsKind::OutOfLimits(Opt::Shards)),
+    ("report --capacity 1", WordsKind::OutOfLimits(Opt::Capacity)),
+    ("report --deal hash", WordsKind::BadChoice(Opt::Deal)),
+    // the first of several
+    (
+        "report --deal hash --shards 0",
+        WordsKind::OutOfLimits(Opt::Shards),
+    ),
+    (
+        "report --capacity 5000 --shards x",
+        WordsKind::BadNumber(Opt::Shards),
+    ),
+    (
+        "report --phi 1 --capacity x",
+        WordsKind::BadNumber(Opt::Capacity),
+    ),
+    (
+        "report --phi 1 --deal hash",
+        WordsKind::BadChoice(Opt::Deal),
+    ),
+    // the bound
+    ("report --capacity 17 --phi 117647", WordsKind::Bound),
+];
+
 #[test]
 fn refuses_words(rt: HostRuntime) -> Result<(), Fail> {
     let alloc = rt.alloc();
-    let cases: [(&[&str], WordsKind); 4] = [
-        (&[], WordsKind::NoCommand),
-        (&["way"], WordsKind::UnknownCommand),
-        (&["report", "--shards", "0"], WordsKind::OutOfLimits(Opt::Shards)),
-        (&["report", "--shards", "1", "--shards=1"], WordsKind::Refused),
-    ];
-    for (words, kind) in cases {
-        assert_eq!(rt; read_words(alloc, words), Err(WordsRefusal::Bad(kind)));
+    for (line, kind) in BAD_WORDS {
+        let words: Vec<&str> = line.split_whitespace().collect(alloc)?;
+        let refusal = WordsRefusal::Bad(kind);
+        assert_eq!(rt; read_words(alloc, words.as_slice()), Err(refusal), "{line}");
+        assert_eq!(rt;
+            paths(alloc, words.as_slice()).err(),
+            Some(refusal),
+            "{line}"
+        );
     }
     Ok(())
 }
@@ -35,11 +119,92 @@ fn refuses_words(rt: HostRuntime) -> Result<(), Fail> {
 #[test]
 fn reads_words(rt: HostRuntime) -> Result<(), Fail> {
     let alloc = rt.alloc();
-    assert_eq!(rt; read_words(alloc, &["report"]), Ok(Command::Report(DEFAULTS)));
-    let all = ["report", "--phi=117648", "--deal", "free", "--capacity", "17", "--shards=16", "--weigh", "packets", "--capture", "a=b"];
-    let settings = Settings { shards: 16, capacity: 17, phi: 117_648, weigh: Weigh::Packets, deal: DealKind::Free, ..DEFAULTS };
-    assert_eq!(rt; read_words(alloc, &all), Ok(Command::Report(settings)));
-    assert_eq!(rt; paths(alloc, &all)?.capture.as_str(), "a=b");
-    assert_eq!(rt; paths(alloc, &["report"])?.capture.as_str(), "-");
+    let least = Settings {
+        capacity: 16,
+        phi: 125_000,
+        ..DEFAULTS
+    };
+    let all = Settings {
+        shards: 16,
+        capacity: 17,
+        phi: 117_648,
+        weigh: Weigh::Packets,
+        deal: DealKind::Free,
+        ..DEFAULTS
+    };
+    // The words, what they set, and the capture that they name.
+    let cases = [
+        ("report", DEFAULTS, "-"),
+        ("report --capture=a=b", DEFAULTS, "a=b"),
+        ("report --capacity 16 --phi 125000", least, "-"),
+        (
+            "report --phi=117648 --deal free --capacity 17 --shards=16 --weigh packets --capture c",
+            all,
+            "c",
+        ),
+    ];
+    for (line, settings, capture) in cases {
+        let words: Vec<&str> = line.split_whitespace().collect(alloc)?;
+        assert_eq!(rt;
+            read_words(alloc, words.as_slice()),
+            Ok(Command::Report(settings)),
+            "{line}"
+        );
+        assert_eq!(rt;
+            paths(alloc, words.as_slice())?.capture.as_str(),
+            capture,
+            "{line}"
+        );
+    }
+    Ok(())
+}
+
+#[test]
+fn reads_a_prefix(rt: HostRuntime) -> Result<(), Fail> {
+    let words = ["weigh", "10.1.0.0/16", "--weigh", "packets", "0.0.0.0/0"];
+    let prefix = Prefix::parse(b"10.1.0.0/16", b"0.0.0.0/0")?;
+    let settings = Settings {
+        weigh: Weigh::Packets,
+        ..DEFAULTS
+    };
+    assert_eq!(rt;
+        read_words(rt.alloc(), &words),
+        Ok(Command::Weigh { prefix, settings })
+    );
+    Ok(())
+}
+
+#[test]
+fn writes_refusals(rt: HostRuntime) -> Result<(), Fail> {
+    let alloc = rt.alloc();
+    let cases = [
+        (WordsKind::NoCommand, "no command"),
+        (WordsKind::UnknownCommand, "unknown command"),
+        (WordsKind::Refused, "refused"),
+        (
+            WordsKind::BadPrefix(PrefixFault::BadLength(Side::Source)),
+            "prefix: source: bad length",
+        ),
+        (WordsKind::BadChoice(Opt::Weigh), "weigh: no such choice"),
+        (WordsKind::BadNumber(Opt::Shards), "shards: no number"),
+        (
+            WordsKind::OutOfLimits(Opt::Capacity),
+            "capacity: outside its limits",
+        ),
+        (WordsKind::OutOfLimits(Opt::Phi), "phi: outside its limits"),
+        (WordsKind::BadChoice(Opt::Deal), "deal: no such choice"),
+        (WordsKind::Bound, "phi times capacity is below 2000000"),
+    ];
+    for (kind, text) in cases {
+        assert_eq!(rt; format!(in alloc; "{kind}")?.as_str(), text);
+        assert_eq!(rt;
+            format!(in alloc; "{}", WordsRefusal::Bad(kind))?.as_str(),
+            text
+        );
+    }
+    assert_eq!(rt;
+        format!(in alloc; "{}", WordsRefusal::OutOfMemory)?.as_str(),
+        "out of memory"
+    );
     Ok(())
 }

@@ -52,11 +52,11 @@ pub(crate) fn settings_of(matches: &ArgMatches<'_>) -> Result<Settings, WordsKin
     ensures ok { IfOk result (SetsSettings (values_told matches.now)) }
     ensures err { IfErr result (HasValueFault (values_told matches.now)) }
 {
-    let weigh = weigh_of(matches.get_str(Opt::Weigh.name()))?;
-    let shards = SHARDS.read(matches.get_str(Opt::Shards.name()))?;
-    let capacity = CAPACITY.read(matches.get_str(Opt::Capacity.name()))?;
-    let phi = PHI.read(matches.get_str(Opt::Phi.name()))?;
-    let deal = deal_of(matches.get_str(Opt::Deal.name()))?;
+    let weigh = weigh_of(text_of(matches, Opt::Weigh))?;
+    let shards = SHARDS.read(text_of(matches, Opt::Shards))?;
+    let capacity = CAPACITY.read(text_of(matches, Opt::Capacity))?;
+    let phi = PHI.read(text_of(matches, Opt::Phi))?;
+    let deal = deal_of(text_of(matches, Opt::Deal))?;
     Ok(Settings {
         shards,
         capacity,
@@ -76,6 +76,13 @@ pub(crate) fn is_wide(settings: &Settings) -> bool
     ensures { IsTrue result ↔ IsWide settings.now }
 {
     u64::from(settings.phi) * u64::from(settings.capacity) >= LEAST_WIDTH
+}
+
+// The text of an option, if it stands.
+fn text_of<'a>(matches: &ArgMatches<'a>, opt: Opt) -> Option<&'a str>
+    ensures { text_at result ≡ values_told matches.now opt }
+{
+    matches.get_str(opt.name())
 }
 
 impl Numeric {

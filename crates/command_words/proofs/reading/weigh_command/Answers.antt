@@ -1,0 +1,55 @@
+-- What `clap` found for SRC and DST are the two sides of the words.
+use Rattle.std.proofs.Common.{refl, subst}
+use Rattle.std.proofs.lemmas.Result.{err_from_is_err_and}
+use Rattle.command_words.specs.Settings.{SetsSettings}
+use Rattle.command_words.specs.Words.{HasSides}
+use Rattle.command_words.specs.declared.command_word.CommandWord.TheVariants.{Weigh}
+use Rattle.command_words.proofs.ToldWords.{told_sides, told_is_found, told_values, told_fault, found_sides}
+use Rattle.command_words.proofs.reading.weigh_command.Goals as goal
+
+pub unwrap-source-requires : goal.unwrap-source-requires
+unwrap-source-requires c =
+    let tells = c.requires.1 in
+    let told = told_sides tells.arguments c.args.matches.now tells.are_words.well_formed.of_form.as_many tells.told in
+    told_is_found c.get_str.result _ told.source c.get_str.ensures told.source_told
+
+pub unwrap-dest-requires : goal.unwrap-dest-requires
+unwrap-dest-requires c =
+    let tells = c.requires.1 in
+    let told = told_sides tells.arguments c.args.matches.now tells.are_words.well_formed.of_form.as_many tells.told in
+    told_is_found c.get_str-2.result _ told.dest c.get_str-2.ensures told.dest_told
+
+pub returns-in-Err-clause-err : goal.returns-in-Err-clause-err
+returns-in-Err-clause-err c = λ words tells. record {
+  arguments = tells.arguments;
+  are_words = tells.are_words;
+  source = c.as_bytes.result.now;
+  dest = c.as_bytes-2.result.now;
+  sides =
+      found_sides words c.args.matches.now tells c.get_str.result c.get_str-2.result c.unwrap-source.result c.unwrap-dest.result c.get_str.ensures c.get_str-2.ensures c.unwrap-source.ensures
+      c.unwrap-dest.ensures _ _ c.as_bytes.ensures.value c.as_bytes-2.ensures.value;
+  has_fault = (c.in-Err.ensures.fault c.in-Err.fault).0 refl;
+}
+
+pub returns-in_err-settings-clause-err : goal.returns-in_err-settings-clause-err
+returns-in_err-settings-clause-err c = λ words tells.
+    let sides : HasSides tells.arguments c.as_bytes.result.now c.as_bytes-2.result.now =
+    found_sides words c.args.matches.now tells c.get_str.result c.get_str-2.result c.unwrap-source.result c.unwrap-dest.result c.get_str.ensures c.get_str-2.ensures
+    c.unwrap-source.ensures c.unwrap-dest.ensures _ _ c.as_bytes.ensures.value c.as_bytes-2.ensures.value in
+    let p = err_from_is_err_and c.from_residual.result c.from_residual.ensures.1 in
+    rw (p.1, p.2)
+    (told_fault words Weigh c.args.matches.now tells c.in_err-settings.field-0.0 (c.as_bytes.result.now, c.as_bytes-2.result.now, sides, (c.in-Ok.prefix, (c.in-Ok.ensures.ok c.in-Ok.prefix).0 refl))
+    c.in_err-settings.ensures.err)
+
+pub returns-clause-ok : goal.returns-clause-ok
+returns-clause-ok c = λ words tells. record {
+  arguments = tells.arguments;
+  are_words = tells.are_words;
+  source = c.as_bytes.result.now;
+  dest = c.as_bytes-2.result.now;
+  sides =
+      found_sides words c.args.matches.now tells c.get_str.result c.get_str-2.result c.unwrap-source.result c.unwrap-dest.result c.get_str.ensures c.get_str-2.ensures c.unwrap-source.ensures
+      c.unwrap-dest.ensures _ _ c.as_bytes.ensures.value c.as_bytes-2.ensures.value;
+  spelled = (c.in-Ok.ensures.ok c.in-Ok.prefix).0 refl;
+  set = subst (λ values. SetsSettings values c.in_ok-settings.settings) (told_values Weigh tells.arguments c.args.matches.now tells.told) c.in_ok-settings.ensures.ok;
+}
