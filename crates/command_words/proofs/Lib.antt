@@ -13,3 +13,4 @@ pub mod OneValueFault
 pub mod OneMeaning
 pub mod ToldWords
 pub mod FirstWord
+pub mod Limits

@@ -60,3 +60,18 @@ pub record SetsSettings (values : Values) (settings : Settings) : Type 0 where
 -- tables of this capacity can't hide a prefix of this share: phi times capacity is at least 2,000,000
 abbrev pub IsWide : Settings → Type 0
 IsWide settings = 2000000 ≤ settings.phi * settings.capacity
+
+-- each number of the settings is within its limits
+pub record AreLimited (settings : Settings) : Type 0 where
+  pub some_shards : 1 ≤ settings.shards
+  pub few_shards : settings.shards ≤ 16
+  pub least_capacity : 2 ≤ settings.capacity
+  pub most_capacity : settings.capacity ≤ 4096
+  pub some_phi : 1 ≤ settings.phi
+  pub most_phi : settings.phi ≤ 1000000
+  pub some_block : 1 ≤ settings.block
+  pub most_block : settings.block ≤ 65536
+  pub some_workers : 1 ≤ settings.workers
+  pub few_workers : settings.workers ≤ 16
+  pub few_callers : settings.callers ≤ 8
+  pub few_rounds : settings.rounds ≤ 32

@@ -7,7 +7,7 @@ use Rattle.prefix_lattice.specs.declared.prefix_fault.PrefixFault.{PrefixFault}
 use Rattle.command_words.specs.Arguments.{Text, Argument, positionals_in, value_of, AreWellFormed}
 use Rattle.command_words.specs.Forms.{word_of, form_of, AreWordsOf}
 use Rattle.command_words.specs.Options.{Kind, kind_of, place_of, IsGood, IsNoNumber, IsOutside, IsNoChoice}
-use Rattle.command_words.specs.Settings.{Values, values_in, SetsSettings, IsWide}
+use Rattle.command_words.specs.Settings.{Values, values_in, SetsSettings, IsWide, AreLimited}
 use Rattle.command_words.specs.declared.command.Command.{Command}
 use Rattle.command_words.specs.declared.command.Command.TheVariants as command
 use Rattle.command_words.specs.declared.command_word.CommandWord.{CommandWord}
@@ -46,6 +46,11 @@ pub record AskToReport (words : List Text) (settings : Settings) : Type 0 where
 abbrev pub AskFor : List Text → Command → Type 0
 AskFor words (command.Weigh prefix settings) = AskToWeigh words prefix settings
 AskFor words (command.Report settings) = AskToReport words settings
+
+-- the settings of the command are within their limits, and those of a report are wide enough
+abbrev pub IsLimited : Command → Type 0
+IsLimited (command.Weigh prefix settings) = AreLimited settings
+IsLimited (command.Report settings) = AreLimited settings × IsWide settings
 
 -- the positionals of the command are good: those of `weigh` spell a prefix
 abbrev pub HasGoodPositionals : CommandWord → List Argument → Type 0

@@ -3,7 +3,7 @@
 ghost use Rattle.std.specs.Prelude.{◌≡◌, ◌⊎◌, List, Ok, Err, IfOk, IfErr};
 ghost use Rattle.command_words.specs.Arguments.{Text};
 ghost use Rattle.command_words.specs.Matches.{TellsWords};
-ghost use Rattle.command_words.specs.Words.{texts, AskFor, HasWordsFault};
+ghost use Rattle.command_words.specs.Words.{texts, AskFor, HasWordsFault, IsLimited};
 ghost use Rattle.command_words.specs.declared.command.Command.{Command};
 ghost use Rattle.command_words.specs.declared.command_word.CommandWord.{CommandWord};
 ghost use Rattle.command_words.specs.declared.command_word.CommandWord.TheVariants.{Weigh, Report};
@@ -35,6 +35,7 @@ pub(crate) struct CommandLine<'a> {
 /// limits, then the bound on `phi` times the capacity.
 pub fn read_words(alloc: Global, words: &[&str]) -> Result<Command, WordsRefusal>
     ensures ok { IfOk result (AskFor (texts words.now)) }
+    ensures limited { IfOk result IsLimited }
     ensures bad { (kind : WordsKind) → result ≡ Err (Bad kind) → HasWordsFault (texts words.now) kind }
     ensures complete { (command : Command) → AskFor (texts words.now) command → (result ≡ Ok command) ⊎ (result ≡ Err OutOfMemory) }
     ensures exact { (kind : WordsKind) → HasWordsFault (texts words.now) kind → (result ≡ Err (Bad kind)) ⊎ (result ≡ Err OutOfMemory) }

@@ -1,10 +1,17 @@
 -- How a command can end.
-use Rattle.std.proofs.Common.{◌≡◌, ◌⊎◌, ℕ, List, Option, Some, IfSome, inl, inr, refl, ap, subst}
+use Rattle.std.proofs.Common.{◌≡◌, ◌⊎◌, ℕ, List, Option, Some, None, IfSome, inl, inr, refl, ap, subst}
+use Rattle.std.specs.Io.KnownBytes.{Appends}
+use Rattle.outside_io.specs.Faults.{Rose}
+use Rattle.outside_io.specs.Pieces.{AppendsBeginning}
 use Rattle.pcap_frames.specs.FrameValue.{FrameValue}
 use Rattle.pcap_frames.specs.Capture.{IsCapture, HasFault}
 use Rattle.pcap_frames.specs.declared.fault.CaptureFault.{CaptureFault}
+use Rattle.command_words.specs.Words.{AskFor}
+use Rattle.command_words.specs.declared.command.Command.{Command}
+use Rattle.command_words.specs.declared.command.Command.TheVariants.{Weigh, Report}
+use Rattle.hhh_engine.specs.Answers.{IsAnswer, Answers, AnswersInPart, HasNoText}
 use Rattle.hhh_engine.specs.Outcome.{TellsCapture}
-use Rattle.hhh_engine.specs.declared.words_kind.WordsKind.{WordsKind}
+use Rattle.hhh_engine.specs.Reporting.{Rules}
 use Rattle.hhh_engine.specs.declared.status.Status.{Status}
 use Rattle.hhh_engine.specs.declared.status.Status.TheVariants.{Done, BadWords, BadCapture, ReadFault, WriteFault, OutOfMemory}
 
@@ -16,39 +23,54 @@ NeverBoth = (file : List ℕ) (frames : List FrameValue) (fault : CaptureFault) 
 abbrev pub OneFault : Type 0
 OneFault = (file : List ℕ) (fault other : CaptureFault) → HasFault file fault → HasFault file other → other ≡ fault
 
--- a told capture has no fault
-no_fault : NeverBoth → (left : Option (List ℕ)) (fault : CaptureFault) → TellsCapture left → IfSome left (λ file. HasFault file fault) → ⊥
-no_fault never_both left fault tells has = never_both tells.file tells.frames fault tells.capture (subst (λ o. IfSome o (λ file. HasFault file fault)) tells.told has)
-
--- what can't end by words, capture or faults ends well, or for want of memory
-pub ends_well : NeverBoth → (status : Status) (left : Option (List ℕ)) → TellsCapture left → ((kind : WordsKind) → status ≡ BadWords kind → ⊥)
-    → ((fault : CaptureFault) → status ≡ BadCapture fault → IfSome left (λ file. HasFault file fault))
-    → (status ≡ ReadFault → ⊥) → (status ≡ WriteFault → ⊥) → (status ≡ Done) ⊎ (status ≡ OutOfMemory)
-ends_well never_both Done left tells words capture reads writes = inl refl
-ends_well never_both (BadWords kind) left tells words capture reads writes = absurd (words kind refl)
-ends_well never_both (BadCapture fault) left tells words capture reads writes = absurd (no_fault never_both left fault tells (capture fault refl))
-ends_well never_both ReadFault left tells words capture reads writes = absurd (reads refl)
-ends_well never_both WriteFault left tells words capture reads writes = absurd (writes refl)
-ends_well never_both OutOfMemory left tells words capture reads writes = inr refl
-
--- one status of bad words for each kind
-pub same_kind : (kind other : WordsKind) → BadWords kind ≡ BadWords other → kind ≡ other
-same_kind kind other same = cc
-
 -- what is told of a source that told this file
 of_file : (left : Option (List ℕ)) (file : List ℕ) (P : List ℕ → Type 0) → left ≡ Some file → IfSome left P → P file
 of_file left file P told holds = subst (λ o. IfSome o P) told holds
 
 -- a file with a fault is refused for it, unless the source fails or memory runs out
-pub ends_refused : OneFault → (status : Status) (left : Option (List ℕ)) (file : List ℕ) (fault : CaptureFault) (Written InPart : List ℕ → Type 0)
-    → left ≡ Some file → HasFault file fault → ((kind : WordsKind) → status ≡ BadWords kind → ⊥)
-    → ((other : CaptureFault) → status ≡ BadCapture other → IfSome left (λ f. HasFault f other))
-    → (status ≡ Done → IfSome left Written) → (status ≡ WriteFault → IfSome left InPart) → (Written file → ⊥) → (InPart file → ⊥)
-    → (status ≡ BadCapture fault) ⊎ ((status ≡ ReadFault) ⊎ (status ≡ OutOfMemory))
-ends_refused one_fault Done left file fault Written InPart told has words capture done part no_done no_part = absurd (no_done (of_file left file Written told (done refl)))
-ends_refused one_fault (BadWords kind) left file fault Written InPart told has words capture done part no_done no_part = absurd (words kind refl)
-ends_refused one_fault (BadCapture other) left file fault Written InPart told has words capture done part no_done no_part =
-    inl (ap BadCapture (one_fault file fault other has (of_file left file (λ f. HasFault f other) told (capture other refl))))
-ends_refused one_fault ReadFault left file fault Written InPart told has words capture done part no_done no_part = inr (inl refl)
-ends_refused one_fault WriteFault left file fault Written InPart told has words capture done part no_done no_part = absurd (no_part (of_file left file InPart told (part refl)))
-ends_refused one_fault OutOfMemory left file fault Written InPart told has words capture done part no_done no_part = inr (inr refl)
+pub refused_for : OneFault → (status : Status) (left : Option (List ℕ)) (before now : ℕ) (file : List ℕ) (fault : CaptureFault) → left ≡ Some file → HasFault file fault
+    → HasNoText left before now status → (status ≡ BadCapture fault) ⊎ ((status ≡ ReadFault) ⊎ (status ≡ OutOfMemory))
+refused_for one_fault Done left before now file fault told has none = absurd none
+refused_for one_fault (BadWords kind) left before now file fault told has none = absurd none
+refused_for one_fault (BadCapture other) left before now file fault told has none =
+    inl (ap BadCapture (one_fault file fault other has (of_file left file (λ f. HasFault f other) told none)))
+refused_for one_fault ReadFault left before now file fault told has none = inr (inl refl)
+refused_for one_fault WriteFault left before now file fault told has none = absurd none
+refused_for one_fault OutOfMemory left before now file fault told has none = inr (inr refl)
+
+-- over a told capture and with no fault of the source, only want of memory leaves no text
+pub wants_memory : NeverBoth → (status : Status) (left : Option (List ℕ)) (before now : ℕ) → TellsCapture left → (Rose before now → ⊥) → HasNoText left before now status
+    → (status ≡ Done) ⊎ (status ≡ OutOfMemory)
+wants_memory never_both Done left before now tells no_fault none = inl refl
+wants_memory never_both (BadWords kind) left before now tells no_fault none = absurd none
+wants_memory never_both (BadCapture fault) left before now tells no_fault none =
+    absurd (never_both tells.file tells.frames fault tells.capture (of_file left tells.file (λ f. HasFault f fault) tells.told none))
+wants_memory never_both ReadFault left before now tells no_fault none = absurd (no_fault none)
+wants_memory never_both WriteFault left before now tells no_fault none = absurd none
+wants_memory never_both OutOfMemory left before now tells no_fault none = inr refl
+
+-- a command has a text over captures alone
+captured : (rules : Rules) (command : Command) (file text : List ℕ) → IsAnswer rules command file text → (frames : List FrameValue) × IsCapture file frames
+captured rules (Weigh prefix settings) file text answer = (answer.frames, answer.capture)
+captured rules (Report settings) file text answer = (answer.frames, answer.capture)
+
+-- so it has none over a file with a fault
+pub no_answer : NeverBoth → (rules : Rules) (command : Command) (left : Option (List ℕ)) (file text : List ℕ) (fault : CaptureFault) → left ≡ Some file → HasFault file fault
+    → IfSome left (λ f. IsAnswer rules command f text) → ⊥
+no_answer never_both rules command left file text fault told has answer =
+    let capture = captured rules command file text (of_file left file (λ f. IsAnswer rules command f text) told answer) in
+    never_both file capture.0 fault capture.1 has
+
+-- the text that was made was written
+pub answered : (rules : Rules) (words : List (List ℕ)) (command : Command) (left old new : Option (List ℕ)) (text : List ℕ) → AskFor words command
+    → IfSome left (λ file. IsAnswer rules command file text) → Appends old new text → IfSome left (Answers rules words old new)
+answered rules words command None old new text asked answer written = tt
+answered rules words command (Some file) old new text asked answer written =
+    record { command = command; asked = asked; text = text; is_answer = answer; written = written }
+
+-- a beginning of it was written
+pub answered_in_part : (rules : Rules) (words : List (List ℕ)) (command : Command) (left old new : Option (List ℕ)) (text : List ℕ) → AskFor words command
+    → IfSome left (λ file. IsAnswer rules command file text) → AppendsBeginning old new text → IfSome left (AnswersInPart rules words old new)
+answered_in_part rules words command None old new text asked answer written = tt
+answered_in_part rules words command (Some file) old new text asked answer written =
+    record { command = command; asked = asked; text = text; is_answer = answer; written = written }

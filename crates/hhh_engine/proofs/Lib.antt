@@ -1,2 +1,3 @@
-pub mod WordLists
 pub mod Ending
+pub mod Ends
+pub mod Sessions

@@ -2,8 +2,8 @@
 use Rattle.std.specs.Prelude.{ℕ, List, ◌++◌, codes, decimal}
 use Rattle.pcap_frames.specs.declared.fault.FaultKind.{FaultKind}
 use Rattle.pcap_frames.specs.declared.fault.FaultKind.TheVariants.{ShortHeader, NotCapture, Version, Link, LongFrame, CutFrame, TooManyFrames}
-use Rattle.hhh_engine.specs.declared.words_kind.WordsKind.{WordsKind}
-use Rattle.hhh_engine.specs.declared.words_kind.WordsKind.TheVariants.{NoCommand, UnknownCommand, Refused, BadPrefix}
+use Rattle.command_words.specs.declared.words_kind.WordsKind.{WordsKind}
+use Rattle.command_words.specs.declared.words_kind.WordsKind.TheVariants.{NoCommand, UnknownCommand, Refused, BadPrefix, BadNumber, OutOfLimits, BadChoice, Bound}
 use Rattle.hhh_engine.specs.declared.status.Status.{Status}
 use Rattle.hhh_engine.specs.declared.status.Status.TheVariants.{Done, BadWords, BadCapture, ReadFault, WriteFault, OutOfMemory}
 
@@ -13,6 +13,10 @@ words_text NoCommand = codes "no command"
 words_text UnknownCommand = codes "unknown command"
 words_text Refused = codes "refused"
 words_text (BadPrefix fault) = codes "prefix"
+words_text (BadNumber option) = codes "number"
+words_text (OutOfLimits option) = codes "limits"
+words_text (BadChoice option) = codes "choice"
+words_text Bound = codes "bound"
 
 -- what is wrong with a capture
 abbrev pub fault_text : FaultKind → List ℕ

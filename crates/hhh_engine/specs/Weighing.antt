@@ -1,7 +1,5 @@
 -- The weight of a prefix as the program tells it.
-use Rattle.std.specs.Prelude.{ℕ, ◌-◌, ◌*◌, ◌≤◌, List, ◌++◌, codes, decimal, Option}
-use Rattle.std.specs.Io.KnownBytes.{Appends}
-use Rattle.outside_io.specs.Pieces.{AppendsBeginning}
+use Rattle.std.specs.Prelude.{ℕ, ◌≡◌, ◌-◌, ◌*◌, ◌≤◌, List, ◌++◌, codes, decimal}
 use Rattle.prefix_lattice.specs.RecordValue.{RecordValue}
 use Rattle.prefix_lattice.specs.PrefixValue.{PrefixValue}
 use Rattle.prefix_lattice.specs.Prefix.{node_of, key_of, weight_of, total_weight}
@@ -10,8 +8,7 @@ use Rattle.shard_state.specs.Tables.{adds_of}
 use Rattle.pcap_frames.specs.FrameValue.{FrameValue}
 use Rattle.pcap_frames.specs.Capture.{IsCapture}
 use Rattle.frame_records.specs.FrameRecord.{records_of}
-use Rattle.frame_records.specs.declared.weigh.Weigh.TheVariants.{Bytes}
-use Rattle.hhh_engine.specs.Words.{AskToWeigh}
+use Rattle.frame_records.specs.declared.weigh.Weigh.{Weigh}
 
 -- the capacity of the table that weighs a prefix
 abbrev pub weigh_capacity : ℕ
@@ -35,27 +32,9 @@ pub record HoldsWeight (prefix : PrefixValue) (records : List RecordValue) : Typ
   pub high : weight_of prefix records ≤ (weighed prefix records).high
   pub width : ((weighed prefix records).high - (weighed prefix records).low) * weigh_capacity ≤ total_weight records
 
--- the lines for a prefix, over the records of the capture, were written, and they hold its weight
-pub record WritesWeight (prefix : PrefixValue) (old new : Option (List ℕ)) (file : List ℕ) : Type 0 where
+-- the text that tells the weight of a prefix over the records of a capture, which holds the weight
+pub record IsWeightText (prefix : PrefixValue) (weigh : Weigh) (file text : List ℕ) : Type 0 where
   pub frames : List FrameValue
   pub capture : IsCapture file frames
-  pub written : Appends old new (text_for prefix (records_of Bytes frames))
-  pub holds : HoldsWeight prefix (records_of Bytes frames)
-
--- a beginning of these lines was written
-pub record WritesInPart (prefix : PrefixValue) (old new : Option (List ℕ)) (file : List ℕ) : Type 0 where
-  pub frames : List FrameValue
-  pub capture : IsCapture file frames
-  pub written : AppendsBeginning old new (text_for prefix (records_of Bytes frames))
-
--- the lines for the prefix that the words ask for were written
-pub record Weighs (words : List (List ℕ)) (old new : Option (List ℕ)) (file : List ℕ) : Type 0 where
-  pub prefix : PrefixValue
-  pub asked : AskToWeigh words prefix
-  pub weighed : WritesWeight prefix old new file
-
--- a beginning of them was written
-pub record WeighsInPart (words : List (List ℕ)) (old new : Option (List ℕ)) (file : List ℕ) : Type 0 where
-  pub prefix : PrefixValue
-  pub asked : AskToWeigh words prefix
-  pub weighed : WritesInPart prefix old new file
+  pub spelled : text ≡ text_for prefix (records_of weigh frames)
+  pub holds : HoldsWeight prefix (records_of weigh frames)

@@ -2,17 +2,19 @@
 #![tactic(auto)]
 
 mod decimal_text;
+mod folding;
+mod reporting;
 mod status;
 mod status_line;
 mod top_call;
 mod weighing;
-mod words;
-mod words_kind;
 
+pub use command_words::{
+    Command, Opt, PathTexts, Settings, WordsKind, WordsRefusal, paths, read_words,
+};
 pub use status::Status;
 pub use status_line::fault_line;
 pub use top_call::run;
-pub use words_kind::WordsKind;
 
 #[cfg(test)]
 mod tests;

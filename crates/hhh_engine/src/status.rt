@@ -1,17 +1,18 @@
 //! How the program ended.
 
 ghost use Rattle.std.specs.Prelude.{◌≡◌};
-ghost use Rattle.hhh_engine.specs.StatusOf.{status_of, number_of};
+ghost use Rattle.hhh_engine.specs.StatusOf.{status_of, status_of_words, number_of};
 
-use crate::WordsKind;
+use command_words::{WordsKind, WordsRefusal};
 use pcap_frames::{CaptureFault, ReadRefusal};
+use std::alloc::AllocError;
 
 /// How a command ended.
 #[derive(Clone, Copy, Debug, PartialEq, Eq)]
 pub enum Status {
     /// The command's text was written whole.
     Done,
-    /// The words of the command line ask nothing. Nothing was read or written.
+    /// The words of the command line ask for nothing. Nothing was read or written.
     BadWords(WordsKind),
     /// The source is no capture. Nothing was written.
     BadCapture(CaptureFault),
@@ -48,5 +49,26 @@ impl From<ReadRefusal> for Status {
             ReadRefusal::ReadFault => Status::ReadFault,
             ReadRefusal::OutOfMemory => Status::OutOfMemory,
         }
+    }
+}
+
+impl From<WordsRefusal> for Status {
+    ghost from_gives = { λ refusal status. status ≡ status_of_words refusal };
+
+    fn from(refusal: WordsRefusal) -> Status {
+        match refusal {
+            WordsRefusal::Bad(kind) => Status::BadWords(kind),
+            WordsRefusal::OutOfMemory => Status::OutOfMemory,
+        }
+    }
+}
+
+impl From<AllocError> for Status {
+    ghost use Rattle.hhh_engine.specs.declared.status.Status.TheVariants.{OutOfMemory};
+
+    ghost from_gives = { λ _ status. status ≡ OutOfMemory };
+
+    fn from(_error: AllocError) -> Status {
+        Status::OutOfMemory
     }
 }

@@ -40,6 +40,10 @@ fn push_words(line: &mut Vec<u8>, kind: &WordsKind) -> Result<(), AllocError>
         WordsKind::UnknownCommand => line.extend_from_slice(b"unknown command"),
         WordsKind::Refused => line.extend_from_slice(b"refused"),
         WordsKind::BadPrefix(_) => line.extend_from_slice(b"prefix"),
+        WordsKind::BadNumber(_) => line.extend_from_slice(b"number"),
+        WordsKind::OutOfLimits(_) => line.extend_from_slice(b"limits"),
+        WordsKind::BadChoice(_) => line.extend_from_slice(b"choice"),
+        WordsKind::Bound => line.extend_from_slice(b"bound"),
     }
 }
 

@@ -1,42 +1,51 @@
 //! The top call: from words and a capture to a text and a status.
 
-ghost use Rattle.std.specs.Prelude.{◌≡◌, ◌⊎◌, ◌↔◌, ℕ, List, IfSome};
+ghost use Rattle.std.specs.Prelude.{◌≡◌, ◌⊎◌, ℕ, List, Some, IfSome, IfOk, IfErr, OnOk};
 ghost use Rattle.std.specs.Io.KnownBytes.{IsAtEnd};
 ghost use Rattle.outside_io.specs.Faults.{Rose};
 ghost use Rattle.pcap_frames.specs.Capture.{HasFault};
 ghost use Rattle.pcap_frames.specs.declared.fault.CaptureFault.{CaptureFault};
-ghost use Rattle.hhh_engine.specs.Words.{texts, AskToWeigh, HasWordsFault};
-ghost use Rattle.hhh_engine.specs.Weighing.{Weighs, WeighsInPart, WritesWeight, WritesInPart};
+ghost use Rattle.deal_rules.specs.Kinds.{dealer_of};
+ghost use Rattle.command_words.specs.Words.{texts, HasWordsFault, IsLimited};
+ghost use Rattle.command_words.specs.declared.words_kind.WordsKind.{WordsKind};
+ghost use Rattle.hhh_engine.specs.Answers.{IsAnswer, Answers, AnswersInPart, HasNoText};
 ghost use Rattle.hhh_engine.specs.Outcome.{AskSomething, TellsCapture};
-ghost use Rattle.hhh_engine.specs.declared.words_kind.WordsKind.{WordsKind};
 ghost use Rattle.hhh_engine.specs.declared.status.Status.TheVariants.{Done, BadWords, BadCapture, ReadFault, WriteFault, OutOfMemory};
 
 use crate::Status;
-use crate::weighing::weigh_text;
-use crate::words::asked_prefix;
-use frame_records::{Weigh, read_records};
+use crate::reporting::report;
+use crate::weighing::weigh;
+use command_words::{Command, read_words};
+use deal_rules::{Dealer, Dealers, Deals};
 use outside_io::{Sink, Source, write_all};
 use pcap_frames::files_are_decided;
-use prefix_lattice::{Prefix, prefix_texts_have_one_reading};
 use std::alloc::Global;
 
-/// Runs the command that the words ask for. `weigh SRC DST` reads a capture to its end, weighs its
-/// records by bytes, and writes three lines: the least and the greatest weight of the prefix, as its
-/// table of Space-Saving tells them, and the weight of all records.
+/// Runs the command that the words ask for.
+///
+/// `weigh SRC DST` reads a capture to its end, weighs its records, and writes three lines: the least and the
+/// greatest weight of the prefix, as its table of Space-Saving tells them, and the weight of all records.
+///
+/// `report` reads a capture to its end, deals its records to shards, counts them in the tables of each, and
+/// writes a session with one report: the prefixes that carry heavy load which no more specific reported
+/// prefix explains.
 pub fn run<S: Source, K: Sink>(
     alloc: Global,
     words: &[&str],
     capture: &mut S,
     sink: &mut K,
+    dealers: &Dealers,
 ) -> Status
-    // The lines were written over the records of the capture, which was read to its end, and they
-    // hold the exact weight of the prefix.
-    ensures done { result ≡ Done → IfSome (S.left capture.old) (Weighs (texts words.now) (K.taken sink.old) (K.taken sink.new)) }
+    // The text of the command was written over the records of the capture, which was read to its end. What it
+    // tells of weights holds for the records themselves.
+    ensures done { result ≡ Done → IfSome (S.left capture.old) (Answers (λ kind. ⟦<Dealer as Deals>⟧.may_answer (dealer_of kind dealers.now))
+        (texts words.now) (K.taken sink.old) (K.taken sink.new)) }
     ensures done_at_end { result ≡ Done → IsAtEnd (S.left capture.new) }
 
     // The words are looked at first, before anything is read.
-    ensures bad_words { (kind : WordsKind) → (result ≡ BadWords kind) ↔ HasWordsFault (texts words.now) kind }
+    ensures bad_words { (kind : WordsKind) → result ≡ BadWords kind → HasWordsFault (texts words.now) kind }
     ensures bad_words_untouched { (kind : WordsKind) → result ≡ BadWords kind → (capture.new ≡ capture.old) × (sink.new ≡ sink.old) }
+    ensures refuses_words { (kind : WordsKind) → HasWordsFault (texts words.now) kind → (result ≡ BadWords kind) ⊎ (result ≡ OutOfMemory) }
 
     // The capture is refused for its fault alone, and then nothing is written.
     ensures bad_capture { (fault : CaptureFault) → result ≡ BadCapture fault → IfSome (S.left capture.old) (λ file. HasFault file fault) }
@@ -51,7 +60,8 @@ pub fn run<S: Source, K: Sink>(
     ensures read_fault_unwritten { result ≡ ReadFault → sink.new ≡ sink.old }
     ensures write_fault { result ≡ WriteFault → Rose (K.faults sink.old) (K.faults sink.new) }
     ensures write_fault_at_end { result ≡ WriteFault → IsAtEnd (S.left capture.new) }
-    ensures write_fault_in_part { result ≡ WriteFault → IfSome (S.left capture.old) (WeighsInPart (texts words.now) (K.taken sink.old) (K.taken sink.new)) }
+    ensures write_fault_in_part { result ≡ WriteFault → IfSome (S.left capture.old) (AnswersInPart (λ kind. ⟦<Dealer as Deals>⟧.may_answer (dealer_of kind dealers.now))
+        (texts words.now) (K.taken sink.old) (K.taken sink.new)) }
 
     // Want of memory may come at any time before the text is written.
     ensures out_of_memory_unwritten { result ≡ OutOfMemory → sink.new ≡ sink.old }
@@ -62,41 +72,35 @@ pub fn run<S: Source, K: Sink>(
         → (result ≡ Done) ⊎ (result ≡ OutOfMemory) }
 {
     files_are_decided();
-    prefix_texts_have_one_reading();
-    match asked_prefix(words) {
-        Ok(prefix) => weigh(alloc, &prefix, capture, sink),
-        Err(kind) => Status::BadWords(kind),
-    }
-}
-
-// Reads a capture, weighs a prefix over its records and writes the lines.
-fn weigh<S: Source, K: Sink>(
-    alloc: Global,
-    prefix: &Prefix,
-    capture: &mut S,
-    sink: &mut K,
-) -> Status
-    ensures done { result ≡ Done → IfSome (S.left capture.old) (WritesWeight prefix.now (K.taken sink.old) (K.taken sink.new)) }
-    ensures done_at_end { result ≡ Done → IsAtEnd (S.left capture.new) }
-    ensures bad_words { (kind : WordsKind) → result ≡ BadWords kind → ⊥ }
-    ensures bad_capture { (fault : CaptureFault) → result ≡ BadCapture fault → IfSome (S.left capture.old) (λ file. HasFault file fault) }
-    ensures bad_capture_unwritten { (fault : CaptureFault) → result ≡ BadCapture fault → sink.new ≡ sink.old }
-    ensures read_fault { result ≡ ReadFault → Rose (S.faults capture.old) (S.faults capture.new) }
-    ensures read_fault_unwritten { result ≡ ReadFault → sink.new ≡ sink.old }
-    ensures write_fault { result ≡ WriteFault → Rose (K.faults sink.old) (K.faults sink.new) }
-    ensures write_fault_at_end { result ≡ WriteFault → IsAtEnd (S.left capture.new) }
-    ensures write_fault_in_part { result ≡ WriteFault → IfSome (S.left capture.old) (WritesInPart prefix.now (K.taken sink.old) (K.taken sink.new)) }
-    ensures out_of_memory_unwritten { result ≡ OutOfMemory → sink.new ≡ sink.old }
-{
-    let records = match read_records(alloc, capture, Weigh::Bytes) {
-        Ok(records) => records,
+    let command = match read_words(alloc, words) {
+        Ok(command) => command,
         Err(refusal) => return Status::from(refusal),
     };
-    let Ok(text) = weigh_text(alloc, prefix, records.list.as_slice()) else {
-        return Status::OutOfMemory;
+    let text = match answer(alloc, &command, capture, dealers) {
+        Ok(text) => text,
+        Err(status) => return status,
     };
     match write_all(sink, &text) {
         Ok(()) => Status::Done,
         Err(_) => Status::WriteFault,
+    }
+}
+
+// Reads the capture to its end, and makes the text of the command.
+fn answer<S: Source>(
+    alloc: Global,
+    command: &Command,
+    capture: &mut S,
+    dealers: &Dealers,
+) -> Result<Vec<u8>, Status>
+    requires { IsLimited command.now }
+    ensures text { IfOk result (λ text. IfSome (S.left capture.old)
+        (λ file. IsAnswer (λ kind. ⟦<Dealer as Deals>⟧.may_answer (dealer_of kind dealers.now)) command.now file text.items)) }
+    ensures at_end { OnOk result (IsAtEnd (S.left capture.new)) }
+    ensures refused { IfErr result (HasNoText (S.left capture.old) (S.faults capture.old) (S.faults capture.new)) }
+{
+    match command {
+        Command::Weigh { prefix, settings } => weigh(alloc, prefix, settings, capture),
+        Command::Report(settings) => report(alloc, settings, capture, dealers),
     }
 }

@@ -1,11 +1,16 @@
 //! The weight of one prefix, in a table of Space-Saving.
 
-ghost use Rattle.std.specs.Prelude.{◌≡◌, ◌≤◌, ◌^◌, List, length, All, IfOk};
+ghost use Rattle.std.specs.Prelude.{◌≡◌, ◌≤◌, ◌^◌, List, length, All, IfOk, IfErr, IfSome, OnOk};
+ghost use Rattle.std.specs.Io.KnownBytes.{IsAtEnd};
 ghost use Rattle.prefix_lattice.specs.RecordValue.{RecordValue};
-ghost use Rattle.hhh_engine.specs.Weighing.{text_for, weigh_text, HoldsWeight};
 ghost use Rattle.shard_state.specs.Tables.{records_table};
+ghost use Rattle.hhh_engine.specs.Answers.{HasNoText};
+ghost use Rattle.hhh_engine.specs.Weighing.{text_for, weigh_text, HoldsWeight, IsWeightText};
 
 use crate::decimal_text::push_number;
+use crate::{Settings, Status};
+use frame_records::read_records;
+use outside_io::Source;
 use prefix_lattice::{Node, Prefix, Record};
 use shard_state::tables_hold_weights;
 use space_saving::{PlainTable, Summary};
@@ -14,9 +19,23 @@ use std::alloc::{AllocError, Global};
 // How many prefixes the table of the prefix's node can tell apart.
 const WEIGH_CAPACITY: u32 = 64;
 
-/// The lines that tell the weight of a prefix over at most 16,777,216 records. They hold its exact
-/// weight.
-pub fn weigh_text(alloc: Global, prefix: &Prefix, records: &[Record]) -> Result<Vec<u8>, AllocError>
+/// Reads a capture to its end, and tells the weight of a prefix over its records.
+pub fn weigh<S: Source>(
+    alloc: Global,
+    prefix: &Prefix,
+    settings: &Settings,
+    capture: &mut S,
+) -> Result<Vec<u8>, Status>
+    ensures text { IfOk result (λ text. IfSome (S.left capture.old) (λ file. IsWeightText prefix.now settings.now.weigh file text.items)) }
+    ensures at_end { OnOk result (IsAtEnd (S.left capture.new)) }
+    ensures refused { IfErr result (HasNoText (S.left capture.old) (S.faults capture.old) (S.faults capture.new)) }
+{
+    let records = read_records(alloc, capture, settings.weigh)?;
+    Ok(weigh_text(alloc, prefix, records.list.as_slice())?)
+}
+
+// The lines that tell the weight of a prefix over at most 16,777,216 records. They hold its exact weight.
+fn weigh_text(alloc: Global, prefix: &Prefix, records: &[Record]) -> Result<Vec<u8>, AllocError>
     requires few { length records.now ≤ 2 ^ 24 }
     requires weighed { All (λ rec. 1 ≤ rec.weight) records.now }
     ensures text { IfOk result (λ text. text.items ≡ text_for prefix.now records.now) }

@@ -1,6 +1,7 @@
 -- Words have one meaning, so what is read soundly is read exactly.
 use Rattle.std.proofs.lemmas.Result.{IfOk-weaker}
-use Rattle.command_words.specs.Words.{texts, AskFor}
+use Rattle.command_words.specs.Words.{texts, AskFor, IsLimited}
+use Rattle.command_words.proofs.Limits.{asked_is_limited}
 use Rattle.command_words.proofs.OneMeaning.{HasOneReading, reads_all, tells_all}
 use Rattle.command_words.proofs.reading.read_words.Goals as goal
 
@@ -16,3 +17,6 @@ returns-clause-exact c =
     let reading : HasOneReading = record { one_prefix = law.one_prefix; no_fault = law.no_fault; one_fault = law.one_fault } in
     tells_all reading (texts c.args.words.now) c.command_in.result (IfOk-weaker c.command_in.result (AskFor (texts c.args.words.now)) _ (λ asked asks. (asked, asks)) c.command_in.ensures.ok)
     c.command_in.ensures.bad
+
+pub returns-clause-limited : goal.returns-clause-limited
+returns-clause-limited c = IfOk-weaker c.command_in.result (AskFor (texts c.args.words.now)) IsLimited (λ asked asks. asked_is_limited (texts c.args.words.now) asked asks) c.command_in.ensures.ok

@@ -1,0 +1,43 @@
+-- What the words of a command line set is within limits.
+use Rattle.std.proofs.Common.{◌≡◌, ◌≤◌, ℕ, List, Option, Some, None, refl, sym, subst, arith}
+use Rattle.command_words.specs.Arguments.{Text}
+use Rattle.command_words.specs.Options.{Kind, number, kind_of, IsAllowed}
+use Rattle.command_words.specs.Settings.{Values, SetsNumber, SetsSettings, AreLimited}
+use Rattle.command_words.specs.Words.{AskFor, IsLimited}
+use Rattle.command_words.specs.declared.command.Command.{Command}
+use Rattle.command_words.specs.declared.command.Command.TheVariants.{Weigh, Report}
+use Rattle.command_words.specs.declared.opt.Opt.{Opt}
+use Rattle.command_words.specs.declared.opt.Opt.TheVariants.{Shards, Capacity, Phi}
+use Rattle.command_words.specs.declared.settings.Settings.{Settings}
+
+-- a number that an option sets is within its limits, if the default is
+set_within : (opt : Opt) (default least greatest : ℕ) (text : Option Text) (value : ℕ) → kind_of opt ≡ number least greatest → least ≤ default → default ≤ greatest
+    → SetsNumber opt default text value → (least ≤ value) × (value ≤ greatest)
+set_within opt default least greatest None value kind low high set = (subst (λ n. least ≤ n) (sym set) low, subst (λ n. n ≤ greatest) (sym set) high)
+set_within opt default least greatest (Some text) value kind low high set = subst (λ (k : Kind). IsAllowed k value) kind set.1
+
+-- settings that values set are within their limits
+set_is_limited : (values : Values) (settings : Settings) → SetsSettings values settings → AreLimited settings
+set_is_limited values settings set =
+    let shards = set_within Shards 4 1 16 (values Shards) settings.shards refl (omega arith) (omega arith) set.shards in
+    let capacity = set_within Capacity 512 2 4096 (values Capacity) settings.capacity refl (omega arith) (omega arith) set.capacity in
+    let phi = set_within Phi 10000 1 1000000 (values Phi) settings.phi refl (omega arith) (omega arith) set.phi in
+    record {
+      some_shards = shards.0;
+      few_shards = shards.1;
+      least_capacity = capacity.0;
+      most_capacity = capacity.1;
+      some_phi = phi.0;
+      most_phi = phi.1;
+      some_block = omega (arith, set.block);
+      most_block = omega (arith, set.block);
+      some_workers = omega (arith, set.workers);
+      few_workers = omega (arith, set.workers);
+      few_callers = omega (arith, set.callers);
+      few_rounds = omega (arith, set.rounds);
+    }
+
+-- so the settings of what is asked for are
+pub asked_is_limited : (words : List Text) (command : Command) → AskFor words command → IsLimited command
+asked_is_limited words (Weigh prefix settings) asked = set_is_limited _ settings asked.set
+asked_is_limited words (Report settings) asked = (set_is_limited _ settings asked.set, asked.wide)

@@ -1,0 +1,96 @@
+//! What `weigh` writes.
+
+use super::captures::{HEADER, ONE, Packet, capture_of};
+use super::{SOUND, run_over};
+use crate::{Status, run};
+use deal_rules::Dealers;
+use outside_io::{MemorySink, MemorySource};
+use pcap_frames::{CaptureFault, FaultKind};
+use std::alloc::{AllocError, Global};
+use std::process::Abort;
+use std::test::Fail;
+
+// The words behind `weigh`, the packets, and what is written.
+type Case = (&'static [&'static str], &'static [Packet], &'static str);
+
+const CASES: [Case; 6] = [
+    (
+        &["weigh", "10.0.0.0/8", "20.0.0.0/8"],
+        &[ONE],
+        "low 100\nhigh 100\ntotal 100\n",
+    ),
+    (
+        &["weigh", "11.0.0.0/8", "20.0.0.0/8"],
+        &[ONE],
+        "low 0\nhigh 0\ntotal 100\n",
+    ),
+    (
+        &["weigh", "10.0.0.0/8", "20.0.0.0/8"],
+        &[],
+        "low 0\nhigh 0\ntotal 0\n",
+    ),
+    (
+        &["weigh", "10.1.2.3/32", "20.1.2.3/32"],
+        &[ONE, ONE, ONE],
+        "low 300\nhigh 300\ntotal 300\n",
+    ),
+    (
+        &["weigh", "0.0.0.0/0", "21.0.0.0/8"],
+        &[ONE, ONE],
+        "low 0\nhigh 0\ntotal 200\n",
+    ),
+    (
+        &["weigh", "--weigh=packets", "10.1.2.3/32", "20.1.2.3/32"],
+        &[ONE, ONE],
+        "low 2\nhigh 2\ntotal 2\n",
+    ),
+];
+
+pub(crate) fn weighs_prefixes(
+    rt: &impl Abort,
+    alloc: Global,
+    dealers: &Dealers,
+) -> Result<(), Fail> {
+    for (words, packets, want) in CASES {
+        let ended = run_over(alloc, dealers, words, capture_of(alloc, packets)?, SOUND)?;
+        assert_eq!(rt; ended.status, Status::Done, "{want}");
+        assert_eq!(rt; ended.text.as_slice(), want.as_bytes(), "{want}");
+    }
+    Ok(())
+}
+
+// A capture of one frame of so many captured bytes, all zero but for the type.
+fn long_capture(alloc: Global, captured: u32) -> Result<Vec<u8>, AllocError> {
+    let mut bytes = Vec::from_slice(alloc, &HEADER)?;
+    bytes.extend_from_slice(&[0; 8])?;
+    bytes.extend_from_slice(&captured.to_le_bytes())?;
+    bytes.extend_from_slice(&[0; 16])?;
+    bytes.extend_from_slice(&[8, 0, 0x45])?;
+    bytes.resize(40 + captured as usize, 0)?;
+    Ok(bytes)
+}
+
+pub(crate) fn weighs_the_longest_frame(
+    rt: &impl Abort,
+    alloc: Global,
+    dealers: &Dealers,
+) -> Result<(), Fail> {
+    let words = ["weigh", "0.0.0.0/0", "0.0.0.0/0"];
+    let mut source = MemorySource::new(long_capture(alloc, 262_144)?, Vec::new(alloc), 4096);
+    let mut sink = MemorySink::with_room(alloc, 4096, Vec::new(alloc))?;
+    assert_eq!(rt;
+        run(alloc, &words, &mut source, &mut sink, dealers),
+        Status::Done
+    );
+    assert_eq!(rt;
+        sink.taken(),
+        b"low 262144\nhigh 262144\ntotal 262144\n".as_slice()
+    );
+    let fault = CaptureFault {
+        kind: FaultKind::LongFrame,
+        place: 24,
+    };
+    let ended = run_over(alloc, dealers, &words, long_capture(alloc, 262_145)?, SOUND)?;
+    assert_eq!(rt; ended.status, Status::BadCapture(fault));
+    Ok(())
+}
