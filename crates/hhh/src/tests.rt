@@ -1,5 +1,5 @@
-use super::{StdSink, StdSource};
-use outside_io::{Failed, Sink, Source};
+use super::{Input, LateFile, StdSink, StdSource};
+use outside_io::{Failed, PathText, Sink, Source};
 use std::io::{Error, ErrorKind, Result as IoResult, Write};
 use std::test::Fail;
 
@@ -26,6 +26,26 @@ fn reads_a_stream_to_its_end(rt: HostRuntime) -> Result<(), Fail> {
     assert_eq!(rt; source.read(&mut into), Ok(2));
     assert_eq!(rt; into, *b"dec");
     assert_eq!(rt; source.read(&mut into), Ok(0));
+    Ok(())
+}
+
+// Two files that each system of this kind has, and one that none has.
+#[test]
+fn opens_a_file_at_the_first_read(rt: HostRuntime) -> Result<(), Fail> {
+    let alloc = rt.alloc();
+    let zeros = LateFile::new(&rt, PathText::of(alloc, "/dev/zero")?);
+    let mut source = StdSource::new(alloc, Input::File(zeros))?;
+    let mut into = [1; 3];
+    assert_eq!(rt; source.read(&mut into), Ok(3));
+    assert_eq!(rt; into, [0; 3]);
+    assert_eq!(rt; source.read(&mut into), Ok(3));
+    let empty = LateFile::new(&rt, PathText::of(alloc, "/dev/null")?);
+    assert_eq!(rt; StdSource::new(alloc, Input::File(empty))?.read(&mut into), Ok(0));
+    let missing = LateFile::new(&rt, PathText::of(alloc, "/no such file")?);
+    let mut source = StdSource::new(alloc, Input::File(missing))?;
+    assert_eq!(rt; source.read(&mut into), Err(Failed));
+    assert_eq!(rt; source.read(&mut into), Err(Failed));
+    assert_eq!(rt; StdSource::new(alloc, Input::Nothing)?.read(&mut into), Ok(0));
     Ok(())
 }
 

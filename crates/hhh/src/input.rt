@@ -1,0 +1,58 @@
+//! Where the capture comes from.
+
+use outside_io::PathText;
+use std::fs::File;
+use std::io::{Read, Result as IoResult, Stdin};
+
+/// The bytes of a capture: those of standard input or of a file.
+#[derive(Drop)]
+pub enum Input<'a> {
+    /// No bytes, where no words ask for any.
+    Nothing,
+    /// What stands in the standard input.
+    Standard(Stdin),
+    /// What stands in a file.
+    File(LateFile<'a>),
+}
+
+impl Read for Input<'_> {
+    fn read(&mut self, into: &mut [u8]) -> IoResult<usize> {
+        match self {
+            Input::Nothing => Ok(0),
+            Input::Standard(stdin) => stdin.read(into),
+            Input::File(file) => file.read(into),
+        }
+    }
+}
+
+/// A file that is opened by the first read, so that no file is looked at before the words are.
+#[derive(Drop)]
+pub struct LateFile<'a> {
+    rt: &'a HostRuntime,
+    path: PathText,
+    opened: Option<File>,
+}
+
+impl<'a> LateFile<'a> {
+    /// The file of this name.
+    pub fn new(rt: &'a HostRuntime, path: PathText) -> Self {
+        LateFile {
+            rt,
+            path,
+            opened: None,
+        }
+    }
+}
+
+impl Read for LateFile<'_> {
+    // A file that can't be opened is tried again by the next read.
+    fn read(&mut self, into: &mut [u8]) -> IoResult<usize> {
+        let mut file = match self.opened.take() {
+            Some(file) => file,
+            None => File::open(self.rt, self.path.as_str())?,
+        };
+        let count = file.read(into);
+        self.opened = Some(file);
+        count
+    }
+}
