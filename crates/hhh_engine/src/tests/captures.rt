@@ -26,7 +26,8 @@ pub(crate) const ONE: Packet = (0x0a01_0203, 0x1401_0203);
 // Appends a frame of these captured bytes, which is 100 bytes long on the wire.
 pub(crate) fn push_frame(bytes: &mut Vec<u8>, captured: &[u8]) -> Result<(), AllocError> {
     bytes.extend_from_slice(&[0; 8])?;
-    bytes.extend_from_slice(&(captured.len() as u32).to_le_bytes())?;
+    let length = captured.len().min(262_144) as u32;
+    bytes.extend_from_slice(&length.to_le_bytes())?;
     bytes.extend_from_slice(&100u32.to_le_bytes())?;
     bytes.extend_from_slice(captured)
 }

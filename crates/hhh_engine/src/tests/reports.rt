@@ -213,7 +213,9 @@ fn mixed_capture(alloc: Global) -> Result<Vec<u8>, AllocError> {
         push_frame(&mut bytes, &packet_bytes(alloc, tags, ONE)?)?;
     }
     let whole = packet_bytes(alloc, &[], ONE)?;
-    push_frame(&mut bytes, &whole[..whole.len() - 1])?;
+    let mut cut = whole.to_vec(alloc)?;
+    cut.pop();
+    push_frame(&mut bytes, &cut)?;
     let mut short = Vec::new(alloc);
     for (place, byte) in whole.iter().enumerate() {
         short.push(if place == 14 { 0x44 } else { *byte })?;
