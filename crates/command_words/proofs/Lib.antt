@@ -14,3 +14,4 @@ pub mod OneMeaning
 pub mod ToldWords
 pub mod FirstWord
 pub mod Limits
+pub mod Examples
