@@ -1,5 +1,5 @@
 -- The cut in which shards counted all their records.
-use Rattle.std.proofs.Common.{◌≡◌, ◌≤◌, ◌∙◌, refl, sym, ap, ap₂, subst, arith, ℕ, List, [], ◌∷◌, ◌++◌, length, map, slice_set, append-nil, replicate}
+use Rattle.std.proofs.Common.{◌≡◌, ◌≤◌, ◌∙◌, refl, sym, ap, ap₂, subst, arith, ℕ, List, [], ◌∷◌, ◌++◌, length, map, slice_set, append-nil, append_assoc, replicate}
 use Rattle.std.specs.List.{All, AllZip, sum_by}
 use Rattle.std.proofs.Math.Seq.{set-append_seam}
 use Rattle.std.proofs.lemmas.List.{map-append, length-map}
@@ -30,11 +30,6 @@ same_list (x ∷ xs) y = ap (λ ys. y ∷ ys) (same_list xs y)
 pub none_counted : (capacity : ℕ) (lists : List (List RecordValue)) → replicate (length lists) (empty_snapshot capacity) ≡ counted capacity [] lists
 none_counted capacity lists = same_list lists (empty_snapshot capacity)
 
--- an element behind a list, and others behind it
-pub seam : {X : Type 0} (xs : List X) (y : X) (ys : List X) → xs ++ y ∷ ys ≡ (xs ++ y ∷ []) ++ ys
-seam [] y ys = refl
-seam (x ∷ xs) y ys = ap (λ zs. x ∷ zs) (seam xs y ys)
-
 -- then one more counted all
 one_more_counted : (capacity : ℕ) (done left : List (List RecordValue)) (list : List RecordValue)
     → slice_set (counted capacity done (list ∷ left)) (length done) (at_end capacity list) ≡ counted capacity (done ++ list ∷ []) left
@@ -43,7 +38,7 @@ one_more_counted capacity done left list =
     let behind = map (λ l. empty_snapshot capacity) left in
     ap (λ n. slice_set (before ++ empty_snapshot capacity ∷ behind) n (at_end capacity list)) (sym (length-map done (at_end capacity)))
     ∙ set-append_seam before (empty_snapshot capacity) behind (at_end capacity list)
-    ∙ seam before (at_end capacity list) behind
+    ∙ sym (append_assoc before (at_end capacity list ∷ []) behind)
     ∙ ap (λ xs. xs ++ behind) (sym (map-append (at_end capacity) done (list ∷ [])))
 
 -- the shards of a cut after one more counted all
@@ -70,11 +65,6 @@ stand_at_ends stand capacity (list ∷ lists) = (
   stand.goes_on (record { list = list; base = empty_snapshot capacity; position = length list }) (stand.begins capacity list) (omega arith) (omega arith),
   stand_at_ends stand capacity lists,
 )
-
--- a list of no length is empty
-pub nothing_left : {X : Type 0} (xs : List X) (n : ℕ) → n ≡ length xs → n ≡ 0 → xs ≡ []
-nothing_left [] n is none = refl
-nothing_left (x ∷ xs) n is none = absurd (omega (arith, is, none))
 
 -- in the end all counted all, and the cut is that at the ends
 pub all_counted : ShardsStand → (capacity : ℕ) (lists done : List (List RecordValue)) (cut : CutValue) → lists ≡ done ++ [] → cut.capacity ≡ capacity

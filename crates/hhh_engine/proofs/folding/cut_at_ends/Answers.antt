@@ -1,11 +1,12 @@
-use Rattle.std.proofs.Common.{refl, sym, ◌≤◌, ◌^◌, ◌+◌, ◌++◌, [], ◌∷◌, List, ◌∙◌, ap, subst, arith, length, length-append, append-nil}
+use Rattle.std.proofs.Common.{refl, sym, ◌≤◌, ◌^◌, ◌+◌, ◌++◌, [], ◌∷◌, List, ◌∙◌, ap, subst, arith, length, length-append, append-nil, append_assoc}
 use Rattle.std.specs.List.{All}
 use Rattle.std.specs.Vec.Iter.{into_iter_items}
 use Rattle.std.proofs.Math.ListN.{replicate}
+use Rattle.std.proofs.lemmas.List.{nil_from_length}
 use Rattle.std.proofs.lemmas.List.Elements.{All-drop, All-nil, All-push}
 use Rattle.prefix_lattice.specs.RecordValue.{RecordValue}
 use Rattle.shard_state.specs.SnapshotValue.{empty_snapshot}
-use Rattle.hhh_engine.proofs.Ends.{counted, none_counted, seam, shards_after, nothing_left, ShardsStand, all_counted, each_few}
+use Rattle.hhh_engine.proofs.Ends.{counted, none_counted, shards_after, ShardsStand, all_counted, each_few}
 use Rattle.hhh_engine.proofs.folding.cut_at_ends.Goals as goal
 
 pub loop-list-init : goal.loop-list-init
@@ -29,7 +30,7 @@ loop-list-preserved c =
     let parted = c.in-Some.ensures.steps.0 in
     let done = c.loop-list.yielded in
     record {
-      parted = kept.parted ∙ ap (λ xs. done ++ xs) parted ∙ seam done c.in-Some.list (into_iter_items c.next.new.self);
+      parted = kept.parted ∙ ap (λ xs. done ++ xs) parted ∙ sym (append_assoc done (c.in-Some.list ∷ []) (into_iter_items c.next.new.self));
       place = omega (arith, kept.place, length-append done (c.in-Some.list ∷ []));
       capacity = ap (λ cut. cut.capacity) c.copy_shard.ensures ∙ kept.capacity;
       shards = shards_after c.args.capacity done (into_iter_items c.loop-list.list-iterator) (into_iter_items c.next.new.self) c.in-Some.list
@@ -44,14 +45,14 @@ pub returns-clause-weighed : goal.returns-clause-weighed
 returns-clause-weighed c =
     let kept = c.loop-list.invariant in
     let done = c.loop-list.yielded in
-    let none = nothing_left (into_iter_items c.loop-list.list-iterator) _ c.loop-list.list-iterator.rest.ok.0 c.in-None.ensures.steps.0 in
+    let none = nil_from_length (into_iter_items c.loop-list.list-iterator) (sym c.loop-list.list-iterator.rest.ok.0 ∙ c.in-None.ensures.steps.0) in
     subst (All (λ list. All (λ rec. 1 ≤ rec.weight) list)) (sym (kept.parted ∙ ap (λ xs. done ++ xs) none ∙ append-nil done)) kept.weighed
 
 pub returns-clause-cut : goal.returns-clause-cut
 returns-clause-cut c =
     let kept = c.loop-list.invariant in
     let done = c.loop-list.yielded in
-    let none = nothing_left (into_iter_items c.loop-list.list-iterator) _ c.loop-list.list-iterator.rest.ok.0 c.in-None.ensures.steps.0 in
+    let none = nil_from_length (into_iter_items c.loop-list.list-iterator) (sym c.loop-list.list-iterator.rest.ok.0 ∙ c.in-None.ensures.steps.0) in
     let stand : ShardsStand = record { begins = c.shards_stand.ensures.begins; goes_on = c.shards_stand.ensures.goes_on } in
     all_counted stand c.args.capacity c.args.dealt done c.loop-list.cut (kept.parted ∙ ap (λ xs. done ++ xs) none) kept.capacity
     (kept.shards ∙ ap (counted c.args.capacity done) none)
