@@ -1,5 +1,5 @@
 -- The first word of a command line, and what stands behind it.
-use Rattle.std.proofs.Common.{◌≡◌, ◌≢◌, List, ◌∷◌, Bor, Err, Result, sym, ap, ◌∙◌, subst}
+use Rattle.std.proofs.Common.{◌≡◌, ◌≢◌, List, ◌∷◌, Bor, Err, Result, ap, ◌∙◌, subst}
 use Rattle.clap.specs.declared.parser.matches.ArgMatches.{ArgMatches}
 use Rattle.command_words.specs.Arguments.{Text, Argument, AreWellFormed}
 use Rattle.command_words.specs.Forms.{word_of, form_of}

@@ -1,22 +1,19 @@
 -- Values that options may have, and the first one that is bad.
-use Rattle.std.proofs.Common.{◌≡◌, ◌<◌, ◌≤◌, ◌⊎◌, inl, inr, ◌==◌, ℕ, suc, List, [], ◌∷◌, Option, Some, None, Bor, refl, sym, ap, ◌∙◌, subst, arith, codes}
+use Rattle.std.proofs.Common.{◌≡◌, ◌<◌, ◌≤◌, ◌⊎◌, inl, inr, ◌==◌, ℕ, suc, Option, Some, None, refl, sym, ap, ◌∙◌, subst, arith}
 use Rattle.std.specs.Prelude.{if◌then◌else◌}
 use Rattle.std.proofs.lemmas.Bool.{cases_lt}
 use Rattle.frame_records.specs.declared.weigh.Weigh.{Weigh}
 use Rattle.frame_records.specs.declared.weigh.Weigh.TheVariants as weighing
 use Rattle.deal_rules.specs.declared.deal_kind.DealKind.{DealKind}
 use Rattle.deal_rules.specs.declared.deal_kind.DealKind.TheVariants as dealing
-use Rattle.clap.specs.Words.{found_of, first_value}
-use Rattle.clap.specs.declared.parser.matches.ArgMatches.{ArgMatches}
-use Rattle.command_words.specs.Arguments.{Text, text_at}
-use Rattle.command_words.specs.Options.{Kind, number, choice, name_of, kind_of, place_of, IsNumber, IsAllowed, IsGoodText, IsGood, IsNoNumber, IsNoChoice, IsOutside}
-use Rattle.command_words.specs.Settings.{Values, SetsNumber, SetsWeigh, SetsDeal, SetsSettings}
+use Rattle.command_words.specs.Arguments.{Text}
+use Rattle.command_words.specs.Options.{Kind, number, choice, kind_of, place_of, IsNumber, IsAllowed, IsGoodText, IsGood, IsNoNumber, IsNoChoice, IsOutside}
+use Rattle.command_words.specs.Settings.{Values, SetsNumber, SetsWeigh, SetsDeal}
 use Rattle.command_words.specs.Words.{IsFirstBad, HasValueFault, IsBadNumber, IsBadChoice}
 use Rattle.command_words.specs.declared.opt.Opt.{Opt}
 use Rattle.command_words.specs.declared.opt.Opt.TheVariants as opt
-use Rattle.command_words.specs.declared.settings.Settings.{Settings}
 use Rattle.command_words.specs.declared.words_kind.WordsKind.{WordsKind}
-use Rattle.command_words.specs.declared.words_kind.WordsKind.TheVariants.{NoCommand, UnknownCommand, Refused, BadPrefix, BadNumber, OutOfLimits, BadChoice, Bound}
+use Rattle.command_words.specs.declared.words_kind.WordsKind.TheVariants.{BadNumber, OutOfLimits, BadChoice}
 
 -- the option at a place
 abbrev opt_at : ℕ → Opt

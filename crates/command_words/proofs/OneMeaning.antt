@@ -1,5 +1,5 @@
 -- Words ask for one command at most, or have one fault at most, and never both.
-use Rattle.std.proofs.Common.{◌≡◌, ◌≢◌, ◌⊎◌, inl, inr, ◌==◌, ℕ, cond, List, [], ◌∷◌, Ok, Err, Result, refl, sym, ap, ap₂, ◌∙◌, subst, codes}
+use Rattle.std.proofs.Common.{◌≡◌, ◌≢◌, ◌⊎◌, inl, inr, ◌==◌, cond, List, [], ◌∷◌, Ok, Err, Result, refl, sym, ap, ap₂, ◌∙◌, subst}
 use Rattle.std.specs.Result.{IfOk, IsOk}
 use Rattle.prefix_lattice.specs.PrefixValue.{PrefixValue}
 use Rattle.prefix_lattice.specs.PrefixText.{SpellsPrefix, HasPrefixFault}
@@ -7,7 +7,7 @@ use Rattle.prefix_lattice.specs.declared.prefix_fault.PrefixFault.{PrefixFault}
 use Rattle.command_words.specs.Arguments.{Text, Argument, SpellsAll, AreWellFormed}
 use Rattle.command_words.specs.Forms.{word_of, form_of, AreWordsOf}
 use Rattle.command_words.specs.Settings.{Values, SetsSettings, values_in, IsWide}
-use Rattle.command_words.specs.Words.{AskFor, AskToWeigh, AskToReport, HasSides, HasGoodPositionals, HasValueFault, HasBadPrefix, HasBadValue, IsTooNarrow, HasWordsFault}
+use Rattle.command_words.specs.Words.{AskFor, HasSides, HasGoodPositionals, HasValueFault, HasBadValue, HasWordsFault}
 use Rattle.command_words.specs.declared.command.Command.{Command}
 use Rattle.command_words.specs.declared.command.Command.TheVariants as command
 use Rattle.command_words.specs.declared.command_word.CommandWord.{CommandWord}

@@ -1,5 +1,5 @@
 -- What `clap` found among words.
-use Rattle.std.specs.Prelude.{ℕ, ◌≡◌, List, Contains, slice_get, Some, Option}
+use Rattle.std.specs.Prelude.{ℕ, ◌≡◌, List, Contains, slice_get, Some}
 use Rattle.clap.specs.Words.{found_of, first_value}
 use Rattle.clap.specs.declared.parser.matches.ArgMatches.{ArgMatches}
 use Rattle.command_words.specs.Arguments.{Text, Argument, Form, positionals_in, value_of}

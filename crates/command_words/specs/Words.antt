@@ -1,10 +1,10 @@
 -- What the words of a command line ask, or the first thing that is wrong with them.
-use Rattle.std.specs.Prelude.{⊤, ℕ, ◌≡◌, ◌≢◌, ◌<◌, List, [], ◌∷◌, map, Option, Some, None}
+use Rattle.std.specs.Prelude.{⊤, ◌≡◌, ◌≢◌, ◌<◌, List, [], ◌∷◌, map, Option, Some, None}
 use Rattle.std.specs.Borrow.{Bor}
 use Rattle.prefix_lattice.specs.PrefixValue.{PrefixValue}
 use Rattle.prefix_lattice.specs.PrefixText.{SpellsPrefix, HasPrefixFault}
 use Rattle.prefix_lattice.specs.declared.prefix_fault.PrefixFault.{PrefixFault}
-use Rattle.command_words.specs.Arguments.{Text, Argument, positionals_in, value_of, AreWellFormed}
+use Rattle.command_words.specs.Arguments.{Text, Argument, positionals_in, AreWellFormed}
 use Rattle.command_words.specs.Forms.{word_of, form_of, AreWordsOf}
 use Rattle.command_words.specs.Options.{Kind, kind_of, place_of, IsGood, IsNoNumber, IsOutside, IsNoChoice}
 use Rattle.command_words.specs.Settings.{Values, values_in, SetsSettings, IsWide, AreLimited}

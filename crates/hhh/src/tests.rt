@@ -40,12 +40,18 @@ fn opens_a_file_at_the_first_read(rt: HostRuntime) -> Result<(), Fail> {
     assert_eq!(rt; into, [0; 3]);
     assert_eq!(rt; source.read(&mut into), Ok(3));
     let empty = LateFile::new(&rt, PathText::of(alloc, "/dev/null")?);
-    assert_eq!(rt; StdSource::new(alloc, Input::File(empty))?.read(&mut into), Ok(0));
+    assert_eq!(rt;
+        StdSource::new(alloc, Input::File(empty))?.read(&mut into),
+        Ok(0)
+    );
     let missing = LateFile::new(&rt, PathText::of(alloc, "/no such file")?);
     let mut source = StdSource::new(alloc, Input::File(missing))?;
     assert_eq!(rt; source.read(&mut into), Err(Failed));
     assert_eq!(rt; source.read(&mut into), Err(Failed));
-    assert_eq!(rt; StdSource::new(alloc, Input::Nothing)?.read(&mut into), Ok(0));
+    assert_eq!(rt;
+        StdSource::new(alloc, Input::Nothing)?.read(&mut into),
+        Ok(0)
+    );
     Ok(())
 }
 

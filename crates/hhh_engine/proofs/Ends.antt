@@ -1,5 +1,5 @@
 -- The cut in which shards counted all their records.
-use Rattle.std.proofs.Common.{◌≡◌, ◌≤◌, ◌∙◌, refl, sym, ap, ap₂, subst, arith, ℕ, List, [], ◌∷◌, ◌++◌, length, map, slice_set, append-nil, append_assoc, replicate}
+use Rattle.std.proofs.Common.{◌≡◌, ◌≤◌, ◌∙◌, refl, sym, ap, subst, arith, ℕ, List, [], ◌∷◌, ◌++◌, length, map, slice_set, append-nil, append_assoc, replicate}
 use Rattle.std.specs.List.{All, AllZip, sum_by}
 use Rattle.std.proofs.Math.Seq.{set-append_seam}
 use Rattle.std.proofs.lemmas.List.{map-append, length-map}
@@ -9,7 +9,7 @@ use Rattle.prefix_lattice.specs.RecordValue.{RecordValue}
 use Rattle.shard_state.specs.SnapshotValue.{SnapshotValue, empty_snapshot}
 use Rattle.shard_state.specs.ShardValue.{ShardValue, snapshot_of}
 use Rattle.shard_state.specs.CutValue.{CutValue, positions_of}
-use Rattle.shard_state.specs.Standing.{StandsFor, CutStandsFor}
+use Rattle.shard_state.specs.Standing.{StandsFor}
 use Rattle.deal_rules.specs.Dealing.{AreShards}
 use Rattle.report_text.specs.Positions.{ArePositions}
 use Rattle.hhh_engine.specs.Reporting.{IsCutAtEnds, start_of}

@@ -1,7 +1,6 @@
 -- What `clap` found behind the first word tells the words.
 use Rattle.std.proofs.Common.{sym, ◌∙◌}
 use Rattle.std.proofs.lemmas.Bool.{false≢true}
-use Rattle.command_words.specs.Matches.{TellsWords}
 use Rattle.command_words.specs.Words.{texts}
 use Rattle.command_words.proofs.FirstWord.{unknown_first, refused_behind, tells_behind, told_as_bad}
 use Rattle.command_words.proofs.reading.read_line.Goals as goal

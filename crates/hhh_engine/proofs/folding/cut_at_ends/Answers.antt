@@ -1,10 +1,9 @@
-use Rattle.std.proofs.Common.{refl, sym, ◌≤◌, ◌^◌, ◌+◌, ◌++◌, [], ◌∷◌, List, ◌∙◌, ap, subst, arith, length, length-append, append-nil, append_assoc}
+use Rattle.std.proofs.Common.{refl, sym, ◌≤◌, ◌^◌, ◌++◌, [], ◌∷◌, ◌∙◌, ap, subst, arith, length, length-append, append-nil, append_assoc}
 use Rattle.std.specs.List.{All}
 use Rattle.std.specs.Vec.Iter.{into_iter_items}
 use Rattle.std.proofs.Math.ListN.{replicate}
 use Rattle.std.proofs.lemmas.List.{nil_from_length}
 use Rattle.std.proofs.lemmas.List.Elements.{All-drop, All-nil, All-push}
-use Rattle.prefix_lattice.specs.RecordValue.{RecordValue}
 use Rattle.shard_state.specs.SnapshotValue.{empty_snapshot}
 use Rattle.hhh_engine.proofs.Ends.{counted, none_counted, shards_after, ShardsStand, all_counted, each_few}
 use Rattle.hhh_engine.proofs.folding.cut_at_ends.Goals as goal
