@@ -1,0 +1,54 @@
+"""Run by gdb over `report`: the processor time and the peak memory of each of its parts.
+
+gdb -batch -x parts.py PROGRAM, where INPUT names the capture. For each part, in their order, a line with its
+name, the milliseconds that it took, and the peak memory of the program up to its end in kilobytes.
+"""
+
+import os
+
+import gdb
+
+FIRST = "frame_records::reading::read_records"
+
+# Each part, and the function whose next entry ends it.
+PARTS = [
+    ("reading", "report_text::putting::put_number"),
+    ("dealing", "report_text::putting::put_positions"),
+    ("folding", "indexmap::map::IndexMap::grow"),
+    ("merging", "cut_merge::merged::Merged::interval"),
+    ("selecting", "report_text::putting::put_positions"),
+    ("printing", "write"),
+]
+
+
+def stop_at(function, command):
+    """Runs the program until it enters the function."""
+    gdb.execute("rbreak ^" + function, to_string=True)
+    gdb.execute(command, to_string=True)
+    gdb.execute("delete", to_string=True)
+    if not (gdb.selected_inferior().pid and gdb.selected_frame().name().startswith(function)):
+        raise gdb.GdbError("the program doesn't enter " + function)
+
+
+def stand():
+    """The processor time so far in nanoseconds, and the peak memory so far in kilobytes."""
+    folder = "/proc/%d/" % gdb.selected_inferior().pid
+    with open(folder + "schedstat") as times, open(folder + "status") as status:
+        peak = next(line for line in status if line.startswith("VmHWM:"))
+        return int(times.read().split()[0]), int(peak.split()[1])
+
+
+def main():
+    gdb.execute("set confirm off")
+    stop_at(FIRST, "run report <'%s' >/dev/null" % os.environ["INPUT"])
+    before, most = stand()
+    for part, end in PARTS:
+        stop_at(end, "continue")
+        now, peak = stand()
+        most = max(most, peak)
+        print("part", part, (now - before) / 1e6, most)
+        before = now
+    gdb.execute("kill")
+
+
+main()
