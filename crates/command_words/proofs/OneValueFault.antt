@@ -8,7 +8,7 @@ use Rattle.deal_rules.specs.declared.deal_kind.DealKind.{DealKind}
 use Rattle.deal_rules.specs.declared.deal_kind.DealKind.TheVariants as dealing
 use Rattle.command_words.specs.Arguments.{Text}
 use Rattle.command_words.specs.Options.{Kind, number, choice, kind_of, place_of, IsNumber, IsGoodText, IsGood, IsNoNumber, IsNoChoice, IsOutside}
-use Rattle.command_words.specs.Settings.{Values, SetsNumber, SetsWeigh, SetsDeal, SetsSettings, weigh_text, deal_text}
+use Rattle.command_words.specs.Settings.{Values, SetsNumber, SetsWeigh, SetsDeal, SetsSettings, weigh_word, deal_word}
 use Rattle.command_words.specs.Words.{IsFirstBad, HasValueFault}
 use Rattle.command_words.specs.declared.opt.Opt.{Opt}
 use Rattle.command_words.specs.declared.opt.Opt.TheVariants as opt
@@ -138,7 +138,7 @@ one_set_number : (at : Opt) (default : ℕ) (told : Option Text) (value other : 
 one_set_number at default None value other one two = one ∙ sym two
 one_set_number at default (Some text) value other one two = one_number text value other one.0 two.0
 
-weigh_text_is_apart : (weigh other : Weigh) → weigh_text weigh ≡ weigh_text other → weigh ≡ other
+weigh_text_is_apart : (weigh other : Weigh) → weigh_word weigh ≡ weigh_word other → weigh ≡ other
 weigh_text_is_apart weighing.Bytes weighing.Bytes same = refl
 weigh_text_is_apart weighing.Bytes weighing.Packets same = cc
 weigh_text_is_apart weighing.Packets weighing.Bytes same = cc
@@ -148,7 +148,7 @@ one_set_weigh : (told : Option Text) (weigh other : Weigh) → SetsWeigh told we
 one_set_weigh None weigh other one two = one ∙ sym two
 one_set_weigh (Some text) weigh other one two = weigh_text_is_apart weigh other (sym one ∙ two)
 
-deal_text_is_apart : (deal other : DealKind) → deal_text deal ≡ deal_text other → deal ≡ other
+deal_text_is_apart : (deal other : DealKind) → deal_word deal ≡ deal_word other → deal ≡ other
 deal_text_is_apart dealing.RoundRobin dealing.RoundRobin same = refl
 deal_text_is_apart dealing.BySource dealing.BySource same = refl
 deal_text_is_apart dealing.Free dealing.Free same = refl

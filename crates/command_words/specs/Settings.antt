@@ -24,25 +24,25 @@ SetsNumber opt default None value = value ≡ default
 SetsNumber opt default (Some text) value = IsNumber text value × IsAllowed (kind_of opt) value
 
 -- the words for how traffic is weighed
-abbrev pub weigh_text : Weigh → Text
-weigh_text weighing.Bytes = codes "bytes"
-weigh_text weighing.Packets = codes "packets"
+abbrev pub weigh_word : Weigh → Text
+weigh_word weighing.Bytes = codes "bytes"
+weigh_word weighing.Packets = codes "packets"
 
 -- the words for how records are dealt
-abbrev pub deal_text : DealKind → Text
-deal_text dealing.RoundRobin = codes "round"
-deal_text dealing.BySource = codes "source"
-deal_text dealing.Free = codes "free"
+abbrev pub deal_word : DealKind → Text
+deal_word dealing.RoundRobin = codes "round"
+deal_word dealing.BySource = codes "source"
+deal_word dealing.Free = codes "free"
 
 -- how traffic is weighed: by bytes where nothing is said
 abbrev pub SetsWeigh : Option Text → Weigh → Type 0
 SetsWeigh None weigh = weigh ≡ weighing.Bytes
-SetsWeigh (Some text) weigh = text ≡ weigh_text weigh
+SetsWeigh (Some text) weigh = text ≡ weigh_word weigh
 
 -- how records are dealt: in turn where nothing is said
 abbrev pub SetsDeal : Option Text → DealKind → Type 0
 SetsDeal None deal = deal ≡ dealing.RoundRobin
-SetsDeal (Some text) deal = text ≡ deal_text deal
+SetsDeal (Some text) deal = text ≡ deal_word deal
 
 -- what values set, with the defaults of all that no option says
 pub record SetsSettings (values : Values) (settings : Settings) : Type 0 where

@@ -4,8 +4,9 @@ ghost use Rattle.std.specs.Prelude.{◌≡◌, ◌≤◌, ◌^◌, List, length,
 ghost use Rattle.std.specs.Io.KnownBytes.{IsAtEnd};
 ghost use Rattle.prefix_lattice.specs.RecordValue.{RecordValue};
 ghost use Rattle.shard_state.specs.Tables.{records_table};
+ghost use Rattle.shard_state.specs.Weights.{HoldsWeightOver};
 ghost use Rattle.hhh_engine.specs.Answers.{HasNoText};
-ghost use Rattle.hhh_engine.specs.Weighing.{text_for, weigh_text, HoldsWeight, IsWeightText};
+ghost use Rattle.hhh_engine.specs.Weighing.{text_for, weigh_capacity, weigh_text, IsWeightText};
 
 use crate::decimal_text::push_number;
 use crate::{Settings, Status};
@@ -39,22 +40,13 @@ fn weigh_text(alloc: Global, prefix: &Prefix, records: &[Record]) -> Result<Vec<
     requires few { length records.now ≤ 2 ^ 24 }
     requires weighed { All (λ rec. 1 ≤ rec.weight) records.now }
     ensures text { IfOk result (λ text. text.items ≡ text_for prefix.now records.now) }
-    ensures holds { HoldsWeight prefix.now records.now }
+    ensures holds { IfOk result (λ _. HoldsWeightOver weigh_capacity prefix.now records.now) }
 {
     tables_hold_weights();
-    weight_is_held(prefix);
     let key = prefix.key();
     let table = fold_records(alloc, prefix.node(), records)?;
     let (low, high) = table.interval(key);
     three_lines(alloc, low, high, table.total())
-}
-
-// A law: the interval of a prefix in the table of records at its node holds what the prefix weighs.
-fn weight_is_held(prefix: &Prefix)
-    ensures { (records : List RecordValue) → All (λ rec. 1 ≤ rec.weight) records → HoldsWeight prefix.now records }
-{
-    tables_hold_weights();
-    let _key = prefix.key();
 }
 
 // The table of the records at a node.
