@@ -1,6 +1,6 @@
 //! Reading the records of a capture.
 
-ghost use Rattle.std.specs.Prelude.{◌≤◌, ◌<◌, vec_len, length, IfOk, IfErr, OnOk};
+ghost use Rattle.std.specs.Prelude.{◌≡◌, ◌≤◌, ◌<◌, vec_len, length, IfOk, IfErr, OnOk, IsErrOf};
 ghost use Rattle.std.specs.Io.KnownBytes.{IsAtEnd};
 ghost use Rattle.frame_records.specs.Reading.{HasRecords, HasRefused};
 ghost use Rattle.frame_records.specs.Kept.{weigh_by};
@@ -27,6 +27,7 @@ pub fn read_records<S: Source>(
     ensures at_end { OnOk result (IsAtEnd (S.left source.new)) }
     ensures refused { IfErr result (HasRefused (S.left source.old) (S.faults source.old) (S.faults source.new)) }
     ensures later { S.faults source.old ≤ S.faults source.new }
+    ensures told { (IsErrOf result ReadRefusal.ReadFault → ⊥) → S.faults source.new ≡ S.faults source.old }
 {
     let Ok(mut buffer) = read_buffer(alloc) else {
         return Err(ReadRefusal::OutOfMemory);
@@ -48,6 +49,7 @@ fn read_weighed<S: Source, const PACKETS: bool>(
     ensures at_end { OnOk result (IsAtEnd (S.left source.new)) }
     ensures refused { IfErr result (HasRefused (S.left source.old) (S.faults source.old) (S.faults source.new)) }
     ensures later { S.faults source.old ≤ S.faults source.new }
+    ensures told { (IsErrOf result ReadRefusal.ReadFault → ⊥) → S.faults source.new ≡ S.faults source.old }
 {
     let mut visitor = RecordVisitor::<PACKETS>::new(alloc);
     match read_frames(source, &mut visitor, buffer) {

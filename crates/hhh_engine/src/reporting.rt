@@ -1,6 +1,6 @@
 //! The session that `report` writes.
 
-ghost use Rattle.std.specs.Prelude.{◌≡◌, ◌≤◌, ◌++◌, length, IfOk, IfErr, IfSome, OnOk};
+ghost use Rattle.std.specs.Prelude.{◌≡◌, ◌≤◌, ◌++◌, length, IfOk, IfErr, IfSome, OnOk, IsErrOf};
 ghost use Rattle.std.specs.Io.KnownBytes.{IsAtEnd};
 ghost use Rattle.deal_rules.specs.Dealing.{IsDealing};
 ghost use Rattle.deal_rules.specs.Kinds.{dealer_of};
@@ -36,6 +36,7 @@ pub fn report<S: Source>(
         (λ file. IsSession settings.now (λ kind. ⟦<Dealer as Deals>⟧.may_answer (dealer_of kind dealers.now)) file text.items)) }
     ensures at_end { OnOk result (IsAtEnd (S.left capture.new)) }
     ensures refused { IfErr result (HasNoText (S.left capture.old) (S.faults capture.old) (S.faults capture.new)) }
+    ensures told { (IsErrOf result Status.ReadFault → ⊥) → S.faults capture.new ≡ S.faults capture.old }
 {
     let records = read_records(alloc, capture, settings.weigh)?;
     let mut tail = Vec::new(alloc);

@@ -1,6 +1,6 @@
 //! The top call: from words and a capture to a text and a status.
 
-ghost use Rattle.std.specs.Prelude.{◌≡◌, ◌⊎◌, ℕ, List, Some, IfSome, IfOk, IfErr, OnOk};
+ghost use Rattle.std.specs.Prelude.{◌≡◌, ◌⊎◌, ℕ, List, Some, IfSome, IfOk, IfErr, OnOk, IsErrOf};
 ghost use Rattle.std.specs.Io.KnownBytes.{IsAtEnd};
 ghost use Rattle.outside_io.specs.Faults.{Rose};
 ghost use Rattle.pcap_frames.specs.Capture.{HasFault};
@@ -63,6 +63,10 @@ pub fn run<S: Source, K: Sink>(
     ensures write_fault_in_part { result ≡ WriteFault → IfSome (S.left capture.old) (AnswersInPart (λ kind. ⟦<Dealer as Deals>⟧.may_answer (dealer_of kind dealers.now))
         (texts words.now) (K.taken sink.old) (K.taken sink.new)) }
 
+    // A fault of the source or of the sink is never passed over or told as anything else.
+    ensures read_fault_told { (result ≡ ReadFault → ⊥) → S.faults capture.new ≡ S.faults capture.old }
+    ensures write_fault_told { (result ≡ WriteFault → ⊥) → K.faults sink.new ≡ K.faults sink.old }
+
     // Want of memory may come at any time before the text is written.
     ensures out_of_memory_unwritten { result ≡ OutOfMemory → sink.new ≡ sink.old }
 
@@ -98,6 +102,7 @@ fn answer<S: Source>(
         (λ file. IsAnswer (λ kind. ⟦<Dealer as Deals>⟧.may_answer (dealer_of kind dealers.now)) command.now file text.items)) }
     ensures at_end { OnOk result (IsAtEnd (S.left capture.new)) }
     ensures refused { IfErr result (HasNoText (S.left capture.old) (S.faults capture.old) (S.faults capture.new)) }
+    ensures told { (IsErrOf result ReadFault → ⊥) → S.faults capture.new ≡ S.faults capture.old }
 {
     match command {
         Command::Weigh { prefix, settings } => weigh(alloc, prefix, settings, capture),

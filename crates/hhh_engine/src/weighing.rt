@@ -1,6 +1,6 @@
 //! The weight of one prefix, in a table of Space-Saving.
 
-ghost use Rattle.std.specs.Prelude.{◌≡◌, ◌≤◌, ◌^◌, List, length, All, IfOk, IfErr, IfSome, OnOk};
+ghost use Rattle.std.specs.Prelude.{◌≡◌, ◌≤◌, ◌^◌, List, length, All, IfOk, IfErr, IfSome, OnOk, IsErrOf};
 ghost use Rattle.std.specs.Io.KnownBytes.{IsAtEnd};
 ghost use Rattle.prefix_lattice.specs.RecordValue.{RecordValue};
 ghost use Rattle.shard_state.specs.Tables.{records_table};
@@ -30,6 +30,7 @@ pub fn weigh<S: Source>(
     ensures text { IfOk result (λ text. IfSome (S.left capture.old) (λ file. IsWeightText prefix.now settings.now.weigh file text.items)) }
     ensures at_end { OnOk result (IsAtEnd (S.left capture.new)) }
     ensures refused { IfErr result (HasNoText (S.left capture.old) (S.faults capture.old) (S.faults capture.new)) }
+    ensures told { (IsErrOf result Status.ReadFault → ⊥) → S.faults capture.new ≡ S.faults capture.old }
 {
     let records = read_records(alloc, capture, settings.weigh)?;
     Ok(weigh_text(alloc, prefix, records.list.as_slice())?)

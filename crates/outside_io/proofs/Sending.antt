@@ -1,5 +1,5 @@
 -- A text that is written a piece at a time.
-use Rattle.std.proofs.Common.{◌≡◌, ℕ, List, [], ◌++◌, Option, None, Some, refl, sym, ap, ◌∙◌, append_assoc, append-nil, take, drop, subst, take-append-drop}
+use Rattle.std.proofs.Common.{◌≡◌, ℕ, ◌<◌, List, [], ◌++◌, Option, None, Some, refl, sym, ap, ◌∙◌, append_assoc, append-nil, take, drop, subst, take-append-drop, length, length-append, arith}
 use Rattle.std.specs.Io.KnownBytes.{Appends, Keeps}
 use Rattle.std.proofs.KnownBytes.{Appends-nil, Appends-trans}
 use Rattle.outside_io.specs.Pieces.{AppendsBeginning}
@@ -34,11 +34,12 @@ kept_appended (Some x) None new front took kept = absurd took
 kept_appended (Some x) (Some y) None front took kept = absurd kept
 kept_appended (Some x) (Some y) (Some z) front took kept = kept ∙ took
 
--- a call that takes nothing leaves a beginning
+-- a call that takes nothing leaves a beginning, where something is still to be written
 pub beginning_sent : (old mid new : Option (List ℕ)) (text rest : List ℕ)
-    → IsSent old mid text rest → Keeps mid new → AppendsBeginning old new text
-beginning_sent old mid new text rest sent kept = record {
+    → IsSent old mid text rest → 0 < length rest → Keeps mid new → AppendsBeginning old new text
+beginning_sent old mid new text rest sent some kept = record {
   front = sent.front;
   is_beginning = (rest, sent.joined);
+  cut = omega (arith, some, ap length sent.joined, length-append sent.front rest);
   appended = kept_appended old mid new sent.front sent.appended kept;
 }

@@ -1,5 +1,5 @@
 -- The count of faults of a thing outside.
-use Rattle.std.specs.Prelude.{ℕ, ◌+◌, ◌-◌, ◌^◌, ◌≤◌, min, Result, OnErr}
+use Rattle.std.specs.Prelude.{ℕ, ◌≡◌, ◌+◌, ◌-◌, ◌^◌, ◌≤◌, min, Result, OnOk, OnErr}
 
 -- the next number of a count that stays at the greatest u64
 abbrev pub counted : ℕ → ℕ
@@ -9,7 +9,8 @@ counted n = min (n + 1) (2 ^ 64 - 1)
 abbrev pub Rose : ℕ → ℕ → Type 0
 Rose before now = counted before ≤ now
 
--- the count of faults never falls, and the call failed only where it rose
+-- the count of faults never falls, the call failed only where it rose, and it stays where the call didn't fail
 pub record FailsByFault {T E : Type 0} (before now : ℕ) (result : Result T E) : Type 0 where
   pub later : before ≤ now
   pub failed : OnErr result (Rose before now)
+  pub kept : OnOk result (now ≡ before)

@@ -7,7 +7,8 @@ ghost use Rattle.outside_io.specs.Pieces.{AppendsBeginning};
 
 use crate::{Failed, Sink};
 
-/// Writes all the bytes. After `Failed` the sink took a beginning of them.
+/// Writes all the bytes. `Failed` comes just where a call of the sink failed. It then took a beginning of
+/// them, and not all.
 pub fn write_all<K: Sink>(sink: &mut K, bytes: &[u8]) -> Result<(), Failed>
     ensures whole { OnOk result (Appends (K.taken sink.old) (K.taken sink.new) bytes.now) }
     ensures beginning { OnErr result (AppendsBeginning (K.taken sink.old) (K.taken sink.new) bytes.now) }

@@ -2,7 +2,6 @@
 use Rattle.std.proofs.Common.{ℕ, ◌≡◌, ◌+◌, ◌-◌, ◌*◌, ◌≤◌, ◌<◌, List, [], ◌++◌, length, drop, Option, None, Some, IfSome, Ok, Err, sym, ap, ◌∙◌, arith, length-append, length-drop, subst, inl, inr, append-nil, append_assoc}
 use Rattle.std.specs.Io.KnownBytes.{Consumes, Keeps, IsAtEnd}
 use Rattle.std.proofs.KnownBytes.{Consumes-nil, Consumes-trans, Consumes-kept, Consumes-whole}
-use Rattle.outside_io.specs.Faults.{Rose}
 use Rattle.pcap_frames.specs.declared.fault.CaptureFault.{CaptureFault}
 use Rattle.pcap_frames.specs.declared.fault.FeedFault.{FeedFault}
 use Rattle.pcap_frames.specs.declared.fault.FeedFault.TheVariants as feed
@@ -74,10 +73,6 @@ pub consumed_front : (old new : Option (List ℕ)) (bytes : List ℕ) (P : List 
 consumed_front None new bytes P consumed every = tt
 consumed_front (Some xs) None bytes P consumed every = absurd consumed
 consumed_front (Some xs) (Some ys) bytes P consumed every = subst P (sym consumed) (every ys)
-
--- a count that rose since a later moment rose since an earlier one
-pub rose_before : (first before now : ℕ) → first ≤ before → Rose before now → Rose first now
-rose_before first before now later rose = omega (arith, rose)
 
 -- the frames before a fault that is shown are within the limit
 shows_within : (bytes : List ℕ) (frames : List FrameValue) (fault : CaptureFault) → ShowsFault bytes frames fault → length frames ≤ 16777216

@@ -11,7 +11,7 @@ use outside_io::Source;
 /// The number of frames.
 ///
 /// `Capture` comes where the bytes are no capture, with the first fault. The source may then have been
-/// read past it. `ReadFault` comes only where a call of the source failed, and `OutOfMemory` only where
+/// read past it. `ReadFault` comes just where a call of the source failed, and `OutOfMemory` only where
 /// one of the visitor did. After these two the source was read in part.
 pub fn read_frames<S: Source, V: FrameVisitor>(
     source: &mut S,
@@ -27,6 +27,7 @@ pub fn read_frames<S: Source, V: FrameVisitor>(
     ensures exact { IfSome (S.left source.old) (λ file. IsReadOf file result) }
     ensures later { S.faults source.old ≤ S.faults source.new }
     ensures fault { IsErrOf result ReadRefusal.ReadFault → Rose (S.faults source.old) (S.faults source.new) }
+    ensures told { (IsErrOf result ReadRefusal.ReadFault → ⊥) → S.faults source.new ≡ S.faults source.old }
 {
     let mut reader = FrameReader::new();
     loop {

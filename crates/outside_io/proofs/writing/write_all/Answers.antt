@@ -5,5 +5,5 @@ use Rattle.outside_io.proofs.writing.write_all.Goals as goal
 pub loop-rest-preserved : goal.loop-rest-preserved
 loop-rest-preserved g c = record {
   sent = more_sent _ _ _ _ _ _ c.loop-rest.invariant.sent c.in_ok-count.ensures.appended _ c.split_at.ensures.back;
-  later = omega (arith, c.loop-rest.invariant.later, c.in_ok-count.ensures.cause.later);
+  kept = omega (arith, c.loop-rest.invariant.kept, c.in_ok-count.ensures.cause.kept);
 }

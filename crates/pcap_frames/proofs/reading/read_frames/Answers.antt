@@ -19,7 +19,7 @@ loop-count-preserved g c =
     subst (Consumes (g.S.Source.left c.loop-count.source) (g.S.Source.left c.read.new.self)) (sym c.split_at.ensures.front) c.in_ok-count.ensures.first_bytes.0 in
     record {
       read = more_read g.V.FrameVisitor.stands_for _ _ _ _ _ _ _ _ _ _ c.loop-count.invariant.read consumed c.in_ok-feed.ensures.fed c.in_ok-feed.ensures.answer;
-      later = omega (arith, c.loop-count.invariant.later, c.in_ok-count.ensures.cause.later);
+      kept = omega (arith, c.loop-count.invariant.kept, c.in_ok-count.ensures.cause.kept);
     }
 
 pub returns-in_err-feed-clause-seen : goal.returns-in_err-feed-clause-seen
