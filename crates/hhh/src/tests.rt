@@ -29,6 +29,20 @@ fn reads_a_stream_to_its_end(rt: HostRuntime) -> Result<(), Fail> {
     Ok(())
 }
 
+// A file that begins with these words on each system of this kind.
+#[test]
+fn reads_on_in_a_file(rt: HostRuntime) -> Result<(), Fail> {
+    let alloc = rt.alloc();
+    let version = LateFile::new(&rt, PathText::of(alloc, "/proc/version")?);
+    let mut source = StdSource::new(alloc, Input::File(version))?;
+    let mut into = [0; 5];
+    assert_eq!(rt; source.read(&mut into), Ok(5));
+    assert_eq!(rt; into, *b"Linux");
+    assert_eq!(rt; source.read(&mut into), Ok(5));
+    assert_eq!(rt; into, *b" vers");
+    Ok(())
+}
+
 // Two files that each system of this kind has, and one that none has.
 #[test]
 fn opens_a_file_at_the_first_read(rt: HostRuntime) -> Result<(), Fail> {
