@@ -11,8 +11,8 @@ use outside_io::Source;
 /// The number of frames.
 ///
 /// `Capture` comes where the bytes are no capture, with the first fault. The source may then have been
-/// read past it. `ReadFault` comes just where a call of the source failed, and `OutOfMemory` only where
-/// one of the visitor did. After these two the source was read in part.
+/// read past it. `ReadFault` comes just where a call of the source failed. After it, and after
+/// `OutOfMemory`, which may come at each frame, the source was read in part.
 pub fn read_frames<S: Source, V: FrameVisitor>(
     source: &mut S,
     visitor: &mut V,
