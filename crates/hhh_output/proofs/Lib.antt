@@ -6,3 +6,4 @@ pub mod Finding
 pub mod Levelling
 pub mod Descending
 pub mod Selected
+pub mod Examples
