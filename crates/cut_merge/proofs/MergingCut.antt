@@ -13,7 +13,7 @@ use Rattle.shard_state.specs.SnapshotValue.{SnapshotValue, table_at}
 use Rattle.shard_state.specs.CutValue.{CutValue, IsCut, total_of_cut}
 use Rattle.cut_merge.specs.NodeMergeValue.{NodeMergeValue}
 use Rattle.cut_merge.specs.MergedValue.{MergedValue}
-use Rattle.cut_merge.specs.Merging.{IsBounded, interval_of, AddsTable, StandsForTables}
+use Rattle.cut_merge.specs.Merging.{IsBounded, interval_for_key, AddsTable, StandsForTables}
 use Rattle.cut_merge.specs.Span.{node_tables, IsWithinTotal}
 use Rattle.cut_merge.specs.Standing.{nothing_merged, IsMerged, StandsForCut}
 use Rattle.cut_merge.proofs.MergingTables.{IsMergedBounded, counted, merged_bounded, stands_for_more}
@@ -26,7 +26,7 @@ table-place node cut shard snapshot at = slice_get-map (table_at node) cut.shard
 
 -- merged tables of some shards say no more than the total of the cut
 pub within_cut : (node : NodeValue) (cut : CutValue) (shards key : ℕ) (merge : NodeMergeValue) → TablesAreBounded → IsNode node → IsCut cut
-    → StandsForTables merge (take shards (node_tables node cut)) → IsWithinTotal (total_of_cut cut) (interval_of merge key)
+    → StandsForTables merge (take shards (node_tables node cut)) → IsWithinTotal (total_of_cut cut) (interval_for_key merge key)
 within_cut node cut shards key merge law is_node kept stands =
     let tables = node_tables node cut in
     let bounded : IsMergedBounded (take shards tables) key =
@@ -52,9 +52,9 @@ one_more_shard node cut shard snapshot old new law is_node kept at stands adds =
 
 -- an interval of merged tables at a place
 pub within_merged : (merged : MergedValue) (place key : ℕ) (merge : NodeMergeValue) → IsMerged merged → place < length merged.nodes
-    → merge ≡ slice_index_or merged.nodes place merge → IsWithinTotal merged.total (interval_of merge key)
+    → merge ≡ slice_index_or merged.nodes place merge → IsWithinTotal merged.total (interval_for_key merge key)
 within_merged merged place key merge kept within read =
-    subst (λ m. IsWithinTotal merged.total (interval_of m key))
+    subst (λ m. IsWithinTotal merged.total (interval_for_key m key))
     (sym (read ∙ get_or_default merged.nodes place merge nothing_merged within)) (kept.intervals place key)
 
 -- the node of a place is that place's, and the place of a node is among the 25
@@ -69,7 +69,7 @@ node-place node is_node =
 pub record MergesNodes (cut : CutValue) (nodes : List NodeMergeValue) (place : ℕ) : Type 0 where
   pub count : length nodes ≡ place
   pub stands : (k : ℕ) → k < place → StandsForTables (slice_index_or nodes k nothing_merged) (node_tables (node_at k) cut)
-  pub within : (k key : ℕ) → k < place → IsWithinTotal (total_of_cut cut) (interval_of (slice_index_or nodes k nothing_merged) key)
+  pub within : (k key : ℕ) → k < place → IsWithinTotal (total_of_cut cut) (interval_for_key (slice_index_or nodes k nothing_merged) key)
 
 -- none is merged before the first place
 pub merges_none : (cut : CutValue) → MergesNodes cut [] 0
@@ -77,7 +77,7 @@ merges_none cut = record { count = refl; stands = λ k below. absurd (omega arit
 
 -- and one more before the next
 pub merges_more : (cut : CutValue) (nodes : List NodeMergeValue) (place : ℕ) (merge : NodeMergeValue) → MergesNodes cut nodes place
-    → StandsForTables merge (node_tables (node_at place) cut) → ((key : ℕ) → IsWithinTotal (total_of_cut cut) (interval_of merge key))
+    → StandsForTables merge (node_tables (node_at place) cut) → ((key : ℕ) → IsWithinTotal (total_of_cut cut) (interval_for_key merge key))
     → MergesNodes cut (nodes ++ merge ∷ []) (place + 1)
 merges_more cut nodes place merge merges stands within =
     let At : (ℕ → NodeMergeValue → Type 0) → ℕ → Type 0 = λ P k. P k (slice_index_or (nodes ++ merge ∷ []) k nothing_merged) in
@@ -86,7 +86,7 @@ merges_more cut nodes place merge merges stands within =
     record {
       count = length_push nodes merge ∙ ap (λ n. n + 1) merges.count;
       stands = at (λ k m. StandsForTables m (node_tables (node_at k) cut)) merges.stands stands;
-      within = λ k key less. at (λ _ m. IsWithinTotal (total_of_cut cut) (interval_of m key)) (λ j. merges.within j key) (within key) k less;
+      within = λ k key less. at (λ _ m. IsWithinTotal (total_of_cut cut) (interval_for_key m key)) (λ j. merges.within j key) (within key) k less;
     }
   where
     by_cases : (P : ℕ → NodeMergeValue → Type 0) → ((k : ℕ) → k < place → P k (slice_index_or nodes k nothing_merged)) → P place merge
@@ -106,7 +106,7 @@ merged_keeps cut nodes capacity bounded merges = record {
   shape = merges.count;
   intervals = λ place key. elim (cases_lt place 25) [
     | inl under ↦ merges.within place key under
-    | inr above ↦ subst (λ m. IsWithinTotal (total_of_cut cut) (interval_of m key)) (sym (get_or_past nodes place nothing_merged (omega (arith, merges.count))))
+    | inr above ↦ subst (λ m. IsWithinTotal (total_of_cut cut) (interval_for_key m key)) (sym (get_or_past nodes place nothing_merged (omega (arith, merges.count))))
         (record { ordered = omega arith; within_total = omega arith })
   ];
 }

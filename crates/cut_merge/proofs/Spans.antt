@@ -13,7 +13,7 @@ use Rattle.space_saving.specs.Table.{TableValue, entry_of, interval_in, interval
 use Rattle.space_saving.specs.TableFacts.{IsTable}
 use Rattle.shard_state.specs.SnapshotValue.{SnapshotValue, IsSnapshot, table_at, total_of}
 use Rattle.shard_state.specs.CutValue.{CutValue, IsCut, positions_of, total_of_cut}
-use Rattle.shard_state.specs.Standing.{StandsFor, CutStandsFor, records_before}
+use Rattle.shard_state.specs.Standing.{SnapshotStandsFor, CutStandsFor, records_before}
 use Rattle.shard_state.specs.Weights.{Holds, interval_of}
 use Rattle.cut_merge.specs.Tables.{merged_interval, table_keys}
 use Rattle.cut_merge.specs.Span.{node_tables, span, monitored_at, IsWithinTotal}
@@ -29,7 +29,7 @@ weight_of-append prefix records more =
 
 -- what the law of snapshots says of one shard
 pub record SnapshotsHold : Type 0 where
-  pub weight : (snapshot : SnapshotValue) (list : List RecordValue) (prefix : PrefixValue) → StandsFor snapshot list → 1 ≤ snapshot.capacity
+  pub weight : (snapshot : SnapshotValue) (list : List RecordValue) (prefix : PrefixValue) → SnapshotStandsFor snapshot list → 1 ≤ snapshot.capacity
       → IsPrefix prefix → All (λ (rec : RecordValue). 1 ≤ rec.weight) list
       → Holds (interval_of prefix snapshot) snapshot.capacity (weight_of prefix (take snapshot.position list)) (total_of snapshot)
 
@@ -39,7 +39,7 @@ Weighed list = All (λ (rec : RecordValue). 1 ≤ rec.weight) list
 
 -- what holds of each shard holds of all together: lows, weights, highs and totals add up
 shards_hold : SnapshotsHold → (capacity : ℕ) (prefix : PrefixValue) → 1 ≤ capacity → IsPrefix prefix → (shards : List SnapshotValue) (lists : List (List RecordValue))
-    → All (λ (s : SnapshotValue). s.capacity ≡ capacity) shards → AllZip StandsFor shards lists → All Weighed lists
+    → All (λ (s : SnapshotValue). s.capacity ≡ capacity) shards → AllZip SnapshotStandsFor shards lists → All Weighed lists
     → Holds (merged_interval (map (table_at (node_of prefix)) shards) (key_of prefix)) capacity
     (weight_of prefix (records_before lists (map (λ (s : SnapshotValue). s.position) shards))) (sum_by total_of shards)
 shards_hold law capacity prefix some is_prefix [] [] alike stand weighed = record { low = omega arith; high = omega arith; width = omega arith }

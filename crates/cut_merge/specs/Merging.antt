@@ -29,8 +29,8 @@ gain_from table None = no_gain
 gain_from table (Some entry) = record { low = entry.count - entry.error; high = entry.count - missing_high table }
 
 -- what merged tables say of a key
-abbrev pub interval_of : NodeMergeValue → ℕ → Interval
-interval_of merge key = record { low = (gain_of key merge.gains).low; high = merge.missing + (gain_of key merge.gains).high }
+abbrev pub interval_for_key : NodeMergeValue → ℕ → Interval
+interval_for_key merge key = record { low = (gain_of key merge.gains).low; high = merge.missing + (gain_of key merge.gains).high }
 
 -- a table was merged in
 pub record AddsTable (old : NodeMergeValue) (table : TableValue) (new : NodeMergeValue) : Type 0 where
@@ -40,5 +40,5 @@ pub record AddsTable (old : NodeMergeValue) (table : TableValue) (new : NodeMerg
 
 -- what is merged says of each key what these tables say together
 pub record StandsForTables (merge : NodeMergeValue) (tables : List TableValue) : Type 0 where
-  pub intervals : (key : ℕ) → interval_of merge key ≡ merged_interval tables key
+  pub intervals : (key : ℕ) → interval_for_key merge key ≡ merged_interval tables key
   pub keys : keys_of merge.gains ≡ monitored_keys tables

@@ -6,7 +6,7 @@ use Rattle.prefix_lattice.specs.PrefixValue.{PrefixValue, IsPrefix}
 use Rattle.prefix_lattice.specs.Prefix.{node_of, key_of}
 use Rattle.space_saving.specs.Table.{Interval}
 use Rattle.shard_state.specs.CutValue.{CutValue, total_of_cut}
-use Rattle.cut_merge.specs.Merging.{interval_of}
+use Rattle.cut_merge.specs.Merging.{interval_for_key}
 use Rattle.cut_merge.specs.NodeMergeValue.{NodeMergeValue}
 use Rattle.cut_merge.specs.MergedValue.{MergedValue}
 use Rattle.cut_merge.specs.Span.{span, monitored_at, IsWithinTotal}
@@ -21,7 +21,7 @@ merge_at node merged = slice_index_or merged.nodes (index_of node) nothing_merge
 
 -- what merged tables say of a prefix
 abbrev pub interval_for : MergedValue → PrefixValue → Interval
-interval_for merged prefix = interval_of (merge_at (node_of prefix) merged) (key_of prefix)
+interval_for merged prefix = interval_for_key (merge_at (node_of prefix) merged) (key_of prefix)
 
 -- the keys that merged tables know at a node
 abbrev pub candidates_at : MergedValue → NodeValue → List ℕ
@@ -38,4 +38,4 @@ pub record StandsForCut (merged : MergedValue) (cut : CutValue) : Type 0 where
 pub record IsMerged (merged : MergedValue) : Type 0 where
   pub bounded : merged.total < 2 ^ 60
   pub shape : length merged.nodes ≡ 25
-  pub intervals : (place key : ℕ) → IsWithinTotal merged.total (interval_of (slice_index_or merged.nodes place nothing_merged) key)
+  pub intervals : (place key : ℕ) → IsWithinTotal merged.total (interval_for_key (slice_index_or merged.nodes place nothing_merged) key)

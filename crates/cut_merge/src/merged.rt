@@ -3,7 +3,7 @@
 ghost use Rattle.std.specs.Prelude.{◌≡◌, ◌^◌, ◌<◌, ◌≤◌, ℕ, IfOk};
 ghost use Rattle.prefix_lattice.specs.NodeValue.{IsNode};
 ghost use Rattle.shard_state.specs.CutValue.{CutValue, total_of_cut};
-ghost use Rattle.cut_merge.specs.Merging.{interval_of, StandsForTables};
+ghost use Rattle.cut_merge.specs.Merging.{interval_for_key, StandsForTables};
 ghost use Rattle.cut_merge.specs.Span.{node_tables, span, monitored_at, IsWithinTotal};
 ghost use Rattle.cut_merge.specs.Standing.{merge_at, interval_for, candidates_at, StandsForCut};
 
@@ -92,7 +92,7 @@ impl Merged {
     // The merged tables of a node.
     fn merge_of(&self, node: Node) -> &NodeMerge
         ensures merge { result.now ≡ merge_at node self.now }
-        ensures within { (key : ℕ) → IsWithinTotal self.now.total (interval_of result.now key) }
+        ensures within { (key : ℕ) → IsWithinTotal self.now.total (interval_for_key result.now key) }
         ensures bounded { self.now.total < 2 ^ 60 }
     {
         &self.nodes[usize::from(node.index())]
@@ -104,7 +104,7 @@ fn merge_node(alloc: Global, cut: &Cut, node: Node) -> Result<NodeMerge, AllocEr
     requires is_node { IsNode node }
     requires bounded { total_of_cut cut.now < 2 ^ 60 }
     ensures stands { IfOk result (λ merge. StandsForTables merge (node_tables node cut.now)) }
-    ensures within { IfOk result (λ merge. (key : ℕ) → IsWithinTotal (total_of_cut cut.now) (interval_of merge key)) }
+    ensures within { IfOk result (λ merge. (key : ℕ) → IsWithinTotal (total_of_cut cut.now) (interval_for_key merge key)) }
 {
     tables_are_bounded();
     let mut merge = NodeMerge::new(alloc);

@@ -3,7 +3,7 @@
 ghost use Rattle.std.specs.Prelude.{◌≡◌, ◌==◌, ◌+◌, ◌^◌, ◌<◌, ◌≤◌, ℕ, [], OnOk, fold, if◌then◌else◌};
 ghost use Rattle.std.specs.Map.{keys_of};
 ghost use Rattle.space_saving.specs.Table.{entry_of, total_count};
-ghost use Rattle.cut_merge.specs.Merging.{seen, interval_of, missing_high, gain_from, AddsTable};
+ghost use Rattle.cut_merge.specs.Merging.{seen, interval_for_key, missing_high, gain_from, AddsTable};
 ghost use Rattle.cut_merge.specs.Tables.{table_keys};
 ghost use Rattle.cut_merge.specs.Gains.{gain_of, plus};
 
@@ -42,8 +42,8 @@ impl NodeMerge {
 
     /// Merges one more table in. After an `Err` it may be merged in part.
     pub(crate) fn add(&mut self, table: &Flat) -> Result<(), AllocError>
-        requires low { (key : ℕ) → (interval_of self.old key).low + total_count table.now.entries < 2 ^ 64 }
-        requires high { (key : ℕ) → (interval_of self.old key).high + total_count table.now.entries < 2 ^ 64 }
+        requires low { (key : ℕ) → (interval_for_key self.old key).low + total_count table.now.entries < 2 ^ 64 }
+        requires high { (key : ℕ) → (interval_for_key self.old key).high + total_count table.now.entries < 2 ^ 64 }
         ensures { OnOk result (AddsTable self.old table.now self.new) }
     {
         let missing = missing_in(table);
@@ -53,9 +53,9 @@ impl NodeMerge {
 
     /// The least and the greatest weight that the key can have had.
     pub(crate) fn interval(&self, key: u64) -> (u64, u64)
-        requires { (interval_of self.now key).high < 2 ^ 64 }
-        ensures low { result.0 ≡ (interval_of self.now key).low }
-        ensures high { result.1 ≡ (interval_of self.now key).high }
+        requires { (interval_for_key self.now key).high < 2 ^ 64 }
+        ensures low { result.0 ≡ (interval_for_key self.now key).low }
+        ensures high { result.1 ≡ (interval_for_key self.now key).high }
     {
         let gain = gain_in(&self.gains, key);
         (gain.low, self.missing + gain.high)

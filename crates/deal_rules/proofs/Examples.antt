@@ -5,7 +5,7 @@ use Rattle.prefix_lattice.specs.RecordValue.{RecordValue}
 use Rattle.prefix_lattice.specs.Prefix.{total_weight}
 use Rattle.deal_rules.specs.declared.deal_kind.DealKind.TheVariants.{RoundRobin, BySource, Free}
 use Rattle.deal_rules.specs.Rule.{IsOfKind}
-use Rattle.deal_rules.specs.Dealing.{list_of, lists_of}
+use Rattle.deal_rules.specs.Dealing.{dealt_list, dealt_lists}
 
 -- three records, of 5, 6 and 7 bytes
 abbrev first : RecordValue
@@ -17,16 +17,16 @@ second = record { src = 4; dst = 4; weight = 6 }
 abbrev third : RecordValue
 third = record { src = 7; dst = 2; weight = 7 }
 
-pub in_turn : lists_of 2 (0 ∷ 1 ∷ 0 ∷ []) (first ∷ second ∷ third ∷ []) ≡ (first ∷ third ∷ []) ∷ (second ∷ []) ∷ []
+pub in_turn : dealt_lists 2 (0 ∷ 1 ∷ 0 ∷ []) (first ∷ second ∷ third ∷ []) ≡ (first ∷ third ∷ []) ∷ (second ∷ []) ∷ []
 in_turn = refl
 
-pub all_to_the_last : lists_of 3 (2 ∷ 2 ∷ 2 ∷ []) (first ∷ second ∷ third ∷ []) ≡ [] ∷ [] ∷ (first ∷ second ∷ third ∷ []) ∷ []
+pub all_to_the_last : dealt_lists 3 (2 ∷ 2 ∷ 2 ∷ []) (first ∷ second ∷ third ∷ []) ≡ [] ∷ [] ∷ (first ∷ second ∷ third ∷ []) ∷ []
 all_to_the_last = refl
 
-pub to_nobody : list_of 5 (2 ∷ 1 ∷ 2 ∷ []) (first ∷ second ∷ third ∷ []) ≡ []
+pub to_nobody : dealt_list 5 (2 ∷ 1 ∷ 2 ∷ []) (first ∷ second ∷ third ∷ []) ≡ []
 to_nobody = refl
 
-pub weight_is_kept : sum_by total_weight (lists_of 2 (0 ∷ 1 ∷ 0 ∷ []) (first ∷ second ∷ third ∷ [])) ≡ 18
+pub weight_is_kept : sum_by total_weight (dealt_lists 2 (0 ∷ 1 ∷ 0 ∷ []) (first ∷ second ∷ third ∷ [])) ≡ 18
 weight_is_kept = refl
 
 -- the third record in turn over two shards

@@ -12,7 +12,7 @@ use Rattle.prefix_lattice.specs.PrefixValue.{PrefixValue}
 use Rattle.prefix_lattice.specs.Prefix.{covers, weight_of, total_weight}
 use Rattle.deal_rules.specs.declared.deal_kind.DealKind.{DealKind}
 use Rattle.deal_rules.proofs.Parting.{length-dealing}
-use Rattle.deal_rules.specs.Dealing.{list_of, lists_of, AreDealt, IsDealing, AreShards}
+use Rattle.deal_rules.specs.Dealing.{dealt_list, dealt_lists, AreDealt, IsDealing, AreShardLists}
 
 -- the lists of so many shards, from shard `from` on, end to end
 abbrev joined : (ℕ → List RecordValue) → ℕ → ℕ → List RecordValue
@@ -53,8 +53,8 @@ joined-none : (from count : ℕ) → joined (λ shard. []) from count ≡ []
 joined-none from zero = refl
 joined-none from (suc count) = joined-none (from + 1) count
 
-list_of-cons : (shard n : ℕ) (ns : List ℕ) (r : RecordValue) (rs : List RecordValue) → list_of shard (n ∷ ns) (r ∷ rs) ≡ with_first n r (λ s. list_of s ns rs) shard
-list_of-cons shard n ns r rs =
+dealt_list-cons : (shard n : ℕ) (ns : List ℕ) (r : RecordValue) (rs : List RecordValue) → dealt_list shard (n ∷ ns) (r ∷ rs) ≡ with_first n r (λ s. dealt_list s ns rs) shard
+dealt_list-cons shard n ns r rs =
     let record_of : ℕ × RecordValue → RecordValue = λ dealt. dealt.1 in
     let later : List (ℕ × RecordValue) = filter (λ (dealt : ℕ × RecordValue). eqb dealt.0 shard) (zip ns rs) in
     elim (eqb n shard) as (λ b. map record_of (cond b ((n, r) ∷ later) later) ≡ cond b (r ∷ map record_of later) (map record_of later)) [ true ↦ refl | false ↦ refl ]
@@ -64,17 +64,17 @@ joined-same f g same from zero = refl
 joined-same f g same from (suc count) = ap (λ l. l ++ joined f (from + 1) count) (same from) ∙ ap (λ l. g from ++ l) (joined-same f g same (from + 1) count)
 
 -- the lists of all shards together are the records in another order
-lists_of-permuted : (shards : ℕ) (ns : List ℕ) (rs : List RecordValue) → length ns ≡ length rs → All (λ n. n < shards) ns
-    → IsPermutation rs (flat_map (λ list. list) (lists_of shards ns rs))
-lists_of-permuted shards [] [] same below = subst (λ l. IsPermutation [] l) (sym (joined-none 0 shards)) (IsPermutation-refl [])
-lists_of-permuted shards [] (r ∷ rs) same below = absurd (omega (arith, same))
-lists_of-permuted shards (n ∷ ns) [] same below = absurd (omega (arith, same))
-lists_of-permuted shards (n ∷ ns) (r ∷ rs) same below =
-    let f : ℕ → List RecordValue = λ s. list_of s ns rs in
-    let earlier : IsPermutation rs (joined f 0 shards) = lists_of-permuted shards ns rs (omega (arith, same)) (All-tail (λ m. m < shards) n ns below) in
+dealt_lists-permuted : (shards : ℕ) (ns : List ℕ) (rs : List RecordValue) → length ns ≡ length rs → All (λ n. n < shards) ns
+    → IsPermutation rs (flat_map (λ list. list) (dealt_lists shards ns rs))
+dealt_lists-permuted shards [] [] same below = subst (λ l. IsPermutation [] l) (sym (joined-none 0 shards)) (IsPermutation-refl [])
+dealt_lists-permuted shards [] (r ∷ rs) same below = absurd (omega (arith, same))
+dealt_lists-permuted shards (n ∷ ns) [] same below = absurd (omega (arith, same))
+dealt_lists-permuted shards (n ∷ ns) (r ∷ rs) same below =
+    let f : ℕ → List RecordValue = λ s. dealt_list s ns rs in
+    let earlier : IsPermutation rs (joined f 0 shards) = dealt_lists-permuted shards ns rs (omega (arith, same)) (All-tail (λ m. m < shards) n ns below) in
     let first : IsPermutation (r ∷ joined f 0 shards) (joined (with_first n r f) 0 shards) =
     joined-first n r f 0 shards (omega arith) (let h : n < shards = All-head (λ m. m < shards) n ns below in omega (arith, h)) in
-    subst (λ l. IsPermutation (r ∷ rs) l) (sym (joined-same (λ s. list_of s (n ∷ ns) (r ∷ rs)) (with_first n r f) (λ s. list_of-cons s n ns r rs) 0 shards))
+    subst (λ l. IsPermutation (r ∷ rs) l) (sym (joined-same (λ s. dealt_list s (n ∷ ns) (r ∷ rs)) (with_first n r f) (λ s. dealt_list-cons s n ns r rs) 0 shards))
     (IsPermutation-trans (r ∷ rs) (r ∷ joined f 0 shards) _ (IsPermutation-cons r rs (joined f 0 shards) earlier) first)
 
 sum_by-joined : {X : Type 0} (f : X → ℕ) → (lists : List (List X)) → sum_by f (flat_map (λ list. list) lists) ≡ sum_by (sum_by f) lists
@@ -101,7 +101,7 @@ weight_of-sum prefix (r ∷ rs) =
 pub permuted : (shards : ℕ) (records : List RecordValue) (numbers : List ℕ) (lists : List (List RecordValue)) → AreDealt shards records numbers lists
     → IsPermutation records (flat_map (λ list. list) lists)
 permuted shards records numbers lists dealt =
-    subst (λ (ls : List (List RecordValue)). IsPermutation records (flat_map (λ list. list) ls)) (sym dealt.parted) (lists_of-permuted shards numbers records dealt.as_many dealt.below)
+    subst (λ (ls : List (List RecordValue)). IsPermutation records (flat_map (λ list. list) ls)) (sym dealt.parted) (dealt_lists-permuted shards numbers records dealt.as_many dealt.below)
 
 pub summed : (shards : ℕ) (records : List RecordValue) (numbers : List ℕ) (lists : List (List RecordValue)) → AreDealt shards records numbers lists
     → (weigh : RecordValue → ℕ) → sum_by (sum_by weigh) lists ≡ sum_by weigh records
@@ -122,9 +122,9 @@ pub total : (shards : ℕ) (records : List RecordValue) (numbers : List ℕ) (li
 total shards records numbers lists dealt = summed shards records numbers lists dealt (λ rec. rec.weight)
 
 -- a dealing has as many records as were dealt
-pub AreShards-dealing : (kind : DealKind) (may_answer : ℕ → RecordValue → ℕ → ℕ → Type 0) (shards : ℕ) (records : List RecordValue) (lists : List (List RecordValue))
-    → IsDealing kind may_answer shards records lists → 1 ≤ shards → shards ≤ 16 → length records ≤ 2 ^ 24 → AreShards lists
-AreShards-dealing kind may_answer shards records lists dealing some few small =
+pub AreShardLists-dealing : (kind : DealKind) (may_answer : ℕ → RecordValue → ℕ → ℕ → Type 0) (shards : ℕ) (records : List RecordValue) (lists : List (List RecordValue))
+    → IsDealing kind may_answer shards records lists → 1 ≤ shards → shards ≤ 16 → length records ≤ 2 ^ 24 → AreShardLists lists
+AreShardLists-dealing kind may_answer shards records lists dealing some few small =
     let long : length lists ≡ shards = length-dealing kind may_answer shards records lists dealing in
     let all : sum_by (λ list. length list) lists ≡ length records = counted shards records dealing.numbers lists dealing.dealt in
     record { some = omega (arith, long, some); few = omega (arith, long, few); small = omega (arith, all, small) }

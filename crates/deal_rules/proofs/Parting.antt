@@ -10,7 +10,7 @@ use Rattle.std.proofs.lemmas.Option.{slice_get_within, get_or_from_slice_get}
 use Rattle.prefix_lattice.specs.RecordValue.{RecordValue}
 use Rattle.deal_rules.specs.declared.deal_kind.DealKind.{DealKind}
 use Rattle.deal_rules.specs.Rule.{MayBeDealt}
-use Rattle.deal_rules.specs.Dealing.{list_of, lists_of, FollowRule, IsDealing}
+use Rattle.deal_rules.specs.Dealing.{dealt_list, dealt_lists, FollowRule, IsDealing}
 
 zip-push : (ns : List ℕ) (rs : List RecordValue) (n : ℕ) (r : RecordValue) → length ns ≡ length rs → zip (ns ++ n ∷ []) (rs ++ r ∷ []) ≡ zip ns rs ++ (n, r) ∷ []
 zip-push [] [] n r same = refl
@@ -19,9 +19,9 @@ zip-push (m ∷ ns) [] n r same = absurd (omega (arith, same))
 zip-push (m ∷ ns) (q ∷ rs) n r same = ap (λ l. (m, q) ∷ l) (zip-push ns rs n r (omega (arith, same)))
 
 -- a record comes last in the list of its shard, and in no other
-list_of-push : (shard : ℕ) (ns : List ℕ) (rs : List RecordValue) (n : ℕ) (r : RecordValue) → length ns ≡ length rs
-    → list_of shard (ns ++ n ∷ []) (rs ++ r ∷ []) ≡ list_of shard ns rs ++ cond (eqb n shard) (r ∷ []) []
-list_of-push shard ns rs n r same =
+dealt_list-push : (shard : ℕ) (ns : List ℕ) (rs : List RecordValue) (n : ℕ) (r : RecordValue) → length ns ≡ length rs
+    → dealt_list shard (ns ++ n ∷ []) (rs ++ r ∷ []) ≡ dealt_list shard ns rs ++ cond (eqb n shard) (r ∷ []) []
+dealt_list-push shard ns rs n r same =
     let is_here : ℕ × RecordValue → Bool = λ dealt. eqb dealt.0 shard in
     let record_of : ℕ × RecordValue → RecordValue = λ dealt. dealt.1 in
     let last : map record_of (cond (eqb n shard) ((n, r) ∷ []) []) ≡ cond (eqb n shard) (r ∷ []) [] =
@@ -33,28 +33,28 @@ list_of-push shard ns rs n r same =
 
 -- each shard's list as one more record is pushed to its own
 pushed_at : (shards : ℕ) (ns : List ℕ) (rs : List RecordValue) (n : ℕ) (r : RecordValue) → length ns ≡ length rs → n < shards → (shard : ℕ) → shard < shards
-    → get_or (set (lists_of shards ns rs) n (list_of n ns rs ++ r ∷ [])) shard [] ≡ list_of shard (ns ++ n ∷ []) (rs ++ r ∷ [])
+    → get_or (set (dealt_lists shards ns rs) n (dealt_list n ns rs ++ r ∷ [])) shard [] ≡ dealt_list shard (ns ++ n ∷ []) (rs ++ r ∷ [])
 pushed_at shards ns rs n r same below shard within =
-    let old = lists_of shards ns rs in
-    let long : length old ≡ shards = length-map-range_with_len (λ s. list_of s ns rs) 0 shards in
-    let read : get_or old shard [] ≡ list_of shard ns rs = get_or-map-range_with_len (λ s. list_of s ns rs) 0 shards shard shard [] within (omega arith) in
-    sym (list_of-push shard ns rs n r same
-    ∙ cond_both (eqb n shard) (r ∷ []) [] (λ last. list_of shard ns rs ++ last ≡ get_or (set old n (list_of n ns rs ++ r ∷ [])) shard [])
+    let old = dealt_lists shards ns rs in
+    let long : length old ≡ shards = length-map-range_with_len (λ s. dealt_list s ns rs) 0 shards in
+    let read : get_or old shard [] ≡ dealt_list shard ns rs = get_or-map-range_with_len (λ s. dealt_list s ns rs) 0 shards shard shard [] within (omega arith) in
+    sym (dealt_list-push shard ns rs n r same
+    ∙ cond_both (eqb n shard) (r ∷ []) [] (λ last. dealt_list shard ns rs ++ last ≡ get_or (set old n (dealt_list n ns rs ++ r ∷ [])) shard [])
     (λ here. let e : n ≡ shard = eqb-true n shard here in
-    ap (λ s. list_of s ns rs ++ r ∷ []) (sym e) ∙ sym (get_or-set_same old n (list_of n ns rs ++ r ∷ []) [] (omega (arith, long, below)))
-    ∙ ap (λ s. get_or (set old n (list_of n ns rs ++ r ∷ [])) s []) e)
-    (λ other. append-nil (list_of shard ns rs) ∙ sym read
-    ∙ sym (get_or-set_other old n shard (list_of n ns rs ++ r ∷ []) [] (λ e. eqb-false n shard other (sym e)))))
+    ap (λ s. dealt_list s ns rs ++ r ∷ []) (sym e) ∙ sym (get_or-set_same old n (dealt_list n ns rs ++ r ∷ []) [] (omega (arith, long, below)))
+    ∙ ap (λ s. get_or (set old n (dealt_list n ns rs ++ r ∷ [])) s []) e)
+    (λ other. append-nil (dealt_list shard ns rs) ∙ sym read
+    ∙ sym (get_or-set_other old n shard (dealt_list n ns rs ++ r ∷ []) [] (λ e. eqb-false n shard other (sym e)))))
 
 -- the lists as one more record is pushed to its shard's list
-pub lists_of-push : (shards : ℕ) (ns : List ℕ) (rs : List RecordValue) (n : ℕ) (r : RecordValue) → length ns ≡ length rs → n < shards
-    → set (lists_of shards ns rs) n (list_of n ns rs ++ r ∷ []) ≡ lists_of shards (ns ++ n ∷ []) (rs ++ r ∷ [])
-lists_of-push shards ns rs n r same below =
-    let old = lists_of shards ns rs in
-    let long : length old ≡ shards = length-map-range_with_len (λ shard. list_of shard ns rs) 0 shards in
-    let now = set old n (list_of n ns rs ++ r ∷ []) in
-    fill_by_all (λ shard. list_of shard (ns ++ n ∷ []) (rs ++ r ∷ [])) now shards []
-    (length-set old n (list_of n ns rs ++ r ∷ []) ∙ long)
+pub dealt_lists-push : (shards : ℕ) (ns : List ℕ) (rs : List RecordValue) (n : ℕ) (r : RecordValue) → length ns ≡ length rs → n < shards
+    → set (dealt_lists shards ns rs) n (dealt_list n ns rs ++ r ∷ []) ≡ dealt_lists shards (ns ++ n ∷ []) (rs ++ r ∷ [])
+dealt_lists-push shards ns rs n r same below =
+    let old = dealt_lists shards ns rs in
+    let long : length old ≡ shards = length-map-range_with_len (λ shard. dealt_list shard ns rs) 0 shards in
+    let now = set old n (dealt_list n ns rs ++ r ∷ []) in
+    fill_by_all (λ shard. dealt_list shard (ns ++ n ∷ []) (rs ++ r ∷ [])) now shards []
+    (length-set old n (dealt_list n ns rs ++ r ∷ []) ∙ long)
     (λ k within. pushed_at shards ns rs n r same below k within)
 
 -- what is read of a list with one more element is read of the list, or is that element
@@ -87,10 +87,10 @@ FollowRule-push kind may_answer shards rs ns r n same follow last = λ place num
 pub length-dealing : (kind : DealKind) (may_answer : ℕ → RecordValue → ℕ → ℕ → Type 0) (shards : ℕ) (records : List RecordValue) (lists : List (List RecordValue))
     → IsDealing kind may_answer shards records lists → length lists ≡ shards
 length-dealing kind may_answer shards records lists dealing =
-    ap (λ (ls : List (List RecordValue)). length ls) dealing.dealt.parted ∙ length-map-range_with_len (λ shard. list_of shard dealing.numbers records) 0 shards
+    ap (λ (ls : List (List RecordValue)). length ls) dealing.dealt.parted ∙ length-map-range_with_len (λ shard. dealt_list shard dealing.numbers records) 0 shards
 
 -- no record is dealt yet
-pub IsDealing-none : (kind : DealKind) (may_answer : ℕ → RecordValue → ℕ → ℕ → Type 0) (shards : ℕ) (lists : List (List RecordValue)) → lists ≡ lists_of shards [] []
+pub IsDealing-none : (kind : DealKind) (may_answer : ℕ → RecordValue → ℕ → ℕ → Type 0) (shards : ℕ) (lists : List (List RecordValue)) → lists ≡ dealt_lists shards [] []
     → IsDealing kind may_answer shards [] lists
 IsDealing-none kind may_answer shards lists empty = record {
   numbers = [];
@@ -104,15 +104,15 @@ pub IsDealing-push : (kind : DealKind) (may_answer : ℕ → RecordValue → ℕ
     → IsDealing kind may_answer shards (rs ++ r ∷ []) (set lists n (get_or lists n [] ++ r ∷ []))
 IsDealing-push kind may_answer shards rs lists r n dealing last =
     let ns = dealing.numbers in
-    let at : get_or (lists_of shards ns rs) n [] ≡ list_of n ns rs = get_or-map-range_with_len (λ s. list_of s ns rs) 0 shards n n [] last.below (omega arith) in
+    let at : get_or (dealt_lists shards ns rs) n [] ≡ dealt_list n ns rs = get_or-map-range_with_len (λ s. dealt_list s ns rs) 0 shards n n [] last.below (omega arith) in
     record {
       numbers = ns ++ n ∷ [];
       dealt = record {
         as_many = length-append ns (n ∷ []) ∙ ap (λ k. k + 1) dealing.dealt.as_many ∙ sym (length-append rs (r ∷ []));
         below = All-push (λ m. m < shards) ns n dealing.dealt.below last.below;
         parted = ap (λ (ls : List (List RecordValue)). set ls n (get_or ls n [] ++ r ∷ [])) dealing.dealt.parted
-            ∙ ap (λ l. set (lists_of shards ns rs) n (l ++ r ∷ [])) at
-            ∙ lists_of-push shards ns rs n r dealing.dealt.as_many last.below;
+            ∙ ap (λ l. set (dealt_lists shards ns rs) n (l ++ r ∷ [])) at
+            ∙ dealt_lists-push shards ns rs n r dealing.dealt.as_many last.below;
       };
       ruled = FollowRule-push kind may_answer shards rs ns r n dealing.dealt.as_many dealing.ruled last;
     }

@@ -6,18 +6,18 @@ use Rattle.deal_rules.specs.declared.deal_kind.DealKind.{DealKind}
 use Rattle.deal_rules.specs.Rule.{MayBeDealt}
 
 -- the records of a shard: those whose number it is, in order
-abbrev pub list_of : ℕ → List ℕ → List RecordValue → List RecordValue
-list_of shard numbers records = map (λ (dealt : ℕ × RecordValue). dealt.1) (filter (λ (dealt : ℕ × RecordValue). dealt.0 == shard) (zip numbers records))
+abbrev pub dealt_list : ℕ → List ℕ → List RecordValue → List RecordValue
+dealt_list shard numbers records = map (λ (dealt : ℕ × RecordValue). dealt.1) (filter (λ (dealt : ℕ × RecordValue). dealt.0 == shard) (zip numbers records))
 
 -- the lists of all shards, from shard 0 on
-abbrev pub lists_of : ℕ → List ℕ → List RecordValue → List (List RecordValue)
-lists_of shards numbers records = map (λ shard. list_of shard numbers records) (range_with_len 0 shards)
+abbrev pub dealt_lists : ℕ → List ℕ → List RecordValue → List (List RecordValue)
+dealt_lists shards numbers records = map (λ shard. dealt_list shard numbers records) (range_with_len 0 shards)
 
 -- each record has one number, which is a shard, and each shard has the records of its number
 pub record AreDealt (shards : ℕ) (records : List RecordValue) (numbers : List ℕ) (lists : List (List RecordValue)) : Type 0 where
   pub as_many : length numbers ≡ length records
   pub below : All (λ number. number < shards) numbers
-  pub parted : lists ≡ lists_of shards numbers records
+  pub parted : lists ≡ dealt_lists shards numbers records
 
 -- each number is one that the rule may give the record at its place, counted from 0
 abbrev pub FollowRule : DealKind → (ℕ → RecordValue → ℕ → ℕ → Type 0) → ℕ → List RecordValue → List ℕ → Type 0
@@ -31,7 +31,7 @@ pub record IsDealing (kind : DealKind) (may_answer : ℕ → RecordValue → ℕ
   pub ruled : FollowRule kind may_answer shards records numbers
 
 -- the lists of 1 to 16 shards, with at most 16,777,216 records in all
-pub record AreShards (lists : List (List RecordValue)) : Type 0 where
+pub record AreShardLists (lists : List (List RecordValue)) : Type 0 where
   pub some : 1 ≤ length lists
   pub few : length lists ≤ 16
   pub small : sum_by (λ list. length list) lists ≤ 2 ^ 24

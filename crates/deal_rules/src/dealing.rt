@@ -6,7 +6,7 @@ ghost use Rattle.std.specs.List.Sorted.{IsPermutation};
 ghost use Rattle.prefix_lattice.specs.PrefixValue.{PrefixValue};
 ghost use Rattle.prefix_lattice.specs.RecordValue.{RecordValue};
 ghost use Rattle.prefix_lattice.specs.Prefix.{weight_of, total_weight};
-ghost use Rattle.deal_rules.specs.Dealing.{AreDealt, IsDealing, lists_of};
+ghost use Rattle.deal_rules.specs.Dealing.{AreDealt, IsDealing, dealt_lists};
 
 use crate::{Dealer, Deals, Dealt};
 use prefix_lattice::RecordList;
@@ -38,7 +38,7 @@ pub fn deal(
 
 // A list with no record for each shard.
 fn empty_lists(alloc: Global, shards: u32) -> Result<Vec<RecordList>, AllocError>
-    ensures { IfOk result (λ lists. lists.items ≡ lists_of shards [] []) }
+    ensures { IfOk result (λ lists. lists.items ≡ dealt_lists shards [] []) }
 {
     let mut lists = Vec::with_capacity(alloc, shards as usize)?;
     for _ in 0..shards {

@@ -1,7 +1,7 @@
 //! The records of all shards.
 
 ghost use Rattle.std.specs.Prelude.{◌≡◌, ◌<◌, ◌≤◌, length, slice_get, Some, IfOk};
-ghost use Rattle.deal_rules.specs.Dealing.{AreShards};
+ghost use Rattle.deal_rules.specs.Dealing.{AreShardLists};
 
 use prefix_lattice::RecordList;
 use std::alloc::{AllocError, Global};
@@ -16,19 +16,19 @@ pub struct Dealt {
 impl Model for Dealt {
     ghost use Rattle.std.specs.Prelude.{List};
     ghost use Rattle.prefix_lattice.specs.RecordValue.{RecordValue};
-    ghost use Rattle.deal_rules.specs.Dealing.{AreShards};
+    ghost use Rattle.deal_rules.specs.Dealing.{AreShardLists};
 
     ghost Value = { List (List RecordValue) };
 
     ghost view = { λ d. d.lists.items };
 
-    ghost invariant = { λ d. AreShards d.lists.items };
+    ghost invariant = { λ d. AreShardLists d.lists.items };
 }
 
 impl Dealt {
     /// The lists of all shards, from shard 0 on.
     pub(crate) fn of(lists: Vec<RecordList>) -> Dealt
-        requires { AreShards lists.items }
+        requires { AreShardLists lists.items }
         ensures { result ≡ lists.items }
     {
         Dealt { lists }
@@ -37,7 +37,7 @@ impl Dealt {
     /// How many shards there are.
     pub fn shards(&self) -> u32
         ensures value { result ≡ length self.now }
-        ensures bounded { AreShards self.now }
+        ensures bounded { AreShardLists self.now }
     {
         self.lists.len() as u32
     }
@@ -54,7 +54,7 @@ impl Dealt {
     /// The lists of all shards, from shard 0 on.
     pub fn into_lists(self) -> Vec<RecordList>
         ensures value { result.items ≡ self }
-        ensures bounded { AreShards result.items }
+        ensures bounded { AreShardLists result.items }
     {
         self.lists
     }

@@ -27,12 +27,12 @@ pub record KeepsRecordsOf (weigh : Weigh) (all : List FrameValue) (records : Rec
   pub bad_header : records.bad_header ≡ capped (skipped BadHeader all)
 
 -- the counts after one more skipped frame
-abbrev pub counted : Skip → Records → Records
-counted NotIpv4 records = record records { not_ipv4 = capped (records.not_ipv4 + 1) }
-counted Short records = record records { short = capped (records.short + 1) }
-counted BadHeader records = record records { bad_header = capped (records.bad_header + 1) }
+abbrev pub with_skip : Skip → Records → Records
+with_skip NotIpv4 records = record records { not_ipv4 = capped (records.not_ipv4 + 1) }
+with_skip Short records = record records { short = capped (records.short + 1) }
+with_skip BadHeader records = record records { bad_header = capped (records.bad_header + 1) }
 
 -- the records after one more frame, by its record or why it has none
 abbrev pub after_frame : Result RecordValue Skip → Records → Records
 after_frame (Ok rec) records = record records { list = records.list ++ rec ∷ []; frames = capped (records.frames + 1) }
-after_frame (Err skip) records = record (counted skip records) { frames = capped (records.frames + 1) }
+after_frame (Err skip) records = record (with_skip skip records) { frames = capped (records.frames + 1) }

@@ -1,5 +1,5 @@
 -- What reading the records of a capture came to.
-use Rattle.std.specs.Prelude.{ℕ, ◌≡◌, ◌≤◌, List, length, Option, IfSome}
+use Rattle.std.specs.Prelude.{⊤, ℕ, ◌≡◌, ◌≤◌, List, length, Option, IfSome}
 use Rattle.pcap_frames.specs.FrameValue.{FrameValue}
 use Rattle.outside_io.specs.Faults.{Rose}
 use Rattle.pcap_frames.specs.Capture.{IsCapture, HasFault}
@@ -29,4 +29,4 @@ pub record HasRecords (weigh : Weigh) (left : Option (List ℕ)) (records : Reco
 abbrev pub HasRefused : Option (List ℕ) → ℕ → ℕ → ReadRefusal → Type 0
 HasRefused left before now (Capture fault) = IfSome left (λ file. HasFault file fault)
 HasRefused left before now ReadFault = Rose before now
-HasRefused left before now OutOfMemory = Unit {0}
+HasRefused left before now OutOfMemory = ⊤

@@ -16,7 +16,7 @@ pub struct Records {
 
 impl Records {
     ghost use Rattle.std.specs.Prelude.{◌≡◌, OnOk, OnErr};
-    ghost use Rattle.frame_records.specs.Kept.{after_frame, counted};
+    ghost use Rattle.frame_records.specs.Kept.{after_frame, with_skip};
 
     /// Takes the record of the next frame, or why it has none. After an `Err` all is as before.
     pub(crate) fn take(&mut self, outcome: Result<Record, Skip>) -> Result<(), AllocError>
@@ -32,7 +32,7 @@ impl Records {
     }
 
     fn count(&mut self, skip: Skip)
-        ensures { self.new ≡ counted skip self.old }
+        ensures { self.new ≡ with_skip skip self.old }
     {
         match skip {
             Skip::NotIpv4 => self.not_ipv4 = self.not_ipv4.saturating_add(1),

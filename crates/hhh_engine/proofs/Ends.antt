@@ -9,8 +9,8 @@ use Rattle.prefix_lattice.specs.RecordValue.{RecordValue}
 use Rattle.shard_state.specs.SnapshotValue.{SnapshotValue, empty_snapshot}
 use Rattle.shard_state.specs.ShardValue.{ShardValue, snapshot_of}
 use Rattle.shard_state.specs.CutValue.{CutValue, positions_of}
-use Rattle.shard_state.specs.Standing.{StandsFor}
-use Rattle.deal_rules.specs.Dealing.{AreShards}
+use Rattle.shard_state.specs.Standing.{SnapshotStandsFor}
+use Rattle.deal_rules.specs.Dealing.{AreShardLists}
 use Rattle.report_text.specs.Positions.{ArePositions}
 use Rattle.hhh_engine.specs.Reporting.{IsCutAtEnds, start_of}
 
@@ -56,10 +56,10 @@ positions_at_ends capacity (list ∷ lists) = ap (λ ps. length list ∷ ps) (po
 
 -- empty tables stand for each list, and a shard begun with tables that stand for its list goes on to stand for it
 pub record ShardsStand : Type 0 where
-  pub begins : (capacity : ℕ) (list : List RecordValue) → StandsFor (empty_snapshot capacity) list
-  pub goes_on : (shard : ShardValue) → StandsFor shard.base shard.list → shard.base.position ≤ shard.position → shard.position ≤ length shard.list → StandsFor (snapshot_of shard) shard.list
+  pub begins : (capacity : ℕ) (list : List RecordValue) → SnapshotStandsFor (empty_snapshot capacity) list
+  pub goes_on : (shard : ShardValue) → SnapshotStandsFor shard.base shard.list → shard.base.position ≤ shard.position → shard.position ≤ length shard.list → SnapshotStandsFor (snapshot_of shard) shard.list
 
-stand_at_ends : ShardsStand → (capacity : ℕ) (lists : List (List RecordValue)) → AllZip StandsFor (map (at_end capacity) lists) lists
+stand_at_ends : ShardsStand → (capacity : ℕ) (lists : List (List RecordValue)) → AllZip SnapshotStandsFor (map (at_end capacity) lists) lists
 stand_at_ends stand capacity [] = tt
 stand_at_ends stand capacity (list ∷ lists) = (
   stand.goes_on (record { list = list; base = empty_snapshot capacity; position = length list }) (stand.begins capacity list) (omega arith) (omega arith),
@@ -75,7 +75,7 @@ all_counted stand capacity lists done cut whole same_capacity shards =
     record {
       same_capacity = same_capacity;
       at_ends = ap (map (λ snapshot. snapshot.position)) is_counted ∙ positions_at_ends capacity lists;
-      stands = record { shards = subst (λ snapshots. AllZip StandsFor snapshots lists) (sym is_counted) (stand_at_ends stand capacity lists) };
+      stands = record { shards = subst (λ snapshots. AllZip SnapshotStandsFor snapshots lists) (sym is_counted) (stand_at_ends stand capacity lists) };
     }
 
 -- of few records in all each list has few
@@ -83,17 +83,17 @@ pub each_few : (most : ℕ) (lists : List (List RecordValue)) → sum_by (λ lis
 each_few most lists few k d lt = omega (arith, few, get_or-le-sum_by (λ (list : List RecordValue). length list) lists k d lt)
 
 -- the positions at the start of 1 to 16 lists, and those at their ends, are positions that a text can tell
-positions_over : (f : List RecordValue → ℕ) (lists : List (List RecordValue)) → AreShards lists → All (λ list. f list ≤ 16777216) lists → ArePositions (map f lists)
+positions_over : (f : List RecordValue → ℕ) (lists : List (List RecordValue)) → AreShardLists lists → All (λ list. f list ≤ 16777216) lists → ArePositions (map f lists)
 positions_over f lists shards within = record {
   some = subst (λ n. 1 ≤ n) (sym (length-map lists f)) shards.some;
   few = subst (λ n. n ≤ 16) (sym (length-map lists f)) shards.few;
   within = All-map (λ position. position ≤ 16777216) f lists within;
 }
 
-pub starts_are_positions : (lists : List (List RecordValue)) → AreShards lists → ArePositions (start_of lists)
+pub starts_are_positions : (lists : List (List RecordValue)) → AreShardLists lists → ArePositions (start_of lists)
 starts_are_positions lists shards = positions_over (λ list. 0) lists shards (λ k d lt. omega arith)
 
-pub ends_are_positions : (capacity : ℕ) (lists : List (List RecordValue)) (cut : CutValue) (positions : List ℕ) → AreShards lists → IsCutAtEnds capacity lists cut
+pub ends_are_positions : (capacity : ℕ) (lists : List (List RecordValue)) (cut : CutValue) (positions : List ℕ) → AreShardLists lists → IsCutAtEnds capacity lists cut
     → positions ≡ positions_of cut → ArePositions positions
 ends_are_positions capacity lists cut positions shards at same =
     subst ArePositions (sym (same ∙ at.at_ends)) (positions_over (λ list. length list) lists shards (each_few 16777216 lists shards.small))

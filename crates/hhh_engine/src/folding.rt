@@ -1,7 +1,7 @@
 //! Counting all records of the shards, in the calling thread.
 
 ghost use Rattle.std.specs.Prelude.{◌≡◌, ◌^◌, ◌≤◌, All, length, IfOk};
-ghost use Rattle.deal_rules.specs.Dealing.{AreShards};
+ghost use Rattle.deal_rules.specs.Dealing.{AreShardLists};
 ghost use Rattle.shard_state.specs.SnapshotValue.{empty_snapshot};
 ghost use Rattle.hhh_engine.specs.Reporting.{IsCutAtEnds};
 
@@ -23,7 +23,7 @@ pub fn cut_at_ends(
     requires block { 1 ≤ block }
     ensures cut { IfOk result (IsCutAtEnds capacity dealt) }
     ensures weighed { IfOk result (λ cut. All (λ list. All (λ rec. 1 ≤ rec.weight) list) dealt) }
-    ensures shards { AreShards dealt }
+    ensures shards { AreShardLists dealt }
 {
     shards_stand();
     let mut cut = Cut::with_room(alloc, dealt.shards(), capacity)?;

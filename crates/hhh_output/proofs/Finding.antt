@@ -11,13 +11,13 @@ use Rattle.prefix_lattice.specs.Key.{HasKey}
 use Rattle.cut_merge.specs.MergedValue.{MergedValue}
 use Rattle.cut_merge.specs.Standing.{candidates_at}
 use Rattle.hhh_output.specs.declared.line.Line.{Line}
-use Rattle.hhh_output.specs.Selecting.{IsAsked, IsSelected, AreDistinct}
+use Rattle.hhh_output.specs.Selecting.{IsMergedLine, IsSelected, AreDistinct}
 
 -- the line of a prefix of this node that has one of these keys, if merged tables ask for it
 pub record IsAmong (merged : MergedValue) (threshold : ℕ) (reported : List PrefixValue) (node : NodeValue) (keys : List ℕ) (line : Line) : Type 0 where
   pub has_key : HasKey node (key_of line.prefix) line.prefix
   pub key : Contains keys (key_of line.prefix)
-  pub asked : IsAsked merged threshold reported line
+  pub asked : IsMergedLine merged threshold reported line
 
 -- the candidates before a place are judged
 pub record Judged (merged : MergedValue) (threshold : ℕ) (reported : List PrefixValue) (node : NodeValue) (keys : List ℕ) (old now : List Line) (place : ℕ) : Type 0 where
@@ -59,7 +59,7 @@ module _ (merged : MergedValue) (threshold : ℕ) (reported : List PrefixValue) 
     (elsewhere : All (λ (line : Line). node_of line.prefix ≢ node) old)
     (distinct : AllPairs (λ k other. k ≢ other) keys) (within : place < length keys) (read : key ≡ get_or keys place key)
     (only : (other : PrefixValue) → (Some prefix ≡ Some other) ↔ HasKey node key other)
-    (asked : (line : Line) → line.prefix ≡ prefix → (found ≡ Some line) ↔ IsAsked merged threshold reported line)
+    (asked : (line : Line) → line.prefix ≡ prefix → (found ≡ Some line) ↔ IsMergedLine merged threshold reported line)
     (its_prefix : (line : Line) → found ≡ Some line → line.prefix ≡ prefix) where
   is_its : HasKey node key prefix
   is_its = (only prefix).0 refl
@@ -168,7 +168,7 @@ module _ (merged : MergedValue) (threshold : ℕ) (reported : List PrefixValue) 
     (elsewhere : All (λ (line : Line). node_of line.prefix ≢ node) old)
     (distinct : AllPairs (λ k other. k ≢ other) keys) (within : place < length keys) (read : key ≡ get_or keys place key)
     (only : (other : PrefixValue) → (Some prefix ≡ Some other) ↔ HasKey node key other) where
-  pub judged_more : (found : Option Line) → ((line : Line) → line.prefix ≡ prefix → (found ≡ Some line) ↔ IsAsked merged threshold reported line)
+  pub judged_more : (found : Option Line) → ((line : Line) → line.prefix ≡ prefix → (found ≡ Some line) ↔ IsMergedLine merged threshold reported line)
       → ((line : Line) → found ≡ Some line → line.prefix ≡ prefix) → Judged merged threshold reported node keys old (now ++ option_to_list found) (place + 1)
   judged_more None asked its_prefix =
       subst (λ lines. Judged merged threshold reported node keys old lines (place + 1)) (sym (append-nil now))

@@ -16,7 +16,7 @@ use Rattle.prefix_lattice.specs.Lattice.{report_order}
 use Rattle.prefix_lattice.specs.Explaining.{lines_under, one_covers, conditioned_weight, closest, kept_pairs}
 use Rattle.shard_state.specs.SnapshotValue.{SnapshotValue}
 use Rattle.shard_state.specs.CutValue.{CutValue, positions_of, total_of_cut}
-use Rattle.shard_state.specs.Standing.{StandsFor, CutStandsFor, records_before}
+use Rattle.shard_state.specs.Standing.{SnapshotStandsFor, CutStandsFor, records_before}
 use Rattle.shard_state.specs.Weights.{Holds}
 use Rattle.cut_merge.specs.Span.{span, monitored_at}
 use Rattle.conditioned_bounds.specs.Bounds.{bound_of, asked_of, HoldWeights, AreNarrow}
@@ -47,7 +47,7 @@ pub record CutHolds (cut : CutValue) (lists : List (List RecordValue)) : Type 0 
       → times * least ≤ times * conditioned_weight prefix lines records + (1 + length (closest prefix lines) + length (kept_pairs (closest prefix lines))) * whole
 
 -- positions of a cut that stands for lists are within them
-within_lists : (shards : List SnapshotValue) (lists : List (List RecordValue)) → AllZip StandsFor shards lists
+within_lists : (shards : List SnapshotValue) (lists : List (List RecordValue)) → AllZip SnapshotStandsFor shards lists
     → AllZip (λ position list. position ≤ length list) (map (λ (s : SnapshotValue). s.position) shards) lists
 within_lists [] [] stand = tt
 within_lists [] (list ∷ lists) stand = stand

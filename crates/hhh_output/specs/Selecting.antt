@@ -20,7 +20,7 @@ abbrev pub merged_high : MergedValue → PrefixValue → ℕ
 merged_high merged prefix = (interval_for merged prefix).high
 
 -- a line that merged tables ask for over other lines: it shows the interval of its prefix, which is heavy and unexplained
-pub record IsAsked (merged : MergedValue) (threshold : ℕ) (lines : List PrefixValue) (line : Line) : Type 0 where
+pub record IsMergedLine (merged : MergedValue) (threshold : ℕ) (lines : List PrefixValue) (line : Line) : Type 0 where
   pub low : line.lo ≡ merged_low merged line.prefix
   pub high : line.hi ≡ merged_high merged line.prefix
   pub heavy : threshold ≤ line.hi
@@ -30,7 +30,7 @@ pub record IsAsked (merged : MergedValue) (threshold : ℕ) (lines : List Prefix
 pub record IsSelected (merged : MergedValue) (threshold : ℕ) (lines : List PrefixValue) (line : Line) : Type 0 where
   pub is_prefix : IsPrefix line.prefix
   pub candidate : Contains (candidates_at merged (node_of line.prefix)) (key_of line.prefix)
-  pub asked : IsAsked merged threshold lines line
+  pub asked : IsMergedLine merged threshold lines line
 
 -- the most candidates of a node: 128 shards, each with tables of at most 4096 entries
 abbrev pub most_candidates : ℕ

@@ -8,7 +8,7 @@ ghost use Rattle.prefix_lattice.specs.Prefix.{node_of};
 ghost use Rattle.cut_merge.specs.Standing.{candidates_at};
 ghost use Rattle.hhh_output.specs.declared.line.Line.{Line as LineValue};
 ghost use Rattle.hhh_output.specs.Lines.{prefixes_of};
-ghost use Rattle.hhh_output.specs.Selecting.{IsAsked, IsSelected, AreCandidates, AreDistinct, AreOfLevel, AreDownTo};
+ghost use Rattle.hhh_output.specs.Selecting.{IsMergedLine, IsSelected, AreCandidates, AreDistinct, AreOfLevel, AreDownTo};
 
 use crate::merged_intervals::MergedIntervals;
 use crate::{Line, Lines};
@@ -118,7 +118,7 @@ fn line_for(
     prefix: Prefix,
 ) -> Result<Option<Line>, AllocError>
     ensures asked { IfOk result (λ found. (line : LineValue) → line.prefix ≡ prefix
-        → (found ≡ Some line) ↔ IsAsked merged.now threshold reported.now line) }
+        → (found ≡ Some line) ↔ IsMergedLine merged.now threshold reported.now line) }
     ensures prefix { IfOk result (λ found. (line : LineValue) → found ≡ Some line → line.prefix ≡ prefix) }
 {
     let (lo, hi) = merged.interval(&prefix);

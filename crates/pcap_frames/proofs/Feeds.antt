@@ -9,7 +9,7 @@ use Rattle.pcap_frames.specs.declared.part.Stage.TheVariants as stage
 use Rattle.pcap_frames.specs.Part.{state_of}
 use Rattle.pcap_frames.specs.FrameValue.{FrameValue}
 use Rattle.pcap_frames.specs.Frames.{AreFrames}
-use Rattle.pcap_frames.specs.ReaderState.{ReaderState, InHeader, InFrames, AtFault, LacksMemory, HasStopped, StandsFor}
+use Rattle.pcap_frames.specs.ReaderState.{ReaderState, InHeader, InFrames, AtFault, LacksMemory, HasStopped, ReaderStandsFor}
 use Rattle.pcap_frames.specs.Steps.{Takes, ShowsFront, LacksRoom}
 use Rattle.pcap_frames.specs.Visitor.{Sees, IsAlike}
 use Rattle.pcap_frames.specs.Feeding.{Feeds, SeesBeginning, IfMemory, IsAnswerOf, IsAnswerTo}
@@ -101,13 +101,13 @@ module _ {V : Type 0} (stands_for : V → List FrameValue → Type 0) where
 
   -- what is fed is answered exactly
   pub fed_exact : {T : Type 0} (seen saw : V) (old new : ReaderState) (piece : List ℕ) (result : Result T FeedFault) → Feeds stands_for seen saw old new piece → IsAnswerOf new result
-      → (before : List ℕ) (frames : List FrameValue) → StandsFor old before frames → IsAnswerTo (before ++ piece) result
+      → (before : List ℕ) (frames : List FrameValue) → ReaderStandsFor old before frames → IsAnswerTo (before ++ piece) result
   fed_exact seen saw old new piece result feeds answer before frames stands =
       let fed = feeds.advances in answer_exact new (before ++ piece) _ result (fed.reads before frames stands) answer
 
 -- a reader that has stopped answers exactly
 pub stopped_exact : {T : Type 0} (state : ReaderState) (piece : List ℕ) (result : Result T FeedFault) → HasStopped state → IsAnswerOf state result
-    → (before : List ℕ) (frames : List FrameValue) → StandsFor state before frames → IsAnswerTo (before ++ piece) result
+    → (before : List ℕ) (frames : List FrameValue) → ReaderStandsFor state before frames → IsAnswerTo (before ++ piece) result
 stopped_exact (InHeader kept) piece result stopped answer before frames stands = absurd stopped
 stopped_exact (InFrames at) piece result stopped answer before frames stands = absurd stopped
 stopped_exact (AtFault fault) piece result stopped answer before frames stands =

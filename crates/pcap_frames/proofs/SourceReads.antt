@@ -9,7 +9,7 @@ use Rattle.pcap_frames.specs.declared.fault.ReadRefusal.TheVariants.{Capture}
 use Rattle.pcap_frames.specs.FrameValue.{FrameValue}
 use Rattle.pcap_frames.specs.Frames.{AreFrames}
 use Rattle.pcap_frames.specs.Capture.{ShowsFault, HasFaultAfter}
-use Rattle.pcap_frames.specs.ReaderState.{ReaderState, InHeader, InFrames, AtFault, LacksMemory, HasStopped, StandsFor, Completes}
+use Rattle.pcap_frames.specs.ReaderState.{ReaderState, InHeader, InFrames, AtFault, LacksMemory, HasStopped, ReaderStandsFor, Completes}
 use Rattle.pcap_frames.specs.Visitor.{Sees}
 use Rattle.pcap_frames.specs.Feeding.{IsAnswerOf, IfMemory, Feeds, SeesBeginning, IsEndOf}
 use Rattle.pcap_frames.specs.Reading.{refusal_of, SeesCapture, SeesBeforeFault, SeesFront, SeesPart, IsSeen, IsReadOf}
@@ -28,14 +28,14 @@ extent (InFrames at) = at.place + at.came
 extent (AtFault fault) = 0
 extent LacksMemory = 0
 
-pub extent_is : (state : ReaderState) (bytes : List ℕ) (frames : List FrameValue) → StandsFor state bytes frames → (HasStopped state → ⊥) → extent state ≡ length bytes
+pub extent_is : (state : ReaderState) (bytes : List ℕ) (frames : List FrameValue) → ReaderStandsFor state bytes frames → (HasStopped state → ⊥) → extent state ≡ length bytes
 extent_is (InHeader kept) bytes frames stands goes = ap length stands.kept_is
 extent_is (InFrames at) bytes frames stands goes = omega (arith, stands.place_is, stands.came_is)
 extent_is (AtFault fault) bytes frames stands goes = absurd (goes tt)
 extent_is LacksMemory bytes frames stands goes = absurd stands
 
 -- no reader that goes on was fed more bytes than the limits allow
-pub extent_bound : (state : ReaderState) (bytes : List ℕ) (frames : List FrameValue) → StandsFor state bytes frames → (HasStopped state → ⊥) → length bytes ≤ 24 + 262160 * 16777217
+pub extent_bound : (state : ReaderState) (bytes : List ℕ) (frames : List FrameValue) → ReaderStandsFor state bytes frames → (HasStopped state → ⊥) → length bytes ≤ 24 + 262160 * 16777217
 extent_bound (InHeader kept) bytes frames stands goes = omega (arith, stands.short)
 extent_bound (InFrames at) bytes frames stands goes =
     let splits = stands.splits in
@@ -53,7 +53,7 @@ answer_goes (AtFault fault) x answer stopped = cc
 answer_goes LacksMemory x answer stopped = cc
 
 -- a reader that refuses stands for bytes that show its fault
-pub answer_shows : (T : Type 0) (state : ReaderState) (bytes : List ℕ) (frames : List FrameValue) (fault : CaptureFault) → StandsFor state bytes frames → IsAnswerOf {T = T} state (Err (feed.Refused fault)) → ShowsFault bytes frames fault
+pub answer_shows : (T : Type 0) (state : ReaderState) (bytes : List ℕ) (frames : List FrameValue) (fault : CaptureFault) → ReaderStandsFor state bytes frames → IsAnswerOf {T = T} state (Err (feed.Refused fault)) → ShowsFault bytes frames fault
 answer_shows T (InHeader kept) bytes frames fault stands answer = absurd cc
 answer_shows T (InFrames at) bytes frames fault stands answer = absurd cc
 answer_shows T (AtFault shown) bytes frames fault stands answer = subst (ShowsFault bytes frames) (let same : shown ≡ fault = cc in same) stands
@@ -90,12 +90,12 @@ module _ {V : Type 0} (stands_for : V → List FrameValue → Type 0) where
     pub bytes : List ℕ
     pub frames : List FrameValue
     pub consumed : Consumes left now bytes
-    pub stands : StandsFor state bytes frames
+    pub stands : ReaderStandsFor state bytes frames
     pub goes : HasStopped state → ⊥
     pub are_frames : AreFrames frames
     pub sees : Sees stands_for seen saw frames
 
-  pub none_read : (visitor : V) (left : Option (List ℕ)) (state : ReaderState) → state ≡ InHeader [] → StandsFor state [] [] → HasRead visitor visitor left left state
+  pub none_read : (visitor : V) (left : Option (List ℕ)) (state : ReaderState) → state ≡ InHeader [] → ReaderStandsFor state [] [] → HasRead visitor visitor left left state
   none_read visitor left state is stands = record {
     bytes = [];
     frames = [];
@@ -187,7 +187,7 @@ module _ {V : Type 0} (stands_for : V → List FrameValue → Type 0) where
 
   -- the end of the source
   pub read_whole : (seen saw : V) (left now after : Option (List ℕ)) (state : ReaderState) (count : ℕ) → HasRead seen saw left now state → Consumes now after [] → IsAtEnd after
-      → ((file : List ℕ) (frames : List FrameValue) → StandsFor state file frames → IsEndOf file frames (Ok count))
+      → ((file : List ℕ) (frames : List FrameValue) → ReaderStandsFor state file frames → IsEndOf file frames (Ok count))
       → SeesCapture stands_for seen saw left after count × IfSome left (λ file. IsReadOf file (Ok count))
   read_whole seen saw left now after state count read consumed end finish =
       let answer = finish read.bytes read.frames read.stands in
@@ -206,7 +206,7 @@ module _ {V : Type 0} (stands_for : V → List FrameValue → Type 0) where
       )
 
   pub read_ended : (seen saw : V) (left now after : Option (List ℕ)) (state : ReaderState) (fault : FeedFault) → HasRead seen saw left now state → Consumes now after [] → IsAtEnd after
-      → ((file : List ℕ) (frames : List FrameValue) → StandsFor state file frames → IsEndOf file frames (Err fault))
+      → ((file : List ℕ) (frames : List FrameValue) → ReaderStandsFor state file frames → IsEndOf file frames (Err fault))
       → IsSeen stands_for seen saw left after (Err (refusal_of fault)) × IfSome left (λ file. IsReadOf file (Err (refusal_of fault)))
   read_ended seen saw left now after state (feed.Refused fault) read consumed end finish =
       let first = finish read.bytes read.frames read.stands in

@@ -9,7 +9,7 @@ use Rattle.pcap_frames.specs.FrameValue.{FrameValue}
 use Rattle.pcap_frames.specs.Header.{IsHeader, magic_order, header_fault}
 use Rattle.pcap_frames.specs.Frames.{frame_at, BeginsFrame, BeginsFrames, needed, frame_fault}
 use Rattle.pcap_frames.specs.Capture.{ShowsFault}
-use Rattle.pcap_frames.specs.ReaderState.{FramePlace, ReaderState, InHeader, InFrames, AtFault, LacksMemory, IsBehind, StandsFor, Advances}
+use Rattle.pcap_frames.specs.ReaderState.{FramePlace, ReaderState, InHeader, InFrames, AtFault, LacksMemory, IsBehind, ReaderStandsFor, Advances}
 use Rattle.pcap_frames.specs.Steps.{SplitsFrame, Takes}
 use Rattle.pcap_frames.proofs.Numbers.{number_at-take, number_at-append}
 use Rattle.pcap_frames.proofs.Headers.{header_of_order}
@@ -124,7 +124,7 @@ frame_fault-nil order count place = refl
 -- ---- steps in the file header
 
 -- a new reader stands for no bytes
-pub new_stands : StandsFor (InHeader []) [] []
+pub new_stands : ReaderStandsFor (InHeader []) [] []
 unfolding header_fault
 new_stands = record { kept_is = refl; short = omega arith; none_shown = refl; no_frame = refl }
 
@@ -325,14 +325,14 @@ stays_without_memory front = record { reads = λ before frames stands. absurd st
 pub Advances-nil : (state : ReaderState) → Advances state state [] []
 Advances-nil state = record {
   reads = λ before frames stands.
-      subst (λ l. StandsFor state l (frames ++ [])) (sym (append-nil before)) (subst (StandsFor state before) (sym (append-nil frames)) stands);
+      subst (λ l. ReaderStandsFor state l (frames ++ [])) (sym (append-nil before)) (subst (ReaderStandsFor state before) (sym (append-nil frames)) stands);
 }
 
 -- one step after another
 pub Advances-trans : (old mid new : ReaderState) (front more : List ℕ) (given others : List FrameValue) → Advances old mid front given → Advances mid new more others → Advances old new (front ++ more) (given ++ others)
 Advances-trans old mid new front more given others first second = record {
   reads = λ before frames stands.
-      subst (λ l. StandsFor new l (frames ++ (given ++ others))) (append_assoc before front more)
-      (subst (StandsFor new ((before ++ front) ++ more)) (append_assoc frames given others)
+      subst (λ l. ReaderStandsFor new l (frames ++ (given ++ others))) (append_assoc before front more)
+      (subst (ReaderStandsFor new ((before ++ front) ++ more)) (append_assoc frames given others)
       (second.reads (before ++ front) (frames ++ given) (first.reads before frames stands)));
 }

@@ -11,7 +11,7 @@ use Rattle.pcap_frames.specs.Header.{IsHeader, header_fault, fault_at}
 use Rattle.pcap_frames.specs.Frames.{frame_at, BeginsFrame, BeginsFrames, needed, frame_fault}
 use Rattle.pcap_frames.specs.Capture.{Splits, IsCapture, ShowsFault, HasFaultAfter, HasFault}
 use Rattle.pcap_frames.specs.declared.fault.FeedFault.{FeedFault}
-use Rattle.pcap_frames.specs.ReaderState.{FramePlace, ReaderState, InHeader, InFrames, AtFault, LacksMemory, IsPartHeader, IsBehind, StandsFor, Completes}
+use Rattle.pcap_frames.specs.ReaderState.{FramePlace, ReaderState, InHeader, InFrames, AtFault, LacksMemory, IsPartHeader, IsBehind, ReaderStandsFor, Completes}
 use Rattle.pcap_frames.specs.Feeding.{IsAnswerOf, IsAnswerTo}
 use Rattle.pcap_frames.proofs.Headers.{header_fault-whole, header_whole, IsHeader-append}
 use Rattle.pcap_frames.proofs.FrameLists.{needed-whole, needed-part, needed-header, needed_least, BeginsFrames-shorter}
@@ -64,7 +64,7 @@ pub shows_ends : (bytes : List ℕ) (frames : List FrameValue) (fault : CaptureF
 shows_ends bytes frames fault (inl shows) = inl (record { none = faulty_is_none bytes fault shows.shown; no_frame = shows.none_before })
 shows_ends bytes frames fault (inr shows) = inr (record { order = shows.order; rest = shows.rest; splits = shows.splits; is_last = fault_is_last shows.order (length frames) _ shows.rest fault shows.shown })
 
-pub stands_ends : (state : ReaderState) (bytes : List ℕ) (frames : List FrameValue) → StandsFor state bytes frames → Ends bytes frames
+pub stands_ends : (state : ReaderState) (bytes : List ℕ) (frames : List FrameValue) → ReaderStandsFor state bytes frames → Ends bytes frames
 stands_ends (InHeader kept) bytes frames stands = inl (record { none = λ order header. omega (arith, stands.short, header.whole); no_frame = stands.no_frame })
 stands_ends (InFrames at) bytes frames stands = inr (record { order = at.order; rest = stands.rest; splits = stands.splits; is_last = inl (cut_is_last at.order stands.rest stands.cut) })
 stands_ends (AtFault fault) bytes frames stands = shows_ends bytes frames fault stands
@@ -172,7 +172,7 @@ behind_shows_none at bytes frames others fault stands (inr shows) =
     let none = stands.none_shown in cc
 
 -- a reader that goes on stands for bytes that show no fault, and one at a fault for bytes that show it
-pub answer_exact : {T : Type 0} (state : ReaderState) (bytes : List ℕ) (frames : List FrameValue) (result : Result T FeedFault) → StandsFor state bytes frames → IsAnswerOf state result → IsAnswerTo bytes result
+pub answer_exact : {T : Type 0} (state : ReaderState) (bytes : List ℕ) (frames : List FrameValue) (result : Result T FeedFault) → ReaderStandsFor state bytes frames → IsAnswerOf state result → IsAnswerTo bytes result
 answer_exact (InHeader kept) bytes frames (Ok x) stands answer = λ others fault. part_shows_none kept bytes frames others fault stands
 answer_exact (InHeader kept) bytes frames (Err x) stands answer = absurd cc
 answer_exact (InFrames at) bytes frames (Ok x) stands answer = λ others fault. behind_shows_none at bytes frames others fault stands
@@ -254,7 +254,7 @@ completes_total bytes = by_header (header_fault bytes) refl where
   ]
 
 -- a file that a reader stands for to its end is a capture of the frames or has a fault behind them
-pub file_ends : (state : ReaderState) (file : List ℕ) (frames : List FrameValue) → StandsFor state file frames → IsCapture file frames ⊎ ((fault : CaptureFault) × HasFaultAfter file frames fault)
+pub file_ends : (state : ReaderState) (file : List ℕ) (frames : List FrameValue) → ReaderStandsFor state file frames → IsCapture file frames ⊎ ((fault : CaptureFault) × HasFaultAfter file frames fault)
 file_ends (InHeader kept) file frames stands =
     inr (fault_at ShortHeader (length file), inr (inl (record { none_shown = stands.none_shown; short = stands.short; none_before = stands.no_frame; is_fault = refl })))
 file_ends (InFrames at) file frames stands = elim (cases_lt 0 (length stands.rest)) [

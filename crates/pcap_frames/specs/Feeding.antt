@@ -1,5 +1,5 @@
 -- What a reader answers, and what its visitor saw.
-use Rattle.std.specs.Prelude.{ℕ, ◌≡◌, IsOk, List, ◌++◌, length, Result, Ok, Err}
+use Rattle.std.specs.Prelude.{⊤, ℕ, ◌≡◌, IsOk, List, ◌++◌, length, Result, Ok, Err}
 use Rattle.outside_io.specs.Pieces.{IsBeginning}
 use Rattle.pcap_frames.specs.declared.fault.FeedFault.{FeedFault}
 use Rattle.pcap_frames.specs.declared.fault.FeedFault.TheVariants.{Refused, OutOfMemory}
@@ -7,7 +7,7 @@ use Rattle.pcap_frames.specs.declared.fault.CaptureFault.{CaptureFault}
 use Rattle.pcap_frames.specs.FrameValue.{FrameValue}
 use Rattle.pcap_frames.specs.Frames.{AreFrames}
 use Rattle.pcap_frames.specs.Capture.{IsCapture, ShowsFault, HasFaultAfter}
-use Rattle.pcap_frames.specs.ReaderState.{ReaderState, InHeader, InFrames, AtFault, LacksMemory, StandsFor, Completes, Advances}
+use Rattle.pcap_frames.specs.ReaderState.{ReaderState, InHeader, InFrames, AtFault, LacksMemory, ReaderStandsFor, Completes, Advances}
 use Rattle.pcap_frames.specs.Visitor.{Sees}
 
 -- what a reader in this state answers
@@ -35,13 +35,13 @@ pub record SeesBeginning {V : Type 0} (stands_for : V → List FrameValue → Ty
   pub given : List FrameValue
   pub are_frames : AreFrames given
   pub sees : Sees stands_for seen saw given
-  pub begins : (before : List ℕ) (frames more : List FrameValue) → StandsFor old before frames → Completes (before ++ bytes) (frames ++ more) → IsBeginning given more
+  pub begins : (before : List ℕ) (frames more : List FrameValue) → ReaderStandsFor old before frames → Completes (before ++ bytes) (frames ++ more) → IsBeginning given more
 
 -- bytes are refused exactly where they show a fault, unless memory ran out
 abbrev pub IsAnswerTo : {T : Type 0} → List ℕ → Result T FeedFault → Type 0
 IsAnswerTo bytes (Ok x) = (frames : List FrameValue) (fault : CaptureFault) → ShowsFault bytes frames fault → ⊥
 IsAnswerTo bytes (Err (Refused fault)) = (frames : List FrameValue) × ShowsFault bytes frames fault
-IsAnswerTo bytes (Err OutOfMemory) = Unit {0}
+IsAnswerTo bytes (Err OutOfMemory) = ⊤
 
 -- the file ends here: it is a capture of these frames and their number is answered, or it has this first fault behind them
 abbrev pub IsEndOf : List ℕ → List FrameValue → Result ℕ FeedFault → Type 0

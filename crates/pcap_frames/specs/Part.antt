@@ -1,5 +1,5 @@
 -- How the parts of a reader make its state.
-use Rattle.std.specs.Prelude.{◌+◌, ◌*◌, ◌≤◌, ◌<◌, Option, None, Some, List, [], ◌∷◌}
+use Rattle.std.specs.Prelude.{⊤, ◌+◌, ◌*◌, ◌≤◌, ◌<◌, Option, None, Some, List, [], ◌∷◌}
 use Rattle.pcap_frames.specs.declared.held.HeldFrame.{HeldFrame}
 use Rattle.pcap_frames.specs.declared.part.FramePart.{FramePart}
 use Rattle.pcap_frames.specs.declared.part.Stage.{Stage}
@@ -9,13 +9,13 @@ use Rattle.pcap_frames.specs.Frames.{frame_at, needed}
 use Rattle.pcap_frames.specs.ReaderState as state
 
 -- where the part is behind some frames
-abbrev pub place_of : FramePart → state.FramePlace
-place_of part = record { order = part.order; count = part.count; place = part.place; kept = part.kept.first; came = part.kept.came }
+abbrev pub frame_place : FramePart → state.FramePlace
+frame_place part = record { order = part.order; count = part.count; place = part.place; kept = part.kept.first; came = part.kept.came }
 
 -- the state of a reader with this part
 abbrev pub state_of : Stage → FramePart → state.ReaderState
 state_of Header part = state.InHeader part.kept.first
-state_of Frames part = state.InFrames (place_of part)
+state_of Frames part = state.InFrames (frame_place part)
 state_of (AtFault fault) part = state.AtFault fault
 state_of LacksMemory part = state.LacksMemory
 
@@ -27,11 +27,11 @@ pub record IsWithin (part : FramePart) : Type 0 where
   pub bound : needed part.order part.kept.first ≤ 262160
 
 -- what the part keeps true in each stage
-abbrev pub IsSound : Stage → FramePart → Type 0
-IsSound Header part = part.kept.came < 24
-IsSound Frames part = IsWithin part
-IsSound (AtFault fault) part = Unit {0}
-IsSound LacksMemory part = Unit {0}
+abbrev pub IsInStage : Stage → FramePart → Type 0
+IsInStage Header part = part.kept.came < 24
+IsInStage Frames part = IsWithin part
+IsInStage (AtFault fault) part = ⊤
+IsInStage LacksMemory part = ⊤
 
 -- the frame that was held, if any
 abbrev pub held_frames : Option HeldFrame → List FrameValue

@@ -1,5 +1,5 @@
 -- What a reader keeps between two pieces of a file.
-use Rattle.std.specs.Prelude.{ℕ, ◌≡◌, ◌+◌, ◌<◌, None, List, [], length, take, ◌++◌}
+use Rattle.std.specs.Prelude.{⊤, ℕ, ◌≡◌, ◌+◌, ◌<◌, None, List, [], length, take, ◌++◌}
 use Rattle.pcap_frames.specs.declared.file_order.FileOrder.{FileOrder}
 use Rattle.pcap_frames.specs.declared.fault.CaptureFault.{CaptureFault}
 use Rattle.pcap_frames.specs.FrameValue.{FrameValue}
@@ -42,23 +42,23 @@ pub record IsBehind (at : FramePlace) (bytes : List ℕ) (frames : List FrameVal
   pub came_is : at.came ≡ length rest
 
 -- a reader in this state stands for these bytes at the front of a file, which hold these whole frames
-abbrev pub StandsFor : ReaderState → List ℕ → List FrameValue → Type 0
-StandsFor (InHeader kept) bytes frames = IsPartHeader kept bytes frames
-StandsFor (InFrames at) bytes frames = IsBehind at bytes frames
-StandsFor (AtFault fault) bytes frames = ShowsFault bytes frames fault
-StandsFor LacksMemory bytes frames = ⊥
+abbrev pub ReaderStandsFor : ReaderState → List ℕ → List FrameValue → Type 0
+ReaderStandsFor (InHeader kept) bytes frames = IsPartHeader kept bytes frames
+ReaderStandsFor (InFrames at) bytes frames = IsBehind at bytes frames
+ReaderStandsFor (AtFault fault) bytes frames = ShowsFault bytes frames fault
+ReaderStandsFor LacksMemory bytes frames = ⊥
 
 -- the bytes at the front of a file hold these whole frames and no more
 abbrev pub Completes : List ℕ → List FrameValue → Type 0
-Completes bytes frames = (state : ReaderState) × StandsFor state bytes frames
+Completes bytes frames = (state : ReaderState) × ReaderStandsFor state bytes frames
 
 -- a reader that takes no more bytes
 abbrev pub HasStopped : ReaderState → Type 0
 HasStopped (InHeader kept) = ⊥
 HasStopped (InFrames at) = ⊥
-HasStopped (AtFault fault) = Unit {0}
-HasStopped LacksMemory = Unit {0}
+HasStopped (AtFault fault) = ⊤
+HasStopped LacksMemory = ⊤
 
 -- whatever the reader stood for, it now stands for that followed by these bytes, which complete these frames
 pub record Advances (old new : ReaderState) (bytes : List ℕ) (given : List FrameValue) : Type 0 where
-  pub reads : (before : List ℕ) (frames : List FrameValue) → StandsFor old before frames → StandsFor new (before ++ bytes) (frames ++ given)
+  pub reads : (before : List ℕ) (frames : List FrameValue) → ReaderStandsFor old before frames → ReaderStandsFor new (before ++ bytes) (frames ++ given)

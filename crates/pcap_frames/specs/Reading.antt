@@ -1,5 +1,5 @@
 -- What reading a whole source answers.
-use Rattle.std.specs.Prelude.{ℕ, ◌≡◌, ◌≤◌, List, length, Option, IfSome, Result, Ok, Err}
+use Rattle.std.specs.Prelude.{⊤, ℕ, ◌≡◌, ◌≤◌, List, length, Option, IfSome, Result, Ok, Err}
 use Rattle.std.specs.Io.KnownBytes.{Consumes, IsAtEnd}
 use Rattle.pcap_frames.specs.declared.fault.FeedFault.{FeedFault}
 use Rattle.pcap_frames.specs.declared.fault.FeedFault.TheVariants as feed
@@ -68,5 +68,5 @@ abbrev pub IsReadOf : List ℕ → Result ℕ ReadRefusal → Type 0
 IsReadOf file (Ok count) =
     ((frames : List FrameValue) × IsCapture file frames × (length frames ≡ count)) × ((fault : CaptureFault) → HasFault file fault → ⊥)
 IsReadOf file (Err (Capture fault)) = HasFault file fault × ((frames : List FrameValue) → IsCapture file frames → ⊥)
-IsReadOf file (Err ReadFault) = Unit {0}
-IsReadOf file (Err OutOfMemory) = Unit {0}
+IsReadOf file (Err ReadFault) = ⊤
+IsReadOf file (Err OutOfMemory) = ⊤

@@ -6,7 +6,7 @@ ghost use Rattle.pcap_frames.specs.Frames.{IsFrame, needed};
 ghost use Rattle.pcap_frames.specs.ReaderState.{Advances};
 ghost use Rattle.pcap_frames.specs.Steps.{Takes};
 ghost use Rattle.pcap_frames.specs.ReaderState as state;
-ghost use Rattle.pcap_frames.specs.Part.{state_of, IsSound, IsWithin, place_of, held_frames};
+ghost use Rattle.pcap_frames.specs.Part.{state_of, IsInStage, IsWithin, frame_place, held_frames};
 
 use crate::file_order::FileOrder;
 use crate::framing::{MOST_FRAMES, frame_fault, needed, whole_at};
@@ -62,8 +62,8 @@ impl FramePart {
     /// Takes the next bytes of what this stage waits for.
     pub(crate) fn take<'a>(&mut self, stage: Stage, piece: &'a [u8]) -> Taken<'a>
         requires has_bytes { 0 < length piece.now }
-        requires sound { IsSound stage self.old }
-        ensures sound { IsSound result.stage self.new }
+        requires sound { IsInStage stage self.old }
+        ensures sound { IsInStage result.stage self.new }
         ensures takes { Takes (state_of stage self.old) (state_of result.stage self.new) piece.now result.rest.now (held_frames result.held) }
     {
         match stage {
@@ -77,7 +77,7 @@ impl FramePart {
     fn take_header<'a>(&mut self, piece: &'a [u8]) -> Taken<'a>
         requires has_bytes { 0 < length piece.now }
         requires sound { self.old.kept.came < 24 }
-        ensures sound { IsSound result.stage self.new }
+        ensures sound { IsInStage result.stage self.new }
         ensures takes { Takes (state.InHeader self.old.kept.first) (state_of result.stage self.new) piece.now result.rest.now [] }
         ensures no_frame { held_frames result.held ≡ [] }
     {
@@ -95,7 +95,7 @@ impl FramePart {
     /// The stage that the bytes of the file header lead to.
     fn leave_header(&mut self) -> Stage
         requires { self.old.kept.came ≤ 24 }
-        ensures sound { IsSound result self.new }
+        ensures sound { IsInStage result self.new }
         ensures advances { (kept front : List ℕ) → self.old.kept.first ≡ take 58 (kept ++ front)
             → length kept + length front ≡ self.old.kept.came
             → Advances (state.InHeader kept) (state_of result self.new) front [] }
@@ -121,7 +121,7 @@ impl FramePart {
     pub(crate) fn whole_frame<'a>(&mut self, piece: &'a [u8]) -> Option<(Frame<'a>, &'a [u8])>
         requires { IsWithin self.old }
         ensures sound { IsWithin self.new }
-        ensures takes { IfSome result (λ found. Takes (state.InFrames (place_of self.old)) (state.InFrames (place_of self.new))
+        ensures takes { IfSome result (λ found. Takes (state.InFrames (frame_place self.old)) (state.InFrames (frame_place self.new))
             piece.now found.1.now (content_of found.0 ∷ [])) }
         ensures is_frame { IfSome result (λ found. IsFrame (content_of found.0)) }
         ensures none { IfNone result (self.new ≡ self.old) }
@@ -139,8 +139,8 @@ impl FramePart {
     fn take_frame<'a>(&mut self, piece: &'a [u8]) -> Taken<'a>
         requires has_bytes { 0 < length piece.now }
         requires sound { IsWithin self.old }
-        ensures sound { IsSound result.stage self.new }
-        ensures takes { Takes (state.InFrames (place_of self.old)) (state_of result.stage self.new) piece.now result.rest.now (held_frames result.held) }
+        ensures sound { IsInStage result.stage self.new }
+        ensures takes { Takes (state.InFrames (frame_place self.old)) (state_of result.stage self.new) piece.now result.rest.now (held_frames result.held) }
     {
         let left = needed(self.order, self.kept.first()) - self.kept.came() as u64;
         let count = (left as usize).min(piece.len());
@@ -155,10 +155,10 @@ impl FramePart {
         requires count { self.old.count ≤ 16777216 }
         requires place { self.old.place ≤ 24 + 262160 * self.old.count }
         requires came { self.old.kept.came ≤ needed self.old.order self.old.kept.first }
-        ensures sound { IsSound result.0 self.new }
+        ensures sound { IsInStage result.0 self.new }
         ensures advances { (kept front : List ℕ) (came : ℕ) → self.old.kept.first ≡ take 58 (kept ++ front)
             → self.old.kept.came ≡ came + length front
-            → Advances (state.InFrames (record (place_of self.old) { kept = kept; came = came })) (state_of result.0 self.new) front (held_frames result.1) }
+            → Advances (state.InFrames (record (frame_place self.old) { kept = kept; came = came })) (state_of result.0 self.new) front (held_frames result.1) }
     {
         let bytes = self.kept.first();
         if let Some(fault) = frame_fault(self.order, self.count, self.place, bytes) {

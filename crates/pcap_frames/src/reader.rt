@@ -3,7 +3,7 @@
 ghost use Rattle.std.specs.Prelude.{◌≡◌, ℕ, ◌<◌, List, [], ◌∷◌, ◌++◌, length, IfOk, OnOk, OnErr, IfSome, IfNone, IsTrue, ◌↔◌};
 ghost use Rattle.pcap_frames.specs.FrameValue.{FrameValue};
 ghost use Rattle.pcap_frames.specs.Part.{held_frames};
-ghost use Rattle.pcap_frames.specs.ReaderState.{InHeader, StandsFor, HasStopped};
+ghost use Rattle.pcap_frames.specs.ReaderState.{InHeader, ReaderStandsFor, HasStopped};
 ghost use Rattle.pcap_frames.specs.Feeding.{IsAnswerOf, IfMemory, Feeds, SeesBeginning, IsAnswerTo, IsEndOf};
 
 use crate::header::fault_at;
@@ -23,13 +23,13 @@ pub struct FrameReader {
 
 impl Model for FrameReader {
     ghost use Rattle.pcap_frames.specs.ReaderState.{ReaderState};
-    ghost use Rattle.pcap_frames.specs.Part.{state_of, IsSound};
+    ghost use Rattle.pcap_frames.specs.Part.{state_of, IsInStage};
 
     ghost Value = { ReaderState };
 
     ghost view = { λ r. state_of r.stage r.part };
 
-    ghost invariant = { λ r. IsSound r.stage r.part };
+    ghost invariant = { λ r. IsInStage r.stage r.part };
 }
 
 impl FrameReader {
@@ -40,7 +40,7 @@ impl FrameReader {
     /// A reader that was fed nothing.
     pub fn new() -> FrameReader
         ensures empty { result ≡ InHeader [] }
-        ensures stands { StandsFor result [] [] }
+        ensures stands { ReaderStandsFor result [] [] }
     {
         FrameReader {
             stage: Stage::Header,
@@ -135,7 +135,7 @@ impl FrameReader {
 
         // When each answer comes.
         ensures answer { IsAnswerOf self.new result }
-        ensures exact { (before : List ℕ) (frames : List FrameValue) → StandsFor self.old before frames
+        ensures exact { (before : List ℕ) (frames : List FrameValue) → ReaderStandsFor self.old before frames
             → IsAnswerTo (before ++ piece.now) result }
 
         // After a fault or want of memory nothing changes.
@@ -159,7 +159,7 @@ impl FrameReader {
     /// again.
     pub fn finish(self) -> Result<u64, FeedFault>
         ensures stopped { HasStopped self → IsAnswerOf self result }
-        ensures end { (file : List ℕ) (frames : List FrameValue) → StandsFor self file frames → IsEndOf file frames result }
+        ensures end { (file : List ℕ) (frames : List FrameValue) → ReaderStandsFor self file frames → IsEndOf file frames result }
     {
         match self.stage {
             Stage::Header => Err(FeedFault::Refused(fault_at(

@@ -8,7 +8,7 @@ use Rattle.prefix_lattice.specs.RecordValue.{RecordValue}
 use Rattle.shard_state.specs.SnapshotValue.{SnapshotValue}
 use Rattle.shard_state.specs.CutValue.{CutValue, positions_of}
 use Rattle.shard_state.specs.ShardValue.{ShardValue, IsShard, snapshot_of}
-use Rattle.shard_state.specs.Standing.{StandsFor, CutStandsFor}
+use Rattle.shard_state.specs.Standing.{SnapshotStandsFor, CutStandsFor}
 use Rattle.shard_state.specs.CoreValue.{CoreValue, after, run, capacity_of, HasShape}
 use Rattle.shard_state.specs.Reads.{met, position_in, reads_of, last_of, NeverFall, latest, shard_in, snapshot_in, lists_of, BasesStand, ReadsEach}
 use Rattle.shard_state.specs.declared.event.Event.{Event}
@@ -82,8 +82,8 @@ latest_is_last state before (only ∷ []) position last = let same : only ≡ po
 latest_is_last state before (first ∷ next ∷ later) position last = latest_is_last state (snapshot_of (record state { position = first })) (next ∷ later) position last
 
 -- a snapshot that was read stands for the shard's list
-latest_stands : (state : ShardValue) (before : SnapshotValue) (reads : List ℕ) (least : ℕ) → StandsFor state.base state.list → state.base.position ≤ least → NeverFall least reads
-    → All (λ p. p ≤ length state.list) reads → StandsFor before state.list → StandsFor (latest state before reads) state.list
+latest_stands : (state : ShardValue) (before : SnapshotValue) (reads : List ℕ) (least : ℕ) → SnapshotStandsFor state.base state.list → state.base.position ≤ least → NeverFall least reads
+    → All (λ p. p ≤ length state.list) reads → SnapshotStandsFor before state.list → SnapshotStandsFor (latest state before reads) state.list
 latest_stands state before [] least base begun rise within stands = stands
 latest_stands state before (position ∷ later) least base begun rise within stands =
     let here : position ≤ length state.list = All-head (λ p. p ≤ length state.list) position later within in
@@ -91,8 +91,8 @@ latest_stands state before (position ∷ later) least base begun rise within sta
     latest_stands state (snapshot_of (record state { position = position })) later position base from rise.1
     (All-tail (λ p. p ≤ length state.list) position later within) (stands-shard (record state { position = position }) base from here)
 
-pub read_stands : (state : ShardValue) (before : SnapshotValue) (reads : List ℕ) (least : ℕ) → StandsFor state.base state.list → state.base.position ≤ least → NeverFall least reads
-    → All (λ p. p ≤ length state.list) reads → 1 ≤ length reads → StandsFor (latest state before reads) state.list
+pub read_stands : (state : ShardValue) (before : SnapshotValue) (reads : List ℕ) (least : ℕ) → SnapshotStandsFor state.base state.list → state.base.position ≤ least → NeverFall least reads
+    → All (λ p. p ≤ length state.list) reads → 1 ≤ length reads → SnapshotStandsFor (latest state before reads) state.list
 read_stands state before [] least base begun rise within some = absurd (omega arith)
 read_stands state before (position ∷ later) least base begun rise within some =
     let here : position ≤ length state.list = All-head (λ p. p ≤ length state.list) position later within in
@@ -187,22 +187,22 @@ stands_run events core caller cut kept shapes bases is_cut reads =
     ap (λ (c : CutValue). length c.shards) (sym (get_or_from_slice_get (run core events).cuts caller cut cut is_cut)) ∙ shape.as_many in
     let list_of : ShardValue → List RecordValue = λ s. s.list in
     record {
-      shards = zip_from_places StandsFor cut.shards (lists_of core.shards) (many ∙ sym (length-map core.shards list_of))
+      shards = zip_from_places SnapshotStandsFor cut.shards (lists_of core.shards) (many ∙ sym (length-map core.shards list_of))
           (λ k snapshot list is_snapshot is_list.
           let in_cut : k < length cut.shards = slice_get_within cut.shards k snapshot is_snapshot in
           let in_shards : k < length core.shards = omega arith in
           let here : Left events core caller k cut = left events core caller k cut kept shapes is_cut in_shards in
           let state = here.state in
           let met_here = reads_of caller k core events in
-          let base : StandsFor state.base state.list =
-          subst (λ (s : ShardValue). StandsFor s.base s.list) (get_or_from_slice_get core.shards k state no_shard here.is)
-          (All-get_or (λ (s : ShardValue). StandsFor s.base s.list) core.shards k no_shard in_shards bases) in
-          let stands : StandsFor (latest state here.before met_here) state.list =
+          let base : SnapshotStandsFor state.base state.list =
+          subst (λ (s : ShardValue). SnapshotStandsFor s.base s.list) (get_or_from_slice_get core.shards k state no_shard here.is)
+          (All-get_or (λ (s : ShardValue). SnapshotStandsFor s.base s.list) core.shards k no_shard in_shards bases) in
+          let stands : SnapshotStandsFor (latest state here.before met_here) state.list =
           read_stands state here.before met_here state.position base here.is_shard.begun (never_fall events core caller k state here.is here.is_shard.within)
           (reads_within events core caller k state here.is here.is_shard.within) (reads k in_shards) in
           let same_snapshot : latest state here.before met_here ≡ snapshot = same_Some (latest state here.before met_here) snapshot (sym here.holds ∙ is_snapshot) in
           let same_list : state.list ≡ list = same_Some state.list list (sym (slice_get-map list_of core.shards k ∙ ap (option_map list_of) here.is) ∙ is_list) in
-          subst (λ s. StandsFor s list) same_snapshot (subst (StandsFor (latest state here.before met_here)) same_list stands));
+          subst (λ s. SnapshotStandsFor s list) same_snapshot (subst (SnapshotStandsFor (latest state here.before met_here)) same_list stands));
     }
 
 -- its position of a shard is that of the last read

@@ -13,7 +13,7 @@ use Rattle.shard_state.specs.Tables.{records_table, fold_at}
 use Rattle.shard_state.specs.SnapshotValue.{SnapshotValue, IsSnapshot, empty_snapshot, total_of}
 use Rattle.shard_state.specs.CutValue.{CutValue, IsCut, positions_of, total_of_cut}
 use Rattle.shard_state.specs.ShardValue.{ShardValue, snapshot_of}
-use Rattle.shard_state.specs.Standing.{StandsFor, CutStandsFor, records_before}
+use Rattle.shard_state.specs.Standing.{SnapshotStandsFor, CutStandsFor, records_before}
 use Rattle.shard_state.specs.Weights.{Holds, HoldsWeightOver, interval_of}
 use Rattle.shard_state.proofs.Nodes.{IsNode-node_at}
 use Rattle.shard_state.proofs.Emptiness.{none_at, length-no_entries}
@@ -21,12 +21,12 @@ use Rattle.shard_state.proofs.Folds.{fold_at-append, entries_at-advanced, length
 use Rattle.shard_state.proofs.Shards.{take_further}
 
 -- empty tables stand for every list
-pub stands-empty : (capacity : ℕ) (list : List RecordValue) → StandsFor (empty_snapshot capacity) list
+pub stands-empty : (capacity : ℕ) (list : List RecordValue) → SnapshotStandsFor (empty_snapshot capacity) list
 stands-empty capacity list = record { within = omega arith; shape = length-no_entries; tables = λ node is_node. none_at (index_of node) }
 
 -- a shard whose base stands for its list stands for it at each position
-pub stands-shard : (shard : ShardValue) → StandsFor shard.base shard.list → shard.base.position ≤ shard.position → shard.position ≤ length shard.list
-    → StandsFor (snapshot_of shard) shard.list
+pub stands-shard : (shard : ShardValue) → SnapshotStandsFor shard.base shard.list → shard.base.position ≤ shard.position → shard.position ≤ length shard.list
+    → SnapshotStandsFor (snapshot_of shard) shard.list
 stands-shard shard stands begun within =
     let records = slice_range shard.list shard.base.position shard.position in
     let capacity = shard.base.capacity in
@@ -46,12 +46,12 @@ pub record TablesHold : Type 0 where
       → All (λ (r : RecordValue). 1 ≤ r.weight) records → HoldsWeightOver capacity prefix records
   pub total : (capacity : ℕ) (node : NodeValue) (records : List RecordValue) → 1 ≤ capacity → total_count (records_table capacity node records) ≡ total_weight records
 
-pub total_stands : (snapshot : SnapshotValue) (list : List RecordValue) → TablesHold → StandsFor snapshot list → 1 ≤ snapshot.capacity
+pub total_stands : (snapshot : SnapshotValue) (list : List RecordValue) → TablesHold → SnapshotStandsFor snapshot list → 1 ≤ snapshot.capacity
     → total_of snapshot ≡ total_weight (take snapshot.position list)
 total_stands snapshot list hold stands some =
     ap total_count (stands.tables (node_at 0) (IsNode-node_at 0 (omega arith))) ∙ hold.total snapshot.capacity (node_at 0) (take snapshot.position list) some
 
-pub weight_stands : (snapshot : SnapshotValue) (list : List RecordValue) (prefix : PrefixValue) → TablesHold → StandsFor snapshot list → 1 ≤ snapshot.capacity
+pub weight_stands : (snapshot : SnapshotValue) (list : List RecordValue) (prefix : PrefixValue) → TablesHold → SnapshotStandsFor snapshot list → 1 ≤ snapshot.capacity
     → IsPrefix prefix → All (λ (r : RecordValue). 1 ≤ r.weight) list
     → Holds (interval_of prefix snapshot) snapshot.capacity (weight_of prefix (take snapshot.position list)) (total_of snapshot)
 weight_stands snapshot list prefix hold stands some valid weighed =
@@ -64,7 +64,7 @@ weight_stands snapshot list prefix hold stands some valid weighed =
     (subst (Holds (interval (records_table capacity (node_of prefix) records)) capacity (weight_of prefix records)) (sym (total_stands snapshot list hold stands some)) over)
 
 -- the totals of snapshots that stand for lists
-totals_before : (snapshots : List SnapshotValue) (lists : List (List RecordValue)) → TablesHold → AllZip StandsFor snapshots lists → All IsSnapshot snapshots
+totals_before : (snapshots : List SnapshotValue) (lists : List (List RecordValue)) → TablesHold → AllZip SnapshotStandsFor snapshots lists → All IsSnapshot snapshots
     → sum_by total_of snapshots ≡ total_weight (records_before lists (map (λ (s : SnapshotValue). s.position) snapshots))
 totals_before [] [] hold stand kept = refl
 totals_before [] (list ∷ lists) hold stand kept = absurd stand

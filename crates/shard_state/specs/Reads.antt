@@ -4,7 +4,7 @@ use Rattle.prefix_lattice.specs.RecordValue.{RecordValue}
 use Rattle.shard_state.specs.SnapshotValue.{SnapshotValue}
 use Rattle.shard_state.specs.CutValue.{CutValue}
 use Rattle.shard_state.specs.ShardValue.{ShardValue, snapshot_of}
-use Rattle.shard_state.specs.Standing.{StandsFor}
+use Rattle.shard_state.specs.Standing.{SnapshotStandsFor}
 use Rattle.shard_state.specs.CoreValue.{CoreValue, after}
 use Rattle.shard_state.specs.declared.event.Event.{Event}
 use Rattle.shard_state.specs.declared.event.Event.TheVariants.{Fold, Read}
@@ -55,7 +55,7 @@ lists_of shards = map (λ shard. shard.list) shards
 
 -- each shard's base stands for its list
 abbrev pub BasesStand : List ShardValue → Type 0
-BasesStand shards = All (λ shard. StandsFor shard.base shard.list) shards
+BasesStand shards = All (λ shard. SnapshotStandsFor shard.base shard.list) shards
 
 -- in a run of events a caller reads each of these shards at least once
 abbrev pub ReadsEach : ℕ → CoreValue → List Event → Type 0

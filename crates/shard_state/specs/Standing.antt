@@ -8,14 +8,14 @@ use Rattle.shard_state.specs.SnapshotValue.{SnapshotValue, entries_at}
 use Rattle.shard_state.specs.CutValue.{CutValue}
 
 -- a snapshot stands for a list of records: each of its 25 tables is that of the first so many records, as its position says
-pub record StandsFor (snapshot : SnapshotValue) (list : List RecordValue) : Type 0 where
+pub record SnapshotStandsFor (snapshot : SnapshotValue) (list : List RecordValue) : Type 0 where
   pub within : snapshot.position ≤ length list
   pub shape : length snapshot.tables ≡ 25
   pub tables : (node : NodeValue) → IsNode node → entries_at node snapshot ≡ records_table snapshot.capacity node (take snapshot.position list)
 
 -- a cut stands for lists of records: each snapshot for the list of its shard
 pub record CutStandsFor (cut : CutValue) (lists : List (List RecordValue)) : Type 0 where
-  pub shards : AllZip StandsFor cut.shards lists
+  pub shards : AllZip SnapshotStandsFor cut.shards lists
 
 -- the records before positions: of each list the first so many, one list after the other
 abbrev pub records_before : List (List RecordValue) → List ℕ → List RecordValue

@@ -10,7 +10,7 @@ ghost use Rattle.shard_state.specs.Tables.{records_table};
 ghost use Rattle.shard_state.specs.SnapshotValue.{SnapshotValue, empty_snapshot, total_of};
 ghost use Rattle.shard_state.specs.CutValue.{CutValue, IsCut, positions_of, total_of_cut};
 ghost use Rattle.shard_state.specs.ShardValue.{ShardValue, snapshot_of};
-ghost use Rattle.shard_state.specs.Standing.{StandsFor, CutStandsFor, records_before};
+ghost use Rattle.shard_state.specs.Standing.{SnapshotStandsFor, CutStandsFor, records_before};
 ghost use Rattle.shard_state.specs.Weights.{Holds, HoldsWeightOver, interval_of};
 ghost use Rattle.shard_state.specs.CoreValue.{CoreValue, HasShape, IsCore, capacity_of, run};
 ghost use Rattle.shard_state.specs.Reads.{BasesStand, ReadsEach, lists_of};
@@ -35,10 +35,10 @@ pub fn tables_hold_weights()
 
 /// A snapshot that stands for a list holds the weights of the records before its position.
 pub fn snapshots_hold_weights()
-    ensures weight { (snapshot : SnapshotValue) (list : List RecordValue) (prefix : PrefixValue) → StandsFor snapshot list → 1 ≤ snapshot.capacity
+    ensures weight { (snapshot : SnapshotValue) (list : List RecordValue) (prefix : PrefixValue) → SnapshotStandsFor snapshot list → 1 ≤ snapshot.capacity
         → IsPrefix prefix → All (λ rec. 1 ≤ rec.weight) list
         → Holds (interval_of prefix snapshot) snapshot.capacity (weight_of prefix (take snapshot.position list)) (total_of snapshot) }
-    ensures total { (snapshot : SnapshotValue) (list : List RecordValue) → StandsFor snapshot list → 1 ≤ snapshot.capacity
+    ensures total { (snapshot : SnapshotValue) (list : List RecordValue) → SnapshotStandsFor snapshot list → 1 ≤ snapshot.capacity
         → total_of snapshot ≡ total_weight (take snapshot.position list) }
     ensures cut_total { (cut : CutValue) (lists : List (List RecordValue)) → IsCut cut → CutStandsFor cut lists
         → total_of_cut cut ≡ total_weight (records_before lists (positions_of cut)) }
@@ -49,9 +49,9 @@ pub fn snapshots_hold_weights()
 /// Empty tables stand for each list, and where its base stands for its list, a shard's snapshot does so at
 /// each position.
 pub fn shards_stand()
-    ensures begins { (capacity : ℕ) (list : List RecordValue) → StandsFor (empty_snapshot capacity) list }
-    ensures goes_on { (shard : ShardValue) → StandsFor shard.base shard.list → shard.base.position ≤ shard.position
-        → shard.position ≤ length shard.list → StandsFor (snapshot_of shard) shard.list }
+    ensures begins { (capacity : ℕ) (list : List RecordValue) → SnapshotStandsFor (empty_snapshot capacity) list }
+    ensures goes_on { (shard : ShardValue) → SnapshotStandsFor shard.base shard.list → shard.base.position ≤ shard.position
+        → shard.position ≤ length shard.list → SnapshotStandsFor (snapshot_of shard) shard.list }
 {}
 
 /// In a run of events each cut of a caller that read every shard stands for the lists, where the bases do.

@@ -1,6 +1,6 @@
 use Rattle.std.proofs.Common.{rules, arith}
 use Rattle.deal_rules.proofs.Parting.{IsDealing-none, IsDealing-more, IsDealing-all, length-dealing}
-use Rattle.deal_rules.proofs.Keeping.{AreShards-dealing}
+use Rattle.deal_rules.proofs.Keeping.{AreShardLists-dealing}
 use Rattle.deal_rules.proofs.dealing.deal.Goals as goal
 
 pub loop-place-init : goal.loop-place-init
@@ -15,7 +15,7 @@ loop-place-preserved g c =
     c.at-rec.ensures c.loop-place.invariant c.shard-shard.ensures c.index_mut.ensures.value (search rules)
 
 pub of-requires : goal.of-requires
-of-requires g c = AreShards-dealing _ _ _ _ _ (IsDealing-all _ _ _ _ _ _ (omega arith) c.loop-place.invariant) c.requires.some c.requires.few c.requires.small
+of-requires g c = AreShardLists-dealing _ _ _ _ _ (IsDealing-all _ _ _ _ _ _ (omega arith) c.loop-place.invariant) c.requires.some c.requires.few c.requires.small
 
 pub returns : goal.returns
 returns g c = rw c.of.ensures (IsDealing-all _ _ _ _ _ _ (omega arith) c.loop-place.invariant)
