@@ -1,11 +1,11 @@
 -- Worked examples of the definitions, most by computing.
-use Rattle.std.proofs.Common.{ℕ, ◌≡◌, ◌-◌, ◌^◌, [], ◌∷◌, Some, true, false, refl, arith}
-use Rattle.outside_io.specs.Faults.{counted, Rose}
+use Rattle.std.proofs.Common.{ℕ, ◌≡◌, ◌-◌, ◌^◌, [], ◌∷◌, length, length-append, ap, None, Some, Ok, Err, true, false, refl, arith}
+use Rattle.outside_io.specs.Faults.{counted, Rose, FailsByFault}
 use Rattle.outside_io.specs.Pieces.{IsBeginning, AppendsBeginning}
 use Rattle.outside_io.specs.MemorySinkState.{MemorySinkState}
-use Rattle.outside_io.specs.MemorySink as sinks
+use Rattle.outside_io.specs.MemorySink.{room_left, write_fails, accepted, sink_after_fault, sink_after_bytes}
 use Rattle.outside_io.specs.MemorySourceState.{MemorySourceState}
-use Rattle.outside_io.specs.MemorySource as sources
+use Rattle.outside_io.specs.MemorySource.{read_fails, given, source_after_fault, source_after_bytes}
 
 pub first_fault_is_counted : counted 0 ≡ 1
 first_fault_is_counted = refl
@@ -20,48 +20,91 @@ count_that_rose = omega arith
 pub greatest_count_rose : Rose (2 ^ 64 - 1) (2 ^ 64 - 1)
 greatest_count_rose = omega arith
 
+pub count_that_stays_did_not_rise : Rose 3 3 → ⊥
+count_that_stays_did_not_rise rose = omega (arith, rose)
+
+-- a call that failed, by the third fault
+pub call_that_failed : FailsByFault {T = ℕ} {E = ℕ} 2 3 (Err 7)
+call_that_failed = record { later = omega arith; failed = omega arith; kept = tt }
+
+pub call_that_went_well : FailsByFault {T = ℕ} {E = ℕ} 2 2 (Ok 7)
+call_that_went_well = record { later = omega arith; failed = tt; kept = refl }
+
+pub no_call_fails_without_a_fault : FailsByFault {T = ℕ} {E = ℕ} 2 2 (Err 7) → ⊥
+no_call_fails_without_a_fault said = omega (arith, said.failed)
+
+pub no_fault_is_hidden_by_an_answer : FailsByFault {T = ℕ} {E = ℕ} 2 3 (Ok 7) → ⊥
+no_fault_is_hidden_by_an_answer said = omega (arith, said.kept)
+
 pub beginning_of_a_list : IsBeginning {X = ℕ} (7 ∷ []) (7 ∷ 8 ∷ [])
 beginning_of_a_list = (8 ∷ [], refl)
+
+pub longer_list_begins_nothing_shorter : IsBeginning {X = ℕ} (7 ∷ 8 ∷ []) (7 ∷ []) → ⊥
+longer_list_begins_nothing_shorter said = omega (arith, ap length said.1, length-append (7 ∷ 8 ∷ []) said.0)
 
 -- of the text 7 8 a sink took the 7 behind what it held
 pub text_cut_off : AppendsBeginning (Some (1 ∷ [])) (Some (1 ∷ 7 ∷ [])) (7 ∷ 8 ∷ [])
 text_cut_off = record { front = 7 ∷ []; is_beginning = beginning_of_a_list; cut = omega arith; appended = refl }
 
+-- of a sink that tells nothing nothing is said but that some beginning is shorter
+pub text_cut_off_untold : AppendsBeginning None None (7 ∷ 8 ∷ [])
+text_cut_off_untold = record { front = 7 ∷ []; is_beginning = beginning_of_a_list; cut = omega arith; appended = tt }
+
+pub empty_text_is_never_cut_off : AppendsBeginning (Some (1 ∷ [])) (Some (1 ∷ [])) [] → ⊥
+empty_text_is_never_cut_off said = omega (arith, said.cut)
+
 -- a sink with room for three bytes, which took two, and whose call number 4 fails
 abbrev sink : MemorySinkState
 sink = record { taken = 1 ∷ 2 ∷ []; room = 3; fails = 4 ∷ []; calls = 3; faults = 0 }
 
-pub room_that_is_left : sinks.room_left sink ≡ 1
+pub room_that_is_left : room_left sink ≡ 1
 room_that_is_left = refl
 
-pub piece_that_fits_in_part : sinks.fails_next sink 5 ≡ false
+pub piece_that_fits_in_part : write_fails sink 5 ≡ false
 piece_that_fits_in_part = refl
 
-pub bytes_accepted : sinks.accepted sink 5 ≡ 1
+pub bytes_accepted : accepted sink 5 ≡ 1
 bytes_accepted = refl
 
-pub sink_after_a_byte : sinks.after_bytes sink (7 ∷ 8 ∷ []) 1 ≡ record { taken = 1 ∷ 2 ∷ 7 ∷ []; room = 3; fails = 4 ∷ []; calls = 4; faults = 0 }
+pub sink_after_a_byte : sink_after_bytes sink (7 ∷ 8 ∷ []) 1 ≡ record { taken = 1 ∷ 2 ∷ 7 ∷ []; room = 3; fails = 4 ∷ []; calls = 4; faults = 0 }
 sink_after_a_byte = refl
 
--- the call number 4 fails, and so would one for which no room is left
-pub full_sink_fails : sinks.fails_next (sinks.after_bytes sink (7 ∷ 8 ∷ []) 1) 0 ≡ true
+-- the call number 4 fails, whatever the piece
+pub told_call_fails : write_fails (sink_after_bytes sink (7 ∷ 8 ∷ []) 1) 0 ≡ true
+told_call_fails = refl
+
+-- a sink that is full, of whose calls none is to fail
+abbrev full_sink : MemorySinkState
+full_sink = record { taken = 1 ∷ 2 ∷ 3 ∷ []; room = 3; fails = []; calls = 3; faults = 0 }
+
+pub full_sink_fails : write_fails full_sink 1 ≡ true
 full_sink_fails = refl
 
-pub sink_after_a_fault : sinks.after_fault sink ≡ record { taken = 1 ∷ 2 ∷ []; room = 3; fails = 4 ∷ []; calls = 4; faults = 1 }
-sink_after_a_fault = refl
+pub full_sink_takes_an_empty_piece : write_fails full_sink 0 ≡ false
+full_sink_takes_an_empty_piece = refl
+
+pub sink_with_one_fault : sink_after_fault sink ≡ record { taken = 1 ∷ 2 ∷ []; room = 3; fails = 4 ∷ []; calls = 4; faults = 1 }
+sink_with_one_fault = refl
 
 -- a source of three bytes that gives two at a time, and whose call number 0 fails
 abbrev source : MemorySourceState
 source = record { left = 1 ∷ 2 ∷ 3 ∷ []; fails = 0 ∷ []; step = 2; calls = 0; faults = 0 }
 
-pub first_call_fails : sources.fails_next source ≡ true
+pub first_call_fails : read_fails source ≡ true
 first_call_fails = refl
 
-pub source_after_a_fault : sources.after_fault source ≡ record { left = 1 ∷ 2 ∷ 3 ∷ []; fails = 0 ∷ []; step = 2; calls = 1; faults = 1 }
-source_after_a_fault = refl
+pub source_with_one_fault : source_after_fault source ≡ record { left = 1 ∷ 2 ∷ 3 ∷ []; fails = 0 ∷ []; step = 2; calls = 1; faults = 1 }
+source_with_one_fault = refl
 
-pub bytes_given : sources.given source 10 ≡ 2
+pub second_call_gives : read_fails (source_after_fault source) ≡ false
+second_call_gives = refl
+
+pub bytes_given : given source 10 ≡ 2
 bytes_given = refl
 
-pub source_after_two_bytes : sources.after_bytes source 2 ≡ record { left = 3 ∷ []; fails = 0 ∷ []; step = 2; calls = 1; faults = 0 }
+pub source_after_two_bytes : source_after_bytes source 2 ≡ record { left = 3 ∷ []; fails = 0 ∷ []; step = 2; calls = 1; faults = 0 }
 source_after_two_bytes = refl
+
+-- with one byte left no more is given, whatever the step and the room
+pub last_byte_given : given (source_after_bytes source 2) 10 ≡ 1
+last_byte_given = refl

@@ -9,17 +9,17 @@ abbrev pub room_left : MemorySinkState → ℕ
 room_left s = s.room - length s.taken
 
 -- whether the next call fails for a piece of this length
-abbrev pub fails_next : MemorySinkState → ℕ → Bool
-fails_next s count = list_any (λ number. number == s.calls) s.fails || (room_left s == 0 && nat_lt 0 count)
+abbrev pub write_fails : MemorySinkState → ℕ → Bool
+write_fails s count = list_any (λ number. number == s.calls) s.fails || (room_left s == 0 && nat_lt 0 count)
 
 -- how many bytes of a piece of this length a call takes, if it doesn't fail
 abbrev pub accepted : MemorySinkState → ℕ → ℕ
 accepted s count = min (room_left s) count
 
 -- the sink after a call that failed
-abbrev pub after_fault : MemorySinkState → MemorySinkState
-after_fault s = record s { calls = counted s.calls; faults = counted s.faults }
+abbrev pub sink_after_fault : MemorySinkState → MemorySinkState
+sink_after_fault s = record s { calls = counted s.calls; faults = counted s.faults }
 
 -- the sink after a call that took this many of the bytes
-abbrev pub after_bytes : MemorySinkState → List ℕ → ℕ → MemorySinkState
-after_bytes s bytes count = record s { taken = s.taken ++ take count bytes; calls = counted s.calls }
+abbrev pub sink_after_bytes : MemorySinkState → List ℕ → ℕ → MemorySinkState
+sink_after_bytes s bytes count = record s { taken = s.taken ++ take count bytes; calls = counted s.calls }

@@ -5,17 +5,17 @@ use Rattle.outside_io.specs.Faults.{counted}
 use Rattle.outside_io.specs.MemorySourceState.{MemorySourceState}
 
 -- whether the next call is one of those that fail
-abbrev pub fails_next : MemorySourceState → Bool
-fails_next s = list_any (λ number. number == s.calls) s.fails
+abbrev pub read_fails : MemorySourceState → Bool
+read_fails s = list_any (λ number. number == s.calls) s.fails
 
 -- how many bytes a call with this much room gives, if it doesn't fail
 abbrev pub given : MemorySourceState → ℕ → ℕ
 given s room = min (min s.step room) (length s.left)
 
 -- the source after a call that failed
-abbrev pub after_fault : MemorySourceState → MemorySourceState
-after_fault s = record s { calls = counted s.calls; faults = counted s.faults }
+abbrev pub source_after_fault : MemorySourceState → MemorySourceState
+source_after_fault s = record s { calls = counted s.calls; faults = counted s.faults }
 
 -- the source after a call that gave this many bytes
-abbrev pub after_bytes : MemorySourceState → ℕ → MemorySourceState
-after_bytes s count = record s { left = drop count s.left; calls = counted s.calls }
+abbrev pub source_after_bytes : MemorySourceState → ℕ → MemorySourceState
+source_after_bytes s count = record s { left = drop count s.left; calls = counted s.calls }

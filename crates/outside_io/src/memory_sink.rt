@@ -3,14 +3,15 @@
 ghost use Rattle.std.specs.Prelude.{◌≡◌, ◌≤◌, ◌<◌, [], length, is_err, IfOk, OnErr, Some};
 ghost use Rattle.std.specs.Io.KnownBytes.{WriteAppends};
 ghost use Rattle.outside_io.specs.Faults.{FailsByFault};
-ghost use Rattle.outside_io.specs.MemorySink.{fails_next, accepted, after_fault, after_bytes};
+ghost use Rattle.outside_io.specs.MemorySink.{write_fails, accepted, sink_after_fault, sink_after_bytes};
 
 use crate::{Failed, Sink};
 use std::alloc::{AllocError, Global};
 use std::marker::Model;
 
 /// A room of bytes in memory. Call number k, from 0, fails exactly where k is one of the numbers that
-/// fail, or a piece with bytes meets a full room. Any other call takes what fits.
+/// fail, or a piece with bytes meets a full room. Any other call takes what fits. The numbers of calls and of
+/// faults stay at the greatest `u64`.
 #[derive(Debug, Drop)]
 pub struct MemorySink {
     taken: Vec<u8>,
@@ -38,7 +39,7 @@ impl Model for MemorySink {
 }
 
 impl MemorySink {
-    /// An empty sink that takes at most `room` bytes. Its memory is taken here.
+    /// An empty sink that takes at most `room` bytes. Its memory is taken here: after an `Err` there is no sink.
     pub fn with_room(alloc: Global, room: usize, fails: Vec<u64>) -> Result<MemorySink, AllocError>
         ensures { IfOk result (λ sink. sink ≡ record { taken = []; room = room; fails = fails.items; calls = 0; faults = 0 }) }
     {
@@ -70,10 +71,10 @@ impl Sink for MemorySink {
         ensures appended { WriteAppends (Some self.old.taken) (Some self.new.taken) result bytes.now }
         ensures cause { FailsByFault self.old.faults self.new.faults result }
 
-        ensures fails { is_err result ≡ fails_next self.old (length bytes.now) }
-        ensures failed { OnErr result (self.new ≡ after_fault self.old) }
+        ensures fails { is_err result ≡ write_fails self.old (length bytes.now) }
+        ensures failed { OnErr result (self.new ≡ sink_after_fault self.old) }
         ensures count { IfOk result (λ count. count ≡ accepted self.old (length bytes.now)) }
-        ensures took { IfOk result (λ count. self.new ≡ after_bytes self.old bytes.now count) }
+        ensures took { IfOk result (λ count. self.new ≡ sink_after_bytes self.old bytes.now count) }
     {
         let left = self.room - self.taken.len();
         let fails = self.fails.contains(&self.calls) || (left == 0 && !bytes.is_empty());

@@ -3,13 +3,14 @@
 ghost use Rattle.std.specs.Prelude.{◌≡◌, ◌≤◌, ◌++◌, [], length, take, drop, is_err, IfOk, OnErr, None, Some};
 ghost use Rattle.std.specs.Io.KnownBytes.{ReadConsumes};
 ghost use Rattle.outside_io.specs.Faults.{FailsByFault};
-ghost use Rattle.outside_io.specs.MemorySource.{fails_next, given, after_fault, after_bytes};
+ghost use Rattle.outside_io.specs.MemorySource.{read_fails, given, source_after_fault, source_after_bytes};
 
 use crate::{Failed, Source};
 use std::marker::Model;
 
-/// Bytes in memory. Call number k, from 0, fails exactly where k is one of the numbers that fail. Any
-/// other call gives the least of the step, the room asked and the bytes left.
+/// Bytes in memory. Call number k, from 0, fails exactly where k is one of the numbers that fail, and leaves
+/// the room asked as it was. Any other call gives the least of the step, the room asked and the bytes left.
+/// The numbers of calls and of faults stay at the greatest `u64`.
 #[derive(Debug, Drop)]
 pub struct MemorySource {
     bytes: Vec<u8>,
@@ -38,7 +39,7 @@ impl Model for MemorySource {
 }
 
 impl MemorySource {
-    /// A source of these bytes that no call has read. `step` is the most bytes that one call gives.
+    /// A source of these bytes that no call has read. `step` is the most bytes that one call gives, at least 1.
     pub fn new(bytes: Vec<u8>, fails: Vec<u64>, step: usize) -> MemorySource
         requires { 1 ≤ step }
         ensures { result ≡ record { left = bytes.items; fails = fails.items; step = step; calls = 0; faults = 0 } }
@@ -65,10 +66,11 @@ impl Source for MemorySource {
         ensures first_bytes { ReadConsumes (Some self.old.left) (Some self.new.left) result into.new }
         ensures cause { FailsByFault self.old.faults self.new.faults result }
 
-        ensures fails { is_err result ≡ fails_next self.old }
-        ensures failed { OnErr result (self.new ≡ after_fault self.old) }
+        ensures fails { is_err result ≡ read_fails self.old }
+        ensures failed { OnErr result (self.new ≡ source_after_fault self.old) }
+        ensures untouched { OnErr result (into.new ≡ into.old) }
         ensures count { IfOk result (λ count. count ≡ given self.old (length into.old)) }
-        ensures gave { IfOk result (λ count. self.new ≡ after_bytes self.old count) }
+        ensures gave { IfOk result (λ count. self.new ≡ source_after_bytes self.old count) }
     {
         let fails = self.fails.contains(&self.calls);
         self.calls = self.calls.saturating_add(1);

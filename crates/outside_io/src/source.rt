@@ -14,10 +14,11 @@ pub trait Source {
     /// How many calls have failed. The count stays at the greatest `u64`.
     ghost faults: { Self → ℕ };
 
-    /// Reads the next bytes into the first places of `into`, and answers how many there are. For an
-    /// `into` with room, 0 is the end.
+    /// Reads the next bytes into the first places of `into`, and answers how many there are. Later places stay.
+    /// For an `into` with room, 0 is the end.
     ///
-    /// `Failed` leaves the bytes left as they were, and the next call may succeed.
+    /// `Failed` leaves the bytes left as they were, and the next call may succeed. What then stands in `into`
+    /// is not said.
     fn read(&mut self, into: &mut [u8]) -> Result<usize, Failed>
         ensures fits { IfOk result (λ count. count ≤ length into.old) }
         ensures later_places { IfOk result (λ count. drop count into.new ≡ drop count into.old) }
