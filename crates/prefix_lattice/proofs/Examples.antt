@@ -1,33 +1,78 @@
--- Worked examples of the definitions, each by computing.
-use Rattle.std.proofs.Common.{◌≡◌, List, [], ◌∷◌, ◌++◌, true, false, None, Some, codes, decimal, refl}
+-- Worked examples of addresses, records, nodes, prefixes and keys, and of the lattice.
+use Rattle.std.proofs.Common.{◌≡◌, ℕ, ◌<◌, zero, suc, List, [], ◌∷◌, ◌++◌, slice_index, ap, true, false, None, Some, refl, arith}
 use Rattle.std.specs.declared.cmp.Ordering.TheVariants.{Less, Equal, Greater}
 use Rattle.prefix_lattice.specs.RecordValue.{RecordValue}
-use Rattle.prefix_lattice.specs.NodeValue.{index_of, node_at, level_of}
-use Rattle.prefix_lattice.specs.Key.{IsKeyOf}
-use Rattle.prefix_lattice.specs.PrefixValue.{PrefixValue}
-use Rattle.prefix_lattice.specs.Bytes.{address_bytes, address_of}
+use Rattle.prefix_lattice.specs.NodeValue.{NodeValue, IsNode, index_of, node_at, level_of}
+use Rattle.prefix_lattice.specs.Key.{IsKeyOf, HasKey}
+use Rattle.prefix_lattice.specs.PrefixValue.{PrefixValue, IsPrefix}
+use Rattle.prefix_lattice.specs.Bytes.{digits, number_from, address_bytes, address_of, begins_with, AreLeadingBytes}
 use Rattle.prefix_lattice.specs.Prefix.{covers, weight_of, total_weight, node_of, prefix_at, key_of}
-use Rattle.prefix_lattice.specs.PrefixText.{address_text, side_text, prefix_text}
-use Rattle.prefix_lattice.specs.Lattice.{under, strictly_under, meet, report_order}
-use Rattle.prefix_lattice.specs.Explaining.{conditioned_weight, closest, kept_pairs}
+use Rattle.prefix_lattice.specs.Lattice.{under, same_prefix, strictly_under, longer_side, prefix_of_sides, meet, ShareAddresses, report_order}
+use Rattle.prefix_lattice.proofs.Meets.{meet-some}
 
 -- 100 bytes from 10.1.2.3 to 20.1.2.3
-abbrev packet : RecordValue
+abbrev pub packet : RecordValue
 packet = record { src = 0x0a010203; dst = 0x14010203; weight = 100 }
 
 -- 60 bytes back
-abbrev answer : RecordValue
+abbrev pub answer : RecordValue
 answer = record { src = 0x14010203; dst = 0x0a010203; weight = 60 }
 
 -- 10.0.0.0/8 20.1.0.0/16
-abbrev prefix : PrefixValue
+abbrev pub prefix : PrefixValue
 prefix = record { source = 10 ∷ []; dest = 20 ∷ 1 ∷ [] }
+
+-- what stands above the lowest two digits isn't among them
+pub lowest_two_bytes : digits 256 2 0x0a1401 ≡ 20 ∷ 1 ∷ []
+lowest_two_bytes = refl
+
+pub number_of_two_bytes : number_from 256 0 (20 ∷ 1 ∷ []) ≡ 0x1401
+number_of_two_bytes = refl
+
+pub number_that_goes_on_with_a_byte : number_from 256 0x1401 (2 ∷ []) ≡ 0x140102
+number_that_goes_on_with_a_byte = refl
 
 pub bytes_of_an_address : address_bytes 0x0a010203 ≡ 10 ∷ 1 ∷ 2 ∷ 3 ∷ []
 bytes_of_an_address = refl
 
 pub address_of_two_bytes : address_of (20 ∷ 1 ∷ []) ≡ 0x14010000
 address_of_two_bytes = refl
+
+pub bytes_that_begin_with_others : begins_with (20 ∷ 1 ∷ 2 ∷ 3 ∷ []) (20 ∷ 1 ∷ []) ≡ true
+bytes_that_begin_with_others = refl
+
+pub bytes_that_begin_otherwise : begins_with (20 ∷ 1 ∷ 2 ∷ 3 ∷ []) (20 ∷ 2 ∷ []) ≡ false
+bytes_that_begin_otherwise = refl
+
+pub bytes_too_few_to_begin_with_more : begins_with (20 ∷ []) (20 ∷ 1 ∷ []) ≡ false
+bytes_too_few_to_begin_with_more = refl
+
+pub leading_bytes_of_the_source : AreLeadingBytes (10 ∷ [])
+leading_bytes_of_the_source = record { few = omega arith; bytes = small }
+  where
+    small : (place : ℕ) → slice_index (10 ∷ []) place < 256
+    small zero = omega arith
+    small (suc place) = omega arith
+
+pub leading_bytes_of_the_destination : AreLeadingBytes (20 ∷ 1 ∷ [])
+leading_bytes_of_the_destination = record { few = omega arith; bytes = small }
+  where
+    small : (place : ℕ) → slice_index (20 ∷ 1 ∷ []) place < 256
+    small zero = omega arith
+    small (suc zero) = omega arith
+    small (suc (suc place)) = omega arith
+
+pub five_bytes_lead_no_address : AreLeadingBytes (10 ∷ 1 ∷ 2 ∷ 3 ∷ 4 ∷ []) → ⊥
+five_bytes_lead_no_address leading = omega (arith, leading.few)
+
+pub no_byte_is_256 : AreLeadingBytes (256 ∷ []) → ⊥
+no_byte_is_256 leading = omega (arith, leading.bytes 0)
+
+pub pair_of_leading_bytes : IsPrefix prefix
+pair_of_leading_bytes = record { source = leading_bytes_of_the_source; dest = leading_bytes_of_the_destination }
+
+pub prefix_keeps_no_fifth_byte : IsPrefix (record { source = []; dest = 10 ∷ 1 ∷ 2 ∷ 3 ∷ 4 ∷ [] }) → ⊥
+prefix_keeps_no_fifth_byte valid = five_bytes_lead_no_address valid.dest
 
 pub covers_the_packet : covers prefix packet ≡ true
 covers_the_packet = refl
@@ -44,48 +89,82 @@ weighs_what_it_covers = refl
 pub weighs_together : total_weight (packet ∷ answer ∷ packet ∷ []) ≡ 260
 weighs_together = refl
 
-pub prefix_of_the_packet : prefix_at (node_of prefix) packet ≡ prefix
+-- the node of one source byte and two destination bytes
+abbrev node : NodeValue
+node = record { source_bytes = 1; dest_bytes = 2 }
+
+pub node_of_the_lattice : IsNode node
+node_of_the_lattice = record { source = omega arith; dest = omega arith }
+
+pub no_node_of_five_bytes : IsNode (record { source_bytes = 0; dest_bytes = 5 }) → ⊥
+no_node_of_five_bytes is_node = omega (arith, is_node.dest)
+
+pub node_of_the_prefix : node_of prefix ≡ node
+node_of_the_prefix = refl
+
+pub place_of_the_node : index_of node ≡ 7
+place_of_the_node = refl
+
+pub node_of_the_place : node_at 7 ≡ node
+node_of_the_place = refl
+
+pub last_node_keeps_all : node_at 24 ≡ record { source_bytes = 4; dest_bytes = 4 }
+last_node_keeps_all = refl
+
+pub level_of_the_node : level_of node ≡ 3
+level_of_the_node = refl
+
+pub prefix_of_the_packet : prefix_at node packet ≡ prefix
 prefix_of_the_packet = refl
 
 pub key_of_the_prefix : key_of prefix ≡ 0x0a00000014010000
 key_of_the_prefix = refl
 
-pub place_of_the_node : index_of (node_of prefix) ≡ 7
-place_of_the_node = refl
-
-pub node_of_the_place : node_at 7 ≡ node_of prefix
-node_of_the_place = refl
-
-pub level_of_the_prefix : level_of (node_of prefix) ≡ 3
-level_of_the_prefix = refl
-
-pub key_of_its_node : IsKeyOf (node_of prefix) 0x0a00000014010000
+pub key_of_its_node : IsKeyOf node 0x0a00000014010000
 key_of_its_node = record { source = refl; dest = refl }
 
-pub text_of_an_address : address_text 0x0a010203 ≡ decimal 10 ++ (codes "." ++ (decimal 1 ++ (codes "." ++ (decimal 2 ++ (codes "." ++ decimal 3)))))
-text_of_an_address = refl
+-- of the destination only two bytes are kept
+pub key_with_a_loose_bit : IsKeyOf node 0x0a00000014010001 → ⊥
+key_with_a_loose_bit is_key = omega (arith, is_key.dest)
 
-pub text_of_a_side : side_text (20 ∷ 1 ∷ []) ≡ address_text 0x14010000 ++ (codes "/" ++ decimal 16)
-text_of_a_side = refl
+pub prefix_of_a_key : HasKey node 0x0a00000014010000 prefix
+prefix_of_a_key = record { is_prefix = pair_of_leading_bytes; of_node = refl; of_key = refl }
+
+-- 10.0.0.0/16 has the address of 10.0.0.0/8, but is of another node
+pub key_of_two_nodes : HasKey node 0x0a00000014010000 (record { source = 10 ∷ 0 ∷ []; dest = 20 ∷ 1 ∷ [] }) → ⊥
+key_of_two_nodes has_key = omega (arith, ap (λ n. n.source_bytes) has_key.of_node)
 
 -- 0.0.0.0/0 0.0.0.0/0
-abbrev root : PrefixValue
+abbrev pub root : PrefixValue
 root = record { source = []; dest = [] }
 
 -- 10.0.0.0/8 0.0.0.0/0
 abbrev from_ten : PrefixValue
 from_ten = record { source = 10 ∷ []; dest = [] }
 
+-- 11.0.0.0/8 0.0.0.0/0
+abbrev from_eleven : PrefixValue
+from_eleven = record { source = 11 ∷ []; dest = [] }
+
 -- 0.0.0.0/0 20.0.0.0/8
-abbrev to_twenty : PrefixValue
+abbrev pub to_twenty : PrefixValue
 to_twenty = record { source = []; dest = 20 ∷ [] }
 
 -- 10.0.0.0/8 20.0.0.0/8
-abbrev from_ten_to_twenty : PrefixValue
+abbrev pub from_ten_to_twenty : PrefixValue
 from_ten_to_twenty = record { source = 10 ∷ []; dest = 20 ∷ [] }
 
 pub more_kept_bytes_stand_under : under prefix from_ten_to_twenty ≡ true
 more_kept_bytes_stand_under = refl
+
+pub more_kept_bytes_on_one_side_do_not : under from_ten to_twenty ≡ false
+more_kept_bytes_on_one_side_do_not = refl
+
+pub each_is_the_same_as_itself : same_prefix prefix prefix ≡ true
+each_is_the_same_as_itself = refl
+
+pub under_another_is_not_the_same : same_prefix prefix from_ten_to_twenty ≡ false
+under_another_is_not_the_same = refl
 
 pub none_is_strictly_under_itself : strictly_under prefix prefix ≡ false
 none_is_strictly_under_itself = refl
@@ -93,11 +172,39 @@ none_is_strictly_under_itself = refl
 pub all_others_are_strictly_under_the_root : strictly_under to_twenty root ≡ true
 all_others_are_strictly_under_the_root = refl
 
+pub longer_side_of_two : longer_side (20 ∷ []) (20 ∷ 1 ∷ []) ≡ Some (20 ∷ 1 ∷ [])
+longer_side_of_two = refl
+
+pub no_longer_side_of_two_that_differ : longer_side (20 ∷ []) (21 ∷ 1 ∷ []) ≡ None
+no_longer_side_of_two_that_differ = refl
+
+pub two_sides_make_a_prefix : prefix_of_sides (Some (10 ∷ [])) (Some []) ≡ Some from_ten
+two_sides_make_a_prefix = refl
+
+pub one_side_makes_none : prefix_of_sides (Some (10 ∷ [])) None ≡ None
+one_side_makes_none = refl
+
 pub meet_takes_the_longer_side : meet from_ten to_twenty ≡ Some from_ten_to_twenty
 meet_takes_the_longer_side = refl
 
-pub other_sources_do_not_meet : meet from_ten (record { source = 11 ∷ []; dest = [] }) ≡ None
+pub other_sources_do_not_meet : meet from_ten from_eleven ≡ None
 other_sources_do_not_meet = refl
+
+-- both cover the packet's pair of addresses
+pub addresses_are_shared : ShareAddresses from_ten to_twenty
+addresses_are_shared = record { pair = packet; is_source = omega arith; is_dest = omega arith; covered = refl; covered_by_other = refl }
+
+pub no_address_is_shared : ShareAddresses from_ten from_eleven → ⊥
+no_address_is_shared shares =
+    let valid : (byte : ℕ) → byte < 256 → IsPrefix (record { source = byte ∷ []; dest = [] }) = λ byte small. record {
+      source = record { few = omega arith; bytes = λ place. one_byte byte place small };
+      dest = record { few = omega arith; bytes = λ place. omega arith };
+    } in
+    cc ((meet-some from_ten from_eleven (valid 10 (omega arith)) (valid 11 (omega arith))).1 shares)
+  where
+    one_byte : (byte place : ℕ) → byte < 256 → slice_index (byte ∷ []) place < 256
+    one_byte byte zero small = small
+    one_byte byte (suc place) small = omega arith
 
 pub greater_levels_come_first : report_order prefix from_ten ≡ Less
 greater_levels_come_first = refl
@@ -105,27 +212,12 @@ greater_levels_come_first = refl
 pub sources_rise_within_a_level : report_order from_ten to_twenty ≡ Greater
 sources_rise_within_a_level = refl
 
+-- from 0.0.0.0 the one that keeps no byte of it comes first, whatever the destinations
+pub kept_bytes_rise_within_a_source : report_order to_twenty (record { source = 0 ∷ []; dest = [] }) ≡ Less
+kept_bytes_rise_within_a_source = refl
+
+pub destinations_rise_last : report_order (record { source = 10 ∷ []; dest = 21 ∷ [] }) from_ten_to_twenty ≡ Greater
+destinations_rise_last = refl
+
 pub each_stands_where_it_is : report_order prefix prefix ≡ Equal
 each_stands_where_it_is = refl
-
--- a line explains the packet, and leaves the answer
-pub conditioned_by_a_line : conditioned_weight root (from_ten_to_twenty ∷ root ∷ []) (packet ∷ answer ∷ packet ∷ []) ≡ 60
-conditioned_by_a_line = refl
-
--- a line that is under another line is not closest
-pub nearer_lines_are_closest : closest root (prefix ∷ from_ten_to_twenty ∷ to_twenty ∷ root ∷ []) ≡ to_twenty ∷ []
-nearer_lines_are_closest = refl
-
--- (10.0.0.0/8, 20.1.1.0/24), (10.1.0.0/16, 20.1.0.0/16) and (10.1.1.0/24, 20.0.0.0/8)
-abbrev stairs : List PrefixValue
-stairs = record { source = 10 ∷ []; dest = 20 ∷ 1 ∷ 1 ∷ [] } ∷ record { source = 10 ∷ 1 ∷ []; dest = 20 ∷ 1 ∷ [] } ∷ record { source = 10 ∷ 1 ∷ 1 ∷ []; dest = 20 ∷ [] } ∷ []
-
-pub none_of_the_stairs_is_under_another : closest root stairs ≡ stairs
-none_of_the_stairs_is_under_another = refl
-
--- the meet of the outer two is under the middle one
-pub neighbours_are_kept : kept_pairs stairs ≡ record { source = 10 ∷ 1 ∷ []; dest = 20 ∷ 1 ∷ 1 ∷ [] } ∷ record { source = 10 ∷ 1 ∷ 1 ∷ []; dest = 20 ∷ 1 ∷ [] } ∷ []
-neighbours_are_kept = refl
-
-pub text_of_a_prefix : prefix_text prefix ≡ side_text (10 ∷ []) ++ (codes " " ++ side_text (20 ∷ 1 ∷ []))
-text_of_a_prefix = refl

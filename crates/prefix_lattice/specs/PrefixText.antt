@@ -36,10 +36,11 @@ space = 32
 abbrev pub prefix_text : PrefixValue → List ℕ
 prefix_text prefix = side_text prefix.source ++ space ∷ side_text prefix.dest
 
--- what stands before the first space of a text, and what stands after it
+-- what stands before the first space of a text
 abbrev pub source_part : List ℕ → List ℕ
 source_part text = before_first (λ byte. byte == space) text
 
+-- what stands after the first space of a text
 abbrev pub dest_part : List ℕ → List ℕ
 dest_part text = after_first (λ byte. byte == space) text
 

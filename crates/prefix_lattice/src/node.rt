@@ -26,7 +26,8 @@ impl Model for Node {
 }
 
 impl Node {
-    /// `None` exactly where one of the numbers of bytes is above 4.
+    /// The node that keeps so many leading bytes of the source and of the destination. `None` exactly where one of
+    /// the numbers is above 4.
     pub fn new(source_bytes: u8, dest_bytes: u8) -> Option<Node>
         ensures none { IsNone result ↔ ((4 < source_bytes) ⊎ (4 < dest_bytes)) }
         ensures some { IfSome result (λ node. node ≡ record { source_bytes = source_bytes; dest_bytes = dest_bytes }) }

@@ -67,7 +67,7 @@ impl Prefix {
     }
 
     /// Both addresses, with zeros for what is not kept, as one number: the source in the high half.
-    /// Two prefixes of one node have different keys.
+    /// Two prefixes of one node have different keys, by `keys_are_of_their_node`.
     pub fn key(&self) -> u64
         ensures value { result ≡ key_of self.now }
         ensures prefix { IsPrefix self.now }
@@ -140,12 +140,14 @@ pub fn keys_tell_covering()
         → covers prefix rec ≡ (key_of (prefix_at (node_of prefix) rec) == key_of prefix) }
 {}
 
-/// A law of keys: the key of a prefix sets no bit that the prefix doesn't keep, and each record's prefix at
-/// a node has a key of that node.
+/// A law of keys: the key of a prefix sets no bit that the prefix doesn't keep, each record's prefix at
+/// a node has a key of that node, and two prefixes of one node have different keys.
 pub fn keys_are_of_their_node()
     ensures of_prefix { (prefix : PrefixValue) → IsPrefix prefix → IsKeyOf (node_of prefix) (key_of prefix) }
     ensures of_record { (node : NodeValue) (rec : RecordValue) → IsNode node → HasKey node (key_of (prefix_at node rec)) (prefix_at node rec) }
     ensures of_record_key { (node : NodeValue) (rec : RecordValue) → IsNode node → IsKeyOf node (key_of (prefix_at node rec)) }
+    ensures apart { (prefix other : PrefixValue) → IsPrefix prefix → IsPrefix other
+        → node_of prefix ≡ node_of other → key_of prefix ≡ key_of other → prefix ≡ other }
 {}
 
 /// A law of texts: two texts spell one prefix, or have one fault, and never both.

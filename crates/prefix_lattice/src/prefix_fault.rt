@@ -14,13 +14,14 @@ pub enum Side {
 /// Why a text is no prefix. One half is an address, a slash and a length in bits.
 #[derive(Clone, Copy, Debug, PartialEq, Eq, Error)]
 pub enum PrefixFault {
-    /// What stands before the first slash, or all of it, is not four numbers from 0 to 255.
+    /// What stands before the first slash, or all of it, is not four numbers from 0 to 255
+    /// without leading zeros, joined by dots.
     #[error("{0}: bad address")]
     BadAddress(Side),
-    /// There is no slash, or what stands after it is not 0, 8, 16, 24 or 32.
+    /// The address is good, and there is no slash, or what stands after the first one is not 0, 8, 16, 24 or 32.
     #[error("{0}: bad length")]
     BadLength(Side),
-    /// A bit of the address past the length is set.
+    /// Address and length are good, and a bit of the address past the length is set.
     #[error("{0}: bits past the length")]
     LooseBits(Side),
 }

@@ -73,7 +73,7 @@ impl RecordList {
         self.records.as_slice()
     }
 
-    /// An equal list, with memory for its records alone.
+    /// An equal list of its own.
     pub fn copy(&self, alloc: Global) -> Result<RecordList, AllocError>
         ensures { IfOk result (λ list. list ≡ self.now) }
     {

@@ -1,3 +1,4 @@
+use Rattle.prefix_lattice.proofs.Keys.{same_key}
 use Rattle.prefix_lattice.proofs.NodeKeys.{IsKeyOf-prefix, HasKey-record, IsKeyOf-record}
 use Rattle.prefix_lattice.proofs.prefix.keys_are_of_their_node.Goals as goal
 
@@ -9,3 +10,6 @@ returns-clause-of_record c = HasKey-record
 
 pub returns-clause-of_record_key : goal.returns-clause-of_record_key
 returns-clause-of_record_key c = IsKeyOf-record
+
+pub returns-clause-apart : goal.returns-clause-apart
+returns-clause-apart c = same_key

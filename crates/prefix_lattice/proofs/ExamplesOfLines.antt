@@ -1,0 +1,129 @@
+-- Worked examples of what lines explain: closest lines, kept pairs and the staircase law.
+use Rattle.std.proofs.Common.{◌≡◌, ◌≢◌, ℕ, List, [], ◌∷◌, length, true, false, None, Some, AllPairs, refl, ap, arith}
+use Rattle.std.proofs.lemmas.List.Elements.{All-cons, All-nil}
+use Rattle.std.proofs.lemmas.List.Kept.{AllPairs-cons}
+use Rattle.prefix_lattice.specs.RecordValue.{RecordValue}
+use Rattle.prefix_lattice.specs.PrefixValue.{PrefixValue}
+use Rattle.prefix_lattice.specs.Lattice.{strictly_under, meet}
+use Rattle.prefix_lattice.specs.Explaining.{lines_under, one_covers, conditioned_weight, greatest, closest, under_third, unless_under_third, kept_meet, kept_among, kept_pairs, AreIncomparable, covering_count, ObeysStaircase}
+use Rattle.prefix_lattice.proofs.Examples.{packet, answer, prefix, root, to_twenty, from_ten_to_twenty}
+
+-- the root and three under it, of which the first is under the other two
+abbrev lines : List PrefixValue
+lines = prefix ∷ from_ten_to_twenty ∷ to_twenty ∷ root ∷ []
+
+pub no_line_is_under_itself : lines_under to_twenty lines ≡ prefix ∷ from_ten_to_twenty ∷ []
+no_line_is_under_itself = refl
+
+pub lines_that_cover_the_packet : one_covers lines packet ≡ true
+lines_that_cover_the_packet = refl
+
+-- none but the root covers the way back
+pub lines_that_cover_no_answer : one_covers (lines_under root lines) answer ≡ false
+lines_that_cover_no_answer = refl
+
+-- a line explains the packet, and leaves the answer
+pub conditioned_by_a_line : conditioned_weight root (from_ten_to_twenty ∷ root ∷ []) (packet ∷ answer ∷ packet ∷ []) ≡ 60
+conditioned_by_a_line = refl
+
+-- a line explains nothing of itself
+pub not_conditioned_by_itself : conditioned_weight prefix (prefix ∷ []) (packet ∷ answer ∷ packet ∷ []) ≡ 200
+not_conditioned_by_itself = refl
+
+pub member_that_all_others_are_under : greatest lines ≡ root ∷ []
+member_that_all_others_are_under = refl
+
+-- a line that is under another line is not closest
+pub nearer_lines_are_closest : closest root lines ≡ to_twenty ∷ []
+nearer_lines_are_closest = refl
+
+-- (10.0.0.0/8, 20.1.1.0/24), (10.1.0.0/16, 20.1.0.0/16) and (10.1.1.0/24, 20.0.0.0/8)
+abbrev lowest_step : PrefixValue
+lowest_step = record { source = 10 ∷ []; dest = 20 ∷ 1 ∷ 1 ∷ [] }
+
+abbrev middle_step : PrefixValue
+middle_step = record { source = 10 ∷ 1 ∷ []; dest = 20 ∷ 1 ∷ [] }
+
+abbrev highest_step : PrefixValue
+highest_step = record { source = 10 ∷ 1 ∷ 1 ∷ []; dest = 20 ∷ [] }
+
+abbrev stairs : List PrefixValue
+stairs = lowest_step ∷ middle_step ∷ highest_step ∷ []
+
+-- what the lower two share, and the upper two
+abbrev lower_meet : PrefixValue
+lower_meet = record { source = 10 ∷ 1 ∷ []; dest = 20 ∷ 1 ∷ 1 ∷ [] }
+
+abbrev upper_meet : PrefixValue
+upper_meet = record { source = 10 ∷ 1 ∷ 1 ∷ []; dest = 20 ∷ 1 ∷ [] }
+
+-- what the outer two share
+abbrev outer_meet : PrefixValue
+outer_meet = record { source = 10 ∷ 1 ∷ 1 ∷ []; dest = 20 ∷ 1 ∷ 1 ∷ [] }
+
+-- from 10.1.1.1 to 20.1.1.1
+abbrev climber : RecordValue
+climber = record { src = 0x0a010101; dst = 0x14010101; weight = 9 }
+
+pub none_of_the_stairs_is_under_another : closest root stairs ≡ stairs
+none_of_the_stairs_is_under_another = refl
+
+pub outer_meet_is_under_the_middle_step : under_third stairs lowest_step highest_step outer_meet ≡ true
+outer_meet_is_under_the_middle_step = refl
+
+-- the two whose meet it is don't count
+pub lower_meet_is_under_no_third_step : under_third stairs lowest_step middle_step lower_meet ≡ false
+lower_meet_is_under_no_third_step = refl
+
+pub prefix_under_a_third_is_dropped : unless_under_third stairs lowest_step highest_step (Some outer_meet) ≡ None
+prefix_under_a_third_is_dropped = refl
+
+pub prefix_under_no_third_stays : unless_under_third stairs lowest_step middle_step (Some lower_meet) ≡ Some lower_meet
+prefix_under_no_third_stays = refl
+
+pub meet_of_neighbours_is_kept : kept_meet stairs middle_step highest_step ≡ Some upper_meet
+meet_of_neighbours_is_kept = refl
+
+-- it is there, and not kept
+pub meet_of_the_outer_two : meet lowest_step highest_step ≡ Some outer_meet
+meet_of_the_outer_two = refl
+
+pub meet_of_the_outer_two_is_not_kept : kept_meet stairs lowest_step highest_step ≡ None
+meet_of_the_outer_two_is_not_kept = refl
+
+-- the pairs that begin behind the lowest step
+pub kept_pairs_of_the_upper_steps : kept_among stairs (middle_step ∷ highest_step ∷ []) ≡ upper_meet ∷ []
+kept_pairs_of_the_upper_steps = refl
+
+pub neighbours_are_kept : kept_pairs stairs ≡ lower_meet ∷ upper_meet ∷ []
+neighbours_are_kept = refl
+
+pub stairs_are_incomparable : AreIncomparable stairs
+stairs_are_incomparable = record {
+  distinct = pairs (λ line other. line ≢ other) (λ same. omega (arith, ap (λ p. length p.dest) same)) (λ same. omega (arith, ap (λ p. length p.dest) same))
+  (λ same. omega (arith, ap (λ p. length p.dest) same));
+  none_under = pairs (λ line other. (strictly_under line other ≡ false) × (strictly_under other line ≡ false)) (refl, refl) (refl, refl) (refl, refl);
+}
+  where
+    pairs : (R : PrefixValue → PrefixValue → Type 0) → R lowest_step middle_step → R lowest_step highest_step → R middle_step highest_step → AllPairs R stairs
+    pairs R one two three =
+        AllPairs-cons R lowest_step (middle_step ∷ highest_step ∷ []) (All-cons (R lowest_step) middle_step (highest_step ∷ []) one (All-cons (R lowest_step) highest_step [] two (All-nil (R lowest_step))))
+        (AllPairs-cons R middle_step (highest_step ∷ []) (All-cons (R middle_step) highest_step [] three (All-nil (R middle_step)))
+        (AllPairs-cons R highest_step [] (All-nil (R highest_step)) (λ i j d before within. absurd (omega arith))))
+
+pub lines_under_one_another_are_comparable : AreIncomparable lines → ⊥
+lines_under_one_another_are_comparable apart = cc ((apart.none_under 0 1 root (omega arith) (omega arith)).0)
+
+-- three steps cover the record, and two kept pairs
+pub steps_that_cover : covering_count climber stairs ≡ 3
+steps_that_cover = refl
+
+pub kept_pairs_that_cover : covering_count climber (kept_pairs stairs) ≡ 2
+kept_pairs_that_cover = refl
+
+pub stairs_obey_the_law : ObeysStaircase stairs climber
+stairs_obey_the_law some = refl
+
+-- of three lines under one another just one pair is kept, and all three cover the packet
+pub comparable_lines_do_not_obey : ObeysStaircase (prefix ∷ from_ten_to_twenty ∷ to_twenty ∷ []) packet → ⊥
+comparable_lines_do_not_obey obeys = omega (arith, obeys (omega arith))

@@ -1,0 +1,121 @@
+-- Worked examples of the texts of prefixes, and of their faults.
+use Rattle.std.proofs.Common.{◌≡◌, ℕ, ◌*◌, ◌≤◌, List, [], ◌∷◌, ◌++◌, drop, slice_index, codes, decimal, inl, inr, refl, sym, ap, ◌∙◌, arith}
+use Rattle.std.specs.Fmt.{digits}
+use Rattle.std.proofs.lemmas.Fmt.{decimal_injective}
+use Rattle.prefix_lattice.specs.Bytes.{address_of, AreLeadingBytes}
+use Rattle.prefix_lattice.specs.PrefixText.{dot, slash, space, address_text, side_text_of, side_text, prefix_text, source_part, dest_part, SpellsSide, IsAddressText, before_slash, HasLength, HasLooseBits, HasSideFault, SpellsPrefix, HasPrefixFault}
+use Rattle.prefix_lattice.specs.Writing.{WritesPart}
+use Rattle.prefix_lattice.specs.declared.prefix_fault.Side.TheVariants.{Source, Dest}
+use Rattle.prefix_lattice.specs.declared.prefix_fault.PrefixFault.TheVariants.{BadAddress, BadLength, LooseBits}
+use Rattle.prefix_lattice.proofs.AddressText.{IsCut, first_number, second_number}
+use Rattle.prefix_lattice.proofs.Cuts.{no_next_number}
+use Rattle.prefix_lattice.proofs.Examples.{prefix, leading_bytes_of_the_source, leading_bytes_of_the_destination}
+
+pub dot_between_numbers : codes "." ≡ dot ∷ []
+dot_between_numbers = refl
+
+pub slash_before_a_length : codes "/" ≡ slash ∷ []
+slash_before_a_length = refl
+
+pub space_between_sides : codes " " ≡ space ∷ []
+space_between_sides = refl
+
+pub text_of_an_address : address_text 0x0a010203 ≡ codes "10.1.2.3"
+unfolding digits
+text_of_an_address = refl
+
+pub text_of_an_address_and_a_length : side_text_of 0x0a010203 2 ≡ codes "10.1.2.3/16"
+unfolding digits
+text_of_an_address_and_a_length = refl
+
+pub text_of_a_side : side_text (20 ∷ 1 ∷ []) ≡ codes "20.1.0.0/16"
+unfolding digits
+text_of_a_side = refl
+
+-- the text of a prefix that keeps one byte and two
+abbrev text : List ℕ
+text = codes "10.0.0.0/8 20.1.0.0/16"
+
+pub text_of_a_prefix : prefix_text prefix ≡ text
+unfolding digits
+text_of_a_prefix = refl
+
+pub text_before_the_space : source_part text ≡ codes "10.0.0.0/8"
+text_before_the_space = refl
+
+pub text_after_the_space : dest_part text ≡ codes "20.1.0.0/16"
+text_after_the_space = refl
+
+pub text_of_the_source : SpellsSide (codes "10.0.0.0/8") (10 ∷ [])
+unfolding digits
+text_of_the_source = record { leading = leading_bytes_of_the_source; spelled = refl }
+
+pub text_of_the_destination : SpellsSide (codes "20.1.0.0/16") (20 ∷ 1 ∷ [])
+unfolding digits
+text_of_the_destination = record { leading = leading_bytes_of_the_destination; spelled = refl }
+
+pub texts_of_a_prefix : SpellsPrefix (codes "10.0.0.0/8") (codes "20.1.0.0/16") prefix
+texts_of_a_prefix = record { source = text_of_the_source; dest = text_of_the_destination }
+
+pub four_numbers_are_an_address : IsAddressText (codes "10.1.2.3")
+unfolding digits
+four_numbers_are_an_address = (0x0a010203, omega arith, refl)
+
+pub three_numbers_are_no_address : IsAddressText (codes "10.1.2") → ⊥
+three_numbers_are_no_address is_address =
+    let address = is_address.0 in
+    let one = first_number (codes "10.1.2") (codes "10") (codes "1.2") address (record { is_before = refl; joined = refl }) is_address.2 in
+    let two = second_number (codes "1.2") (codes "1") (codes "2") address (record { is_before = refl; joined = refl }) one.1 in
+    no_next_number (codes "2") _ _ (omega arith) refl two.1
+
+pub text_before_the_slash : before_slash (codes "10.0.0.0/8") ≡ codes "10.0.0.0"
+text_before_the_slash = refl
+
+pub whole_text_without_a_slash : before_slash (codes "10.0.0.0") ≡ codes "10.0.0.0"
+whole_text_without_a_slash = refl
+
+pub eight_is_a_length : HasLength (codes "10.0.0.0/8")
+unfolding digits
+eight_is_a_length = (1, omega arith, refl)
+
+-- bytes are kept whole
+pub fifteen_is_no_length : HasLength (codes "10.0.0.0/15") → ⊥
+unfolding digits
+fifteen_is_no_length has_length =
+    let bytes = has_length.0 in
+    let few : bytes ≤ 4 = has_length.1 in
+    let same : codes "15" ≡ decimal (8 * bytes) = ap (λ l. drop 9 l) has_length.2 in
+    let fifteen : decimal 15 ≡ decimal (8 * bytes) = same in
+    omega (arith, decimal_injective 15 (8 * bytes) (omega arith) (omega arith) fifteen)
+
+pub bits_past_a_length : HasLooseBits (codes "10.1.2.0/16")
+unfolding digits
+bits_past_a_length = record { address = 0x0a010200; bytes = 2; is_address = omega arith; is_length = omega arith; spelled = refl; loose = λ none. omega (arith, none) }
+
+pub fault_of_three_numbers : HasSideFault Source (codes "10.1.2/8") (BadAddress Source)
+fault_of_three_numbers = (refl, three_numbers_are_no_address)
+
+pub fault_of_a_length : HasSideFault Source (codes "10.0.0.0/15") (BadLength Source)
+unfolding digits
+fault_of_a_length = (refl, (0x0a000000, omega arith, refl), fifteen_is_no_length)
+
+pub fault_of_bits_past_a_length : HasSideFault Dest (codes "10.1.2.0/16") (LooseBits Dest)
+fault_of_bits_past_a_length = (refl, bits_past_a_length)
+
+-- a fault of one side isn't told of the other
+pub fault_of_another_side : HasSideFault Dest (codes "10.1.2.0/16") (LooseBits Source) → ⊥
+fault_of_another_side has = cc (has.0)
+
+-- the destination isn't looked at where the source has a fault
+pub fault_of_the_source : HasPrefixFault (codes "10.1.2/8") (codes "x") (BadAddress Source)
+fault_of_the_source = inl fault_of_three_numbers
+
+pub fault_of_the_destination : HasPrefixFault (codes "10.0.0.0/8") (codes "10.1.2.0/16") (LooseBits Dest)
+fault_of_the_destination = inr ((10 ∷ [], text_of_the_source), fault_of_bits_past_a_length)
+
+-- of six bytes the two from place 2 on were written
+pub part_that_was_written : WritesPart (codes "xxxxxx") (codes "xx10xx") 2 4 (codes "10")
+part_that_was_written = record { ends = refl; written = refl }
+
+pub byte_that_did_not_stay : WritesPart (codes "xxxxxx") (codes "xx10yx") 2 4 (codes "10") → ⊥
+byte_that_did_not_stay writes = omega (arith, ap (λ l. slice_index l 4) writes.written)
