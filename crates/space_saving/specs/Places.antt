@@ -1,4 +1,4 @@
--- Where an entry stands in a table.
+-- Where an entry stands in a table, which no public contract cites.
 use Rattle.std.specs.Prelude.{ℕ, ◌≡◌, ◌<◌, List, length, slice_get}
 use Rattle.std.specs.List.{remove}
 use Rattle.space_saving.specs.declared.entry.Entry.{Entry}

@@ -33,7 +33,7 @@ impl Model for Flat {
 }
 
 impl Flat {
-    /// An empty table with memory for `capacity` entries.
+    /// An empty table with memory for `capacity` entries, 2 to 4096.
     pub fn with_room(alloc: Global, capacity: u32) -> Result<Flat, AllocError>
         requires least { 2 ≤ capacity }
         requires most { capacity ≤ 4096 }
@@ -46,9 +46,10 @@ impl Flat {
         })
     }
 
-    /// The table of these entries, in their order. `None`, which drops them, comes exactly where they are
-    /// no table of this capacity: more entries than it, falling counts, a key twice, an error that isn't
-    /// below its count or, times the capacity, is above the total, or a total of 2^56 or more.
+    /// The table of these entries, in their order. The capacity is 2 to 4096, and the vector has memory for
+    /// as many entries. `None`, which drops them, comes exactly where they are no table of this capacity: more
+    /// entries than it, falling counts, a key twice, an error that isn't below its count or, times the
+    /// capacity, is above the total, or a total of 2^56 or more.
     pub fn from_entries(capacity: u32, entries: Vec<Entry>) -> Option<Flat>
         requires least { 2 ≤ capacity }
         requires most { capacity ≤ 4096 }
@@ -106,7 +107,7 @@ impl Flat {
         self.entries.len()
     }
 
-    /// How many entries there can be.
+    /// How many entries there can be, 2 to 4096.
     pub fn capacity(&self) -> u32
         ensures capacity { result ≡ self.now.capacity }
         ensures least { 2 ≤ result }
@@ -115,7 +116,7 @@ impl Flat {
         self.capacity
     }
 
-    /// The sum of the counts, which is the weight that was added.
+    /// The sum of the counts, below 2^56, which is the weight that was added.
     pub fn total(&self) -> u64
         ensures total { result ≡ total_count self.now.entries }
         ensures bounded { result < 2 ^ 56 }

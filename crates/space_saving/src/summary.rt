@@ -14,17 +14,18 @@ pub trait Summary: Sized {
     /// put in later stands later.
     ghost content: { Self → TableValue };
 
-    /// An empty table. All memory is taken here.
+    /// An empty table of a capacity of 2 to 4096. All memory is taken here.
     fn with_capacity(alloc: Global, capacity: u32) -> Result<Self, AllocError>
         requires least { 2 ≤ capacity }
         requires most { capacity ≤ 4096 }
         ensures { IfOk result (λ table. content table ≡ record { capacity = capacity; entries = [] }) };
 
-    /// A table with this content. All memory is taken here.
+    /// A table with the capacity and the entries of this one. All memory is taken here.
     fn restore(alloc: Global, flat: &Flat) -> Result<Self, AllocError>
         ensures { IfOk result (λ table. content table ≡ flat.now) };
 
-    /// Adds a weight for a key, by one step of Space-Saving. It takes no memory.
+    /// Adds a weight of at least 1 for a key, by one step of Space-Saving. The total stays below 2^56. It takes
+    /// no memory.
     fn add(&mut self, key: u64, weight: u32)
         requires weighs { 1 ≤ weight }
         requires room { total_count (content self.old).entries + weight < 2 ^ 56 }
@@ -44,7 +45,7 @@ pub trait Summary: Sized {
         ensures narrow { (result.1 - result.0) * (content self.now).capacity
             ≤ total_count (content self.now).entries };
 
-    /// The entry at this place, from 0, in the order of rising counts.
+    /// The entry at this place below the length, from 0, in the order of rising counts.
     fn entry(&self, place: usize) -> Entry
         requires { place < length (content self.now).entries }
         ensures { slice_get (content self.now).entries place ≡ Some result };
@@ -54,13 +55,13 @@ pub trait Summary: Sized {
         ensures length { result ≡ length (content self.now).entries }
         ensures within_capacity { result ≤ (content self.now).capacity };
 
-    /// How many entries there can be.
+    /// How many entries there can be, 2 to 4096.
     fn capacity(&self) -> u32
         ensures capacity { result ≡ (content self.now).capacity }
         ensures least { 2 ≤ result }
         ensures most { result ≤ 4096 };
 
-    /// The sum of the counts, which is the weight that was added.
+    /// The sum of the counts, below 2^56, which is the weight that was added.
     fn total(&self) -> u64
         ensures total { result ≡ total_count (content self.now).entries }
         ensures bounded { result < 2 ^ 56 }
