@@ -1,28 +1,36 @@
--- Worked examples of the definitions, each by computing.
-use Rattle.std.proofs.Common.{◌≡◌, ℕ, List, [], ◌∷◌, refl}
+-- Worked examples of the tables of a shard, most by computing.
+use Rattle.std.proofs.Common.{◌≡◌, ◌≤◌, ◌<◌, ◌^◌, ℕ, List, [], ◌∷◌, refl, lit<, arith}
+use Rattle.std.proofs.lemmas.List.Elements.{All-from_recursion, All-head}
 use Rattle.prefix_lattice.specs.RecordValue.{RecordValue}
 use Rattle.prefix_lattice.specs.NodeValue.{node_at}
+use Rattle.prefix_lattice.specs.Key.{IsKeyOf}
+use Rattle.prefix_lattice.specs.PrefixValue.{PrefixValue}
 use Rattle.space_saving.specs.declared.entry.Entry.{Entry}
-use Rattle.shard_state.specs.Tables.{records_table, fold_at}
-use Rattle.shard_state.specs.ShardValue.{ShardValue, folded}
-use Rattle.shard_state.specs.Standing.{records_before}
-use Rattle.shard_state.specs.CoreValue.{CoreValue}
-use Rattle.shard_state.specs.Reads.{reads_of}
-use Rattle.shard_state.specs.declared.event.Event.{Event}
-use Rattle.shard_state.specs.declared.event.Event.TheVariants.{Fold, Read}
+use Rattle.space_saving.specs.Table.{TableValue}
+use Rattle.space_saving.specs.TableFacts.{HasSmallError}
+use Rattle.shard_state.specs.Tables.{adds_of, records_table, fold_at, fold_from, HasKeysOf, IsTableAt}
+use Rattle.shard_state.specs.Folding.{fold_table, fold_tables}
+use Rattle.shard_state.specs.SnapshotValue.{no_entries, empty_snapshot, entries_at, total_of}
+use Rattle.shard_state.specs.ShardValue.{ShardValue, IsShard, folded, snapshot_of}
+use Rattle.shard_state.specs.Weights.{Holds, HoldsWeightOver, interval_over, interval_of}
+use Rattle.shard_state.proofs.Emptiness.{IsSnapshot-empty}
+use Rattle.shard_state.proofs.Shards.{begun}
 
 -- packets from N.0.0.1 to (100 + N).0.0.1
-abbrev x : RecordValue
+abbrev pub x : RecordValue
 x = record { src = 0x01000001; dst = 0x65000001; weight = 1 }
 
-abbrev u : RecordValue
+abbrev pub u : RecordValue
 u = record { src = 0x02000001; dst = 0x66000001; weight = 1 }
 
-abbrev first : List RecordValue
+abbrev pub first : List RecordValue
 first = x ∷ x ∷ x ∷ x ∷ x ∷ u ∷ []
 
-abbrev entry : ℕ → ℕ → ℕ → Entry
+abbrev pub entry : ℕ → ℕ → ℕ → Entry
 entry key count error = record { key = key; count = count; error = error }
+
+pub adds_of_whole_addresses : adds_of (node_at 24) (x ∷ u ∷ []) ≡ record { key = 0x0100000165000001; weight = 1 } ∷ record { key = 0x0200000166000001; weight = 1 } ∷ []
+adds_of_whole_addresses = refl
 
 -- the table of whole addresses: U stands at the head, since its count is the least
 pub table_of_the_first : records_table 4 (node_at 24) first ≡ entry 0x0200000166000001 1 0 ∷ entry 0x0100000165000001 5 0 ∷ []
@@ -36,28 +44,93 @@ table_at_the_root = refl
 pub goes_on : fold_at 4 (node_at 0) (entry 0 4 0 ∷ []) (x ∷ u ∷ []) ≡ entry 0 6 0 ∷ []
 goes_on = refl
 
-pub before_two_and_one : records_before (first ∷ (u ∷ u ∷ []) ∷ []) (2 ∷ 1 ∷ []) ≡ x ∷ x ∷ u ∷ []
-before_two_and_one = refl
+-- the last two tables: of node 23, which keeps three bytes of the destination, and of node 24
+pub last_two_tables_go_on : fold_from 23 4 ([] ∷ [] ∷ []) (x ∷ []) ≡ (entry 0x0100000165000000 1 0 ∷ []) ∷ (entry 0x0100000165000001 1 0 ∷ []) ∷ []
+last_two_tables_go_on = refl
 
--- a shard of three records
-abbrev shard : ShardValue
-shard = record { list = x ∷ x ∷ u ∷ []; base = record { capacity = 4; position = 0; tables = [] }; position = 0 }
+abbrev root_table : TableValue
+root_table = record { capacity = 4; entries = entry 0 4 0 ∷ [] }
 
-pub folds_by_two : (folded 2 shard).position ≡ 2
-folds_by_two = refl
+pub root_table_goes_on : fold_table (node_at 0) (x ∷ u ∷ []) root_table ≡ record { capacity = 4; entries = entry 0 6 0 ∷ [] }
+root_table_goes_on = refl
 
-pub folds_to_the_end : (folded 2 (folded 2 shard)).position ≡ 3
+pub row_of_one_table : fold_tables 0 (root_table ∷ []) (x ∷ u ∷ []) ≡ fold_table (node_at 0) (x ∷ u ∷ []) root_table ∷ []
+row_of_one_table = refl
+
+pub key_of_three_bytes : HasKeysOf (node_at 23) (entry 0x0100000165000000 1 0 ∷ [])
+key_of_three_bytes = All-from_recursion (λ (e : Entry). IsKeyOf (node_at 23) e.key) (entry 0x0100000165000000 1 0 ∷ []) (record { source = refl; dest = refl }, tt)
+
+-- the last byte of the destination isn't kept
+pub key_with_a_loose_bit : HasKeysOf (node_at 23) (entry 0x0100000165000001 1 0 ∷ []) → ⊥
+key_with_a_loose_bit has =
+    let dest : 1 ≡ 0 = (All-head (λ (e : Entry). IsKeyOf (node_at 23) e.key) (entry 0x0100000165000001 1 0) [] has).dest in
+    omega (arith, dest)
+
+pub table_of_the_root : IsTableAt 4 6 (node_at 0) (entry 0 6 0 ∷ [])
+table_of_the_root = record {
+  are_entries = record {
+    is_table = record {
+      fits = omega arith;
+      ascending = (omega arith, tt);
+      distinct = (refl, tt);
+      small_errors = All-from_recursion (HasSmallError 4 6) (entry 0 6 0 ∷ []) ((omega arith, omega arith), tt);
+    };
+    bounded = lit< tt;
+  };
+  counted = refl;
+  keyed = All-from_recursion (λ (e : Entry). IsKeyOf (node_at 0) e.key) (entry 0 6 0 ∷ []) (record { source = refl; dest = refl }, tt);
+}
+
+pub table_of_another_total : IsTableAt 4 5 (node_at 0) (entry 0 6 0 ∷ []) → ⊥
+table_of_another_total table = omega (arith, table.counted)
+
+-- a shard of the six packets that counted none
+abbrev pub shard : ShardValue
+shard = record { list = first; base = empty_snapshot 4; position = 0 }
+
+pub folds_by_four : (folded 4 shard).position ≡ 4
+folds_by_four = refl
+
+pub folds_to_the_end : (folded 4 (folded 4 shard)).position ≡ 6
 folds_to_the_end = refl
 
-abbrev core : CoreValue
-core = record { shards = shard ∷ []; cuts = [] }
+pub snapshot_at_the_end : entries_at (node_at 24) (snapshot_of (folded 9 shard)) ≡ records_table 4 (node_at 24) first
+unfolding no_entries
+snapshot_at_the_end = refl
 
--- a caller's reads between two folds and behind them
-abbrev events : List Event
-events = Fold 0 2 ∷ Read 0 0 ∷ Fold 0 2 ∷ Read 1 0 ∷ Read 0 0 ∷ []
+pub total_at_the_end : total_of (snapshot_of (folded 9 shard)) ≡ 6
+unfolding no_entries
+total_at_the_end = refl
 
-pub reads_meet : reads_of 0 0 core events ≡ 2 ∷ 3 ∷ []
-reads_meet = refl
+-- no record is counted, and no table has an entry
+pub begun_shard : IsShard shard
+unfolding no_entries
+begun_shard =
+    let weighed = All-from_recursion (λ (r : RecordValue). 1 ≤ r.weight) first (omega arith, (omega arith, (omega arith, (omega arith, (omega arith, (omega arith, tt)))))) in
+    let bounded = All-from_recursion (λ (r : RecordValue). r.weight < 2 ^ 32) first (omega arith, (omega arith, (omega arith, (omega arith, (omega arith, (omega arith, tt)))))) in
+    (begun first (empty_snapshot 4) 0 refl (IsSnapshot-empty 4 (omega arith) (omega arith)) (omega arith) (omega arith) weighed bounded refl).is_shard
 
-pub another_caller_reads : reads_of 1 0 core events ≡ 3 ∷ []
-another_caller_reads = refl
+-- a shard counts no more than its records
+pub shard_past_its_end : IsShard (record shard { position = 7 }) → ⊥
+shard_past_its_end kept = omega (arith, kept.within)
+
+-- 1.0.0.0/8 0.0.0.0/0
+abbrev from_one : PrefixValue
+from_one = record { source = 1 ∷ []; dest = [] }
+
+pub interval_of_five : interval_over 4 from_one first ≡ record { low = 5; high = 5 }
+interval_of_five = refl
+
+pub interval_in_a_snapshot : interval_of from_one (snapshot_of (folded 9 shard)) ≡ record { low = 5; high = 5 }
+unfolding no_entries
+interval_in_a_snapshot = refl
+
+pub five_are_held : HoldsWeightOver 4 from_one first
+five_are_held = record { low = omega arith; high = omega arith; width = omega arith }
+
+-- 2 times 4 is more than 6
+pub interval_that_is_too_wide : Holds (record { low = 4; high = 6 }) 4 5 6 → ⊥
+interval_that_is_too_wide holds = omega (arith, holds.width)
+
+pub interval_beside_the_weight : Holds (record { low = 4; high = 5 }) 4 6 6 → ⊥
+interval_beside_the_weight holds = omega (arith, holds.high)

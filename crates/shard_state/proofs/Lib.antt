@@ -12,3 +12,5 @@ pub mod Events
 pub mod Runs
 pub mod Cores
 pub mod Examples
+pub mod ExamplesOfSnapshots
+pub mod ExamplesOfReads

@@ -12,7 +12,7 @@ use Rattle.space_saving.specs.declared.entry.Entry.{Entry}
 use Rattle.space_saving.specs.Table.{TableValue, total_count}
 use Rattle.shard_state.specs.Tables.{fold_from}
 use Rattle.shard_state.specs.SnapshotValue.{SnapshotValue, IsSnapshot, total_of, tables_of}
-use Rattle.shard_state.specs.SnapshotParts.{copied_from}
+use Rattle.shard_state.specs.Copying.{copied_from}
 use Rattle.shard_state.specs.ShardValue.{ShardValue, IsShard, snapshot_of}
 use Rattle.shard_state.specs.Folding.{fold_tables}
 use Rattle.shard_state.proofs.Nodes.{IsNode-node_at, index_of-node_at}

@@ -1,4 +1,4 @@
--- Tables after more records.
+-- Tables after more records, which no public contract cites.
 use Rattle.std.specs.Prelude.{ℕ, ◌+◌, List, [], ◌∷◌}
 use Rattle.prefix_lattice.specs.RecordValue.{RecordValue}
 use Rattle.prefix_lattice.specs.NodeValue.{NodeValue, node_at}

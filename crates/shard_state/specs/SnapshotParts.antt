@@ -1,9 +1,8 @@
 -- The parts of which a snapshot is made.
-use Rattle.std.specs.Prelude.{ℕ, ◌≡◌, ◌^◌, ◌≤◌, List, length, map, slice_get, Some}
+use Rattle.std.specs.Prelude.{ℕ, ◌≡◌, ◌^◌, ◌≤◌, List, length, slice_get, Some}
 use Rattle.prefix_lattice.specs.NodeValue.{NodeValue, node_at}
 use Rattle.space_saving.specs.Table.{TableValue, total_count}
 use Rattle.shard_state.specs.Tables.{HasKeysOf}
-use Rattle.shard_state.specs.SnapshotValue.{SnapshotValue}
 
 -- a table of this capacity and total, whose keys are those of the node
 pub record IsLike (capacity total : ℕ) (node : NodeValue) (table : TableValue) : Type 0 where
@@ -22,7 +21,3 @@ pub record AreTables (tables : List TableValue) : Type 0 where
 pub record AreParts (position : ℕ) (tables : List TableValue) : Type 0 where
   pub placed : position ≤ 2 ^ 24
   pub are_tables : AreTables tables
-
--- the snapshot of this capacity, at this position, with the entries of these tables
-abbrev pub copied_from : ℕ → ℕ → List TableValue → SnapshotValue
-copied_from capacity position tables = record { capacity = capacity; position = position; tables = map (λ table. table.entries) tables }

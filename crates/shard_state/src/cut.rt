@@ -28,7 +28,7 @@ impl Model for Cut {
 }
 
 impl Cut {
-    /// Positions 0 and empty tables, with memory for `capacity` entries in each.
+    /// Positions 0 and empty tables for 1 to 128 shards, with memory for `capacity` entries in each, 2 to 4096.
     pub fn with_room(alloc: Global, shards: u32, capacity: u32) -> Result<Cut, AllocError>
         requires some { 1 ≤ shards }
         requires few { shards ≤ 128 }
@@ -63,7 +63,7 @@ impl Cut {
         self.capacity
     }
 
-    /// The snapshot of a shard.
+    /// The snapshot of a shard below the number of shards.
     pub fn shard(&self, shard: u32) -> &Snapshot
         requires { shard < length self.now.shards }
         ensures shard { slice_get self.now.shards shard ≡ Some result.now }

@@ -17,7 +17,9 @@ use std::marker::Model;
 /// The positions between which a fold moved a shard: how many records were counted before it and after it.
 #[derive(Clone, Copy, Debug, PartialEq, Eq)]
 pub struct Folded {
+    /// How many records were counted before the fold.
     pub from: u64,
+    /// How many were counted after it.
     pub to: u64,
 }
 
@@ -45,7 +47,8 @@ impl Model for ShardState {
 }
 
 impl ShardState {
-    /// No record is counted yet. The list has at most 16,777,216 records; it is dropped on refusal.
+    /// No record is counted yet. The list has at most 16,777,216 records, and a table 2 to 4096 entries. The list
+    /// is dropped on refusal.
     pub fn start(alloc: Global, list: RecordList, capacity: u32) -> Result<ShardState, AllocError>
         requires few { length list ≤ 2 ^ 24 }
         requires least { 2 ≤ capacity }

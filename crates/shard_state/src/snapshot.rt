@@ -2,7 +2,8 @@
 
 ghost use Rattle.std.specs.Prelude.{◌≡◌, ◌^◌, ◌<◌, ◌≤◌, ◌↔◌, All, IfOk, IfSome, IsSome};
 ghost use Rattle.shard_state.specs.SnapshotValue.{IsSnapshot, empty_snapshot, table_at, tables_of, total_of};
-ghost use Rattle.shard_state.specs.SnapshotParts.{AreParts, copied_from};
+ghost use Rattle.shard_state.specs.SnapshotParts.{AreParts};
+ghost use Rattle.shard_state.specs.Copying.{copied_from};
 
 use crate::folding::copy_tables;
 use crate::snapshot_parts::{are_tables, empty_tables};
@@ -39,7 +40,7 @@ impl Model for Snapshot {
 }
 
 impl Snapshot {
-    /// Empty tables at position 0, each with memory for `capacity` entries.
+    /// Empty tables at position 0, each with memory for `capacity` entries, 2 to 4096.
     pub fn with_room(alloc: Global, capacity: u32) -> Result<Snapshot, AllocError>
         requires least { 2 ≤ capacity }
         requires most { capacity ≤ 4096 }

@@ -3,7 +3,7 @@ use Rattle.std.proofs.lemmas.List.Elements.{All-same, All-map}
 use Rattle.space_saving.specs.Table.{TableValue}
 use Rattle.shard_state.specs.SnapshotValue.{IsSnapshot, tables_of}
 use Rattle.shard_state.specs.ShardValue.{ShardValue, snapshot_of}
-use Rattle.shard_state.specs.SnapshotParts.{copied_from}
+use Rattle.shard_state.specs.Copying.{copied_from}
 use Rattle.shard_state.proofs.Parts.{with_entries}
 use Rattle.shard_state.proofs.Shards.{copied_is}
 use Rattle.shard_state.proofs.shard_state.ShardState.copy_into.Goals as goal

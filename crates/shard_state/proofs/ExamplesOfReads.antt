@@ -1,0 +1,142 @@
+-- Worked examples of events, and of what reads leave.
+use Rattle.std.proofs.Common.{◌≡◌, zero, suc, ◌+◌, List, [], ◌∷◌, None, Some, refl, arith}
+use Rattle.std.proofs.lemmas.List.Elements.{All-from_recursion}
+use Rattle.shard_state.specs.SnapshotValue.{empty_snapshot}
+use Rattle.shard_state.specs.CutValue.{empty_cut}
+use Rattle.shard_state.specs.ShardValue.{ShardValue, IsShard, folded, snapshot_of}
+use Rattle.shard_state.specs.Standing.{SnapshotStandsFor}
+use Rattle.shard_state.specs.CoreValue.{CoreValue, changed, with_read, after, run, capacity_of, AreShards, IsCore, HasShape, IsEventFor}
+use Rattle.shard_state.specs.Reads.{position_in, met, reads_of, last_of, NeverFall, latest, shard_in, snapshot_in, lists_of, BasesStand, ReadsEach}
+use Rattle.shard_state.specs.declared.event.Event.{Event}
+use Rattle.shard_state.specs.declared.event.Event.TheVariants.{Fold, Read}
+use Rattle.shard_state.proofs.Stands.{stands-empty}
+use Rattle.shard_state.proofs.Examples.{first, shard, begun_shard}
+
+pub second_changed : changed (λ n. n + 10) 1 (1 ∷ 2 ∷ 3 ∷ []) ≡ 1 ∷ 12 ∷ 3 ∷ []
+second_changed = refl
+
+pub nothing_changed_past_the_end : changed (λ n. n + 10) 3 (1 ∷ 2 ∷ 3 ∷ []) ≡ 1 ∷ 2 ∷ 3 ∷ []
+nothing_changed_past_the_end = refl
+
+-- one shard of six packets, and the cuts of two callers
+abbrev core : CoreValue
+core = record { shards = shard ∷ []; cuts = empty_cut 1 4 ∷ empty_cut 1 4 ∷ [] }
+
+pub read_puts_its_snapshot : with_read 0 (Some (folded 4 shard)) (empty_cut 1 4) ≡ record { capacity = 4; shards = snapshot_of (folded 4 shard) ∷ [] }
+read_puts_its_snapshot = refl
+
+pub read_of_no_shard : with_read 1 None (empty_cut 1 4) ≡ empty_cut 1 4
+read_of_no_shard = refl
+
+-- a fold moves its shard and no cut
+pub fold_moves : after core (Fold 0 4) ≡ record core { shards = folded 4 shard ∷ [] }
+fold_moves = refl
+
+-- a read changes its caller's cut alone
+pub read_leaves : after (record core { shards = folded 4 shard ∷ [] }) (Read 1 0)
+    ≡ record { shards = folded 4 shard ∷ []; cuts = empty_cut 1 4 ∷ record { capacity = 4; shards = snapshot_of (folded 4 shard) ∷ [] } ∷ [] }
+read_leaves = refl
+
+-- the first caller reads between two folds and behind them, the other behind them
+abbrev events : List Event
+events = Fold 0 4 ∷ Read 0 0 ∷ Fold 0 4 ∷ Read 1 0 ∷ Read 0 0 ∷ []
+
+pub run_leaves : run core events ≡ record {
+  shards = folded 4 (folded 4 shard) ∷ [];
+  cuts = record { capacity = 4; shards = snapshot_of (folded 9 shard) ∷ [] } ∷ record { capacity = 4; shards = snapshot_of (folded 9 shard) ∷ [] } ∷ [];
+}
+run_leaves = refl
+
+pub capacity_of_the_core : capacity_of core.shards ≡ 4
+capacity_of_the_core = refl
+
+pub one_shard_is_some : AreShards core.shards
+one_shard_is_some = record { some = omega arith; few = omega arith; alike = All-from_recursion (λ (s : ShardValue). s.base.capacity ≡ 4) core.shards (refl, tt) }
+
+pub core_of_one_shard : IsCore core.shards
+core_of_one_shard = record { are_shards = one_shard_is_some; kept = All-from_recursion IsShard core.shards (begun_shard, tt) }
+
+pub core_of_no_shard : IsCore [] → ⊥
+core_of_no_shard kept = omega (arith, kept.are_shards.some)
+
+pub cut_for_the_core : HasShape 1 4 (empty_cut 1 4)
+cut_for_the_core = record { as_many = refl; alike = refl }
+
+pub cut_of_two_shards : HasShape 1 4 (empty_cut 2 4) → ⊥
+cut_of_two_shards shape = omega (arith, shape.as_many)
+
+pub fold_for_the_core : IsEventFor 1 2 (Fold 0 4)
+fold_for_the_core = (omega arith, omega arith)
+
+-- a block has a record at least
+pub fold_of_no_record : IsEventFor 1 2 (Fold 0 0) → ⊥
+fold_of_no_record event = omega (arith, event.1)
+
+pub read_by_a_third_caller : IsEventFor 1 2 (Read 2 0) → ⊥
+read_by_a_third_caller event = omega (arith, event.0)
+
+pub position_of_a_shard : position_in (Some (folded 4 shard)) ≡ 4 ∷ []
+position_of_a_shard = refl
+
+pub position_of_no_shard : position_in None ≡ []
+position_of_no_shard = refl
+
+pub read_meets_its_shard : met 0 0 core.shards (Read 0 0) ≡ 0 ∷ []
+read_meets_its_shard = refl
+
+pub read_by_another_meets_nothing : met 0 0 core.shards (Read 1 0) ≡ []
+read_by_another_meets_nothing = refl
+
+pub fold_meets_nothing : met 0 0 core.shards (Fold 0 4) ≡ []
+fold_meets_nothing = refl
+
+pub reads_meet : reads_of 0 0 core events ≡ 4 ∷ 6 ∷ []
+reads_meet = refl
+
+pub another_caller_reads : reads_of 1 0 core events ≡ 6 ∷ []
+another_caller_reads = refl
+
+pub last_of_two_reads : last_of (reads_of 0 0 core events) ≡ Some 6
+last_of_two_reads = refl
+
+pub last_of_no_read : last_of [] ≡ None
+last_of_no_read = refl
+
+pub reads_never_fall : NeverFall 0 (reads_of 0 0 core events)
+reads_never_fall = (omega arith, (omega arith, tt))
+
+pub reads_that_fall : NeverFall 0 (6 ∷ 4 ∷ []) → ⊥
+reads_that_fall never = omega (arith, never.1.0)
+
+-- the snapshot at the last read, or what was there before
+pub latest_of_two_reads : latest shard (empty_snapshot 4) (4 ∷ 6 ∷ []) ≡ snapshot_of (folded 9 shard)
+latest_of_two_reads = refl
+
+pub latest_of_no_read : latest shard (empty_snapshot 4) [] ≡ empty_snapshot 4
+latest_of_no_read = refl
+
+pub snapshot_of_a_shard : shard_in 0 (Some (empty_cut 1 4)) ≡ Some (empty_snapshot 4)
+snapshot_of_a_shard = refl
+
+pub snapshot_in_no_cut : shard_in 0 None ≡ None
+snapshot_in_no_cut = refl
+
+pub snapshot_of_the_other_caller : snapshot_in 1 0 (run core events).cuts ≡ Some (snapshot_of (folded 9 shard))
+snapshot_of_the_other_caller = refl
+
+pub snapshot_of_a_third_caller : snapshot_in 2 0 core.cuts ≡ None
+snapshot_of_a_third_caller = refl
+
+pub one_list : lists_of core.shards ≡ first ∷ []
+one_list = refl
+
+-- no record is counted at the start
+pub base_stands : BasesStand core.shards
+base_stands = All-from_recursion (λ (s : ShardValue). SnapshotStandsFor s.base s.list) core.shards (stands-empty 4 first, tt)
+
+pub both_callers_read_each : ReadsEach 1 core events
+both_callers_read_each zero below = omega arith
+both_callers_read_each (suc place) below = absurd (omega (arith, below))
+
+pub third_caller_reads_none : ReadsEach 2 core events → ⊥
+third_caller_reads_none each = let one = each 0 (omega arith) in omega (arith, one)

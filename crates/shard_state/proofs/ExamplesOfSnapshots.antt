@@ -1,0 +1,127 @@
+-- Worked examples of snapshots and cuts, most by computing.
+use Rattle.std.proofs.Common.{◌≡◌, ℕ, zero, suc, [], ◌∷◌, length, replicate, Some, slice_get, refl, sym, subst, arith}
+use Rattle.std.proofs.lemmas.List.Elements.{All-nil}
+use Rattle.prefix_lattice.specs.NodeValue.{node_at}
+use Rattle.prefix_lattice.specs.Key.{IsKeyOf}
+use Rattle.space_saving.specs.declared.entry.Entry.{Entry}
+use Rattle.space_saving.specs.Table.{TableValue}
+use Rattle.shard_state.specs.SnapshotValue.{SnapshotValue, IsSnapshot, no_entries, empty_snapshot, entries_at, table_at, tables_of, total_of}
+use Rattle.shard_state.specs.SnapshotParts.{IsLike, AreTables, AreParts}
+use Rattle.shard_state.specs.Copying.{copied_from}
+use Rattle.shard_state.specs.CutValue.{CutValue, IsCut, empty_cut, positions_of, total_of_cut}
+use Rattle.shard_state.specs.ShardValue.{folded, snapshot_of}
+use Rattle.shard_state.specs.Standing.{SnapshotStandsFor, CutStandsFor, records_before}
+use Rattle.shard_state.proofs.Emptiness.{empty_table, IsSnapshot-empty, IsCut-empty}
+use Rattle.shard_state.proofs.Stands.{stands-empty, stands-shard}
+use Rattle.shard_state.proofs.Examples.{x, u, first, entry, shard}
+
+-- the six packets are counted
+abbrev at_the_end : SnapshotValue
+at_the_end = snapshot_of (folded 9 shard)
+
+pub counts_six_records : at_the_end.position ≡ 6
+counts_six_records = refl
+
+pub entries_at_the_root : entries_at (node_at 0) at_the_end ≡ entry 0 6 0 ∷ []
+unfolding no_entries
+entries_at_the_root = refl
+
+pub table_at_the_root : table_at (node_at 0) at_the_end ≡ record { capacity = 4; entries = entry 0 6 0 ∷ [] }
+unfolding no_entries
+table_at_the_root = refl
+
+pub tables_at_the_end : length (tables_of at_the_end) ≡ 25
+unfolding no_entries
+tables_at_the_end = refl
+
+pub snapshot_of_no_record : IsSnapshot (empty_snapshot 4)
+snapshot_of_no_record = IsSnapshot-empty 4 (omega arith) (omega arith)
+
+pub total_of_no_record : total_of (empty_snapshot 4) ≡ 0
+unfolding no_entries
+total_of_no_record = refl
+
+pub snapshot_of_capacity_1 : IsSnapshot (empty_snapshot 1) → ⊥
+snapshot_of_capacity_1 kept = omega (arith, kept.least)
+
+pub snapshot_without_a_table : IsSnapshot (record { capacity = 4; position = 0; tables = replicate 24 [] }) → ⊥
+snapshot_without_a_table kept = omega (arith, kept.shape)
+
+-- the table of the root after one packet
+abbrev root_table : TableValue
+root_table = record { capacity = 4; entries = entry 0 1 0 ∷ [] }
+
+pub position_and_tables_copied : copied_from 4 1 (root_table ∷ []) ≡ record { capacity = 4; position = 1; tables = (entry 0 1 0 ∷ []) ∷ [] }
+position_and_tables_copied = refl
+
+pub empty_table_is_like : IsLike 4 0 (node_at 7) (empty_table 4)
+empty_table_is_like = record { same_capacity = refl; same_total = refl; keyed = All-nil (λ (e : Entry). IsKeyOf (node_at 7) e.key) }
+
+-- the table counted one packet, and the others none
+pub table_of_another_total : IsLike 4 0 (node_at 0) root_table → ⊥
+table_of_another_total like = omega (arith, like.same_total)
+
+all_the_same : (n place : ℕ) (table here : TableValue) → slice_get (replicate n table) place ≡ Some here → here ≡ table
+all_the_same zero place table here read = cc
+all_the_same (suc n) zero table here read = cc
+all_the_same (suc n) (suc place) table here read = all_the_same n place table here read
+
+pub empty_tables : AreTables (replicate 25 (empty_table 4))
+empty_tables = record {
+  capacity = 4;
+  total = 0;
+  shape = refl;
+  alike = λ place table read.
+      subst (IsLike 4 0 (node_at place)) (sym (all_the_same 25 place (empty_table 4) table read))
+      (record { same_capacity = refl; same_total = refl; keyed = All-nil (λ (e : Entry). IsKeyOf (node_at place) e.key) });
+}
+
+pub parts_at_the_limit : AreParts 16777216 (replicate 25 (empty_table 4))
+parts_at_the_limit = record { placed = omega arith; are_tables = empty_tables }
+
+pub position_past_the_limit : AreParts 16777217 (replicate 25 (empty_table 4)) → ⊥
+position_past_the_limit parts = omega (arith, parts.placed)
+
+pub one_table_too_few : AreTables (replicate 24 (empty_table 4)) → ⊥
+one_table_too_few are = omega (arith, are.shape)
+
+-- two shards, one of which counted the six packets
+abbrev cut : CutValue
+cut = record { capacity = 4; shards = at_the_end ∷ empty_snapshot 4 ∷ [] }
+
+pub positions_of_two_shards : positions_of cut ≡ 6 ∷ 0 ∷ []
+positions_of_two_shards = refl
+
+pub total_of_two_shards : total_of_cut cut ≡ 6
+unfolding no_entries
+total_of_two_shards = refl
+
+pub cut_of_no_record : IsCut (empty_cut 2 4)
+cut_of_no_record = IsCut-empty 2 4 (omega arith) (omega arith) (omega arith) (omega arith)
+
+pub cut_of_no_shard : IsCut (empty_cut 0 4) → ⊥
+cut_of_no_shard kept = omega (arith, kept.some)
+
+pub positions_of_no_record : positions_of (empty_cut 2 4) ≡ 0 ∷ 0 ∷ []
+positions_of_no_record = refl
+
+-- the tables are those of the six packets
+pub stands_for_the_first : SnapshotStandsFor at_the_end first
+stands_for_the_first = stands-shard (folded 9 shard) (stands-empty 4 first) (omega arith) (omega arith)
+
+-- it counts more than the one record there is
+pub stands_for_no_shorter_list : SnapshotStandsFor at_the_end (x ∷ []) → ⊥
+stands_for_no_shorter_list stands = omega (arith, stands.within)
+
+pub stands_for_two_lists : CutStandsFor cut (first ∷ (u ∷ u ∷ []) ∷ [])
+stands_for_two_lists = record { shards = (stands_for_the_first, (stands-empty 4 (u ∷ u ∷ []), tt)) }
+
+-- a cut of two shards stands for two lists
+pub stands_for_no_single_list : CutStandsFor cut (first ∷ []) → ⊥
+stands_for_no_single_list stands = stands.shards.1
+
+pub before_two_and_one : records_before (first ∷ (u ∷ u ∷ []) ∷ []) (2 ∷ 1 ∷ []) ≡ x ∷ x ∷ u ∷ []
+before_two_and_one = refl
+
+pub before_the_cut : records_before (first ∷ (u ∷ u ∷ []) ∷ []) (positions_of cut) ≡ first
+before_the_cut = refl
