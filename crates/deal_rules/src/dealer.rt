@@ -43,7 +43,8 @@ impl Deals for Dealer {
 }
 
 impl Dealer {
-    /// A dealer that deals by the rule, which must be of this kind.
+    /// A dealer that deals by the rule, which must be of this kind: for each place below 16,777,216, each record
+    /// and 1 to 16 shards it may be called, and answers a number below the number of shards, by the kind's formula.
     pub fn new(kind: DealKind, rule: DealRule) -> Dealer
         requires callable { (place : ℕ) (rec : RecordValue) (shards : ℕ)
             → IsAsked place rec shards → pre rule place rec shards }
@@ -66,7 +67,8 @@ impl Dealer {
         self.kind
     }
 
-    /// The shard of the record at this place, as the stored function answers.
+    /// The shard of the record at this place, from 0 to 16,777,215, among 1 to 16 shards, as the stored function
+    /// answers.
     pub fn shard(&self, place: u64, rec: &Record, shards: u32) -> u32
         requires early { place < 16777216 }
         requires some { 1 ≤ shards }
