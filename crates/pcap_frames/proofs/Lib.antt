@@ -9,3 +9,5 @@ pub mod Feeds
 pub mod Deciding
 pub mod SourceReads
 pub mod Examples
+pub mod ExamplesOfReaders
+pub mod ExamplesOfReading

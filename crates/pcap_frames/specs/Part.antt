@@ -1,11 +1,9 @@
 -- How the parts of a reader make its state.
-use Rattle.std.specs.Prelude.{⊤, ◌+◌, ◌*◌, ◌≤◌, ◌<◌, Option, None, Some, List, [], ◌∷◌}
-use Rattle.pcap_frames.specs.declared.held.HeldFrame.{HeldFrame}
+use Rattle.std.specs.Prelude.{⊤, ◌+◌, ◌*◌, ◌≤◌, ◌<◌}
 use Rattle.pcap_frames.specs.declared.part.FramePart.{FramePart}
 use Rattle.pcap_frames.specs.declared.part.Stage.{Stage}
 use Rattle.pcap_frames.specs.declared.part.Stage.TheVariants.{Header, Frames, AtFault, LacksMemory}
-use Rattle.pcap_frames.specs.FrameValue.{FrameValue}
-use Rattle.pcap_frames.specs.Frames.{frame_at, needed}
+use Rattle.pcap_frames.specs.Frames.{needed}
 use Rattle.pcap_frames.specs.ReaderState as state
 
 -- where the part is behind some frames
@@ -32,8 +30,3 @@ IsInStage Header part = part.kept.came < 24
 IsInStage Frames part = IsWithin part
 IsInStage (AtFault fault) part = ⊤
 IsInStage LacksMemory part = ⊤
-
--- the frame that was held, if any
-abbrev pub held_frames : Option HeldFrame → List FrameValue
-held_frames None = []
-held_frames (Some held) = frame_at held.order held.kept.first ∷ []

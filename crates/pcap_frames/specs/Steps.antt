@@ -1,6 +1,7 @@
 -- What one step of a reader does, which no public contract cites.
-use Rattle.std.specs.Prelude.{ℕ, ◌≡◌, ◌+◌, ◌<◌, ◌≤◌, List, [], ◌∷◌, ◌++◌, length}
+use Rattle.std.specs.Prelude.{ℕ, ◌≡◌, ◌+◌, ◌<◌, ◌≤◌, Option, None, Some, List, [], ◌∷◌, ◌++◌, length}
 use Rattle.pcap_frames.specs.declared.file_order.FileOrder.{FileOrder}
+use Rattle.pcap_frames.specs.declared.held.HeldFrame.{HeldFrame}
 use Rattle.pcap_frames.specs.FileOrder.{number_at}
 use Rattle.pcap_frames.specs.FrameValue.{FrameValue}
 use Rattle.pcap_frames.specs.Frames.{frame_at, AreFrames}
@@ -37,3 +38,8 @@ pub record LacksRoom {V : Type 0} (stands_for : V → List FrameValue → Type 0
   pub frame : FrameValue
   pub takes : Takes old after piece rest (frame ∷ [])
   pub alike : IsAlike stands_for seen saw
+
+-- the frame that was held, if any
+abbrev pub held_frames : Option HeldFrame → List FrameValue
+held_frames None = []
+held_frames (Some held) = frame_at held.order held.kept.first ∷ []

@@ -4,9 +4,9 @@ ghost use Rattle.std.specs.Prelude.{◌≡◌, ℕ, ◌+◌, ◌*◌, ◌<◌, �
 ghost use Rattle.pcap_frames.specs.Frame.{content_of};
 ghost use Rattle.pcap_frames.specs.Frames.{IsFrame, needed};
 ghost use Rattle.pcap_frames.specs.ReaderState.{Advances};
-ghost use Rattle.pcap_frames.specs.Steps.{Takes};
+ghost use Rattle.pcap_frames.specs.Steps.{Takes, held_frames};
 ghost use Rattle.pcap_frames.specs.ReaderState as state;
-ghost use Rattle.pcap_frames.specs.Part.{state_of, IsInStage, IsWithin, frame_place, held_frames};
+ghost use Rattle.pcap_frames.specs.Part.{state_of, IsInStage, IsWithin, frame_place};
 
 use crate::file_order::FileOrder;
 use crate::framing::{MOST_FRAMES, frame_fault, needed, whole_at};

@@ -1,0 +1,252 @@
+-- Worked examples of what a reader keeps, answers and shows, between two pieces of a capture.
+use Rattle.std.proofs.Common.{inl, inr, ℕ, ◌≡◌, ◌+◌, ◌<◌, ◌≤◌, List, [], ◌∷◌, ◌++◌, length, take, Some, None, Ok, Err, refl, ap, sym, subst₂, ◌∙◌, append-nil, subst, arith}
+use Rattle.outside_io.specs.Pieces.{IsBeginning}
+use Rattle.pcap_frames.specs.declared.fault.CaptureFault.{CaptureFault}
+use Rattle.pcap_frames.specs.declared.fault.FaultKind.TheVariants.{NotCapture, CutFrame}
+use Rattle.pcap_frames.specs.declared.fault.FeedFault.TheVariants.{Refused, OutOfMemory}
+use Rattle.pcap_frames.specs.declared.file_order.FileOrder.TheVariants.{Little}
+use Rattle.pcap_frames.specs.declared.held.HeldFrame.{HeldFrame}
+use Rattle.pcap_frames.specs.declared.part.FramePart.{FramePart}
+use Rattle.pcap_frames.specs.declared.part.Stage.TheVariants as stage
+use Rattle.pcap_frames.specs.FileOrder.{number_at}
+use Rattle.pcap_frames.specs.FrameValue.{FrameValue}
+use Rattle.pcap_frames.specs.Header.{magic_order, header_fault, fault_at}
+use Rattle.pcap_frames.specs.Frames.{frame_at, needed, frame_fault}
+use Rattle.pcap_frames.specs.Capture.{ShowsFault}
+use Rattle.pcap_frames.specs.ReaderState.{FramePlace, ReaderState, InHeader, InFrames, AtFault, LacksMemory, IsPartHeader, IsBehind, ReaderStandsFor, Completes, HasStopped, Advances}
+use Rattle.pcap_frames.specs.KeptValue.{KeptValue}
+use Rattle.pcap_frames.specs.Part.{frame_place, state_of, IsWithin, IsInStage}
+use Rattle.pcap_frames.specs.Steps.{held_frames, SplitsFrame, Takes, ShowsFront, LacksRoom}
+use Rattle.pcap_frames.specs.Visitor.{Sees, IsAlike}
+use Rattle.pcap_frames.specs.Feeding.{IsAnswerOf, IfMemory, Feeds, SeesBeginning, IsAnswerTo, IsEndOf}
+use Rattle.pcap_frames.proofs.Deciding.{files_decided, fronts_decided}
+use Rattle.pcap_frames.proofs.Examples.{header, frame_bytes, frame, capture, cut_file, header_and_more, header_a_frame_and_a_rest, whole_frame, two_frames, frame_of_three_bytes, header_and_frame, compressed_header, fault_of_a_cut_file}
+
+-- ---- a visitor
+
+-- a visitor that holds the frames that it saw
+abbrev pub album : List FrameValue → List FrameValue → Type 0
+album held frames = held ≡ frames
+
+-- one that counts them, and has a number of its own beside
+abbrev counter : ℕ × ℕ → List FrameValue → Type 0
+counter v frames = v.0 ≡ length frames
+
+pub album_sees_a_frame : Sees album (frame ∷ []) (frame ∷ frame ∷ []) (frame ∷ [])
+album_sees_a_frame before held = ap (λ frames. frames ++ frame ∷ []) held
+
+pub album_sees_no_frame : Sees album [] [] (frame ∷ []) → ⊥
+album_sees_no_frame sees = absurd (let grown : [] ≡ frame ∷ [] = sees [] refl in cc)
+
+pub counts_are_alike : IsAlike counter (1, 7) (1, 9)
+counts_are_alike = record { forth = λ frames is. is; back = λ frames is. is }
+
+pub albums_are_not_alike : IsAlike album [] (frame ∷ []) → ⊥
+albums_are_not_alike alike = absurd (let same : frame ∷ [] ≡ [] = alike.forth [] refl in cc)
+
+-- ---- a reader that was fed a file header and a frame but for its last byte
+
+-- what is kept of the frame
+abbrev kept : KeptValue
+kept = record { first = take 18 frame_bytes; came = 18 }
+
+abbrev part : FramePart
+part = record { order = Little; count = 0; place = 24; kept = kept }
+
+-- where the reader is
+abbrev at : FramePlace
+at = record { order = Little; count = 0; place = 24; kept = take 18 frame_bytes; came = 18 }
+
+pub place_of_the_part : frame_place part ≡ at
+place_of_the_part = refl
+
+pub state_in_a_frame : state_of stage.Frames part ≡ InFrames at
+state_in_a_frame = refl
+
+pub state_in_the_header : state_of stage.Header part ≡ InHeader (take 18 frame_bytes)
+state_in_the_header = refl
+
+pub part_of_a_frame : IsWithin part
+unfolding number_at needed
+part_of_a_frame = record { count = omega arith; place = omega arith; cut = omega arith; bound = omega arith }
+
+pub part_is_in_its_stage : IsInStage stage.Frames part
+part_is_in_its_stage = part_of_a_frame
+
+-- a whole frame is never kept
+pub whole_frame_is_in_no_stage : IsInStage stage.Frames (record part { kept = record { first = frame_bytes; came = 19 } }) → ⊥
+unfolding number_at needed
+whole_frame_is_in_no_stage within = omega (arith, within.cut)
+
+pub reader_behind_the_header : IsBehind at cut_file []
+unfolding number_at needed frame_fault
+reader_behind_the_header = record {
+  rest = take 18 frame_bytes;
+  splits = header_a_frame_and_a_rest;
+  none_shown = refl;
+  cut = omega arith;
+  count_is = refl;
+  place_is = refl;
+  kept_is = refl;
+  came_is = refl;
+}
+
+pub reader_stands_for_the_cut_file : ReaderStandsFor (InFrames at) cut_file []
+reader_stands_for_the_cut_file = reader_behind_the_header
+
+pub cut_file_completes_no_frame : Completes cut_file []
+cut_file_completes_no_frame = (InFrames at, reader_stands_for_the_cut_file)
+
+pub cut_file_completes_not_its_frame : Completes cut_file (frame ∷ []) → ⊥
+cut_file_completes_not_its_frame completes = absurd (let same : frame ∷ [] ≡ [] = fronts_decided.one cut_file [] (frame ∷ []) cut_file_completes_no_frame completes in cc)
+
+pub reader_in_a_frame_goes_on : HasStopped (InFrames at) → ⊥
+reader_in_a_frame_goes_on stopped = stopped
+
+pub reader_in_a_frame_answers_ok : IsAnswerOf {T = ℕ} (InFrames at) (Ok 1)
+reader_in_a_frame_answers_ok = refl
+
+-- a cut file shows no fault, since it goes on to a capture
+pub cut_file_is_not_refused : IsAnswerTo {T = ℕ} cut_file (Ok 1)
+cut_file_is_not_refused frames fault shows = files_decided.never_both capture (frame ∷ []) fault header_and_frame (frames, fronts_decided.shown cut_file (9 ∷ []) frames fault shows)
+
+pub cut_file_ends_with_a_fault : IsEndOf cut_file [] (Err (Refused (fault_at CutFrame 24)))
+cut_file_ends_with_a_fault = fault_of_a_cut_file
+
+pub capture_ends_with_its_count : IsEndOf capture (frame ∷ []) (Ok 1)
+capture_ends_with_its_count = (header_and_frame, refl)
+
+-- ---- a reader that was fed a file header but for its last byte, and then this byte and a frame
+
+abbrev piece : List ℕ
+piece = 0 ∷ frame_bytes
+
+-- where the reader is before the frame, and behind it
+abbrev before_frame : FramePlace
+before_frame = record { order = Little; count = 0; place = 24; kept = []; came = 0 }
+
+abbrev behind_frame : FramePlace
+behind_frame = record { order = Little; count = 1; place = 43; kept = []; came = 0 }
+
+pub part_of_a_header : IsPartHeader (take 23 header) (take 23 header) []
+unfolding number_at magic_order header_fault
+part_of_a_header = record { kept_is = refl; short = omega arith; none_shown = refl; no_frame = refl }
+
+pub whole_header_is_no_part : IsPartHeader header header [] → ⊥
+whole_header_is_no_part part = omega (arith, part.short)
+
+header_alone_is_passed : ReaderStandsFor (InFrames before_frame) header []
+unfolding needed frame_fault
+header_alone_is_passed = record {
+  rest = [];
+  splits = record { header = header_and_more [] (omega arith); begins = refl; limit = omega arith };
+  none_shown = refl;
+  cut = omega arith;
+  count_is = refl;
+  place_is = refl;
+  kept_is = refl;
+  came_is = refl;
+}
+
+pub reader_behind_the_frame : ReaderStandsFor (InFrames behind_frame) capture (frame ∷ [])
+unfolding needed frame_fault
+reader_behind_the_frame = record {
+  rest = [];
+  splits = record { header = header_and_more frame_bytes (omega arith); begins = (whole_frame, refl); limit = omega arith };
+  none_shown = refl;
+  cut = omega arith;
+  count_is = refl;
+  place_is = refl;
+  kept_is = refl;
+  came_is = refl;
+}
+
+pub capture_completes_the_frame : Completes capture (frame ∷ [])
+capture_completes_the_frame = (InFrames behind_frame, reader_behind_the_frame)
+
+-- a reader in the header knows all its bytes
+in_header_advances : (new : ReaderState) (kept bytes : List ℕ) (given : List FrameValue) → ReaderStandsFor new (kept ++ bytes) given → Advances (InHeader kept) new bytes given
+in_header_advances new kept bytes given stands = record {
+  reads = λ before frames part. subst (λ l. ReaderStandsFor new (l ++ bytes) (frames ++ given)) part.kept_is
+      (subst (λ l. ReaderStandsFor new (kept ++ bytes) (l ++ given)) (sym part.no_frame) stands);
+}
+
+pub header_advances_by_its_last_byte : Advances (InHeader (take 23 header)) (InFrames before_frame) (0 ∷ []) []
+header_advances_by_its_last_byte = in_header_advances _ _ _ _ header_alone_is_passed
+
+pub piece_completes_the_frame : Advances (InHeader (take 23 header)) (InFrames behind_frame) piece (frame ∷ [])
+piece_completes_the_frame = in_header_advances _ _ _ _ reader_behind_the_frame
+
+pub piece_is_fed : Feeds album [] (frame ∷ []) (InHeader (take 23 header)) (InFrames behind_frame) piece
+piece_is_fed = record {
+  given = frame ∷ [];
+  advances = piece_completes_the_frame;
+  are_frames = (frame_of_three_bytes, tt);
+  sees = λ before held. ap (λ frames. frames ++ frame ∷ []) held;
+}
+
+-- where memory ran out, an album without the frame saw a beginning
+pub album_saw_a_beginning : SeesBeginning album [] [] (InHeader (take 23 header)) piece
+album_saw_a_beginning = record {
+  given = [];
+  are_frames = tt;
+  sees = λ before held. held ∙ sym (append-nil before);
+  begins = λ before frames more stands completes. (more, refl);
+}
+
+-- ---- steps of that reader
+
+pub header_is_taken : Takes (InHeader (take 23 header)) (InFrames before_frame) piece frame_bytes []
+header_is_taken = record { front = 0 ∷ []; joined = refl; some = omega arith; advances = header_advances_by_its_last_byte }
+
+pub frame_is_split_off : SplitsFrame Little (frame_bytes ++ 1 ∷ []) (1 ∷ []) frame
+unfolding number_at
+frame_is_split_off = record { front = frame_bytes; joined = refl; header = omega arith; limit = omega arith; whole = refl; frame_is = refl }
+
+pub header_shows_no_frame : ShowsFront album [] [] (InHeader (take 23 header)) (InFrames before_frame) piece frame_bytes
+header_shows_no_frame = record { given = []; takes = header_is_taken; are_frames = tt; sees = λ before held. held ∙ sym (append-nil before) }
+
+pub album_without_room : LacksRoom album [] [] (InHeader (take 23 header)) piece
+album_without_room = record {
+  after = InFrames behind_frame;
+  rest = [];
+  frame = frame;
+  takes = record { front = piece; joined = refl; some = omega arith; advances = piece_completes_the_frame };
+  alike = record { forth = λ frames is. is; back = λ frames is. is };
+}
+
+-- a frame that came to its end by another piece
+pub frame_that_was_held : (held : HeldFrame) → held.order ≡ Little → held.kept.first ≡ frame_bytes → held_frames (Some held) ≡ frame ∷ []
+unfolding number_at
+frame_that_was_held held order first = subst₂ (λ o bytes. frame_at o bytes ∷ [] ≡ frame ∷ []) (sym order) (sym first) refl
+
+pub no_frame_was_held : held_frames None ≡ []
+no_frame_was_held = refl
+
+-- ---- a reader that was fed a compressed file
+
+pub compressed_file_is_refused : IsAnswerTo {T = ℕ} (0x1f ∷ 0x8b ∷ 8 ∷ 0 ∷ []) (Err (Refused (fault_at NotCapture 0)))
+compressed_file_is_refused = ([], inl compressed_header)
+
+pub reader_of_a_compressed_file : ReaderStandsFor (AtFault (fault_at NotCapture 0)) (0x1f ∷ 0x8b ∷ 8 ∷ 0 ∷ []) []
+reader_of_a_compressed_file = inl compressed_header
+
+pub reader_at_a_fault_has_stopped : HasStopped (AtFault (fault_at NotCapture 0))
+reader_at_a_fault_has_stopped = tt
+
+pub reader_at_a_fault_answers_it : IsAnswerOf {T = ℕ} (AtFault (fault_at NotCapture 0)) (Err (Refused (fault_at NotCapture 0)))
+reader_at_a_fault_answers_it = refl
+
+pub reader_at_a_fault_answers_nothing_else : IsAnswerOf {T = ℕ} (AtFault (fault_at NotCapture 0)) (Ok 1) → ⊥
+reader_at_a_fault_answers_nothing_else answer = cc
+
+-- ---- want of memory
+
+pub reader_without_memory_stands_for_nothing : (bytes : List ℕ) (frames : List FrameValue) → ReaderStandsFor LacksMemory bytes frames → ⊥
+reader_without_memory_stands_for_nothing bytes frames stands = stands
+
+pub other_fact_where_memory_ran_out : IfMemory {T = ℕ} (Err OutOfMemory) (1 ≤ 0) (0 ≤ 1)
+other_fact_where_memory_ran_out = omega arith
+
+pub first_fact_where_memory_sufficed : IfMemory {T = ℕ} (Err (Refused (fault_at NotCapture 0))) (0 ≤ 1) (1 ≤ 0)
+first_fact_where_memory_sufficed = omega arith

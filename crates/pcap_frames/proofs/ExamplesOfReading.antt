@@ -1,0 +1,78 @@
+-- Worked examples of what reading a source answers, and of what its visitor saw: of a capture of one frame, and of the file that
+-- it is without its last byte.
+use Rattle.std.proofs.Common.{ℕ, ◌≡◌, List, [], ◌∷◌, ◌++◌, length, Some, None, Ok, Err, refl, ap, sym, ◌∙◌, append-nil, arith}
+use Rattle.pcap_frames.specs.declared.fault.FaultKind.TheVariants.{CutFrame}
+use Rattle.pcap_frames.specs.declared.fault.FeedFault.TheVariants as feed
+use Rattle.pcap_frames.specs.declared.fault.ReadRefusal.TheVariants.{Capture, ReadFault, OutOfMemory}
+use Rattle.pcap_frames.specs.FrameValue.{FrameValue}
+use Rattle.pcap_frames.specs.Header.{fault_at}
+use Rattle.pcap_frames.specs.Visitor.{Sees}
+use Rattle.pcap_frames.specs.Reading.{refusal_of, SeesCapture, SeesBeforeFault, SeesFront, SeesPart, IsSeen, IsReadOf}
+use Rattle.pcap_frames.proofs.Deciding.{files_decided}
+use Rattle.pcap_frames.proofs.Examples.{frame, capture, cut_file, frame_of_three_bytes, header_and_frame, fault_of_a_cut_file, cut_file_is_no_capture, capture_has_no_fault}
+use Rattle.pcap_frames.proofs.ExamplesOfReaders.{album, cut_file_completes_no_frame, capture_completes_the_frame}
+
+-- the album put a frame behind what it held, or nothing
+sees_frame : Sees album [] (frame ∷ []) (frame ∷ [])
+sees_frame before held = ap (λ frames. frames ++ frame ∷ []) held
+
+sees_nothing : Sees album [] [] []
+sees_nothing before held = held ∙ sym (append-nil before)
+
+pub fault_is_passed_on : refusal_of (feed.Refused (fault_at CutFrame 24)) ≡ Capture (fault_at CutFrame 24)
+fault_is_passed_on = refl
+
+pub want_of_memory_is_passed_on : refusal_of feed.OutOfMemory ≡ OutOfMemory
+want_of_memory_is_passed_on = refl
+
+pub whole_capture_is_seen : SeesCapture album [] (frame ∷ []) (Some capture) (Some []) 1
+whole_capture_is_seen = record {
+  frames = frame ∷ [];
+  counted = refl;
+  limit = omega arith;
+  are_frames = (frame_of_three_bytes, tt);
+  sees = sees_frame;
+  capture = header_and_frame;
+  at_end = refl;
+}
+
+-- a capture is not seen before its source is at the end
+pub capture_is_seen_at_the_end : SeesCapture album [] (frame ∷ []) (Some capture) (Some (9 ∷ [])) 1 → ⊥
+capture_is_seen_at_the_end seen = absurd (let none_left : 9 ∷ [] ≡ [] = seen.at_end in cc)
+
+pub nothing_is_seen_of_a_cut_frame : SeesBeforeFault album [] [] (Some cut_file) (fault_at CutFrame 24)
+nothing_is_seen_of_a_cut_frame = record { frames = []; limit = omega arith; are_frames = tt; sees = sees_nothing; first = fault_of_a_cut_file }
+
+-- the call behind the piece that was the cut file failed
+pub front_is_seen : SeesFront album [] [] (Some capture) (Some (9 ∷ []))
+front_is_seen = record { front = cut_file; frames = []; consumed = refl; completes = cut_file_completes_no_frame; are_frames = tt; sees = sees_nothing }
+
+-- the whole capture was read, and memory for its frame lacked
+pub part_is_seen : SeesPart album [] [] (Some capture) (Some [])
+part_is_seen = record {
+  front = capture;
+  all = frame ∷ [];
+  frames = [];
+  consumed = sym (append-nil capture);
+  completes = capture_completes_the_frame;
+  begins = (frame ∷ [], refl);
+  are_frames = tt;
+  sees = sees_nothing;
+}
+
+pub seen_at_each_answer : IsSeen album [] (frame ∷ []) (Some capture) (Some []) (Ok 1) × IsSeen album [] [] (Some cut_file) (Some []) (Err (Capture (fault_at CutFrame 24)))
+    × IsSeen album [] [] (Some capture) (Some (9 ∷ [])) (Err ReadFault) × IsSeen album [] [] (Some capture) (Some []) (Err OutOfMemory)
+seen_at_each_answer = (whole_capture_is_seen, nothing_is_seen_of_a_cut_frame, front_is_seen, part_is_seen)
+
+pub capture_is_read : IsReadOf capture (Ok 1)
+capture_is_read = ((frame ∷ [], header_and_frame, refl), capture_has_no_fault)
+
+pub count_is_of_frames : IsReadOf capture (Ok 2) → ⊥
+count_is_of_frames ((frames, is, counted), none) =
+    let same : frames ≡ frame ∷ [] = files_decided.one_list capture (frame ∷ []) frames header_and_frame is in omega (arith, counted, ap length same)
+
+pub cut_file_is_refused : IsReadOf cut_file (Err (Capture (fault_at CutFrame 24)))
+cut_file_is_refused = (([], fault_of_a_cut_file), cut_file_is_no_capture)
+
+pub cut_file_is_not_read : IsReadOf cut_file (Ok 0) → ⊥
+cut_file_is_not_read (read, none) = none (fault_at CutFrame 24) ([], fault_of_a_cut_file)
