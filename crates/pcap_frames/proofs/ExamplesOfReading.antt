@@ -40,8 +40,17 @@ whole_capture_is_seen = record {
 pub capture_is_seen_at_the_end : SeesCapture album [] (frame ∷ []) (Some capture) (Some (9 ∷ [])) 1 → ⊥
 capture_is_seen_at_the_end seen = absurd (let none_left : 9 ∷ [] ≡ [] = seen.at_end in cc)
 
-pub nothing_is_seen_of_a_cut_frame : SeesBeforeFault album [] [] (Some cut_file) (fault_at CutFrame 24)
-nothing_is_seen_of_a_cut_frame = record { frames = []; limit = omega arith; are_frames = tt; sees = sees_nothing; first = fault_of_a_cut_file }
+pub nothing_is_seen_of_a_cut_frame : SeesBeforeFault album [] [] (Some cut_file) (Some []) (fault_at CutFrame 24)
+nothing_is_seen_of_a_cut_frame = record {
+  front = cut_file;
+  frames = [];
+  consumed = sym (append-nil cut_file);
+  fault_of_front = fault_of_a_cut_file;
+  limit = omega arith;
+  are_frames = tt;
+  sees = sees_nothing;
+  first = fault_of_a_cut_file;
+}
 
 -- the call behind the piece that was the cut file failed
 pub front_is_seen : SeesFront album [] [] (Some capture) (Some (9 ∷ []))

@@ -161,14 +161,17 @@ module _ {V : Type 0} (stands_for : V → List FrameValue → Type 0) where
   -- the piece shows a fault
   pub read_refused : (T : Type 0) (seen mid saw : V) (left now after : Option (List ℕ)) (old new : ReaderState) (piece : List ℕ) (fault : CaptureFault)
       → HasRead seen mid left now old → Consumes now after piece → Feeds stands_for mid saw old new piece → IsAnswerOf {T = T} new (Err (feed.Refused fault))
-      → SeesBeforeFault stands_for seen saw left fault × IfSome left (λ file. IsReadOf file (Err (Capture fault)))
+      → SeesBeforeFault stands_for seen saw left after fault × IfSome left (λ file. IsReadOf file (Err (Capture fault)))
   read_refused T seen mid saw left now after old new piece fault read consumed feeds answer =
       let whole = Consumes-trans left now after read.bytes piece read.consumed consumed in
       let fed = feeds.advances in
       let shows = answer_shows T new (read.bytes ++ piece) (read.frames ++ feeds.given) fault (fed.reads read.bytes read.frames read.stands) answer in
       let first : (rest : List ℕ) → HasFaultAfter ((read.bytes ++ piece) ++ rest) (read.frames ++ feeds.given) fault = λ rest. inl (ShowsFault-append (read.bytes ++ piece) rest _ fault shows) in (
         record {
+          front = read.bytes ++ piece;
           frames = read.frames ++ feeds.given;
+          consumed = whole;
+          fault_of_front = inl shows;
           limit = shows_within (read.bytes ++ piece) _ fault shows;
           are_frames = AreFrames-append read.frames feeds.given read.are_frames feeds.are_frames;
           sees = Sees-trans stands_for seen mid saw read.frames feeds.given read.sees feeds.sees;
@@ -212,7 +215,10 @@ module _ {V : Type 0} (stands_for : V → List FrameValue → Type 0) where
       let first = finish read.bytes read.frames read.stands in
       let whole : Consumes left after read.bytes = subst (Consumes left after) (append-nil read.bytes) (Consumes-trans left now after read.bytes [] read.consumed consumed) in (
         record {
+          front = read.bytes;
           frames = read.frames;
+          consumed = whole;
+          fault_of_front = first;
           limit = fault_within read.bytes read.frames fault first;
           are_frames = read.are_frames;
           sees = read.sees;

@@ -28,9 +28,13 @@ pub record SeesCapture {V : Type 0} (stands_for : V → List FrameValue → Type
   pub capture : IfSome left (λ file. IsCapture file frames)
   pub at_end : IsAtEnd now
 
--- the visitor saw the frames before the fault, which is the file's first one where the source tells its bytes
-pub record SeesBeforeFault {V : Type 0} (stands_for : V → List FrameValue → Type 0) (seen saw : V) (left : Option (List ℕ)) (fault : CaptureFault) : Type 0 where
+-- a front of the source was read, which has this first fault behind the frames that the visitor saw; it is the file's where the source
+-- tells its bytes
+pub record SeesBeforeFault {V : Type 0} (stands_for : V → List FrameValue → Type 0) (seen saw : V) (left now : Option (List ℕ)) (fault : CaptureFault) : Type 0 where
+  pub front : List ℕ
   pub frames : List FrameValue
+  pub consumed : Consumes left now front
+  pub fault_of_front : HasFaultAfter front frames fault
   pub limit : length frames ≤ 16777216
   pub are_frames : AreFrames frames
   pub sees : Sees stands_for seen saw frames
@@ -59,7 +63,7 @@ pub record SeesPart {V : Type 0} (stands_for : V → List FrameValue → Type 0)
 -- what the visitor saw, by the answer
 abbrev pub IsSeen : {V : Type 0} → (V → List FrameValue → Type 0) → V → V → Option (List ℕ) → Option (List ℕ) → Result ℕ ReadRefusal → Type 0
 IsSeen stands_for seen saw left now (Ok count) = SeesCapture stands_for seen saw left now count
-IsSeen stands_for seen saw left now (Err (Capture fault)) = SeesBeforeFault stands_for seen saw left fault
+IsSeen stands_for seen saw left now (Err (Capture fault)) = SeesBeforeFault stands_for seen saw left now fault
 IsSeen stands_for seen saw left now (Err ReadFault) = SeesFront stands_for seen saw left now
 IsSeen stands_for seen saw left now (Err OutOfMemory) = SeesPart stands_for seen saw left now
 

@@ -39,8 +39,8 @@ pub enum FaultKind {
 pub struct CaptureFault {
     /// What is wrong.
     pub kind: FaultKind,
-    /// The byte place in the file, counted from 0: of the wrong field, of the first byte of the frame,
-    /// or, for a short header, the file's length.
+    /// The byte place in the file, counted from 0: of the wrong field, of the first byte of the frame or
+    /// behind the last one, or, for a short header, the file's length.
     pub place: u64,
 }
 

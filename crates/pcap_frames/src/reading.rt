@@ -8,11 +8,12 @@ use crate::{FrameReader, FrameVisitor, ReadRefusal};
 use outside_io::Source;
 
 /// Reads a capture to the end of the source, by way of the buffer, and shows the visitor its frames.
-/// The number of frames.
+/// The number of frames. The buffer has room for a byte at least, and may hold any bytes afterwards.
 ///
-/// `Capture` comes where the bytes are no capture, with the first fault. The source may then have been
-/// read past it. `ReadFault` comes just where a call of the source failed. After it, and after
-/// `OutOfMemory`, which may come at each frame, the source was read in part.
+/// `Capture` comes where the bytes are no capture, with the first fault. The visitor saw the frames
+/// before it, and the source may have been read past it. `ReadFault` comes just where a call of the
+/// source failed. After it, and after `OutOfMemory`, which may come at each frame, the source was read
+/// in part, and the visitor saw the frames of that part, or after `OutOfMemory` the first of them.
 pub fn read_frames<S: Source, V: FrameVisitor>(
     source: &mut S,
     visitor: &mut V,

@@ -13,7 +13,8 @@ pub trait FrameVisitor {
     /// What the visitor holds now is what these frames leave.
     ghost stands_for: { Self → List FrameValue → Type 0 };
 
-    /// Takes the next frame. After an error, which says that memory ran out, the visitor is as before.
+    /// Takes the next frame. After an error, which says that memory ran out, the visitor stands for the
+    /// same frames as before.
     fn frame(&mut self, frame: &Frame<'_>) -> Result<(), AllocError>
         ensures seen { OnOk result (Sees stands_for self.old self.new (content_of frame.now ∷ [])) }
         ensures unchanged { OnErr result (IsAlike stands_for self.old self.new) };
