@@ -1,8 +1,8 @@
--- Worked examples of the definitions, each by computing.
-use Rattle.std.proofs.Common.{◌≡◌, ℕ, List, [], ◌∷◌, ◌++◌, take, length, Ok, Err, refl}
+-- Worked examples of the records of frames, each by computing.
+use Rattle.std.proofs.Common.{◌≡◌, ℕ, true, false, List, [], ◌∷◌, ◌++◌, take, length, Some, None, Ok, Err, refl}
 use Rattle.prefix_lattice.specs.RecordValue.{RecordValue}
 use Rattle.pcap_frames.specs.FrameValue.{FrameValue}
-use Rattle.frame_records.specs.FrameRecord.{record_of, records_of, skipped}
+use Rattle.frame_records.specs.FrameRecord.{has_tag_at, tag_bytes, network_place, begins_ipv4, skip_at, skip_of, weight_of_frame, record_at, unless_skipped, record_of, records_of, is_skipped, skipped}
 use Rattle.frame_records.specs.declared.weigh.Weigh.TheVariants.{Bytes, Packets}
 use Rattle.frame_records.specs.declared.skip.Skip.TheVariants.{NotIpv4, Short, BadHeader}
 
@@ -19,14 +19,104 @@ abbrev frame : List ℕ → FrameValue
 frame head = record { head = head; captured = length head; original = 100 }
 
 -- its record, with this weight
-abbrev weighing : ℕ → RecordValue
+abbrev pub weighing : ℕ → RecordValue
 weighing weight = record { src = 0x0a010203; dst = 0x14010203; weight = weight }
 
-abbrev plain : FrameValue
+abbrev pub plain : FrameValue
 plain = frame (addresses ++ 8 ∷ 0 ∷ packet 0x45)
 
-abbrev arp : FrameValue
+abbrev pub arp : FrameValue
 arp = frame (addresses ++ 8 ∷ 6 ∷ [])
+
+-- one behind a VLAN tag, and one behind two
+abbrev pub tagged : FrameValue
+tagged = frame (addresses ++ 0x81 ∷ 0 ∷ 0 ∷ 7 ∷ 8 ∷ 0 ∷ packet 0x45)
+
+abbrev pub twice_tagged : FrameValue
+twice_tagged = frame (addresses ++ 0x88 ∷ 0xa8 ∷ 0 ∷ 7 ∷ 0x81 ∷ 0 ∷ 0 ∷ 8 ∷ 8 ∷ 0 ∷ packet 0x45)
+
+-- ---- tags and the type
+
+pub vlan_tag : has_tag_at 12 tagged ≡ true
+vlan_tag = refl
+
+pub type_behind_a_tag_is_none : has_tag_at 16 tagged ≡ false
+type_behind_a_tag_is_none = refl
+
+-- a tag whose second byte wasn't captured
+pub cut_tag_is_none : has_tag_at 12 (frame (take 13 tagged.head)) ≡ false
+cut_tag_is_none = refl
+
+pub service_tag_before_a_vlan_tag : tag_bytes twice_tagged ≡ 8
+service_tag_before_a_vlan_tag = refl
+
+pub no_tag_takes_no_bytes : tag_bytes plain ≡ 0
+no_tag_takes_no_bytes = refl
+
+pub packet_behind_the_type : network_place plain ≡ 14
+packet_behind_the_type = refl
+
+pub packet_behind_a_tag : network_place tagged ≡ 18
+packet_behind_a_tag = refl
+
+pub five_words_of_header : begins_ipv4 0x45 ≡ true
+five_words_of_header = refl
+
+pub four_words_are_too_few : begins_ipv4 0x44 ≡ false
+four_words_are_too_few = refl
+
+pub version_six_is_another : begins_ipv4 0x65 ≡ false
+version_six_is_another = refl
+
+-- ---- why a frame is skipped
+
+pub plain_is_not_skipped : skip_of plain ≡ None
+plain_is_not_skipped = refl
+
+pub arp_is_not_ipv4 : skip_of arp ≡ Some NotIpv4
+arp_is_not_ipv4 = refl
+
+-- the type is looked at before the length behind it
+pub short_before_its_type : skip_of (frame (take 13 arp.head)) ≡ Some Short
+short_before_its_type = refl
+
+-- a tag is one where the type is looked for behind it, and another type where it isn't
+pub tag_taken_for_the_type : skip_at 14 tagged ≡ Some NotIpv4
+tag_taken_for_the_type = refl
+
+pub type_is_behind_the_tag : skip_at 18 tagged ≡ None
+type_is_behind_the_tag = refl
+
+pub arp_counts_as_not_ipv4 : is_skipped NotIpv4 (skip_of arp) ≡ true
+arp_counts_as_not_ipv4 = refl
+
+pub arp_counts_as_nothing_else : is_skipped Short (skip_of arp) ≡ false
+arp_counts_as_nothing_else = refl
+
+-- ---- weights and records
+
+pub weight_by_the_wire : weight_of_frame Bytes plain ≡ 100
+weight_by_the_wire = refl
+
+-- the length on the wire may be smaller than what was captured
+pub weight_by_what_was_captured : weight_of_frame Bytes (record plain { original = 20 }) ≡ 34
+weight_by_what_was_captured = refl
+
+pub weight_of_a_packet : weight_of_frame Packets plain ≡ 1
+weight_of_a_packet = refl
+
+pub record_behind_a_tag : record_at 18 Bytes tagged ≡ weighing 100
+record_behind_a_tag = refl
+
+-- what stands where no packet begins is no record of the frame
+pub record_at_another_place : record_at 14 Bytes tagged ≡ record { src = 0x40110000; dst = 0x0a010203; weight = 100 }
+record_at_another_place = refl
+
+pub skip_instead_of_a_record : unless_skipped (Some Short) (weighing 1) ≡ Err Short
+skip_instead_of_a_record = refl
+
+pub record_without_a_skip : unless_skipped None (weighing 1) ≡ Ok (weighing 1)
+record_without_a_skip = refl
 
 pub plain_by_bytes : record_of Bytes plain ≡ Ok (weighing 100)
 plain_by_bytes = refl
@@ -34,10 +124,10 @@ plain_by_bytes = refl
 pub plain_by_packets : record_of Packets plain ≡ Ok (weighing 1)
 plain_by_packets = refl
 
-pub one_tag : record_of Bytes (frame (addresses ++ 0x81 ∷ 0 ∷ 0 ∷ 7 ∷ 8 ∷ 0 ∷ packet 0x45)) ≡ Ok (weighing 100)
+pub one_tag : record_of Bytes tagged ≡ Ok (weighing 100)
 one_tag = refl
 
-pub two_tags : record_of Bytes (frame (addresses ++ 0x88 ∷ 0xa8 ∷ 0 ∷ 7 ∷ 0x81 ∷ 0 ∷ 0 ∷ 8 ∷ 8 ∷ 0 ∷ packet 0x45)) ≡ Ok (weighing 100)
+pub two_tags : record_of Bytes twice_tagged ≡ Ok (weighing 100)
 two_tags = refl
 
 pub three_tags : record_of Bytes (frame (addresses ++ 0x81 ∷ 0 ∷ 0 ∷ 7 ∷ 0x81 ∷ 0 ∷ 0 ∷ 8 ∷ 0x81 ∷ 0 ∷ 0 ∷ 9 ∷ 8 ∷ 0 ∷ take 16 (packet 0x45))) ≡ Err NotIpv4

@@ -1,4 +1,4 @@
--- What a visitor keeps of the frames that it saw: their records, and counts that stay at the greatest u64.
+-- What a visitor keeps of the frames that it saw, which no public contract cites: their records, and counts that stay at the greatest u64.
 use Rattle.std.specs.Prelude.{ℕ, ◌≡◌, ◌+◌, ◌-◌, ◌^◌, min, Bool, true, false, List, [], ◌∷◌, ◌++◌, length, Result, Ok, Err}
 use Rattle.prefix_lattice.specs.RecordValue.{RecordValue}
 use Rattle.pcap_frames.specs.FrameValue.{FrameValue}

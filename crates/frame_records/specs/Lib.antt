@@ -1,3 +1,4 @@
 pub mod FrameRecord
 pub mod Reading
+-- within the crate
 pub mod Kept

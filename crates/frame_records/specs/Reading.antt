@@ -1,5 +1,6 @@
 -- What reading the records of a capture came to.
 use Rattle.std.specs.Prelude.{⊤, ℕ, ◌≡◌, ◌≤◌, List, length, Option, IfSome}
+use Rattle.std.specs.Io.KnownBytes.{Consumes}
 use Rattle.pcap_frames.specs.FrameValue.{FrameValue}
 use Rattle.outside_io.specs.Faults.{Rose}
 use Rattle.pcap_frames.specs.Capture.{IsCapture, HasFault}
@@ -30,3 +31,7 @@ abbrev pub HasRefused : Option (List ℕ) → ℕ → ℕ → ReadRefusal → Ty
 HasRefused left before now (Capture fault) = IfSome left (λ file. HasFault file fault)
 HasRefused left before now ReadFault = Rose before now
 HasRefused left before now OutOfMemory = ⊤
+
+-- of the bytes that the source told, a front was read, and the others are left
+abbrev pub HasReadFront : Option (List ℕ) → Option (List ℕ) → Type 0
+HasReadFront left now = (front : List ℕ) × Consumes left now front

@@ -17,7 +17,12 @@ const SERVICE_TAG: u16 = 0x88a8;
 
 const IPV4: u16 = 0x0800;
 
-/// The record of a frame: the addresses of its IPv4 header, behind up to two VLAN tags, and its weight.
+/// The record of a frame: the addresses of its IPv4 header (RFC 791), behind up to two VLAN tags (802.1Q,
+/// 802.1ad), and its weight, which is at least 1.
+///
+/// The tests go from the front of the frame on, and the first that fails gives the `Skip`: `Short` for
+/// the way to the type, `NotIpv4`, `Short` for the 20 bytes behind it, `BadHeader`. Options, the header's
+/// other lengths, fragments and the checksum are not looked at.
 pub fn record_of(frame: &Frame<'_>, weigh: Weigh) -> Result<Record, Skip>
     ensures { result ≡ record_of weigh (content_of frame.now) }
 {

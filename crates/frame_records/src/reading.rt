@@ -1,8 +1,8 @@
 //! Reading the records of a capture.
 
-ghost use Rattle.std.specs.Prelude.{◌≡◌, ◌≤◌, ◌<◌, vec_len, length, IfOk, IfErr, OnOk, IsErrOf};
+ghost use Rattle.std.specs.Prelude.{◌≡◌, ◌≤◌, ◌<◌, vec_len, length, IfOk, IfErr, OnOk, OnErr, IsErrOf};
 ghost use Rattle.std.specs.Io.KnownBytes.{IsAtEnd};
-ghost use Rattle.frame_records.specs.Reading.{HasRecords, HasRefused};
+ghost use Rattle.frame_records.specs.Reading.{HasRecords, HasRefused, HasReadFront};
 ghost use Rattle.frame_records.specs.Kept.{weigh_by};
 
 use crate::record_visitor::RecordVisitor;
@@ -15,8 +15,8 @@ use std::alloc::{AllocError, Global};
 /// frames in their order, weighed so, with the numbers of all frames and of those skipped. No frame
 /// is kept.
 ///
-/// Each refusal is that of reading the frames. After `OutOfMemory` the source may have been read in
-/// part.
+/// Each refusal is that of reading the frames, and `OutOfMemory` may also come for the buffer or a
+/// record. After a refusal the source was read in part, or to its end, and nothing is kept.
 pub fn read_records<S: Source>(
     alloc: Global,
     source: &mut S,
@@ -26,6 +26,7 @@ pub fn read_records<S: Source>(
     ensures few { IfOk result (λ records. length records.list ≤ 16777216) }
     ensures at_end { OnOk result (IsAtEnd (S.left source.new)) }
     ensures refused { IfErr result (HasRefused (S.left source.old) (S.faults source.old) (S.faults source.new)) }
+    ensures front { OnErr result (HasReadFront (S.left source.old) (S.left source.new)) }
     ensures later { S.faults source.old ≤ S.faults source.new }
     ensures told { (IsErrOf result ReadRefusal.ReadFault → ⊥) → S.faults source.new ≡ S.faults source.old }
 {
@@ -48,6 +49,7 @@ fn read_weighed<S: Source, const PACKETS: bool>(
     ensures few { IfOk result (λ records. length records.list ≤ 16777216) }
     ensures at_end { OnOk result (IsAtEnd (S.left source.new)) }
     ensures refused { IfErr result (HasRefused (S.left source.old) (S.faults source.old) (S.faults source.new)) }
+    ensures front { OnErr result (HasReadFront (S.left source.old) (S.left source.new)) }
     ensures later { S.faults source.old ≤ S.faults source.new }
     ensures told { (IsErrOf result ReadRefusal.ReadFault → ⊥) → S.faults source.new ≡ S.faults source.old }
 {

@@ -12,13 +12,13 @@ use std::alloc::{AllocError, Global};
 
 /// Keeps the records of frames, weighed by packets or by bytes, and counts the frames.
 #[derive(Debug, Drop)]
-pub struct RecordVisitor<const PACKETS: bool> {
-    pub records: Records,
+pub(crate) struct RecordVisitor<const PACKETS: bool> {
+    pub(crate) records: Records,
 }
 
 impl<const PACKETS: bool> RecordVisitor<PACKETS> {
     /// A visitor that saw no frame.
-    pub fn new(alloc: Global) -> Self
+    pub(crate) fn new(alloc: Global) -> Self
         ensures { KeepsRecordsOf (weigh_by PACKETS) [] result.records }
     {
         RecordVisitor {

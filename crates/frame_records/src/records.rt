@@ -7,10 +7,15 @@ use std::alloc::AllocError;
 /// The records of a capture in their order, and the numbers of all frames and of those skipped.
 #[derive(Debug, Drop)]
 pub struct Records {
+    /// The records of the frames that weren't skipped.
     pub list: RecordList,
+    /// How many frames there are, with those skipped.
     pub frames: u64,
+    /// How many were skipped as `Skip::NotIpv4`.
     pub not_ipv4: u64,
+    /// How many were skipped as `Skip::Short`.
     pub short: u64,
+    /// How many were skipped as `Skip::BadHeader`.
     pub bad_header: u64,
 }
 

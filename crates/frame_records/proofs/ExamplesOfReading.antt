@@ -1,0 +1,76 @@
+-- Worked examples of what is kept of the frames of a capture: an IPv4 packet, an ARP frame, and the packet once more.
+use Rattle.std.proofs.Common.{ℕ, ◌≡◌, ◌-◌, ◌^◌, true, false, List, [], ◌∷◌, Some, None, Ok, Err, inl, inr, refl, arith}
+use Rattle.pcap_frames.specs.declared.fault.CaptureFault.{CaptureFault}
+use Rattle.pcap_frames.specs.declared.fault.FaultKind.TheVariants.{ShortHeader}
+use Rattle.pcap_frames.specs.declared.fault.ReadRefusal.TheVariants.{Capture, ReadFault, OutOfMemory}
+use Rattle.pcap_frames.specs.FrameValue.{FrameValue}
+use Rattle.pcap_frames.specs.Header.{header_fault, fault_at}
+use Rattle.pcap_frames.specs.Capture.{IsCapture, HasFault}
+use Rattle.frame_records.specs.declared.records.Records.{Records}
+use Rattle.frame_records.specs.declared.skip.Skip.TheVariants.{NotIpv4, Short, BadHeader}
+use Rattle.frame_records.specs.declared.weigh.Weigh.TheVariants.{Bytes, Packets}
+use Rattle.frame_records.specs.FrameRecord.{record_of}
+use Rattle.frame_records.specs.Kept.{weigh_by, capped, KeepsRecordsOf, with_skip, after_frame}
+use Rattle.frame_records.specs.Reading.{AreRecordsOf, HasRecords, HasRefused, HasReadFront}
+use Rattle.frame_records.proofs.Examples.{plain, arp, weighing}
+
+abbrev frames : List FrameValue
+frames = plain ∷ arp ∷ plain ∷ []
+
+-- what is kept of them by packets
+abbrev records : Records
+records = record { list = weighing 1 ∷ weighing 1 ∷ []; frames = 3; not_ipv4 = 1; short = 0; bad_header = 0 }
+
+pub records_and_counts : AreRecordsOf Packets frames records
+records_and_counts = record { list = refl; frames = refl; not_ipv4 = refl; short = refl; bad_header = refl }
+
+-- a frame that is skipped is counted
+pub skipped_frame_is_a_frame : AreRecordsOf Packets frames (record records { frames = 2 }) → ⊥
+skipped_frame_is_a_frame are = omega (arith, are.frames)
+
+pub records_of_a_capture : (file : List ℕ) → IsCapture file frames → HasRecords Packets (Some file) records
+records_of_a_capture file is = record { frames = frames; few = omega arith; told = is; are = records_and_counts }
+
+-- a source that doesn't tell its bytes had some frames
+pub records_of_an_untold_capture : HasRecords Packets None records
+records_of_an_untold_capture = record { frames = frames; few = omega arith; told = tt; are = records_and_counts }
+
+pub empty_file_is_refused : HasRefused (Some []) 3 3 (Capture (fault_at ShortHeader 0))
+unfolding header_fault
+empty_file_is_refused = ([], inr (inl (record { none_shown = refl; short = omega arith; none_before = refl; is_fault = refl })))
+
+pub fault_of_the_source_was_counted : HasRefused None 3 4 ReadFault
+fault_of_the_source_was_counted = omega arith
+
+pub fault_without_a_count_is_none : HasRefused None 3 3 ReadFault → ⊥
+fault_without_a_count_is_none rose = omega (arith, rose)
+
+pub want_of_memory_has_no_other_cause : HasRefused None 3 3 OutOfMemory
+want_of_memory_has_no_other_cause = tt
+
+pub two_bytes_were_read : HasReadFront (Some (1 ∷ 2 ∷ 3 ∷ [])) (Some (3 ∷ []))
+two_bytes_were_read = (1 ∷ 2 ∷ [], refl)
+
+pub packets_where_the_type_says_so : weigh_by true ≡ Packets
+packets_where_the_type_says_so = refl
+
+pub bytes_where_it_does_not : weigh_by false ≡ Bytes
+bytes_where_it_does_not = refl
+
+pub small_count_is_kept : capped 3 ≡ 3
+small_count_is_kept = refl
+
+pub count_past_the_greatest_is_capped : capped (2 ^ 64) ≡ 2 ^ 64 - 1
+count_past_the_greatest_is_capped = refl
+
+pub visitor_keeps_them : KeepsRecordsOf Packets frames records
+visitor_keeps_them = record { list = refl; frames = refl; not_ipv4 = refl; short = refl; bad_header = refl }
+
+pub short_frame_is_counted : with_skip Short records ≡ record records { short = 1 }
+short_frame_is_counted = refl
+
+pub after_another_packet : after_frame (record_of Packets plain) records ≡ record records { list = weighing 1 ∷ weighing 1 ∷ weighing 1 ∷ []; frames = 4 }
+after_another_packet = refl
+
+pub after_a_bad_header : after_frame (Err BadHeader) records ≡ record records { frames = 4; bad_header = 1 }
+after_a_bad_header = refl
