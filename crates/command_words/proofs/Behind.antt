@@ -1,10 +1,12 @@
 -- What is left of the arguments behind the first one.
 use Rattle.std.proofs.Common.{◌≡◌, ◌+◌, ◌-◌, ◌↔◌, take, drop, Bor, refl, sym, ap, ◌∙◌, subst, List, [], ◌∷◌, length, ℕ, Option, Some, arith}
 use Rattle.std.specs.List.{Contains}
-use Rattle.std.proofs.lemmas.List.{take_rest, drop-drop}
-use Rattle.command_words.specs.Arguments.{Text, Argument, positional, option, Begins, SpellsAll, names_in, option_name}
+use Rattle.std.proofs.lemmas.List.{take_rest, drop-drop, nil_from_length}
+use Rattle.std.proofs.lemmas.List.Elements.{Contains-append_right}
+use Rattle.command_words.specs.Arguments.{Text, Argument, positional, option, Begins, SpellsAll, names_in}
+use Rattle.command_words.specs.Scanning.{option_name}
 use Rattle.command_words.specs.Words.{texts}
-use Rattle.command_words.proofs.Elements.{contains_later, contains_first, contains_other, contains_none}
+use Rattle.command_words.proofs.Elements.{contains_other}
 use Rattle.command_words.proofs.OneReading.{begins_once, never_empty}
 
 -- arguments whose first is known: the others stand behind it
@@ -33,7 +35,7 @@ names_by_name (option other value) rest name is = let same : other ≡ name = cc
 -- an argument of another name than this changes nothing about where this name stands
 pub same_names : (argument : Argument) (rest : List Argument) (name : Text) → (option_name argument ≡ Some name → ⊥) → Contains (names_in (argument ∷ rest)) name ↔ Contains (names_in rest) name
 same_names (positional text) rest name other = (λ h. h, λ h. h)
-same_names (option first value) rest name other = (contains_other first name (names_in rest) (λ same. other (ap Some same)), contains_later first name (names_in rest))
+same_names (option first value) rest name other = (contains_other first name (names_in rest) (λ same. other (ap Some same)), Contains-append_right (first ∷ []) (names_in rest) name)
 
 -- the rest of some arguments, which the words spell, and in which a name stands just where it stands in all of them
 pub record LeavesNames (words : List Text) (arguments : List Argument) (name : Text) : Type 0 where
@@ -65,13 +67,14 @@ pub stands_here : (words others : List Text) (argument : Argument) (arguments : 
     → LeavesNames words arguments name → Contains (names_in arguments) name
 stands_here words others argument arguments name begins is leaves =
     let behind = follow words others argument leaves.rest begins leaves.spelled in
-    leaves.same.1 (subst (λ names. Contains names name) (sym (ap names_in behind.are ∙ names_by_name argument behind.rest name is)) (contains_first name name (names_in behind.rest) refl))
+    leaves.same.1 (subst (λ names. Contains names name) (sym (ap names_in behind.are ∙ names_by_name argument behind.rest name is)) (0, omega arith, refl))
 
 -- and nowhere once no argument is left
 pub stands_nowhere : (words : List Text) (arguments : List Argument) (name : Text) → ((argument : Argument) (others : List Text) → Begins words argument others → ⊥)
     → LeavesNames words arguments name → Contains (names_in arguments) name → ⊥
 stands_nowhere words arguments name never leaves h =
-    contains_none name (subst (λ rest. Contains (names_in rest) name) (none_spelled words leaves.rest never leaves.spelled) (leaves.same.0 h))
+    let none = subst (λ rest. Contains (names_in rest) name) (none_spelled words leaves.rest never leaves.spelled) (leaves.same.0 h) in
+    omega (arith, none.1)
 
 -- the argument at the front of the words from a place on, in the form that a range has, begins those words
 pub begins_from : (words : List (Bor Text)) (from step : ℕ) (found : Option Text) → (argument : Argument) × Begins (texts (take (length words - from) (drop from words))) argument (texts (drop step (take (length words - from) (drop from words)))) × (found ≡ option_name argument)
@@ -95,8 +98,7 @@ begins_range words step found (argument, begins, is) = (argument, subst (λ ws. 
 
 -- no words have no texts
 pub no_texts : (words : List (Bor Text)) → length words ≡ 0 → texts words ≡ []
-no_texts [] none = refl
-no_texts (word ∷ words) none = absurd (omega (arith, none))
+no_texts words none = ap texts (nil_from_length words none)
 
 -- and no texts stand for no words
 pub no_words : (words : List (Bor Text)) → texts words ≡ [] → length words ≡ 0

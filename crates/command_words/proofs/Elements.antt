@@ -1,27 +1,17 @@
 -- The elements of a list, by its first and the others.
-use Rattle.std.proofs.Common.{◌≡◌, ◌↔◌, refl, sym, subst, List, [], ◌∷◌, map, ℕ, zero, suc, Bool, true, false, ◌||◌, arith, Bor}
-use Rattle.std.specs.Bool.{IsTrue, Decides}
+use Rattle.std.proofs.Common.{◌≡◌, ◌≢◌, ◌↔◌, ◌∙◌, ◌==◌, ◌||◌, refl, sym, ap, subst, eq-eqb, get_or, List, [], ◌∷◌, map, ℕ, zero, suc, Bool, false, arith, Bor}
+use Rattle.std.specs.Bool.{IsTrue}
 use Rattle.std.specs.List.{All, AllPairs, Contains, list_any}
 use Rattle.std.specs.Str.{bytes_eq}
 use Rattle.std.proofs.lemmas.Bool.{false≢true}
+use Rattle.std.proofs.lemmas.List.Folds.{Any-from_list_any, list_any-from_Any, list_any_at}
 use Rattle.std.proofs.lemmas.Slice.Eq.{bytes_eq-Decides}
+use Rattle.command_words.specs.Arguments.{equals_sign, IsName}
 
--- a list contains its first element
-pub contains_first : {X : Type 0} (x y : X) (xs : List X) → x ≡ y → Contains (x ∷ xs) y
-contains_first x y xs same = (0, omega arith, same)
-
--- and what the others contain
-pub contains_later : {X : Type 0} (x y : X) (xs : List X) → Contains xs y → Contains (x ∷ xs) y
-contains_later x y xs h = (suc h.0, omega (arith, h.1), h.2)
-
--- and nothing else
+-- what a list contains that is not its first element, the others contain
 pub contains_other : {X : Type 0} (x y : X) (xs : List X) → (x ≡ y → ⊥) → Contains (x ∷ xs) y → Contains xs y
 contains_other x y xs other (zero, within, same) = absurd (other same)
 contains_other x y xs other (suc k, within, same) = (k, omega arith, same)
-
--- an empty list contains nothing
-pub contains_none : {X : Type 0} (y : X) → Contains [] y → ⊥
-contains_none y h = omega (arith, h.1)
 
 -- what holds of each pair holds of the first and each later one
 pub pairs-head : {X : Type 0} (R : X → X → Type 0) (x : X) (xs : List X) → AllPairs R (x ∷ xs) → All (R x) xs
@@ -31,20 +21,33 @@ pairs-head R x xs pairs = λ k d within. pairs 0 (suc k) d (omega arith) (omega 
 pub pairs-tail : {X : Type 0} (R : X → X → Type 0) (x : X) (xs : List X) → AllPairs R (x ∷ xs) → AllPairs R xs
 pairs-tail R x xs pairs = λ i j d before within. pairs (suc i) (suc j) d (omega arith) (omega arith)
 
--- the first text is the one that is looked for, or one of the others is
-any_step : (x : Bor (List ℕ)) (xs : List (Bor (List ℕ))) (text : List ℕ) (test rest : Bool) → Decides test (x.now ≡ text) → IsTrue rest ↔ Contains (map (λ y. y.now) xs) text
-    → IsTrue (test || rest) ↔ Contains (map (λ y. y.now) (x ∷ xs)) text
-any_step x xs text true rest decides behind = (λ _. contains_first x.now text (map (λ y. y.now) xs) (decides.0 refl), λ _. refl)
-any_step x xs text false rest decides behind = (
-  λ yes. contains_later x.now text (map (λ y. y.now) xs) (behind.0 yes),
-  λ h. behind.1 (contains_other x.now text (map (λ y. y.now) xs) (λ same. false≢true (decides.1 same)) h),
+-- a search finds a text just where it is one of some
+pub among : (texts : List (List ℕ)) (text : List ℕ) → IsTrue (list_any (λ other. bytes_eq other text) texts) ↔ Contains texts text
+among texts text = (
+  λ found.
+      let at = Any-from_list_any (λ other. bytes_eq other text) texts found in
+      subst (λ other. Contains texts other) ((bytes_eq-Decides at.1 text).0 at.4) (at.0, at.2, at.3),
+  λ h. list_any-from_Any (λ other. bytes_eq other text) texts (h.0, text, h.1, h.2, (bytes_eq-Decides text text).1 refl),
 )
 
--- the search for a text among some tells whether they contain it
-any_text : (texts : List (Bor (List ℕ))) (text : List ℕ) → IsTrue (list_any (λ y. bytes_eq y.now text) texts) ↔ Contains (map (λ y. y.now) texts) text
-any_text [] text = (λ yes. absurd (false≢true yes), λ h. absurd (contains_none text h))
-any_text (x ∷ xs) text = any_step x xs text (bytes_eq x.now text) (list_any (λ y. bytes_eq y.now text) xs) (bytes_eq-Decides x.now text) (any_text xs text)
+-- so does one among texts behind references
+any_behind : (names : List (Bor (List ℕ))) (text : List ℕ) → list_any (λ name. bytes_eq name.now text) names ≡ list_any (λ other. bytes_eq other text) (map (λ name. name.now) names)
+any_behind [] text = refl
+any_behind (name ∷ names) text = ap (λ rest. bytes_eq name.now text || rest) (any_behind names text)
 
 -- the answer of a search among some texts tells whether they contain the text
 pub is_among : (names : List (Bor (List ℕ))) (texts : List (List ℕ)) (text : List ℕ) (answer : Bool) → map (λ name. name.now) names ≡ texts → answer ≡ list_any (λ name. bytes_eq name.now text) names → IsTrue answer ↔ Contains texts text
-is_among names texts text answer are is = subst (λ ts. IsTrue answer ↔ Contains ts text) are (subst (λ test. IsTrue test ↔ Contains (map (λ name. name.now) names) text) (sym is) (any_text names text))
+is_among names texts text answer are is =
+    subst (λ ts. IsTrue answer ↔ Contains ts text) are (subst (λ test. IsTrue test ↔ Contains (map (λ name. name.now) names) text) (sym (is ∙ any_behind names text)) (among _ text))
+
+-- a search that fails shows that a text is none of some
+pub not_among : (texts : List (List ℕ)) (text : List ℕ) → list_any (λ other. bytes_eq other text) texts ≡ false → Contains texts text → ⊥
+not_among texts text fails h = false≢true (sym fails ∙ (among texts text).1 h)
+
+-- texts that a comparison tells apart differ
+pub apart : (text other : List ℕ) → bytes_eq text other ≡ false → text ≢ other
+apart text other fails same = false≢true (sym fails ∙ (bytes_eq-Decides text other).1 same)
+
+-- a text in which a search finds no `=` is a name
+pub no_equals_sign_in : (name : List ℕ) → list_any (λ byte. byte == equals_sign) name ≡ false → IsName name
+no_equals_sign_in name none k d within same = false≢true (sym none ∙ list_any_at (λ byte. byte == equals_sign) name k d within (eq-eqb (get_or name k d) equals_sign same))

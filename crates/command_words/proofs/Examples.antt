@@ -1,20 +1,81 @@
--- Worked examples of the definitions.
-use Rattle.std.proofs.Common.{◌≡◌, ◌≢◌, ◌<◌, ℕ, List, [], ◌∷◌, Some, None, inl, inr, refl, codes, arith}
-use Rattle.std.specs.Fmt.{digits}
+-- Worked examples of what stands behind a command's word.
+use Rattle.std.proofs.Common.{◌≡◌, ◌≢◌, List, [], ◌∷◌, Some, None, inl, inr, refl, codes, arith, Bor}
 use Rattle.std.proofs.lemmas.List.Elements.{All-cons, All-nil}
-use Rattle.frame_records.specs.declared.weigh.Weigh.TheVariants.{Bytes, Packets}
-use Rattle.deal_rules.specs.declared.deal_kind.DealKind.TheVariants.{RoundRobin}
-use Rattle.command_words.specs.Arguments.{Argument, positional, option, Spells, SpellsAll, names_in, positionals_in, value_of, equals_sign}
-use Rattle.command_words.specs.Options.{kind_of, IsNumber, IsGoodText, IsOutside}
-use Rattle.command_words.specs.Settings.{SetsNumber, SetsWeigh, SetsDeal}
-use Rattle.command_words.specs.Words.{HasWordsFault}
-use Rattle.command_words.specs.declared.opt.Opt.TheVariants.{Shards, Capacity}
-use Rattle.command_words.specs.declared.words_kind.WordsKind.TheVariants.{NoCommand}
+use Rattle.std.proofs.lemmas.List.Kept.{AllPairs-cons}
+use Rattle.std.specs.List.{All, AllPairs, Contains}
+use Rattle.command_words.specs.Arguments.{Text, Argument, positional, option, hyphen, equals_sign, IsValue, IsName, long, Spells, Begins, SpellsAll, positionals_in, names_in, value_of, Form, AreOfForm, AreWellFormed}
+use Rattle.command_words.specs.Scanning.{option_name, text_at, FitsRest}
+use Rattle.command_words.specs.Forms.{form_of}
+use Rattle.command_words.specs.Words.{texts}
+use Rattle.command_words.specs.declared.command_word.CommandWord.TheVariants.{Weigh, Report}
+use Rattle.command_words.proofs.Elements.{among, not_among, apart, no_equals_sign_in}
+
+-- the two signs that part words
+pub two_hyphens_before_a_name : long (codes "phi") ≡ codes "--phi"
+two_hyphens_before_a_name = refl
+
+pub hyphen_and_equals_sign : hyphen ∷ equals_sign ∷ [] ≡ codes "-="
+hyphen_and_equals_sign = refl
+
+-- a path may be a value, `-` and no text may not
+pub path_is_a_value : IsValue (codes "a.pcap")
+path_is_a_value = λ same. omega (arith, same)
+
+pub hyphen_is_no_value : IsValue (codes "-") → ⊥
+hyphen_is_no_value value = value refl
+
+pub nothing_is_no_value : IsValue [] → ⊥
+nothing_is_no_value value = value
+
+-- `a=b` is no name: `--a=b=c` is the option `a`
+pub capture_is_a_name : IsName (codes "capture")
+capture_is_a_name = no_equals_sign_in (codes "capture") refl
+
+pub equals_sign_in_no_name : IsName (codes "a=b") → ⊥
+equals_sign_in_no_name name = name 1 0 (omega arith) refl
+
+-- the one word `--x=a=b` has the value `a=b`, behind its first `=`
+pub option_in_one_word : Spells (codes "--x=a=b" ∷ []) (option (codes "x") (codes "a=b"))
+option_in_one_word = (no_equals_sign_in (codes "x") refl, λ same. omega (arith, same), inr refl)
+
+-- the two words `--x` and `7`
+pub option_in_two_words : Spells (codes "--x" ∷ codes "7" ∷ []) (option (codes "x") (codes "7"))
+option_in_two_words = (no_equals_sign_in (codes "x") refl, λ same. omega (arith, same), inl refl)
 
 -- what stands in `--weigh=packets 10.0.0.0/8 --capture a.pcap 20.0.0.0/8`
-abbrev arguments : List Argument
+abbrev pub words : List Text
+words = codes "--weigh=packets" ∷ codes "10.0.0.0/8" ∷ codes "--capture" ∷ codes "a.pcap" ∷ codes "20.0.0.0/8" ∷ []
+
+abbrev pub arguments : List Argument
 arguments =
     option (codes "weigh") (codes "packets") ∷ positional (codes "10.0.0.0/8") ∷ option (codes "capture") (codes "a.pcap") ∷ positional (codes "20.0.0.0/8") ∷ []
+
+-- the option at the front is one word
+pub option_at_the_front : Begins words (option (codes "weigh") (codes "packets")) (codes "10.0.0.0/8" ∷ codes "--capture" ∷ codes "a.pcap" ∷ codes "20.0.0.0/8" ∷ [])
+option_at_the_front = record { front = codes "--weigh=packets" ∷ []; parted = refl; spelled = (no_equals_sign_in (codes "weigh") refl, λ same. omega (arith, same), inr refl) }
+
+-- the last three words are an option and a positional
+last_words : SpellsAll (codes "--capture" ∷ codes "a.pcap" ∷ codes "20.0.0.0/8" ∷ []) (option (codes "capture") (codes "a.pcap") ∷ positional (codes "20.0.0.0/8") ∷ [])
+last_words = (
+  codes "20.0.0.0/8" ∷ [],
+  record { front = codes "--capture" ∷ codes "a.pcap" ∷ []; parted = refl; spelled = (no_equals_sign_in (codes "capture") refl, λ same. omega (arith, same), inl refl) },
+  ([], record { front = codes "20.0.0.0/8" ∷ []; parted = refl; spelled = (λ same. omega (arith, same), refl) }, refl),
+)
+
+pub words_spell_the_arguments : SpellsAll words arguments
+words_spell_the_arguments = (
+  codes "10.0.0.0/8" ∷ codes "--capture" ∷ codes "a.pcap" ∷ codes "20.0.0.0/8" ∷ [],
+  option_at_the_front,
+  (
+    codes "--capture" ∷ codes "a.pcap" ∷ codes "20.0.0.0/8" ∷ [],
+    record { front = codes "10.0.0.0/8" ∷ []; parted = refl; spelled = (λ same. omega (arith, same), refl) },
+    last_words,
+  ),
+)
+
+-- no words spell no arguments
+pub nothing_spelled : SpellsAll [] []
+nothing_spelled = refl
 
 pub positionals_of_the_words : positionals_in arguments ≡ codes "10.0.0.0/8" ∷ codes "20.0.0.0/8" ∷ []
 positionals_of_the_words = refl
@@ -28,48 +89,54 @@ value_that_stands = refl
 pub value_that_does_not_stand : value_of (codes "shards") arguments ≡ None
 value_that_does_not_stand = refl
 
--- two bytes differ
-apart : (byte other : ℕ) → other < byte → byte ≢ other
-apart byte other above = λ same. omega (arith, above, same)
+pub name_of_an_option : option_name (option (codes "capture") (codes "a.pcap")) ≡ Some (codes "capture")
+name_of_an_option = refl
 
--- the one word `--x=a=b` has the value `a=b`, behind its first `=`
-pub option_in_one_word : Spells (codes "--x=a=b" ∷ []) (option (codes "x") (codes "a=b"))
-option_in_one_word = (All-cons (λ byte. byte ≢ equals_sign) 120 [] (apart 120 61 (omega arith)) (All-nil (λ byte. byte ≢ equals_sign)), apart 97 45 (omega arith), inr refl)
+pub positional_has_no_name : option_name (positional (codes "20.0.0.0/8")) ≡ None
+positional_has_no_name = refl
 
--- the two words `--x` and `7`
-pub option_in_two_words : Spells (codes "--x" ∷ codes "7" ∷ []) (option (codes "x") (codes "7"))
-option_in_two_words = (All-cons (λ byte. byte ≢ equals_sign) 120 [] (apart 120 61 (omega arith)) (All-nil (λ byte. byte ≢ equals_sign)), apart 55 45 (omega arith), inl refl)
+pub text_behind_a_reference : (word : Bor Text) → text_at (Some word) ≡ Some word.now
+text_behind_a_reference word = refl
 
--- no words spell no arguments
-pub nothing_spelled : SpellsAll [] []
-nothing_spelled = refl
+pub texts_of_two_words : (word other : Bor Text) → texts (word ∷ other ∷ []) ≡ word.now ∷ other.now ∷ []
+texts_of_two_words word other = refl
 
--- an empty command line
-pub no_command : HasWordsFault [] NoCommand
-no_command = refl
+-- the options stand once each
+names_are_apart : AllPairs (λ name other. name ≢ other) (names_in arguments)
+names_are_apart =
+    AllPairs-cons (λ name other. name ≢ other) (codes "weigh") (codes "capture" ∷ [])
+    (λ k d within. All-cons (λ other. codes "weigh" ≢ other) (codes "capture") [] (apart (codes "weigh") (codes "capture") refl) (All-nil (λ other. codes "weigh" ≢ other)) k d within)
+    (λ i j d before within. absurd (omega (arith, before, within)))
 
-pub number_in_decimal : IsNumber (codes "512") 512
-unfolding digits
-number_in_decimal = record { spelled = refl; bounded = omega arith }
+-- `weigh` has two positionals, and options of these names
+abbrev form : Form
+form = form_of Weigh
 
--- 16 shards are the most
-pub sixteen_shards : IsGoodText (kind_of Shards) (codes "16")
-unfolding digits
-sixteen_shards = (16, record { spelled = refl; bounded = omega arith }, (omega arith, omega arith))
+capture_known : All (λ name. Contains form.options name) (codes "capture" ∷ [])
+capture_known = All-cons (λ name. Contains form.options name) (codes "capture") [] ((among form.options (codes "capture")).0 refl) (All-nil (λ name. Contains form.options name))
 
-pub seventeen_shards : IsOutside (kind_of Shards) (codes "17")
-unfolding digits
-seventeen_shards = (17, record { spelled = refl; bounded = omega arith }, inr (omega arith))
+pub arguments_of_weigh : AreOfForm form arguments
+arguments_of_weigh = record {
+  as_many = refl;
+  known = All-cons (λ name. Contains form.options name) (codes "weigh") (codes "capture" ∷ []) ((among form.options (codes "weigh")).0 refl) capture_known;
+  once = names_are_apart;
+}
 
--- what doesn't stand has its default
-pub capacity_by_default : SetsNumber Capacity 512 None 512
-capacity_by_default = refl
+pub words_of_weigh : AreWellFormed form words arguments
+words_of_weigh = record { spelled = words_spell_the_arguments; of_form = arguments_of_weigh }
 
-pub bytes_by_default : SetsWeigh None Bytes
-bytes_by_default = refl
+pub not_the_arguments_of_report : AreOfForm (form_of Report) arguments → ⊥
+not_the_arguments_of_report of_form = omega (arith, of_form.as_many)
 
-pub packets_by_their_word : SetsWeigh (Some (codes "packets")) Packets
-packets_by_their_word = refl
+-- `weigh` has no option `shards`
+pub option_of_report_alone : AreOfForm form (positional (codes "x") ∷ positional (codes "y") ∷ option (codes "shards") (codes "1") ∷ []) → ⊥
+option_of_report_alone of_form = not_among form.options (codes "shards") refl (of_form.known 0 [] (omega arith))
 
-pub in_turn_by_default : SetsDeal None RoundRobin
-in_turn_by_default = refl
+-- behind the first two arguments one positional and `--capture` are left
+pub rest_of_the_words : FitsRest form 1 (codes "--capture" ∷ codes "a.pcap" ∷ codes "20.0.0.0/8" ∷ []) (option (codes "capture") (codes "a.pcap") ∷ positional (codes "20.0.0.0/8") ∷ [])
+rest_of_the_words = record {
+  spelled = last_words;
+  as_many = refl;
+  known = capture_known;
+  once = λ i j d before within. absurd (omega (arith, before, within));
+}

@@ -3,8 +3,8 @@ use Rattle.std.proofs.Common.{◌≡◌, ◌≢◌, ◌-◌, ◌<◌, ◌↔◌,
 use Rattle.std.specs.List.{All, AllPairs, Contains}
 use Rattle.std.proofs.lemmas.List.Elements.{All-nil, All-cons, All-head, All-tail, All-contains, Contains-get_or}
 use Rattle.std.proofs.lemmas.List.Kept.{AllPairs-cons}
-use Rattle.command_words.specs.Arguments.{Text, Argument, positional, option, Form, AreWellFormed, Begins, SpellsAll, positionals_in, names_in, option_name}
-use Rattle.command_words.specs.Scanning.{FitsRest}
+use Rattle.command_words.specs.Arguments.{Text, Argument, positional, option, Form, AreWellFormed, Begins, SpellsAll, positionals_in, names_in}
+use Rattle.command_words.specs.Scanning.{option_name, FitsRest}
 use Rattle.command_words.proofs.Behind.{follow, none_spelled}
 use Rattle.command_words.proofs.Elements.{pairs-head, pairs-tail}
 

@@ -9,7 +9,8 @@ use Rattle.deal_rules.specs.declared.deal_kind.DealKind.TheVariants as dealing
 use Rattle.command_words.specs.Arguments.{Text}
 use Rattle.command_words.specs.Options.{Kind, number, choice, kind_of, place_of, IsNumber, IsAllowed, IsGoodText, IsGood, IsNoNumber, IsNoChoice, IsOutside}
 use Rattle.command_words.specs.Settings.{Values, SetsNumber, SetsWeigh, SetsDeal}
-use Rattle.command_words.specs.Words.{IsFirstBad, HasValueFault, IsBadNumber, IsBadChoice}
+use Rattle.command_words.specs.Words.{IsFirstBad, HasValueFault}
+use Rattle.command_words.specs.OneValue.{IsBadNumber, IsBadChoice}
 use Rattle.command_words.specs.declared.opt.Opt.{Opt}
 use Rattle.command_words.specs.declared.opt.Opt.TheVariants as opt
 use Rattle.command_words.specs.declared.words_kind.WordsKind.{WordsKind}

@@ -15,3 +15,6 @@ pub mod ToldWords
 pub mod FirstWord
 pub mod Limits
 pub mod Examples
+pub mod ExamplesOfValues
+pub mod ExamplesOfWords
+pub mod ExamplesOfParser

@@ -1,6 +1,6 @@
 -- Words spell one list of arguments at most.
-use Rattle.std.proofs.Common.{◌≡◌, ◌≢◌, ◌⊎◌, inl, inr, refl, sym, ap, ap₂, ◌∙◌, subst, ◌++◌, List, [], ◌∷◌, arith, ℕ}
-use Rattle.std.proofs.lemmas.List.Elements.{All-drop}
+use Rattle.std.proofs.Common.{◌≡◌, ◌≢◌, ◌⊎◌, inl, inr, refl, sym, ap, ap₂, ◌∙◌, subst, ◌++◌, List, [], ◌∷◌}
+use Rattle.std.proofs.lemmas.List.Elements.{All-head, All-tail}
 use Rattle.command_words.specs.Arguments.{Text, Argument, positional, option, hyphen, equals_sign, IsValue, IsName, long, Begins, SpellsAll}
 
 -- equal lists have equal heads
@@ -15,27 +15,20 @@ same_rest x y xs ys same = cc
 pub no_list : {A : Type 0} (x : A) (xs : List A) → Path (List A) [] (x ∷ xs) → ⊥
 no_list x xs same = cc
 
--- a name has no `=`
-name_head : (byte : ℕ) (name : Text) → IsName (byte ∷ name) → byte ≢ equals_sign
-name_head byte name h = h 0 byte (omega arith)
-
-name_rest : (byte : ℕ) (name : Text) → IsName (byte ∷ name) → IsName name
-name_rest byte name h = All-drop (λ b. b ≢ equals_sign) 1 (byte ∷ name) h
-
 -- a name isn't what has an `=`
 pub no_equals_sign : (name other value : Text) → IsName name → name ≡ other ++ equals_sign ∷ value → ⊥
 no_equals_sign [] [] value is_name same = no_list _ _ same
 no_equals_sign [] (x ∷ other) value is_name same = no_list _ _ same
-no_equals_sign (byte ∷ name) [] value is_name same = name_head byte name is_name (same_head _ _ _ _ same)
-no_equals_sign (byte ∷ name) (x ∷ other) value is_name same = no_equals_sign name other value (name_rest byte name is_name) (same_rest _ _ _ _ same)
+no_equals_sign (byte ∷ name) [] value is_name same = All-head (λ b. b ≢ equals_sign) byte name is_name (same_head _ _ _ _ same)
+no_equals_sign (byte ∷ name) (x ∷ other) value is_name same = no_equals_sign name other value (All-tail (λ b. b ≢ equals_sign) byte name is_name) (same_rest _ _ _ _ same)
 
 -- what stands before the first `=`, and what stands behind it, are told apart
 pub parted_once : (name other value more : Text) → IsName name → IsName other → name ++ equals_sign ∷ value ≡ other ++ equals_sign ∷ more → (name ≡ other) × (value ≡ more)
 parted_once [] [] value more is_name is_other same = (refl, same_rest _ _ _ _ same)
-parted_once [] (x ∷ other) value more is_name is_other same = absurd (name_head x other is_other (sym (same_head _ _ _ _ same)))
-parted_once (byte ∷ name) [] value more is_name is_other same = absurd (name_head byte name is_name (same_head _ _ _ _ same))
+parted_once [] (x ∷ other) value more is_name is_other same = absurd (All-head (λ b. b ≢ equals_sign) x other is_other (sym (same_head _ _ _ _ same)))
+parted_once (byte ∷ name) [] value more is_name is_other same = absurd (All-head (λ b. b ≢ equals_sign) byte name is_name (same_head _ _ _ _ same))
 parted_once (byte ∷ name) (x ∷ other) value more is_name is_other same =
-    let behind = parted_once name other value more (name_rest byte name is_name) (name_rest x other is_other) (same_rest _ _ _ _ same) in
+    let behind = parted_once name other value more (All-tail (λ b. b ≢ equals_sign) byte name is_name) (All-tail (λ b. b ≢ equals_sign) x other is_other) (same_rest _ _ _ _ same) in
     (ap₂ (λ b bs. b ∷ bs) (same_head _ _ _ _ same) behind.0, behind.1)
 
 -- a value is no word that begins with a hyphen

@@ -1,5 +1,5 @@
 -- What `clap` finds for arguments, and what a look-up by name gives.
-use Rattle.std.proofs.Common.{◌≡◌, ◌≢◌, ◌∙◌, ℕ, zero, suc, Bool, true, false, List, [], ◌∷◌, Some, None, refl, subst, arith}
+use Rattle.std.proofs.Common.{◌≡◌, ◌≢◌, ◌∙◌, ℕ, zero, suc, Bool, true, false, List, [], ◌∷◌, Some, None, refl, subst}
 use Rattle.std.specs.Prelude.{slice_get}
 use Rattle.std.specs.List.{All, AllPairs}
 use Rattle.std.specs.Str.{bytes_eq}
@@ -10,6 +10,7 @@ use Rattle.clap.specs.Words.{Row, first_of}
 use Rattle.clap.specs.declared.builder.value_parser.Reading.TheVariants.{AsWritten}
 use Rattle.clap.specs.declared.parser.matches.ValueSource.TheVariants.{CommandLine}
 use Rattle.command_words.specs.Arguments.{Text, Argument, positional, option, positionals_in, names_in, value_of}
+use Rattle.command_words.proofs.Elements.{pairs-head, pairs-tail}
 
 -- a text is equal to itself, and to no other
 pub same_text : (text : Text) → bytes_eq text text ≡ true
@@ -17,13 +18,6 @@ same_text text = (bytes_eq-Decides text text).1 refl
 
 pub other_text : (text other : Text) → text ≢ other → bytes_eq text other ≡ false
 other_text text other apart = false_from_ne_true _ (λ same. apart ((bytes_eq-Decides text other).0 same))
-
--- each text is none of those behind it
-pub apart_head : (text : Text) (others : List Text) → AllPairs (λ a b. a ≢ b) (text ∷ others) → All (λ other. text ≢ other) others
-apart_head text others apart = λ place default within. apart 0 (suc place) default (omega arith) (omega arith)
-
-pub apart_tail : (text : Text) (others : List Text) → AllPairs (λ a b. a ≢ b) (text ∷ others) → AllPairs (λ a b. a ≢ b) others
-apart_tail text others apart = λ earlier later default before within. apart (suc earlier) (suc later) default (omega arith) (omega arith)
 
 -- what holds of each text holds of the one at a place
 pub at_place : (P : Text → Type 0) (place : ℕ) (name : Text) (texts : List Text) → slice_get texts place ≡ Some name → All P texts → P name
@@ -69,7 +63,7 @@ told_positional place name ids [] at distinct apart = refl
 told_positional place name [] (positional text ∷ arguments) at distinct apart = cc
 told_positional zero name (id ∷ ids) (positional text ∷ arguments) at distinct apart = first_here name id text (told ids arguments) cc
 told_positional (suc place) name (id ∷ ids) (positional text ∷ arguments) at distinct apart =
-    first_behind name id text (told ids arguments) (at_place (λ other. id ≢ other) place name ids at (apart_head id ids distinct)) ∙ told_positional place name ids arguments at (apart_tail id ids distinct) apart
+    first_behind name id text (told ids arguments) (at_place (λ other. id ≢ other) place name ids at (pairs-head (λ a b. a ≢ b) id ids distinct)) ∙ told_positional place name ids arguments at (pairs-tail (λ a b. a ≢ b) id ids distinct) apart
 told_positional place name ids (option other value ∷ arguments) at distinct apart =
     first_behind name other value (told ids arguments) (All-head (λ o. o ≢ name) other (names_in arguments) apart)
     ∙ told_positional place name ids arguments at distinct (All-tail (λ o. o ≢ name) other (names_in arguments) apart)

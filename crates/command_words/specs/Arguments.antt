@@ -1,6 +1,5 @@
 -- The words behind a command's word: positionals and options, in any order. The grammar is this program's own.
-use Rattle.std.specs.Prelude.{ℕ, ◌≡◌, ◌≢◌, ◌⊎◌, ◌++◌, List, [], ◌∷◌, length, All, AllPairs, Contains, Option, Some, None, option_map, if◌then◌else◌}
-use Rattle.std.specs.Borrow.{Bor}
+use Rattle.std.specs.Prelude.{ℕ, ◌≡◌, ◌≢◌, ◌⊎◌, ◌++◌, List, [], ◌∷◌, length, All, AllPairs, Contains, Option, Some, None, if◌then◌else◌}
 use Rattle.std.specs.Str.{bytes_eq}
 
 -- a word, or a part of one, as its bytes
@@ -60,15 +59,6 @@ abbrev pub names_in : List Argument → List Text
 names_in [] = []
 names_in (positional text ∷ arguments) = names_in arguments
 names_in (option name value ∷ arguments) = name ∷ names_in arguments
-
--- the name of the option that an argument is, if it is one
-abbrev pub option_name : Argument → Option Text
-option_name (positional text) = None
-option_name (option name value) = Some name
-
--- the text behind a reference, if there is one
-abbrev pub text_at : Option (Bor Text) → Option Text
-text_at word = option_map (λ text. text.now) word
 
 -- the value of the first option of a name
 abbrev pub value_of : Text → List Argument → Option Text

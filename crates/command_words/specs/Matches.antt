@@ -1,4 +1,4 @@
--- What `clap` found among words.
+-- What `clap` found among words, which no public contract cites.
 use Rattle.std.specs.Prelude.{ℕ, ◌≡◌, List, Contains, slice_get, Some}
 use Rattle.clap.specs.Words.{found_of, first_value}
 use Rattle.clap.specs.declared.parser.matches.ArgMatches.{ArgMatches}

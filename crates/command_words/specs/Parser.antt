@@ -1,4 +1,4 @@
--- What `clap` is told of a form.
+-- What `clap` is told of a form, which no public contract cites.
 use Rattle.std.specs.Prelude.{true, List, fold, Some}
 use Rattle.clap.specs.Words.{App, Rule, new_app, new_rule, with_rule}
 use Rattle.command_words.specs.Arguments.{Text, Form}

@@ -1,5 +1,5 @@
 -- What the words of a command line ask, or the first thing that is wrong with them.
-use Rattle.std.specs.Prelude.{⊤, ◌≡◌, ◌≢◌, ◌<◌, List, [], ◌∷◌, map, Option, Some, None}
+use Rattle.std.specs.Prelude.{⊤, ◌≡◌, ◌≢◌, ◌<◌, List, [], ◌∷◌, map, Some}
 use Rattle.std.specs.Borrow.{Bor}
 use Rattle.prefix_lattice.specs.PrefixValue.{PrefixValue}
 use Rattle.prefix_lattice.specs.PrefixText.{SpellsPrefix, HasPrefixFault}
@@ -79,19 +79,6 @@ HasValueFault values (BadNumber opt) = IsFirstBad IsNoNumber values opt
 HasValueFault values (OutOfLimits opt) = IsFirstBad IsOutside values opt
 HasValueFault values (BadChoice opt) = IsFirstBad IsNoChoice values opt
 HasValueFault values _ = ⊥
-
--- the fault that a number can have: it is none, or one that the option can't have
-abbrev pub IsBadNumber : Opt → Option Text → WordsKind → Type 0
-IsBadNumber opt None kind = ⊥
-IsBadNumber opt (Some text) (BadNumber at) = (at ≡ opt) × IsNoNumber (kind_of opt) text
-IsBadNumber opt (Some text) (OutOfLimits at) = (at ≡ opt) × IsOutside (kind_of opt) text
-IsBadNumber opt (Some text) _ = ⊥
-
--- the fault that a choice can have: it is none of the words of the option
-abbrev pub IsBadChoice : Opt → Option Text → WordsKind → Type 0
-IsBadChoice opt None kind = ⊥
-IsBadChoice opt (Some text) (BadChoice at) = (at ≡ opt) × IsNoChoice (kind_of opt) text
-IsBadChoice opt (Some text) _ = ⊥
 
 -- the words are well formed and their positionals good, and their values have this fault
 pub record HasBadValue (words : List Text) (kind : WordsKind) : Type 0 where

@@ -1,9 +1,9 @@
 //! Whether words are well formed.
 
 ghost use Rattle.std.specs.Prelude.{◌≡◌, ◌↔◌, ◌<◌, ◌≤◌, List, drop, length, Contains, Some, IfSome, IfNone, IsTrue};
-ghost use Rattle.command_words.specs.Arguments.{Argument, AreWellFormed, Begins, IsValue, SpellsAll, Text, names_in, text_at, option_name};
+ghost use Rattle.command_words.specs.Arguments.{Argument, AreWellFormed, Begins, IsValue, SpellsAll, Text, names_in};
+ghost use Rattle.command_words.specs.Scanning.{text_at, option_name, FitsRest};
 ghost use Rattle.command_words.specs.Forms.{form_of};
-ghost use Rattle.command_words.specs.Scanning.{FitsRest};
 ghost use Rattle.command_words.specs.Words.{texts};
 
 use crate::command_word::CommandWord;

@@ -12,13 +12,13 @@ pub struct Settings {
     pub capacity: u32,
     /// From how many parts per million of the weight on a prefix is heavy, 1 to 1,000,000.
     pub phi: u32,
-    /// How many records a fold counts at most.
+    /// How many records a fold counts at most, 1 to 65,536.
     pub block: u32,
-    /// How many threads fold records.
+    /// How many threads fold records, 1 to 16.
     pub workers: u32,
-    /// How many threads report beside the calling one.
+    /// How many threads report beside the calling one, 0 to 8.
     pub callers: u32,
-    /// How many reports each of them makes while records are folded.
+    /// How many reports each of them makes while records are folded, 0 to 32.
     pub rounds: u32,
     /// How traffic is weighed.
     pub weigh: Weigh,

@@ -1,11 +1,12 @@
 //! What the values of options set.
 
 ghost use Rattle.std.specs.Prelude.{◌≡◌, ◌↔◌, IfOk, IfErr, IsTrue};
-ghost use Rattle.command_words.specs.Arguments.{text_at};
+ghost use Rattle.command_words.specs.Scanning.{text_at};
 ghost use Rattle.command_words.specs.Options.{kind_of, number};
 ghost use Rattle.command_words.specs.Settings.{SetsDeal, SetsNumber, SetsSettings, SetsWeigh, IsWide};
 ghost use Rattle.command_words.specs.Matches.{values_told};
-ghost use Rattle.command_words.specs.Words.{HasValueFault, IsBadChoice, IsBadNumber};
+ghost use Rattle.command_words.specs.Words.{HasValueFault};
+ghost use Rattle.command_words.specs.OneValue.{IsBadChoice, IsBadNumber};
 ghost use Rattle.command_words.specs.declared.words_kind.WordsKind.TheVariants.{BadChoice};
 ghost use Rattle.command_words.specs.declared.opt.Opt.TheVariants.{Weigh as ByWeigh, Deal};
 

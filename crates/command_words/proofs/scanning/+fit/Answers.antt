@@ -1,7 +1,7 @@
 use Rattle.std.proofs.Common.{refl, sym, ap, ◌∙◌, arith}
 use Rattle.std.proofs.lemmas.Bool.{false≢true}
 use Rattle.std.proofs.lemmas.Bool.Decides.{Decides-eqb, Decides-ltb}
-use Rattle.command_words.specs.Arguments.{text_at}
+use Rattle.command_words.specs.Scanning.{text_at}
 use Rattle.command_words.specs.Forms.{form_of}
 use Rattle.command_words.specs.Words.{texts}
 use Rattle.command_words.proofs.Behind.{begins_range, no_texts, no_words}

@@ -1,0 +1,176 @@
+-- Worked examples of the values of options, and of what they set.
+use Rattle.std.proofs.Common.{◌≡◌, ◌<◌, ℕ, zero, suc, [], ◌∷◌, get_or, Some, None, inr, refl, sym, subst, codes, false, arith}
+use Rattle.std.specs.Fmt.{digits}
+use Rattle.std.proofs.lemmas.Fmt.{first_decimal, decimal_injective}
+use Rattle.frame_records.specs.declared.weigh.Weigh.TheVariants.{Bytes, Packets}
+use Rattle.deal_rules.specs.declared.deal_kind.DealKind.TheVariants.{RoundRobin, Free}
+use Rattle.command_words.specs.Arguments.{option}
+use Rattle.command_words.specs.Options.{name_of, place_of, number, choice, kind_of, IsNumber, IsAllowed, IsGoodText, IsGood, IsNoNumber, IsOutside, IsNoChoice}
+use Rattle.command_words.specs.Settings.{Values, values_in, SetsNumber, SetsWeigh, SetsDeal, weigh_word, deal_word, SetsSettings, IsWide, AreLimited}
+use Rattle.command_words.specs.Words.{IsFirstBad, HasValueFault}
+use Rattle.command_words.specs.OneValue.{IsBadNumber, IsBadChoice}
+use Rattle.command_words.specs.declared.opt.Opt.{Opt}
+use Rattle.command_words.specs.declared.opt.Opt.TheVariants.{Weigh, Shards, Capacity, Phi, Deal}
+use Rattle.command_words.specs.declared.settings.Settings.{Settings}
+use Rattle.command_words.specs.declared.words_kind.WordsKind.TheVariants.{BadNumber, OutOfLimits, BadChoice}
+use Rattle.command_words.proofs.Elements.{among, not_among}
+use Rattle.command_words.proofs.Examples.{arguments}
+
+pub name_of_the_share : name_of Phi ≡ codes "phi"
+name_of_the_share = refl
+
+pub share_is_looked_at_behind_the_capacity : place_of Capacity < place_of Phi
+share_is_looked_at_behind_the_capacity = omega arith
+
+pub limits_of_the_capacity : kind_of Capacity ≡ number 2 4096
+limits_of_the_capacity = refl
+
+pub words_for_weighing : kind_of Weigh ≡ choice (weigh_word Bytes ∷ weigh_word Packets ∷ [])
+words_for_weighing = refl
+
+pub word_for_free_dealing : deal_word Free ≡ codes "free"
+word_for_free_dealing = refl
+
+pub number_in_decimal : IsNumber (codes "512") 512
+unfolding digits
+number_in_decimal = record { spelled = refl; bounded = omega arith }
+
+pub no_number_has_a_leading_zero : (value : ℕ) → IsNumber (codes "01") value → ⊥
+unfolding digits
+no_number_has_a_leading_zero zero is_number = let same : codes "01" ≡ codes "0" = is_number.spelled in cc
+no_number_has_a_leading_zero (suc value) is_number =
+    let first : 48 < 48 = subst (λ text. 48 < get_or text 0 0) (sym is_number.spelled) (first_decimal (suc value) (omega arith) is_number.bounded) in
+    omega (arith, first)
+
+-- 16 shards are the most, and one is the least
+pub sixteen_shards : IsGoodText (kind_of Shards) (codes "16")
+unfolding digits
+sixteen_shards = (16, record { spelled = refl; bounded = omega arith }, (omega arith, omega arith))
+
+pub seventeen_shards : IsOutside (kind_of Shards) (codes "17")
+unfolding digits
+seventeen_shards = (17, record { spelled = refl; bounded = omega arith }, inr (omega arith))
+
+pub one_shard_is_allowed : IsAllowed (kind_of Shards) 1
+one_shard_is_allowed = (omega arith, omega arith)
+
+pub no_shard_is_not_allowed : IsAllowed (kind_of Shards) 0 → ⊥
+no_shard_is_not_allowed allowed = omega (arith, allowed.0)
+
+pub shards_with_a_leading_zero : IsNoNumber (kind_of Shards) (codes "01")
+shards_with_a_leading_zero = no_number_has_a_leading_zero
+
+-- an option has a good value, or doesn't stand
+pub free_is_good : IsGood Deal (Some (codes "free"))
+free_is_good = (among (codes "round" ∷ codes "source" ∷ codes "free" ∷ []) (codes "free")).0 refl
+
+pub nothing_is_good : IsGood Deal None
+nothing_is_good = tt
+
+pub no_dealing_by_hash : IsNoChoice (kind_of Deal) (codes "hash")
+no_dealing_by_hash = not_among (codes "round" ∷ codes "source" ∷ codes "free" ∷ []) (codes "hash") refl
+
+pub shards_that_are_no_number : IsBadNumber Shards (Some (codes "01")) (BadNumber Shards)
+shards_that_are_no_number = (refl, no_number_has_a_leading_zero)
+
+pub dealing_that_is_no_choice : IsBadChoice Deal (Some (codes "hash")) (BadChoice Deal)
+dealing_that_is_no_choice = (refl, no_dealing_by_hash)
+
+-- in `--deal hash --shards 17` the shards are looked at first
+abbrev two_bad_values : Values
+two_bad_values = values_in (option (codes "deal") (codes "hash") ∷ option (codes "shards") (codes "17") ∷ [])
+
+good_before_shards : (other : Opt) → place_of other < place_of Shards → IsGood other (two_bad_values other)
+good_before_shards Weigh before = tt
+good_before_shards Shards before = absurd (omega (arith, before))
+good_before_shards Capacity before = tt
+good_before_shards Phi before = tt
+good_before_shards Deal before = absurd (omega (arith, before))
+
+pub shards_are_the_first_bad : IsFirstBad IsOutside two_bad_values Shards
+shards_are_the_first_bad = record { before = good_before_shards; text = codes "17"; value = refl; is_bad = seventeen_shards }
+
+pub shards_are_the_fault : HasValueFault two_bad_values (OutOfLimits Shards)
+shards_are_the_fault = shards_are_the_first_bad
+
+pub dealing_is_not_the_fault : HasValueFault two_bad_values (BadChoice Deal) → ⊥
+unfolding digits
+dealing_is_not_the_fault fault =
+    let good : IsGoodText (kind_of Shards) (codes "17") = fault.before Shards (omega arith) in
+    let same : good.0 ≡ 17 = decimal_injective good.0 17 good.1.bounded (omega arith) (sym good.1.spelled) in
+    omega (arith, same, good.2.1)
+
+-- what doesn't stand has its default
+abbrev pub defaults : Settings
+defaults = record {
+  shards = 4;
+  capacity = 512;
+  phi = 10000;
+  block = 1024;
+  workers = 4;
+  callers = 0;
+  rounds = 0;
+  weigh = Bytes;
+  deal = RoundRobin;
+  store = false;
+}
+
+pub nothing_sets_the_defaults : SetsSettings (values_in []) defaults
+nothing_sets_the_defaults = record {
+  weigh = refl;
+  shards = refl;
+  capacity = refl;
+  phi = refl;
+  deal = refl;
+  block = refl;
+  workers = refl;
+  callers = refl;
+  rounds = refl;
+  store = refl;
+}
+
+pub defaults_are_within_their_limits : AreLimited defaults
+defaults_are_within_their_limits = record {
+  some_shards = omega arith;
+  few_shards = omega arith;
+  least_capacity = omega arith;
+  most_capacity = omega arith;
+  some_phi = omega arith;
+  most_phi = omega arith;
+  some_block = omega arith;
+  most_block = omega arith;
+  some_workers = omega arith;
+  few_workers = omega arith;
+  few_callers = omega arith;
+  few_rounds = omega arith;
+}
+
+pub too_many_shards : AreLimited (record defaults { shards = 17 }) → ⊥
+too_many_shards limited = omega (arith, limited.few_shards)
+
+-- a hundredth of the weight can't hide in tables of 512, and 117,647 parts per million can in tables of 17
+pub defaults_are_wide : IsWide defaults
+defaults_are_wide = omega arith
+
+pub tables_too_small_for_a_share : IsWide (record defaults { phi = 117647; capacity = 17 }) → ⊥
+tables_too_small_for_a_share wide = omega (arith, wide)
+
+-- what `--weigh=packets 10.0.0.0/8 --capture a.pcap 20.0.0.0/8` says
+pub weighing_that_is_said : values_in arguments Weigh ≡ Some (codes "packets")
+weighing_that_is_said = refl
+
+pub capacity_that_is_not_said : values_in arguments Capacity ≡ None
+capacity_that_is_not_said = refl
+
+pub packets_by_their_word : SetsWeigh (values_in arguments Weigh) Packets
+packets_by_their_word = refl
+
+pub in_turn_by_default : SetsDeal (values_in arguments Deal) RoundRobin
+in_turn_by_default = refl
+
+pub capacity_by_default : SetsNumber Capacity 512 (values_in arguments Capacity) 512
+capacity_by_default = refl
+
+pub sixteen_shards_by_their_number : SetsNumber Shards 4 (Some (codes "16")) 16
+unfolding digits
+sixteen_shards_by_their_number = (record { spelled = refl; bounded = omega arith }, (omega arith, omega arith))
