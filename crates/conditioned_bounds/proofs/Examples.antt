@@ -1,10 +1,11 @@
--- Worked examples of the definitions, each by computing.
-use Rattle.std.proofs.Common.{◌≡◌, ℕ, cond, List, [], ◌∷◌, refl, pos, negsuc}
+-- Worked examples of the definitions, most by computing.
+use Rattle.std.proofs.Common.{◌≡◌, ℕ, ◌-◌, ◌*◌, ◌≤◌, cond, List, [], ◌∷◌, refl, pos, negsuc, arith}
+use Rattle.std.proofs.lemmas.List.Elements.{All-from_recursion}
 use Rattle.prefix_lattice.specs.RecordValue.{RecordValue}
 use Rattle.prefix_lattice.specs.PrefixValue.{PrefixValue}
-use Rattle.prefix_lattice.specs.Prefix.{covers}
+use Rattle.prefix_lattice.specs.Prefix.{covers, weight_of}
 use Rattle.prefix_lattice.specs.Explaining.{conditioned_weight}
-use Rattle.conditioned_bounds.specs.Bounds.{bound_of, asked_of}
+use Rattle.conditioned_bounds.specs.Bounds.{bound_of, asked_of, HoldWeights, AreNarrow, AreWeights}
 
 -- 9 bytes from 10.1.1.1 to 20.1.1.1
 abbrev packet : RecordValue
@@ -41,3 +42,30 @@ without_lines_it_is_the_high = refl
 -- the prefix, its line, and no meet
 pub asks_the_prefix_and_its_line : asked_of root (record { source = 10 ∷ []; dest = [] } ∷ []) ≡ root ∷ record { source = 10 ∷ []; dest = [] } ∷ []
 asks_the_prefix_and_its_line = refl
+
+-- the root, its three stairs, and the two meets that are kept: all six cover the packet
+pub wide_intervals_hold_the_weights : HoldWeights (where_covered 7) (where_covered 11) (packet ∷ []) (asked_of root stairs)
+wide_intervals_hold_the_weights =
+    let within : (7 ≤ 9) × (9 ≤ 11) = (omega arith, omega arith) in
+    All-from_recursion (λ prefix. (where_covered 7 prefix ≤ weight_of prefix (packet ∷ [])) × (weight_of prefix (packet ∷ []) ≤ where_covered 11 prefix))
+    (asked_of root stairs) (within, (within, (within, (within, (within, (within, tt))))))
+
+pub intervals_up_to_8_do_not_hold_a_weight_of_9 : ¬ HoldWeights (where_covered 7) (where_covered 8) (packet ∷ []) (root ∷ [])
+intervals_up_to_8_do_not_hold_a_weight_of_9 held = let most : 9 ≤ 8 = (held 0 root (omega arith)).1 in omega (arith, most)
+
+-- four wide, twice, is at most nine
+pub wide_intervals_are_narrow_for_two_entries : AreNarrow (where_covered 7) (where_covered 11) 2 9 (root ∷ stairs)
+wide_intervals_are_narrow_for_two_entries =
+    let narrow : 8 ≤ 9 = omega arith in
+    All-from_recursion (λ prefix. (where_covered 11 prefix - where_covered 7 prefix) * 2 ≤ 9) (root ∷ stairs) (narrow, (narrow, (narrow, (narrow, tt))))
+
+pub and_too_wide_for_three : ¬ AreNarrow (where_covered 7) (where_covered 11) 3 9 (root ∷ stairs)
+and_too_wide_for_three narrow = let most : 12 ≤ 9 = narrow 0 root (omega arith) in omega (arith, most)
+
+pub exact_intervals_are_the_weights : AreWeights (where_covered 9) (where_covered 9) (packet ∷ []) (root ∷ stairs)
+exact_intervals_are_the_weights =
+    All-from_recursion (λ prefix. (where_covered 9 prefix ≡ weight_of prefix (packet ∷ [])) × (where_covered 9 prefix ≡ weight_of prefix (packet ∷ [])))
+    (root ∷ stairs) ((refl, refl), ((refl, refl), ((refl, refl), ((refl, refl), tt))))
+
+pub and_wide_ones_are_not : ¬ AreWeights (where_covered 7) (where_covered 11) (packet ∷ []) (root ∷ stairs)
+and_wide_ones_are_not weights = let low : 7 ≡ 9 = (weights 0 root (omega arith)).0 in omega (arith, low)

@@ -13,7 +13,7 @@ use std::alloc::{AllocError, Global};
 /// A bound on the conditioned weight of a prefix, and of how many intervals it is made.
 #[derive(Clone, Copy, Debug, PartialEq, Eq)]
 pub struct BoundParts {
-    /// The bound, in bytes or packets.
+    /// The bound, in bytes or packets. It is below 0 where the lows of the lines are more than the highs.
     pub value: i128,
     /// How many closest lines the prefix has.
     pub closest: u64,

@@ -13,7 +13,8 @@ pub trait Intervals {
     /// The greatest weight that each prefix can have.
     ghost high: { Self → PrefixValue → ℕ };
 
-    /// The least and the greatest weight that the prefix can have, in bytes or packets.
+    /// The least and the greatest weight that the prefix can have, in bytes or packets. The least is at most the
+    /// greatest, which is below 2^60.
     fn interval(&self, prefix: &Prefix) -> (u64, u64)
         ensures least { result.0 ≡ low self.now prefix.now }
         ensures most { result.1 ≡ high self.now prefix.now }
