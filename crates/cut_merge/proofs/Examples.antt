@@ -1,16 +1,25 @@
--- Worked examples of the definitions, each by computing.
-use Rattle.std.proofs.Common.{◌≡◌, ℕ, ◌+◌, List, [], ◌∷◌, refl}
+-- Worked examples of the definitions, most by computing.
+use Rattle.std.proofs.Common.{◌≡◌, ℕ, zero, suc, ◌+◌, ◌*◌, ◌^◌, ◌≤◌, List, [], ◌∷◌, ◌++◌, refl, sym, ap, ◌∙◌, subst, arith}
 use Rattle.std.proofs.Math.ListN.{replicate}
+use Rattle.std.specs.Prelude.{slice_index_or}
+use Rattle.std.specs.Map.{keys_of}
 use Rattle.prefix_lattice.specs.RecordValue.{RecordValue}
-use Rattle.prefix_lattice.specs.PrefixValue.{PrefixValue}
+use Rattle.prefix_lattice.specs.NodeValue.{index_of}
+use Rattle.prefix_lattice.specs.Bytes.{AreLeadingBytes}
+use Rattle.prefix_lattice.specs.PrefixValue.{PrefixValue, IsPrefix}
+use Rattle.prefix_lattice.specs.Prefix.{node_of, key_of}
 use Rattle.space_saving.specs.declared.entry.Entry.{Entry}
-use Rattle.space_saving.specs.Table.{TableValue}
+use Rattle.space_saving.specs.Table.{TableValue, Interval}
 use Rattle.shard_state.specs.Tables.{fold_from}
 use Rattle.shard_state.specs.SnapshotValue.{SnapshotValue}
 use Rattle.shard_state.specs.CutValue.{CutValue, total_of_cut}
 use Rattle.cut_merge.specs.FirstSeen.{first_seen}
-use Rattle.cut_merge.specs.Tables.{merged_interval, monitored_keys}
-use Rattle.cut_merge.specs.Span.{span, monitored_at}
+use Rattle.cut_merge.specs.Tables.{merged_interval, table_keys, monitored_keys}
+use Rattle.cut_merge.specs.Span.{node_tables, span, monitored_at, IsWithinTotal}
+use Rattle.cut_merge.specs.declared.gain.Gain.{Gain}
+use Rattle.cut_merge.specs.NodeMergeValue.{NodeMergeValue}
+use Rattle.cut_merge.specs.MergedValue.{MergedValue}
+use Rattle.cut_merge.specs.Standing.{nothing_merged, interval_for_key, merge_at, interval_for, candidates_at, StandsForCut, IsMerged}
 
 -- each key stands where it is seen first
 pub keys_are_seen_once : first_seen (3 ∷ 1 ∷ 3 ∷ 2 ∷ 1 ∷ []) ≡ 3 ∷ 1 ∷ 2 ∷ []
@@ -44,6 +53,9 @@ key_in_the_full_table = refl
 pub key_in_no_table : merged_interval tables 1 ≡ record { low = 0; high = 3 }
 key_in_no_table = refl
 
+pub keys_of_the_full_table : table_keys (record { capacity = 2; entries = entry 8 3 1 ∷ entry 5 7 0 ∷ [] }) ≡ 8 ∷ 5 ∷ []
+keys_of_the_full_table = refl
+
 -- the keys of the first table, and then none that is new
 pub keys_of_all_tables : monitored_keys tables ≡ 8 ∷ 5 ∷ []
 keys_of_all_tables = refl
@@ -63,6 +75,17 @@ cut = record {
   shards = shard 3 (packet 1 ∷ packet 1 ∷ packet 2 ∷ []) ∷ shard 3 (packet 1 ∷ packet 3 ∷ packet 4 ∷ []) ∷ [];
 }
 
+-- the key of a host and the one destination, at the node that keeps so much of it
+abbrev host_key : ℕ → ℕ → ℕ
+host_key host dest = (0x0a000000 + host) * 2 ^ 32 + dest
+
+-- at the node that keeps whole sources alone, each shard counts the hosts; the last of them carries the count that it took over as its error
+pub tables_of_the_sources : node_tables (record { source_bytes = 4; dest_bytes = 0 }) cut
+    ≡ record { capacity = 2; entries = entry (host_key 2 0) 1 0 ∷ entry (host_key 1 0) 2 0 ∷ [] }
+    ∷ record { capacity = 2; entries = entry (host_key 3 0) 1 0 ∷ entry (host_key 4 0) 2 1 ∷ [] }
+    ∷ []
+tables_of_the_sources = refl
+
 -- 10.0.0.HOST/32 20.0.0.1/32
 abbrev host_prefix : ℕ → PrefixValue
 host_prefix host = record { source = 10 ∷ 0 ∷ 0 ∷ host ∷ []; dest = 20 ∷ 0 ∷ 0 ∷ 1 ∷ [] }
@@ -70,6 +93,13 @@ host_prefix host = record { source = 10 ∷ 0 ∷ 0 ∷ host ∷ []; dest = 20 �
 -- host 1 has 3 packets: two that the first shard counts for sure, and one that may stand in the second shard's least count
 pub span_of_a_host : span cut (host_prefix 1) ≡ record { low = 2; high = 3 }
 span_of_a_host = refl
+
+pub span_within_the_total : IsWithinTotal 6 (span cut (host_prefix 1))
+span_within_the_total = let low : (span cut (host_prefix 1)).low ≡ 2 = refl in let high : (span cut (host_prefix 1)).high ≡ 3 = refl in
+    record { ordered = omega (arith, low, high); within_total = omega (arith, high) }
+
+pub no_span_is_above_the_total : ¬ IsWithinTotal 2 (span cut (host_prefix 1))
+no_span_is_above_the_total within = let high : 3 ≤ 2 = within.within_total in omega (arith, high)
 
 -- one entry in each shard counts all hosts of 10.0.0.0/24
 pub span_of_all_hosts : span cut (record { source = 10 ∷ 0 ∷ 0 ∷ []; dest = 20 ∷ 0 ∷ 0 ∷ 1 ∷ [] }) ≡ record { low = 6; high = 6 }
@@ -82,3 +112,80 @@ hosts_of_both_shards = refl
 -- three packets in each shard
 pub total_of_both_shards : total_of_cut cut ≡ 6
 total_of_both_shards = refl
+
+abbrev gain : ℕ → ℕ → Gain
+gain low high = record { low = low; high = high }
+
+-- the tables of whole addresses merged: what each host gains, and the least counts 1 and 1 of both full tables
+abbrev hosts : NodeMergeValue
+hosts = record {
+  gains = (host_key 2 0x14000001, gain 1 0) ∷ (host_key 1 0x14000001, gain 2 1) ∷ (host_key 3 0x14000001, gain 1 0) ∷ (host_key 4 0x14000001, gain 1 1) ∷ [];
+  missing = 2;
+}
+
+-- they stand at the last of the 25 nodes
+abbrev merged : MergedValue
+merged = record { capacity = 2; total = 6; nodes = replicate 24 nothing_merged ++ hosts ∷ [] }
+
+pub whole_addresses_stand_last : merge_at (record { source_bytes = 4; dest_bytes = 4 }) merged ≡ hosts
+whole_addresses_stand_last = refl
+
+pub merged_intervals_are_spans : interval_for merged (host_prefix 1) ≡ span cut (host_prefix 1)
+merged_intervals_are_spans = refl
+
+-- host 9 may have been missed in both shards
+pub interval_of_a_host_that_no_shard_monitors : interval_for merged (host_prefix 9) ≡ record { low = 0; high = 2 }
+interval_of_a_host_that_no_shard_monitors = refl
+
+pub candidates_are_the_monitored_keys : candidates_at merged (record { source_bytes = 4; dest_bytes = 4 }) ≡ monitored_at cut (record { source_bytes = 4; dest_bytes = 4 })
+candidates_are_the_monitored_keys = refl
+
+-- 0.0.0.0/0 0.0.0.0/0
+abbrev root : PrefixValue
+root = record { source = []; dest = [] }
+
+root_is_prefix : IsPrefix root
+root_is_prefix = let none : AreLeadingBytes [] = record { few = omega arith; bytes = λ place. omega arith } in record { source = none; dest = none }
+
+pub merged_of_one_node_does_not_stand_for_the_cut : ¬ StandsForCut merged cut
+merged_of_one_node_does_not_stand_for_the_cut stands =
+    let high : 0 ≡ 6 = ap (λ (i : Interval). i.high) (stands.intervals root root_is_prefix) in omega (arith, high)
+
+-- a cut of one shard that counted nothing
+abbrev nothing_counted : CutValue
+nothing_counted = record { capacity = 2; shards = shard 0 [] ∷ [] }
+
+-- what is merged of it
+abbrev nothing : MergedValue
+nothing = record { capacity = 2; total = 0; nodes = replicate 25 nothing_merged }
+
+-- the one value of a list of one value
+alike : {X : Type 0} (x : X) (length place : ℕ) → slice_index_or (replicate length x) place x ≡ x
+alike x zero place = refl
+alike x (suc length) zero = refl
+alike x (suc length) (suc place) = alike x length place
+
+pub nothing_stands_for_nothing_counted : StandsForCut nothing nothing_counted
+nothing_stands_for_nothing_counted =
+    let table : List Entry → TableValue = λ entries. record { capacity = 2; entries = entries } in
+    record {
+      capacity = refl;
+      total = refl;
+      intervals = λ prefix is_prefix.
+          ap (λ merge. interval_for_key merge (key_of prefix)) (alike nothing_merged 25 (index_of (node_of prefix)))
+          ∙ sym (ap (λ entries. merged_interval (table entries ∷ []) (key_of prefix)) (alike [] 25 (index_of (node_of prefix))));
+      candidates = λ node is_node.
+          ap (λ (merge : NodeMergeValue). keys_of merge.gains) (alike nothing_merged 25 (index_of node))
+          ∙ sym (ap (λ entries. monitored_keys (table entries ∷ [])) (alike [] 25 (index_of node)));
+    }
+
+pub nothing_is_merged : IsMerged nothing
+nothing_is_merged = record {
+  bounded = omega arith;
+  shape = refl;
+  intervals = λ place key. subst (λ merge. IsWithinTotal 0 (interval_for_key merge key)) (sym (alike nothing_merged 25 place)) (record { ordered = omega arith; within_total = omega arith });
+}
+
+-- a total of 2 is below the high of host 1
+pub merged_intervals_are_within_the_total : ¬ IsMerged (record merged { total = 2 })
+merged_intervals_are_within_the_total kept = let high : 3 ≤ 2 = (kept.intervals 24 (host_key 1 0x14000001)).within_total in omega (arith, high)

@@ -1,4 +1,5 @@
 pub mod Examples
+pub mod ExamplesOfMerging
 pub mod Noting
 pub mod NotingEntries
 pub mod FirstSeenLemmas

@@ -13,9 +13,9 @@ use Rattle.shard_state.specs.SnapshotValue.{SnapshotValue, table_at}
 use Rattle.shard_state.specs.CutValue.{CutValue, IsCut, total_of_cut}
 use Rattle.cut_merge.specs.NodeMergeValue.{NodeMergeValue}
 use Rattle.cut_merge.specs.MergedValue.{MergedValue}
-use Rattle.cut_merge.specs.Merging.{IsBounded, interval_for_key, AddsTable, StandsForTables}
+use Rattle.cut_merge.specs.Merging.{IsBounded, AddsTable, StandsForTables}
 use Rattle.cut_merge.specs.Span.{node_tables, IsWithinTotal}
-use Rattle.cut_merge.specs.Standing.{nothing_merged, IsMerged, StandsForCut}
+use Rattle.cut_merge.specs.Standing.{nothing_merged, IsMerged, StandsForCut, interval_for_key}
 use Rattle.cut_merge.proofs.MergingTables.{IsMergedBounded, counted, merged_bounded, stands_for_more}
 use Rattle.cut_merge.proofs.CutTables.{TablesAreBounded, counted-at}
 

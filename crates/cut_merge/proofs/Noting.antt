@@ -4,8 +4,8 @@ use Rattle.std.proofs.lemmas.Bool.{eqb-true}
 use Rattle.std.specs.List.{list_any}
 use Rattle.std.specs.Map.{lookup, keys_of}
 use Rattle.cut_merge.specs.declared.gain.Gain.{Gain}
-use Rattle.cut_merge.specs.Gains.{gain_of, noted, plus, no_gain}
-use Rattle.cut_merge.specs.Merging.{seen}
+use Rattle.cut_merge.specs.Gains.{gain_of, noted, no_gain}
+use Rattle.cut_merge.specs.Merging.{seen, plus}
 
 -- a key has an entry exactly where it stands among the keys
 some_among : (key : ℕ) (gains : List (ℕ × Gain)) → is_some (lookup (λ other. eqb key other) gains) ≡ list_any (λ other. eqb key other) (keys_of gains)

@@ -8,8 +8,8 @@ use Rattle.std.specs.Map.{keys_of}
 use Rattle.space_saving.specs.Table.{TableValue, entry_of}
 use Rattle.space_saving.specs.declared.entry.Entry.{Entry}
 use Rattle.cut_merge.specs.declared.gain.Gain.{Gain}
-use Rattle.cut_merge.specs.Merging.{seen, gain_from}
-use Rattle.cut_merge.specs.Gains.{gain_of, plus, no_gain}
+use Rattle.cut_merge.specs.Merging.{seen, gain_from, plus}
+use Rattle.cut_merge.specs.Gains.{gain_of, no_gain}
 use Rattle.cut_merge.proofs.Noting.{Notes}
 
 -- the entries before a place are noted

@@ -1,15 +1,11 @@
 -- What tables add to the intervals of the keys that they monitor.
-use Rattle.std.specs.Prelude.{ℕ, ◌+◌, ◌==◌, List, Option, None, Some}
+use Rattle.std.specs.Prelude.{ℕ, ◌==◌, List, Option, None, Some}
 use Rattle.std.specs.Map.{lookup}
 use Rattle.cut_merge.specs.declared.gain.Gain.{Gain}
 
 -- nothing
 abbrev pub no_gain : Gain
 no_gain = record { low = 0; high = 0 }
-
--- two gains together
-abbrev pub plus : Gain → Gain → Gain
-plus gain more = record { low = gain.low + more.low; high = gain.high + more.high }
 
 -- what is noted, or nothing
 abbrev pub noted : Option Gain → Gain

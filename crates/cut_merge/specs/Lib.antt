@@ -3,6 +3,7 @@ pub mod Tables
 pub mod Span
 pub mod Gains
 pub mod NodeMergeValue
-pub mod Merging
 pub mod MergedValue
 pub mod Standing
+-- within the crate
+pub mod Merging

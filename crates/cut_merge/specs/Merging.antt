@@ -1,13 +1,14 @@
--- How tables of one node are merged, one after another: what is kept of them, and what that says.
+-- How tables of one node are merged, one after another, which no public contract cites.
 use Rattle.std.specs.Prelude.{ℕ, ◌≡◌, ◌==◌, ◌+◌, ◌-◌, ◌≤◌, List, [], ◌∷◌, ◌++◌, Option, None, Some, fold, if◌then◌else◌}
 use Rattle.std.specs.List.{list_any}
 use Rattle.std.specs.Map.{keys_of}
-use Rattle.space_saving.specs.Table.{TableValue, Interval, entry_of, interval_in, interval_from, total_count}
+use Rattle.space_saving.specs.Table.{TableValue, entry_of, interval_in, interval_from, total_count}
 use Rattle.space_saving.specs.declared.entry.Entry.{Entry}
 use Rattle.cut_merge.specs.declared.gain.Gain.{Gain}
-use Rattle.cut_merge.specs.Gains.{gain_of, plus, no_gain}
+use Rattle.cut_merge.specs.Gains.{gain_of, no_gain}
 use Rattle.cut_merge.specs.NodeMergeValue.{NodeMergeValue}
 use Rattle.cut_merge.specs.Tables.{merged_interval, table_keys, monitored_keys}
+use Rattle.cut_merge.specs.Standing.{interval_for_key}
 
 -- the keys that were seen once one more is: a new one goes behind the others
 abbrev pub seen : List ℕ → ℕ → List ℕ
@@ -23,14 +24,14 @@ pub record IsBounded (key : ℕ) (table : TableValue) : Type 0 where
   pub within_total : (interval_in table key).high ≤ total_count table.entries
   pub above_missing : missing_high table ≤ (interval_in table key).high
 
+-- two gains together
+abbrev pub plus : Gain → Gain → Gain
+plus gain more = record { low = gain.low + more.low; high = gain.high + more.high }
+
 -- what a table adds to the gain of a key, by the entry that the key has there
 abbrev pub gain_from : TableValue → Option Entry → Gain
 gain_from table None = no_gain
 gain_from table (Some entry) = record { low = entry.count - entry.error; high = entry.count - missing_high table }
-
--- what merged tables say of a key
-abbrev pub interval_for_key : NodeMergeValue → ℕ → Interval
-interval_for_key merge key = record { low = (gain_of key merge.gains).low; high = merge.missing + (gain_of key merge.gains).high }
 
 -- a table was merged in
 pub record AddsTable (old : NodeMergeValue) (table : TableValue) (new : NodeMergeValue) : Type 0 where

@@ -1,12 +1,12 @@
 -- What merged tables say, and when they stand for a cut.
-use Rattle.std.specs.Prelude.{ℕ, ◌≡◌, ◌^◌, ◌<◌, List, [], length, slice_index_or}
+use Rattle.std.specs.Prelude.{ℕ, ◌≡◌, ◌+◌, ◌^◌, ◌<◌, List, [], length, slice_index_or}
 use Rattle.std.specs.Map.{keys_of}
 use Rattle.prefix_lattice.specs.NodeValue.{NodeValue, IsNode, index_of}
 use Rattle.prefix_lattice.specs.PrefixValue.{PrefixValue, IsPrefix}
 use Rattle.prefix_lattice.specs.Prefix.{node_of, key_of}
 use Rattle.space_saving.specs.Table.{Interval}
 use Rattle.shard_state.specs.CutValue.{CutValue, total_of_cut}
-use Rattle.cut_merge.specs.Merging.{interval_for_key}
+use Rattle.cut_merge.specs.Gains.{gain_of}
 use Rattle.cut_merge.specs.NodeMergeValue.{NodeMergeValue}
 use Rattle.cut_merge.specs.MergedValue.{MergedValue}
 use Rattle.cut_merge.specs.Span.{span, monitored_at, IsWithinTotal}
@@ -18,6 +18,10 @@ nothing_merged = record { gains = []; missing = 0 }
 -- the merged tables of a node
 abbrev pub merge_at : NodeValue → MergedValue → NodeMergeValue
 merge_at node merged = slice_index_or merged.nodes (index_of node) nothing_merged
+
+-- what the merged tables of a node say of a key
+abbrev pub interval_for_key : NodeMergeValue → ℕ → Interval
+interval_for_key merge key = record { low = (gain_of key merge.gains).low; high = merge.missing + (gain_of key merge.gains).high }
 
 -- what merged tables say of a prefix
 abbrev pub interval_for : MergedValue → PrefixValue → Interval

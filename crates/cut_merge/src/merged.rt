@@ -3,9 +3,9 @@
 ghost use Rattle.std.specs.Prelude.{◌≡◌, ◌^◌, ◌<◌, ◌≤◌, ℕ, IfOk};
 ghost use Rattle.prefix_lattice.specs.NodeValue.{IsNode};
 ghost use Rattle.shard_state.specs.CutValue.{CutValue, total_of_cut};
-ghost use Rattle.cut_merge.specs.Merging.{interval_for_key, StandsForTables};
+ghost use Rattle.cut_merge.specs.Merging.{StandsForTables};
 ghost use Rattle.cut_merge.specs.Span.{node_tables, span, monitored_at, IsWithinTotal};
-ghost use Rattle.cut_merge.specs.Standing.{merge_at, interval_for, candidates_at, StandsForCut};
+ghost use Rattle.cut_merge.specs.Standing.{merge_at, interval_for, candidates_at, StandsForCut, interval_for_key};
 
 use crate::laws::tables_are_bounded;
 use crate::node_merge::NodeMerge;
@@ -35,7 +35,8 @@ impl Model for Merged {
 }
 
 impl Merged {
-    /// Merges the tables of a cut.
+    /// Merges the tables of a cut, which counted less than 2^60 together. A cut of at most 16 shards always did.
+    /// Want of memory is the only error.
     pub fn of(alloc: Global, cut: &Cut) -> Result<Merged, AllocError>
         requires { total_of_cut cut.now < 2 ^ 60 }
         ensures { IfOk result (λ merged. StandsForCut merged cut.now) }
@@ -52,7 +53,7 @@ impl Merged {
         })
     }
 
-    /// The weight that the tables counted together, below 2^60.
+    /// The weight that the tables counted together, in bytes or packets, below 2^60.
     pub fn total(&self) -> u64
         ensures total { result ≡ self.now.total }
         ensures bounded { result < 2 ^ 60 }
@@ -67,8 +68,8 @@ impl Merged {
         self.capacity
     }
 
-    /// The least and the greatest weight that the prefix can have had over all shards, whether or not one
-    /// monitors it.
+    /// The least and the greatest weight that the prefix can have had over all shards, in bytes or packets, whether
+    /// or not a shard monitors it. The least is at most the greatest, which is at most the total.
     pub fn interval(&self, prefix: &Prefix) -> (u64, u64)
         ensures low { result.0 ≡ (interval_for self.now prefix.now).low }
         ensures high { result.1 ≡ (interval_for self.now prefix.now).high }

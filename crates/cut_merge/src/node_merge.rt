@@ -3,9 +3,10 @@
 ghost use Rattle.std.specs.Prelude.{◌≡◌, ◌==◌, ◌+◌, ◌^◌, ◌<◌, ◌≤◌, ℕ, [], OnOk, fold, if◌then◌else◌};
 ghost use Rattle.std.specs.Map.{keys_of};
 ghost use Rattle.space_saving.specs.Table.{entry_of, total_count};
-ghost use Rattle.cut_merge.specs.Merging.{seen, interval_for_key, missing_high, gain_from, AddsTable};
+ghost use Rattle.cut_merge.specs.Merging.{seen, missing_high, gain_from, AddsTable, plus};
+ghost use Rattle.cut_merge.specs.Standing.{interval_for_key};
 ghost use Rattle.cut_merge.specs.Tables.{table_keys};
-ghost use Rattle.cut_merge.specs.Gains.{gain_of, plus};
+ghost use Rattle.cut_merge.specs.Gains.{gain_of};
 
 use crate::gain::Gain;
 use indexmap::IndexMap;

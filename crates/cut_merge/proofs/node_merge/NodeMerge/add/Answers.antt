@@ -1,6 +1,6 @@
 use Rattle.std.proofs.Common.{ℕ, ◌+◌, ◌<◌, ◌^◌, sym, subst, arith}
 use Rattle.space_saving.specs.Table.{total_count}
-use Rattle.cut_merge.specs.Merging.{interval_for_key}
+use Rattle.cut_merge.specs.Standing.{interval_for_key}
 use Rattle.cut_merge.specs.NodeMergeValue.{NodeMergeValue}
 use Rattle.cut_merge.proofs.node_merge.NodeMerge.add.Goals as goal
 
