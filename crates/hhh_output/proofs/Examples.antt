@@ -1,18 +1,37 @@
--- Worked examples of the definitions, most by computing.
-use Rattle.std.proofs.Common.{◌≡◌, [], ◌∷◌, refl, arith}
+-- Worked examples of thresholds, lines, reports and their tests, most by computing.
+use Rattle.std.proofs.Common.{◌≡◌, ℕ, zero, suc, ◌≤◌, ◌<◌, ◌≤ℤ◌, List, [], ◌∷◌, length, Contains, Bool, true, false, eqb, refl, ap, ◌∙◌, subst, arith, pos}
+use Rattle.std.proofs.Math.ListN.{replicate}
+use Rattle.std.proofs.lemmas.Bool.{and_parts, eqb-true, false≢true}
+use Rattle.std.proofs.lemmas.Int.{ints}
+use Rattle.std.proofs.lemmas.List.Elements.{All-nil, All-cons}
+use Rattle.std.proofs.lemmas.List.Kept.{AllPairs-cons}
+use Rattle.std.specs.Prelude.{slice_index_or, slice_index}
+use Rattle.std.specs.declared.cmp.Ordering.{Ordering}
+use Rattle.std.specs.declared.cmp.Ordering.TheVariants.{Less, Equal, Greater}
 use Rattle.prefix_lattice.specs.RecordValue.{RecordValue}
-use Rattle.prefix_lattice.specs.PrefixValue.{PrefixValue}
-use Rattle.prefix_lattice.specs.Prefix.{weight_of}
+use Rattle.prefix_lattice.specs.NodeValue.{index_of}
+use Rattle.prefix_lattice.specs.Bytes.{begins_with}
+use Rattle.prefix_lattice.specs.PrefixValue.{PrefixValue, IsPrefix}
+use Rattle.prefix_lattice.specs.Prefix.{covers, weight_of, node_of, key_of}
+use Rattle.prefix_lattice.specs.Lattice.{under, report_order}
 use Rattle.prefix_lattice.specs.Explaining.{conditioned_weight}
 use Rattle.shard_state.specs.Tables.{fold_from}
-use Rattle.shard_state.specs.SnapshotValue.{no_entries}
+use Rattle.shard_state.specs.SnapshotValue.{no_entries, empty_snapshot}
 use Rattle.shard_state.specs.CutValue.{CutValue}
-use Rattle.hhh_output.specs.Lines.{prefixes_of}
-use Rattle.hhh_output.specs.Output.{low_in, high_in}
-use Rattle.hhh_output.specs.Selecting.{nodes_before, nodes_down}
-use Rattle.hhh_output.specs.Sound.{HoldsWeight, IsNarrow}
-use Rattle.hhh_output.specs.Threshold.{IsThreshold}
+use Rattle.cut_merge.specs.Tables.{monitored_keys}
+use Rattle.hhh_output.specs.Lines.{prefixes_of, AreLines}
+use Rattle.hhh_output.specs.Output.{IsMonitored, low_in, high_in, IsUnexplained, IsLineOf, IsReportOf}
+use Rattle.hhh_output.specs.Same.{AreSame}
+use Rattle.hhh_output.specs.Sound.{HoldsWeight, IsNarrow, IsJustified, IsSound}
+use Rattle.hhh_output.specs.Threshold.{IsHeavy, IsThreshold}
 use Rattle.hhh_output.specs.declared.line.Line.{Line}
+use Rattle.hhh_output.specs.declared.report.Report.{Report}
+
+pub two_of_101_are_a_hundredth : IsHeavy 10000 101 2
+two_of_101_are_a_hundredth = record { some = omega arith; share = omega arith }
+
+pub one_of_101_is_not : ¬ IsHeavy 10000 101 1
+one_of_101_is_not heavy = omega (arith, heavy.share)
 
 -- a hundredth of 101 is heavy from 2 on
 pub threshold_of_a_hundredth : IsThreshold 10000 101 2
@@ -53,13 +72,6 @@ narrow_line = omega arith
 pub explained_weight : conditioned_weight (record { source = []; dest = [] }) (prefix ∷ []) (packet ∷ []) ≡ 0
 explained_weight = refl
 
--- of the nodes one has level 8, and two have level 7
-pub nodes_of_the_first_levels : nodes_down 2 ≡ 3
-nodes_of_the_first_levels = refl
-
-pub nodes_of_level_4 : nodes_before 4 25 ≡ 5
-nodes_of_level_4 = refl
-
 -- one shard that counted the packet
 abbrev cut : CutValue
 cut = record { capacity = 4; shards = record { capacity = 4; position = 1; tables = fold_from 0 4 no_entries (packet ∷ []) } ∷ [] }
@@ -71,3 +83,200 @@ low_of_the_prefix = refl
 pub high_of_the_prefix : high_in cut prefix ≡ 100
 unfolding no_entries
 high_of_the_prefix = refl
+
+-- 0.0.0.0/0 0.0.0.0/0
+abbrev pub root : PrefixValue
+root = record { source = []; dest = [] }
+
+-- 10.1.2.3/32 20.1.2.3/32, which is the packet's own
+abbrev pub whole : PrefixValue
+whole = record { source = 10 ∷ 1 ∷ 2 ∷ 3 ∷ []; dest = 20 ∷ 1 ∷ 2 ∷ 3 ∷ [] }
+
+pub whole_is_prefix : IsPrefix whole
+whole_is_prefix = record { source = record { few = omega arith; bytes = source }; dest = record { few = omega arith; bytes = dest } }
+  where
+    source : (place : ℕ) → slice_index whole.source place < 256
+    source zero = omega arith
+    source (suc zero) = omega arith
+    source (suc (suc zero)) = omega arith
+    source (suc (suc (suc zero))) = omega arith
+    source (suc (suc (suc (suc place)))) = omega arith
+    dest : (place : ℕ) → slice_index whole.dest place < 256
+    dest zero = omega arith
+    dest (suc zero) = omega arith
+    dest (suc (suc zero)) = omega arith
+    dest (suc (suc (suc zero))) = omega arith
+    dest (suc (suc (suc (suc place)))) = omega arith
+
+-- the lines of the packet's own prefix and of the root
+abbrev pub own : Line
+own = record { prefix = whole; lo = 100; hi = 100 }
+
+abbrev pub of_all : Line
+of_all = record { prefix = root; lo = 100; hi = 100 }
+
+-- a line stands before another in a report
+abbrev Precedes : Line → Line → Type 0
+Precedes line later = report_order line.prefix later.prefix ≡ Less
+
+pub no_lines : AreLines []
+no_lines = record { few = omega arith; ordered = λ place other within. absurd (omega arith); rising = λ place later other before within. absurd (omega arith) }
+
+pub own_alone : AreLines (own ∷ [])
+own_alone = record {
+  few = omega arith;
+  ordered = All-cons (λ (line : Line). line.lo ≤ line.hi) own [] (omega arith) no_lines.ordered;
+  rising = AllPairs-cons Precedes own [] (All-nil (Precedes own)) no_lines.rising;
+}
+
+pub lines_of_greater_level_come_first : AreLines (own ∷ of_all ∷ [])
+lines_of_greater_level_come_first = record {
+  few = omega arith;
+  ordered = All-cons (λ (line : Line). line.lo ≤ line.hi) own (of_all ∷ []) (omega arith) (All-cons (λ (line : Line). line.lo ≤ line.hi) of_all [] (omega arith) no_lines.ordered);
+  rising = AllPairs-cons Precedes own (of_all ∷ []) (All-cons (Precedes own) of_all [] refl (All-nil (Precedes own)))
+      (AllPairs-cons Precedes of_all [] (All-nil (Precedes of_all)) no_lines.rising);
+}
+
+-- whether an order is the one of two lines that follow one another
+abbrev is_less : Ordering → Bool
+is_less Less = true
+is_less Equal = false
+is_less Greater = false
+
+pub lines_of_lower_level_do_not : ¬ AreLines (of_all ∷ own ∷ [])
+lines_of_lower_level_do_not lines = false≢true (ap is_less (lines.rising 0 1 own (omega arith) (omega arith)))
+
+pub no_prefix_has_two_lines : ¬ AreLines (own ∷ own ∷ [])
+no_prefix_has_two_lines lines = false≢true (ap is_less (lines.rising 0 1 own (omega arith) (omega arith)))
+
+-- the packet's own prefix is a line, whether or not it stands among the lines already
+pub own_line_of_the_cut : IsLineOf cut 1 [] own
+unfolding no_entries
+own_line_of_the_cut =
+    let unexplained : pos 1 ≤ℤ pos 100 = omega (arith, ints) in
+    record { is_prefix = whole_is_prefix; low = refl; high = refl; monitored = (0, omega arith, refl); heavy = omega arith; unexplained = unexplained }
+
+pub no_line_above_all_weight : ¬ IsLineOf cut 101 [] own
+no_line_above_all_weight line = omega (arith, line.heavy)
+
+pub root_is_monitored : IsMonitored cut root
+unfolding no_entries
+root_is_monitored = (0, omega arith, refl)
+
+-- 11.0.0.0/8 0.0.0.0/0
+abbrev elsewhere : PrefixValue
+elsewhere = record { source = 11 ∷ []; dest = [] }
+
+pub another_network_is_not : ¬ IsMonitored cut elsewhere
+unfolding no_entries
+another_network_is_not monitored = other monitored.0 monitored.1 monitored.2
+  where
+    other : (place : ℕ) → place < 1 → slice_index_or (key_of (record { source = 10 ∷ []; dest = [] }) ∷ []) place (key_of elsewhere) ≡ key_of elsewhere → ⊥
+    other zero within is = omega (arith, is)
+    other (suc place) within is = omega arith
+
+-- 100, of which the line below takes 100
+pub root_is_explained_by_the_line : ¬ IsUnexplained cut 1 (whole ∷ []) root
+unfolding no_entries
+root_is_explained_by_the_line unexplained = let most : pos 1 ≤ℤ pos 0 = unexplained in omega (arith, ints, most)
+
+pub and_unexplained_without_it : IsUnexplained cut 1 [] root
+unfolding no_entries
+and_unexplained_without_it = let most : pos 1 ≤ℤ pos 100 = omega (arith, ints) in most
+
+-- the report of the cut, and one that shows nothing
+abbrev told : Report
+told = record { positions = 1 ∷ []; total = 100; threshold = 1; lines = own ∷ []; are_lines = own_alone }
+
+abbrev silent : Report
+silent = record { positions = 1 ∷ []; total = 100; threshold = 1; lines = []; are_lines = no_lines }
+
+pub reports_that_show_the_same : AreSame told told
+reports_that_show_the_same = record { positions = refl; total = refl; threshold = refl; lines = refl }
+
+pub reports_with_other_lines : ¬ AreSame told silent
+reports_with_other_lines same = let count : 1 ≡ 0 = ap length same.lines in omega (arith, count)
+
+pub silence_is_no_report_of_the_cut : ¬ IsReportOf cut 10000 silent
+silence_is_no_report_of_the_cut report = let inside = (report.lines own).1 own_line_of_the_cut in omega (arith, inside.1)
+
+-- a cut of one shard that counted nothing, and what is reported of it
+abbrev nothing_counted : CutValue
+nothing_counted = record { capacity = 4; shards = empty_snapshot 4 ∷ [] }
+
+abbrev nothing_told : Report
+nothing_told = record { positions = 0 ∷ []; total = 0; threshold = 1; lines = []; are_lines = no_lines }
+
+-- the one value of a list of one value
+alike : {X : Type 0} (x : X) (length place : ℕ) → slice_index_or (replicate length x) place x ≡ x
+alike x zero place = refl
+alike x (suc length) zero = refl
+alike x (suc length) (suc place) = alike x length place
+
+pub nothing_is_told_of_nothing : IsReportOf nothing_counted 500000 nothing_told
+unfolding no_entries
+nothing_is_told_of_nothing = record {
+  positions = refl;
+  total = refl;
+  threshold = record { heavy = record { some = omega arith; share = omega arith }; least = λ weight heavy. heavy.some };
+  lines = λ line. (
+      (λ inside. absurd (omega (arith, inside.1))),
+      (λ asked.
+      let none = subst (λ keys. Contains keys (key_of line.prefix))
+      (ap (λ entries. monitored_keys (record { capacity = 4; entries = entries } ∷ [])) (alike [] 25 (index_of (node_of line.prefix)))) asked.monitored in
+      absurd (omega (arith, none.1))));
+}
+
+-- two lists that begin one another are one
+both_begin : (bytes other : List ℕ) → begins_with bytes other ≡ true → begins_with other bytes ≡ true → bytes ≡ other
+both_begin [] [] begins begun = refl
+both_begin [] (first ∷ rest) begins begun = absurd (false≢true begins)
+both_begin (byte ∷ bytes) [] begins begun = absurd (false≢true begun)
+both_begin (byte ∷ bytes) (first ∷ rest) begins begun =
+    let parts = and_parts (eqb byte first) (begins_with bytes rest) begins in
+    let other = and_parts (eqb first byte) (begins_with rest bytes) begun in
+    ap (λ head. head ∷ bytes) (eqb-true byte first parts.0) ∙ ap (λ tail. first ∷ tail) (both_begin bytes rest parts.1 other.1)
+
+-- a prefix that covers the packet and isn't its own stands above it, so the line explains the packet
+explained : (prefix : PrefixValue) → ¬ Contains (whole ∷ []) prefix → conditioned_weight prefix (whole ∷ []) (packet ∷ []) < 1
+explained prefix missing = by_cover (covers prefix packet) refl (under prefix whole) refl
+  where
+    by_cover : (covered : Bool) → covers prefix packet ≡ covered → (below : Bool) → under prefix whole ≡ below
+        → conditioned_weight prefix (whole ∷ []) (packet ∷ []) < 1
+    by_cover false covered below is = rw covered (omega arith)
+    by_cover true covered false is = rw (covered, is) (omega arith)
+    by_cover true covered true is =
+        let above = and_parts (begins_with whole.source prefix.source) (begins_with whole.dest prefix.dest) covered in
+        let below = and_parts (begins_with prefix.source whole.source) (begins_with prefix.dest whole.dest) is in
+        let same : whole ≡ prefix =
+        ap (λ source. record { source = source; dest = whole.dest }) (both_begin whole.source prefix.source above.0 below.0)
+        ∙ ap (λ dest. record { source = prefix.source; dest = dest }) (both_begin whole.dest prefix.dest above.1 below.1) in
+        absurd (missing (0, omega arith, same))
+
+pub justified_by_its_weight : IsJustified 4 1 (whole ∷ []) (packet ∷ []) own
+justified_by_its_weight = let enough : 4 ≤ 500 = omega arith in enough
+
+-- nothing is left to the root, and two intervals of at most 100 don't make up for a threshold of 1, 512 times
+pub not_justified_beside_the_line : ¬ IsJustified 512 1 (whole ∷ root ∷ []) (packet ∷ []) of_all
+not_justified_beside_the_line justified = let most : 512 ≤ 200 = justified in omega (arith, most)
+
+pub told_is_sound : IsSound told ((packet ∷ []) ∷ []) 4 10000
+told_is_sound = record {
+  positions = (omega arith, tt);
+  total = refl;
+  threshold = record { heavy = record { some = omega arith; share = omega arith }; least = λ weight heavy. heavy.some };
+  interval =
+      let weight : weight_of whole (packet ∷ []) ≡ 100 = refl in
+      All-cons (HoldsWeight (packet ∷ [])) own [] (record { low = omega (arith, weight); high = omega (arith, weight) }) (All-nil (HoldsWeight (packet ∷ [])));
+  width = All-cons (IsNarrow 4 100) own [] (omega arith) (All-nil (IsNarrow 4 100));
+  heavy = All-cons (λ (line : Line). 1 ≤ line.hi) own [] (omega arith) (All-nil (λ (line : Line). 1 ≤ line.hi));
+  justified = All-cons (IsJustified 4 1 (whole ∷ []) (packet ∷ [])) own [] justified_by_its_weight (All-nil (IsJustified 4 1 (whole ∷ []) (packet ∷ [])));
+  complete = λ prefix is_prefix missing. explained prefix missing;
+}
+
+pub silence_is_unsound : ¬ IsSound silent ((packet ∷ []) ∷ []) 4 10000
+silence_is_unsound sound = let left : 100 < 1 = sound.complete whole whole_is_prefix (λ inside. omega (arith, inside.1)) in omega (arith, left)
+
+-- a second packet that the positions leave out is not told of
+pub told_of_one_packet_alone : ¬ IsSound told ((packet ∷ []) ∷ (packet ∷ []) ∷ []) 4 10000
+told_of_one_packet_alone sound = sound.positions.1

@@ -7,3 +7,4 @@ pub mod Levelling
 pub mod Descending
 pub mod Selected
 pub mod Examples
+pub mod ExamplesOfSelecting

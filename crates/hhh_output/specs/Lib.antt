@@ -2,5 +2,6 @@ pub mod Threshold
 pub mod Lines
 pub mod Output
 pub mod Sound
-pub mod Selecting
 pub mod Same
+-- within the crate
+pub mod Selecting

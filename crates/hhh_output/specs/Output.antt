@@ -14,10 +14,11 @@ use Rattle.hhh_output.specs.Threshold.{IsThreshold}
 abbrev pub IsMonitored : CutValue → PrefixValue → Type 0
 IsMonitored cut prefix = Contains (monitored_at cut (node_of prefix)) (key_of prefix)
 
--- the low and the high of a prefix in a cut
+-- the low of a prefix in a cut
 abbrev pub low_in : CutValue → PrefixValue → ℕ
 low_in cut prefix = (span cut prefix).low
 
+-- the high of a prefix in a cut
 abbrev pub high_in : CutValue → PrefixValue → ℕ
 high_in cut prefix = (span cut prefix).high
 

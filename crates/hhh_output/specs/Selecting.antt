@@ -1,4 +1,4 @@
--- How the lines of a report are found among the candidates of merged tables, level by level.
+-- How the lines of a report are found among the candidates of merged tables, level by level, which no public contract cites.
 use Rattle.std.specs.Prelude.{ℕ, ◌≡◌, ◌≢◌, ◌+◌, ◌-◌, ◌*◌, ◌<◌, ◌≤◌, ◌==◌, ◌↔◌, zero, suc, List, length, if◌then◌else◌, All, AllPairs, Contains, pos, ◌≤ℤ◌}
 use Rattle.std.specs.declared.cmp.Ordering.TheVariants.{Less}
 use Rattle.prefix_lattice.specs.NodeValue.{NodeValue, IsNode, node_at, level_of}
@@ -12,10 +12,11 @@ use Rattle.conditioned_bounds.specs.Bounds.{bound_of}
 use Rattle.hhh_output.specs.declared.line.Line.{Line}
 use Rattle.hhh_output.specs.Lines.{prefixes_of}
 
--- the low and the high of a prefix in merged tables
+-- the low of a prefix in merged tables
 abbrev pub merged_low : MergedValue → PrefixValue → ℕ
 merged_low merged prefix = (interval_for merged prefix).low
 
+-- the high of a prefix in merged tables
 abbrev pub merged_high : MergedValue → PrefixValue → ℕ
 merged_high merged prefix = (interval_for merged prefix).high
 

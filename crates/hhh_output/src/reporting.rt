@@ -21,7 +21,10 @@ use std::alloc::{AllocError, Global};
 ///
 /// Where the cut stands for lists of records, the report is sound over them: each interval holds the exact
 /// weight of its prefix and is no wider than the total divided by the capacity, and each prefix without a
-/// line has a conditioned weight below the threshold. Want of memory is the only error.
+/// line has a conditioned weight below the threshold.
+///
+/// `phi` is from 1 to 1,000,000, `phi` times the capacity of the tables at least 2,000,000, and what the tables
+/// counted together below 2^60. Want of memory is the only error.
 pub fn report_of(alloc: Global, cut: &Cut, phi: u32) -> Result<Report, AllocError>
     requires some { 1 ≤ phi }
     requires most { phi ≤ 1000000 }
