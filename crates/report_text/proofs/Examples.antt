@@ -1,11 +1,17 @@
--- Worked examples of the texts, each by computing.
-use Rattle.std.proofs.Common.{◌≡◌, [], ◌∷◌, codes, refl, arith}
+-- Worked examples of the texts, most by computing.
+use Rattle.std.proofs.Common.{◌≡◌, ℕ, zero, suc, ◌^◌, ◌<◌, ◌≤◌, [], ◌∷◌, codes, refl, arith}
+use Rattle.std.proofs.Math.ListN.{replicate}
+use Rattle.std.proofs.lemmas.List.Elements.{All-nil, All-cons, All-from_recursion}
 use Rattle.std.specs.Fmt.{digits}
+use Rattle.std.specs.Prelude.{slice_index}
+use Rattle.prefix_lattice.specs.PrefixValue.{IsPrefix}
 use Rattle.frame_records.specs.declared.records.Records.{Records}
 use Rattle.hhh_output.specs.declared.line.Line.{Line}
 use Rattle.hhh_output.specs.declared.report.Report.{Report}
 use Rattle.report_text.specs.declared.mark.Mark.TheVariants.{Opened, Saved}
-use Rattle.report_text.specs.Text.{text_line, number_line, line_text, lines_text, mark_text, report_text, tail_text}
+use Rattle.report_text.specs.Positions.{ArePositions}
+use Rattle.report_text.specs.Apart.{IsTold, IsTellable}
+use Rattle.report_text.specs.Text.{text_line, number_line, positions_line, mark_name, line_text, lines_text, mark_text, report_text, tail_text}
 use Rattle.report_text.proofs.InOrder.{one_line_in_order}
 
 -- 100 bytes from 10.1.2.3 to 20.1.2.3
@@ -27,6 +33,32 @@ text_of_zero = refl
 pub text_of_a_word : text_line (codes "done" ∷ []) ≡ codes "done\n"
 text_of_a_word = refl
 
+pub text_of_two_positions : positions_line (codes "at") (6 ∷ 5 ∷ []) ≡ codes "at 6 5\n"
+unfolding digits
+text_of_two_positions = refl
+
+pub word_of_opened_positions : mark_name Opened ≡ codes "opened"
+word_of_opened_positions = refl
+
+pub word_of_saved_positions : mark_name Saved ≡ codes "saved"
+word_of_saved_positions = refl
+
+pub positions_of_three_shards : ArePositions (0 ∷ 7 ∷ 16777216 ∷ [])
+positions_of_three_shards = record {
+  some = omega arith;
+  few = omega arith;
+  within = All-from_recursion (λ (position : ℕ). position ≤ 16777216) (0 ∷ 7 ∷ 16777216 ∷ []) (omega arith, (omega arith, (omega arith, tt)));
+}
+
+pub no_position_is_past_the_frames_of_a_capture : ¬ ArePositions (16777217 ∷ [])
+no_position_is_past_the_frames_of_a_capture are = let most : 16777217 ≤ 16777216 = are.within 0 0 (omega arith) in omega (arith, most)
+
+pub no_shard_is_none : ¬ ArePositions []
+no_shard_is_none are = omega (arith, are.some)
+
+pub seventeen_shards_are_too_many : ¬ ArePositions (replicate 17 0)
+seventeen_shards_are_too_many are = let most : 17 ≤ 16 = are.few in omega (arith, most)
+
 pub text_of_opened_shards : mark_text Opened (0 ∷ 7 ∷ 16777216 ∷ []) ≡ codes "opened 0 7 16777216\n"
 unfolding digits
 text_of_opened_shards = refl
@@ -46,6 +78,43 @@ report = record { positions = 1 ∷ []; total = 100; threshold = 1; lines = line
 pub text_of_a_report : report_text report ≡ codes "report\nat 1\ntotal 100\nthreshold 1\nline 10.1.2.3/32 20.1.2.3/32 100 100\ndone\n"
 unfolding digits
 text_of_a_report = refl
+
+line_names_a_prefix : IsPrefix line.prefix
+line_names_a_prefix = record { source = record { few = omega arith; bytes = source }; dest = record { few = omega arith; bytes = dest } }
+  where
+    source : (place : ℕ) → slice_index (10 ∷ 1 ∷ 2 ∷ 3 ∷ []) place < 256
+    source zero = omega arith
+    source (suc zero) = omega arith
+    source (suc (suc zero)) = omega arith
+    source (suc (suc (suc zero))) = omega arith
+    source (suc (suc (suc (suc place)))) = omega arith
+    dest : (place : ℕ) → slice_index (20 ∷ 1 ∷ 2 ∷ 3 ∷ []) place < 256
+    dest zero = omega arith
+    dest (suc zero) = omega arith
+    dest (suc (suc zero)) = omega arith
+    dest (suc (suc (suc zero))) = omega arith
+    dest (suc (suc (suc (suc place)))) = omega arith
+
+pub line_of_a_prefix_and_two_numbers : IsTold line
+line_of_a_prefix_and_two_numbers = record { is_prefix = line_names_a_prefix; low = omega arith; high = omega arith }
+
+-- an address of five bytes
+pub line_of_no_prefix : ¬ IsTold (record line { prefix = record { source = 10 ∷ 1 ∷ 2 ∷ 3 ∷ 4 ∷ []; dest = [] } })
+line_of_no_prefix told = let few : 5 ≤ 4 = told.is_prefix.source.few in omega (arith, few)
+
+pub line_of_a_number_that_is_too_great : ¬ IsTold (record line { hi = 2 ^ 64 })
+line_of_a_number_that_is_too_great told = omega (arith, told.high)
+
+pub report_that_can_be_told : IsTellable report
+report_that_can_be_told = record {
+  positions = All-cons (λ (position : ℕ). position < 2 ^ 64) 1 [] (omega arith) (All-nil (λ (position : ℕ). position < 2 ^ 64));
+  total = omega arith;
+  threshold = omega arith;
+  lines = All-cons IsTold line [] line_of_a_prefix_and_two_numbers (All-nil IsTold);
+}
+
+pub report_of_a_total_that_is_too_great : ¬ IsTellable (record report { total = 2 ^ 64 })
+report_of_a_total_that_is_too_great tellable = omega (arith, tellable.total)
 
 -- seven frames, of which one was too short and two weren't IPv4
 abbrev records : Records

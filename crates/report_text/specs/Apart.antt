@@ -1,5 +1,5 @@
 -- Reports whose numbers and prefixes can be told.
-use Rattle.std.specs.Prelude.{◌≡◌, ◌<◌, ◌^◌, All}
+use Rattle.std.specs.Prelude.{◌<◌, ◌^◌, All}
 use Rattle.prefix_lattice.specs.PrefixValue.{IsPrefix}
 use Rattle.hhh_output.specs.declared.line.Line.{Line}
 use Rattle.hhh_output.specs.declared.report.Report.{Report}

@@ -25,7 +25,8 @@ const TAIL_ROOM: usize = 103;
 
 /// Appends the text of a report of 1 to 16 shards: the lines `report`, `at` and the positions, `total` and
 /// `threshold` with their numbers, for each line of the report `line`, the prefix, its low and its high, and then
-/// `done`. Each ends by a line feed. All room is taken first, so after an `Err` the bytes are as before.
+/// `done`. Each ends by a line feed. A position is at most 16,777,216, and the threshold at least 1. All room is taken
+/// first, so after an `Err`, which is want of memory, the bytes are as before.
 pub fn print(report: &Report, into: &mut Vec<u8>) -> Result<(), AllocError>
     requires positions { ArePositions report.now.positions }
     requires threshold { 1 ≤ report.now.threshold }
@@ -44,8 +45,8 @@ pub fn print(report: &Report, into: &mut Vec<u8>) -> Result<(), AllocError>
     Ok(())
 }
 
-/// Appends the line `opened` or `saved` with the positions of 1 to 16 shards. All room is taken first, so after an
-/// `Err` the bytes are as before.
+/// Appends the line `opened` or `saved` with the positions of 1 to 16 shards, each at most 16,777,216. All room is
+/// taken first, so after an `Err`, which is want of memory, the bytes are as before.
 pub fn print_positions(
     mark: Mark,
     positions: &Positions,
@@ -65,8 +66,8 @@ pub fn print_positions(
 }
 
 /// Appends the last lines of a session: `frames` with the number of frames that were read, `skipped` with the numbers
-/// of those skipped as not IPv4, as short and for a bad header, and `end`. All room is taken first, so after an `Err`
-/// the bytes are as before.
+/// of those skipped as not IPv4, as short and for a bad header, and `end`. All room is taken first, so after an `Err`,
+/// which is want of memory, the bytes are as before.
 pub fn print_tail(records: &Records, into: &mut Vec<u8>) -> Result<(), AllocError>
     ensures ok { OnOk result (into.new.items ≡ into.old.items ++ tail_text records.now) }
     ensures err { OnErr result (into.new.items ≡ into.old.items) }
