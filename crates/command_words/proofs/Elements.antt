@@ -13,14 +13,6 @@ pub contains_other : {X : Type 0} (x y : X) (xs : List X) → (x ≡ y → ⊥) 
 contains_other x y xs other (zero, within, same) = absurd (other same)
 contains_other x y xs other (suc k, within, same) = (k, omega arith, same)
 
--- what holds of each pair holds of the first and each later one
-pub pairs-head : {X : Type 0} (R : X → X → Type 0) (x : X) (xs : List X) → AllPairs R (x ∷ xs) → All (R x) xs
-pairs-head R x xs pairs = λ k d within. pairs 0 (suc k) d (omega arith) (omega arith)
-
--- and of each pair of later ones
-pub pairs-tail : {X : Type 0} (R : X → X → Type 0) (x : X) (xs : List X) → AllPairs R (x ∷ xs) → AllPairs R xs
-pairs-tail R x xs pairs = λ i j d before within. pairs (suc i) (suc j) d (omega arith) (omega arith)
-
 -- a search finds a text just where it is one of some
 pub among : (texts : List (List ℕ)) (text : List ℕ) → IsTrue (list_any (λ other. bytes_eq other text) texts) ↔ Contains texts text
 among texts text = (

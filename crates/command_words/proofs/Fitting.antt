@@ -6,7 +6,7 @@ use Rattle.std.proofs.lemmas.List.Kept.{AllPairs-cons}
 use Rattle.command_words.specs.Arguments.{Text, Argument, positional, option, Form, AreWellFormed, Begins, SpellsAll, positionals_in, names_in}
 use Rattle.command_words.specs.Scanning.{option_name, FitsRest}
 use Rattle.command_words.proofs.Behind.{follow, none_spelled}
-use Rattle.command_words.proofs.Elements.{pairs-head, pairs-tail}
+use Rattle.prefix_lattice.proofs.Lists.{AllPairs-head, AllPairs-tail}
 
 -- the words spell so many positionals, and options of the form, none of them twice
 abbrev pub Fit : Form → ℕ → List Text → Type 0
@@ -104,9 +104,9 @@ fit_option form positionals words others (option first value) name begins is (ar
         spelled = behind.spelled;
         as_many = subst (λ list. length (positionals_in list) ≡ positionals) behind.are fits.as_many;
         known = All-tail (λ n. Contains form.options n) first (names_in behind.rest) known;
-        once = pairs-tail (λ n other. n ≢ other) first (names_in behind.rest) once;
+        once = AllPairs-tail (λ n other. n ≢ other) first (names_in behind.rest) once;
       };
-      apart = λ stands. All-contains (λ other. first ≢ other) (names_in behind.rest) name (pairs-head (λ n other. n ≢ other) first (names_in behind.rest) once) stands same;
+      apart = λ stands. All-contains (λ other. first ≢ other) (names_in behind.rest) name (AllPairs-head (λ n other. n ≢ other) first (names_in behind.rest) once) stands same;
     }
 
 -- words that fit with as many positionals as the form has are well formed

@@ -9,7 +9,7 @@ use Rattle.clap.specs.Lexer.{usize_max}
 use Rattle.clap.specs.Simple.{Shape}
 use Rattle.clap.specs.Walk.{Row, has_row}
 use Rattle.command_words.specs.Arguments.{Text, Argument, positional, option, positionals_in, names_in}
-use Rattle.command_words.proofs.Elements.{pairs-head, pairs-tail}
+use Rattle.prefix_lattice.proofs.Lists.{AllPairs-head, AllPairs-tail}
 use Rattle.command_words.proofs.Rows.{other_text, row}
 use Rattle.command_words.proofs.Walking.{Fit, HasPlace, IsNew, Knows}
 
@@ -57,15 +57,15 @@ module _ (options : List Text) where
   fit s knows position (id ∷ ids) rows (positional text ∷ arguments) places apart distinct as_many known once fresh unused = (
     places.0,
     All-head (IsNew rows) id ids fresh,
-    fit s knows (min (position + 1) usize_max) ids (rows ++ row id text ∷ []) arguments places.1 (All-tail IsNoOption id ids apart) (pairs-tail (λ a b. a ≢ b) id ids distinct) (omega arith) known once
-        (are_new_more id text rows ids (All-tail (IsNew rows) id ids fresh) (pairs-head (λ a b. a ≢ b) id ids distinct))
+    fit s knows (min (position + 1) usize_max) ids (rows ++ row id text ∷ []) arguments places.1 (All-tail IsNoOption id ids apart) (AllPairs-tail (λ a b. a ≢ b) id ids distinct) (omega arith) known once
+        (are_new_more id text rows ids (All-tail (IsNew rows) id ids fresh) (AllPairs-head (λ a b. a ≢ b) id ids distinct))
         (are_new_more id text rows (names_in arguments) unused (no_names id (names_in arguments) (All-head IsNoOption id ids apart) known)),
   )
   fit s knows position ids rows (option name value ∷ arguments) places apart distinct as_many known once fresh unused =
       let here = All-head (λ n. Contains options n) name (names_in arguments) known in (
         knows name here,
         All-head (IsNew rows) name (names_in arguments) unused,
-        fit s knows position ids (rows ++ row name value ∷ []) arguments places apart distinct as_many (All-tail (λ n. Contains options n) name (names_in arguments) known) (pairs-tail (λ a b. a ≢ b) name (names_in arguments) once)
+        fit s knows position ids (rows ++ row name value ∷ []) arguments places apart distinct as_many (All-tail (λ n. Contains options n) name (names_in arguments) known) (AllPairs-tail (λ a b. a ≢ b) name (names_in arguments) once)
             (are_new_more name value rows ids fresh (no_ids name ids here apart))
-            (are_new_more name value rows (names_in arguments) (All-tail (IsNew rows) name (names_in arguments) unused) (pairs-head (λ a b. a ≢ b) name (names_in arguments) once)),
+            (are_new_more name value rows (names_in arguments) (All-tail (IsNew rows) name (names_in arguments) unused) (AllPairs-head (λ a b. a ≢ b) name (names_in arguments) once)),
       )

@@ -10,7 +10,7 @@ use Rattle.clap.specs.Words.{Row, first_of}
 use Rattle.clap.specs.declared.builder.value_parser.Reading.TheVariants.{AsWritten}
 use Rattle.clap.specs.declared.parser.matches.ValueSource.TheVariants.{CommandLine}
 use Rattle.command_words.specs.Arguments.{Text, Argument, positional, option, positionals_in, names_in, value_of}
-use Rattle.command_words.proofs.Elements.{pairs-head, pairs-tail}
+use Rattle.prefix_lattice.proofs.Lists.{AllPairs-head, AllPairs-tail}
 
 -- a text is equal to itself, and to no other
 pub same_text : (text : Text) → bytes_eq text text ≡ true
@@ -63,7 +63,7 @@ told_positional place name ids [] at distinct apart = refl
 told_positional place name [] (positional text ∷ arguments) at distinct apart = cc
 told_positional zero name (id ∷ ids) (positional text ∷ arguments) at distinct apart = first_here name id text (told ids arguments) cc
 told_positional (suc place) name (id ∷ ids) (positional text ∷ arguments) at distinct apart =
-    first_behind name id text (told ids arguments) (at_place (λ other. id ≢ other) place name ids at (pairs-head (λ a b. a ≢ b) id ids distinct)) ∙ told_positional place name ids arguments at (pairs-tail (λ a b. a ≢ b) id ids distinct) apart
+    first_behind name id text (told ids arguments) (at_place (λ other. id ≢ other) place name ids at (AllPairs-head (λ a b. a ≢ b) id ids distinct)) ∙ told_positional place name ids arguments at (AllPairs-tail (λ a b. a ≢ b) id ids distinct) apart
 told_positional place name ids (option other value ∷ arguments) at distinct apart =
     first_behind name other value (told ids arguments) (All-head (λ o. o ≢ name) other (names_in arguments) apart)
     ∙ told_positional place name ids arguments at distinct (All-tail (λ o. o ≢ name) other (names_in arguments) apart)

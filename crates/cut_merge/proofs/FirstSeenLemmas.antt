@@ -7,6 +7,7 @@ use Rattle.std.proofs.lemmas.List.Kept.{AllPairs-cons, AllPairs-filter}
 use Rattle.std.proofs.lemmas.List.Sums.{length-filter, count_by-le-length}
 use Rattle.std.proofs.lemmas.Map.Views.{any-filter_same}
 use Rattle.std.specs.List.{list_any}
+use Rattle.prefix_lattice.proofs.Lists.{Contains-head, Contains-tail, Contains-cons, Contains-nil}
 use Rattle.cut_merge.specs.FirstSeen.{first_seen}
 use Rattle.cut_merge.specs.Merging.{seen}
 
@@ -60,45 +61,28 @@ first_seen-append keys [] = ap first_seen (append-nil keys)
 first_seen-append keys (key ∷ more) =
     ap first_seen (sym (append_assoc keys (key ∷ []) more)) ∙ first_seen-append (keys ++ key ∷ []) more ∙ ap (λ start. fold seen start more) (first_seen-push keys key)
 
--- an element of a list is its head or stands in its tail
-contains-cons : (x : ℕ) (xs : List ℕ) (y : ℕ) → Contains (x ∷ xs) y → (x ≡ y) ⊎ Contains xs y
-contains-cons x xs y (zero, below, at) = inl at
-contains-cons x xs y (suc k, below, at) = inr (k, omega arith, at)
-
--- the head stands in the list
-pub contains-head : (x : ℕ) (xs : List ℕ) → Contains (x ∷ xs) x
-contains-head x xs = (0, omega arith, refl)
-
--- so does what stands in the tail
-pub contains-tail : (x : ℕ) (xs : List ℕ) (y : ℕ) → Contains xs y → Contains (x ∷ xs) y
-contains-tail x xs y (k, below, at) = (suc k, omega arith, at)
-
--- nothing stands in the empty list
-contains-nil : (y : ℕ) → Contains {X = ℕ} [] y → ⊥
-contains-nil y (k, below, at) = omega arith
-
 -- a key that differs from the first stands among the others
 others-contains : (first key : ℕ) (keys : List ℕ) → eqb first key ≡ false → Contains keys key → Contains (others first keys) key
-others-contains first key [] differs there = absurd (contains-nil key there)
-others-contains first key (k ∷ keys) differs there = by (eqb first k) refl (others-contains first key keys differs) (contains-cons k keys key there)
+others-contains first key [] differs there = absurd (Contains-nil key there)
+others-contains first key (k ∷ keys) differs there = by (eqb first k) refl (others-contains first key keys differs) (Contains-cons k keys key there)
   where
     by : (b : Bool) → eqb first k ≡ b → (Contains keys key → Contains (others first keys) key) → (k ≡ key) ⊎ Contains keys key
         → Contains (cond (not b) (k ∷ others first keys) (others first keys)) key
     by true same rest (inl is) = absurd (false≢true (sym differs ∙ ap (eqb first) (sym is) ∙ same))
     by true same rest (inr later) = rest later
-    by false _ rest (inl is) = subst (Contains (k ∷ others first keys)) is (contains-head k (others first keys))
-    by false _ rest (inr later) = contains-tail k (others first keys) key (rest later)
+    by false _ rest (inl is) = subst (Contains (k ∷ others first keys)) is (Contains-head k (others first keys))
+    by false _ rest (inr later) = Contains-tail k (others first keys) key (rest later)
 
 -- each key of a list is seen
 pub first_seen-contains : (keys : List ℕ) (key : ℕ) → Contains keys key → Contains (first_seen keys) key
 first_seen-contains [] key there = there
-first_seen-contains (first ∷ keys) key there = by (eqb first key) refl (first_seen-contains keys key) (contains-cons first keys key there)
+first_seen-contains (first ∷ keys) key there = by (eqb first key) refl (first_seen-contains keys key) (Contains-cons first keys key there)
   where
     by : (b : Bool) → eqb first key ≡ b → (Contains keys key → Contains (first_seen keys) key) → (first ≡ key) ⊎ Contains keys key
         → Contains (first ∷ others first (first_seen keys)) key
-    by _ _ rest (inl is) = subst (Contains (first ∷ others first (first_seen keys))) is (contains-head first (others first (first_seen keys)))
-    by true same rest (inr _) = subst (Contains (first ∷ others first (first_seen keys))) (eqb-true first key same) (contains-head first (others first (first_seen keys)))
-    by false differs rest (inr later) = contains-tail first (others first (first_seen keys)) key (others-contains first key (first_seen keys) differs (rest later))
+    by _ _ rest (inl is) = subst (Contains (first ∷ others first (first_seen keys))) is (Contains-head first (others first (first_seen keys)))
+    by true same rest (inr _) = subst (Contains (first ∷ others first (first_seen keys))) (eqb-true first key same) (Contains-head first (others first (first_seen keys)))
+    by false differs rest (inr later) = Contains-tail first (others first (first_seen keys)) key (others-contains first key (first_seen keys) differs (rest later))
 
 -- what holds of each key of a list holds of each that is seen
 pub first_seen-all : (P : ℕ → Type 0) (keys : List ℕ) → All P keys → All P (first_seen keys)

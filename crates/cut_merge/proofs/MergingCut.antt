@@ -8,6 +8,7 @@ use Rattle.std.proofs.lemmas.Option.{get_or_from_slice_get, slice_get_within, sl
 use Rattle.std.specs.Option.{option_map}
 use Rattle.prefix_lattice.specs.NodeValue.{NodeValue, IsNode, index_of, node_at}
 use Rattle.prefix_lattice.specs.Prefix.{node_of, key_of}
+use Rattle.prefix_lattice.proofs.NodePlaces.{node_at-index_of}
 use Rattle.space_saving.specs.Table.{TableValue, total_count}
 use Rattle.shard_state.specs.SnapshotValue.{SnapshotValue, table_at}
 use Rattle.shard_state.specs.CutValue.{CutValue, IsCut, total_of_cut}
@@ -56,14 +57,6 @@ pub within_merged : (merged : MergedValue) (place key : ℕ) (merge : NodeMergeV
 within_merged merged place key merge kept within read =
     subst (λ m. IsWithinTotal merged.total (interval_for_key m key))
     (sym (read ∙ get_or_default merged.nodes place merge nothing_merged within)) (kept.intervals place key)
-
--- the node of a place is that place's, and the place of a node is among the 25
-node-place : (node : NodeValue) → IsNode node → node_at (index_of node) ≡ node
-node-place node is_node =
-    let make : ℕ → ℕ → NodeValue = λ source dest. record { source_bytes = source; dest_bytes = dest } in
-    let source : (5 * node.source_bytes + node.dest_bytes) / 5 ≡ node.source_bytes = omega (arith, is_node.dest) in
-    let dest : (5 * node.source_bytes + node.dest_bytes) % 5 ≡ node.dest_bytes = omega (arith, is_node.dest) in
-    ap (λ s. make s ((5 * node.source_bytes + node.dest_bytes) % 5)) source ∙ ap (λ d. make node.source_bytes d) dest
 
 -- the nodes before a place are merged
 pub record MergesNodes (cut : CutValue) (nodes : List NodeMergeValue) (place : ℕ) : Type 0 where
@@ -116,7 +109,7 @@ pub merged_stands : (cut : CutValue) (nodes : List NodeMergeValue) → MergesNod
     → StandsForCut (record { capacity = cut.capacity; total = total_of_cut cut; nodes = nodes }) cut
 merged_stands cut nodes merges =
     let at : (node : NodeValue) → IsNode node → StandsForTables (slice_index_or nodes (index_of node) nothing_merged) (node_tables node cut) =
-    λ node is_node. subst (λ n. StandsForTables (slice_index_or nodes (index_of node) nothing_merged) (node_tables n cut)) (node-place node is_node)
+    λ node is_node. subst (λ n. StandsForTables (slice_index_or nodes (index_of node) nothing_merged) (node_tables n cut)) (node_at-index_of node is_node)
     (merges.stands (index_of node) (omega (arith, is_node.source, is_node.dest))) in
     record {
       capacity = refl;

@@ -17,7 +17,8 @@ use Rattle.shard_state.specs.Standing.{SnapshotStandsFor, CutStandsFor, records_
 use Rattle.shard_state.specs.Weights.{Holds, interval_of}
 use Rattle.cut_merge.specs.Tables.{merged_interval, table_keys}
 use Rattle.cut_merge.specs.Span.{node_tables, span, monitored_at, IsWithinTotal}
-use Rattle.cut_merge.proofs.FirstSeenLemmas.{first_seen-contains, contains-head, contains-tail}
+use Rattle.prefix_lattice.proofs.Lists.{Contains-head, Contains-tail}
+use Rattle.cut_merge.proofs.FirstSeenLemmas.{first_seen-contains}
 use Rattle.cut_merge.proofs.MergingTables.{IsMergedBounded, merged_bounded}
 use Rattle.cut_merge.proofs.CutTables.{TablesAreBounded, counted-at}
 
@@ -90,10 +91,10 @@ span_holds law cut lists prefix kept stands weighed is_prefix =
 -- a key that isn't monitored has no entry
 missing_entry : (entries : List Entry) (key : ℕ) → ¬ Contains (map (λ (e : Entry). e.key) entries) key → entry_of key entries ≡ None
 missing_entry [] key missing = refl
-missing_entry (entry ∷ entries) key missing = by (eqb entry.key key) refl (missing_entry entries key (λ there. missing (contains-tail entry.key (map (λ (e : Entry). e.key) entries) key there)))
+missing_entry (entry ∷ entries) key missing = by (eqb entry.key key) refl (missing_entry entries key (λ there. missing (Contains-tail entry.key (map (λ (e : Entry). e.key) entries) key there)))
   where
     by : (b : Bool) → eqb entry.key key ≡ b → entry_of key entries ≡ None → (if b then Some entry else entry_of key entries) ≡ None
-    by true same rest = absurd (missing (subst (Contains (entry.key ∷ map (λ (e : Entry). e.key) entries)) (eqb-true entry.key key same) (contains-head entry.key (map (λ (e : Entry). e.key) entries))))
+    by true same rest = absurd (missing (subst (Contains (entry.key ∷ map (λ (e : Entry). e.key) entries)) (eqb-true entry.key key same) (Contains-head entry.key (map (λ (e : Entry). e.key) entries))))
     by false _ rest = rest
 
 -- in every table an interval is at most as wide as what the table counted divided by its capacity

@@ -15,6 +15,7 @@ use Rattle.prefix_lattice.specs.NodeValue.{NodeValue, IsNode, index_of, node_at,
 use Rattle.prefix_lattice.specs.PrefixValue.{PrefixValue, IsPrefix}
 use Rattle.prefix_lattice.specs.Prefix.{node_of}
 use Rattle.prefix_lattice.specs.Lattice.{under, same_prefix, report_order}
+use Rattle.prefix_lattice.proofs.NodePlaces.{node_at-index_of}
 use Rattle.cut_merge.specs.MergedValue.{MergedValue}
 use Rattle.hhh_output.specs.declared.line.Line.{Line}
 use Rattle.hhh_output.specs.Selecting.{IsSelected, AreDistinct, AreOfLevel, nodes_before, most_candidates}
@@ -37,18 +38,10 @@ looks_none merged threshold reported level = record {
     no_line : (line : Line) → Contains {X = Line} [] line → ⊥
     no_line line (k, below, at) = omega arith
 
--- the node of a place is that place's
-node-place : (node : NodeValue) → IsNode node → node_at (index_of node) ≡ node
-node-place node is_node =
-    let make : ℕ → ℕ → NodeValue = λ source dest. record { source_bytes = source; dest_bytes = dest } in
-    let source : (5 * node.source_bytes + node.dest_bytes) / 5 ≡ node.source_bytes = omega (arith, is_node.dest) in
-    let dest : (5 * node.source_bytes + node.dest_bytes) % 5 ≡ node.dest_bytes = omega (arith, is_node.dest) in
-    ap (λ s. make s ((5 * node.source_bytes + node.dest_bytes) % 5)) source ∙ ap (λ d. make node.source_bytes d) dest
-
 -- a prefix at this place is of this node
 at_place : (prefix : PrefixValue) (node : NodeValue) (place : ℕ) → IsPrefix prefix → node ≡ node_at place → index_of (node_of prefix) ≡ place → node_of prefix ≡ node
 at_place prefix node place is_prefix is same =
-    sym (node-place (node_of prefix) (record { source = is_prefix.source.few; dest = is_prefix.dest.few })) ∙ ap node_at same ∙ sym is
+    sym (node_at-index_of (node_of prefix) (record { source = is_prefix.source.few; dest = is_prefix.dest.few })) ∙ ap node_at same ∙ sym is
 
 more_nodes : (level place : ℕ) → nodes_before level (place + 1) ≡ nodes_before level place + (if eqb (level_of (node_at place)) level then 1 else 0)
 more_nodes level place = ap (nodes_before level) (add-one place)

@@ -26,7 +26,7 @@ use Rattle.hhh_output.specs.Threshold.{IsThreshold}
 use Rattle.hhh_output.specs.Lines.{prefixes_of, AreLines}
 use Rattle.hhh_output.specs.Output.{IsMonitored, low_in, high_in, IsLineOf, IsReportOf}
 use Rattle.hhh_output.specs.Sound.{HoldsWeight, IsNarrow, IsJustified, IsSound}
-use Rattle.hhh_output.proofs.Rising.{pairs-head, pairs-tail, contains-head, contains-tail, contains-cons, contains-nil}
+use Rattle.prefix_lattice.proofs.Lists.{AllPairs-head, AllPairs-tail, Contains-head, Contains-tail, Contains-cons, Contains-nil}
 use Rattle.hhh_output.proofs.Uniqueness.{Before, before-apart}
 
 -- the laws that soundness stands on, over one cut and its lists
@@ -64,8 +64,8 @@ distinct_prefixes order (line ∷ lines) rising =
     (λ other before same.
     let back : Before other line = subst (λ p. report_order p line.prefix ≡ Less) same (subst (λ p. report_order line.prefix p ≡ Less) (sym same) before) in
     before-apart order line other before back)
-    lines (pairs-head Before line lines rising)))
-    (distinct_prefixes order lines (pairs-tail Before line lines rising))
+    lines (AllPairs-head Before line lines rising)))
+    (distinct_prefixes order lines (AllPairs-tail Before line lines rising))
 
 -- what holds of each line of a report, shown of any line that it contains
 each_line : (P : Line → Type 0) (lines : List Line) → ((line : Line) → Contains lines line → P line) → All P lines
@@ -104,13 +104,13 @@ light_below phi capacity total threshold high wide is light = elim (cases_lt hig
 
 -- whether a key is among some keys
 among : (key : ℕ) (keys : List ℕ) → Contains keys key ⊎ ¬ Contains keys key
-among key [] = inr (contains-nil key)
+among key [] = inr (Contains-nil key)
 among key (first ∷ keys) = by (eqb first key) refl (among key keys)
   where
     by : (b : Bool) → eqb first key ≡ b → Contains keys key ⊎ ¬ Contains keys key → Contains (first ∷ keys) key ⊎ ¬ Contains (first ∷ keys) key
-    by true same _ = inl (subst (Contains (first ∷ keys)) (eqb-true first key same) (contains-head first keys))
-    by false _ (inl later) = inl (contains-tail first keys key later)
-    by false differs (inr missing) = inr (λ there. elim (contains-cons first keys key there) [
+    by true same _ = inl (subst (Contains (first ∷ keys)) (eqb-true first key same) (Contains-head first keys))
+    by false _ (inl later) = inl (Contains-tail first keys key later)
+    by false differs (inr missing) = inr (λ there. elim (Contains-cons first keys key there) [
       | inl is ↦ false≢true (sym differs ∙ eq-eqb first key is)
       | inr later ↦ missing later
     ])
@@ -190,10 +190,10 @@ left_out cut lists phi report reports prefix is_prefix missing =
     few = conditioned-le-weight prefix lines records
 
     contains_prefix : (ls : List Line) (line : Line) → Contains ls line → Contains (prefixes_of ls) line.prefix
-    contains_prefix [] line there = absurd (contains-nil line there)
-    contains_prefix (l ∷ ls) line there = elim (contains-cons l ls line there) [
-      | inl same ↦ subst (λ (x : Line). Contains (l.prefix ∷ prefixes_of ls) x.prefix) same (contains-head l.prefix (prefixes_of ls))
-      | inr later ↦ contains-tail l.prefix (prefixes_of ls) line.prefix (contains_prefix ls line later)
+    contains_prefix [] line there = absurd (Contains-nil line there)
+    contains_prefix (l ∷ ls) line there = elim (Contains-cons l ls line there) [
+      | inl same ↦ subst (λ (x : Line). Contains (l.prefix ∷ prefixes_of ls) x.prefix) same (Contains-head l.prefix (prefixes_of ls))
+      | inr later ↦ Contains-tail l.prefix (prefixes_of ls) line.prefix (contains_prefix ls line later)
     ]
 
 -- the report is sound

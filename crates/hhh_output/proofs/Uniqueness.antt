@@ -13,7 +13,8 @@ use Rattle.hhh_output.specs.declared.line.Line.{Line}
 use Rattle.hhh_output.specs.Threshold.{IsThreshold}
 use Rattle.hhh_output.specs.Lines.{prefixes_of, AreLines}
 use Rattle.hhh_output.specs.Output.{IsLineOf}
-use Rattle.hhh_output.proofs.Rising.{same_in_order, contains-cons, contains-head, contains-tail, contains-nil}
+use Rattle.prefix_lattice.proofs.Lists.{Contains-cons, Contains-head, Contains-tail, Contains-nil}
+use Rattle.hhh_output.proofs.Rising.{same_in_order}
 use Rattle.hhh_output.proofs.Nearness.{level, lines_above, LevelsFall, closest-above, line_over}
 
 -- a line that stands before another in a report
@@ -27,26 +28,26 @@ before-apart order line other first second =
 
 -- what stands in a filtered list stands in the list and passes
 filtered-there : {X : Type 0} (test : X → Bool) (xs : List X) (x : X) → Contains (filter test xs) x → Contains xs x × (test x ≡ true)
-filtered-there test [] x there = absurd (contains-nil x there)
+filtered-there test [] x there = absurd (Contains-nil x there)
 filtered-there {X} test (y ∷ ys) x there = by (test y) refl (filtered-there test ys x) there
   where
     by : (b : Bool) → test y ≡ b → (Contains (filter test ys) x → Contains ys x × (test x ≡ true)) → Contains (cond b (y ∷ filter test ys) (filter test ys)) x
         → Contains (y ∷ ys) x × (test x ≡ true)
-    by true passes rest there = elim (contains-cons y (filter test ys) x there) [
-      | inl same ↦ (subst (Contains (y ∷ ys)) same (contains-head y ys), ap test (sym same) ∙ passes)
-      | inr later ↦ (contains-tail y ys x (rest later).0, (rest later).1)
+    by true passes rest there = elim (Contains-cons y (filter test ys) x there) [
+      | inl same ↦ (subst (Contains (y ∷ ys)) same (Contains-head y ys), ap test (sym same) ∙ passes)
+      | inr later ↦ (Contains-tail y ys x (rest later).0, (rest later).1)
     ]
-    by false fails rest there = (contains-tail y ys x (rest there).0, (rest there).1)
+    by false fails rest there = (Contains-tail y ys x (rest there).0, (rest there).1)
 
 -- and back
 filtered-back : {X : Type 0} (test : X → Bool) (xs : List X) (x : X) → Contains xs x → test x ≡ true → Contains (filter test xs) x
-filtered-back test [] x there passes = absurd (contains-nil x there)
-filtered-back {X} test (y ∷ ys) x there passes = by (test y) refl (filtered-back test ys x) (contains-cons y ys x there)
+filtered-back test [] x there passes = absurd (Contains-nil x there)
+filtered-back {X} test (y ∷ ys) x there passes = by (test y) refl (filtered-back test ys x) (Contains-cons y ys x there)
   where
     by : (b : Bool) → test y ≡ b → (Contains ys x → test x ≡ true → Contains (filter test ys) x) → (y ≡ x) ⊎ Contains ys x
         → Contains (cond b (y ∷ filter test ys) (filter test ys)) x
-    by true _ rest (inl same) = subst (Contains (y ∷ filter test ys)) same (contains-head y (filter test ys))
-    by true _ rest (inr later) = contains-tail y (filter test ys) x (rest later passes)
+    by true _ rest (inl same) = subst (Contains (y ∷ filter test ys)) same (Contains-head y (filter test ys))
+    by true _ rest (inr later) = Contains-tail y (filter test ys) x (rest later passes)
     by false fails rest (inl same) = absurd (true≢false (sym passes ∙ ap test (sym same) ∙ fails))
     by false _ rest (inr later) = rest later passes
 

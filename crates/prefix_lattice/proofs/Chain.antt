@@ -9,7 +9,8 @@ use Rattle.prefix_lattice.specs.Prefix.{covers}
 use Rattle.prefix_lattice.specs.Lattice.{under, strictly_under}
 use Rattle.prefix_lattice.specs.Explaining.{AreIncomparable}
 use Rattle.prefix_lattice.proofs.Fronts.{begins_with-length, begins_with-shorter}
-use Rattle.prefix_lattice.proofs.Members.{Among, among-All, AllPairs-head, AllPairs-tail, pairs-among}
+use Rattle.prefix_lattice.proofs.Lists.{AllPairs-head, AllPairs-tail}
+use Rattle.prefix_lattice.proofs.Members.{Among, among-All, pairs-among}
 use Rattle.prefix_lattice.proofs.Counting.{put, in_order, among-put, among-in_order}
 use Rattle.prefix_lattice.proofs.Meets.{under_parts, covers_parts, same_unless_strictly}
 

@@ -4,6 +4,7 @@ use Rattle.std.specs.List.{All, AllPairs, list_any, filter, filter_map, cons_opt
 use Rattle.std.proofs.lemmas.Bool.{false≢true, or_cases, or_left, or_right, or_from, false_from_ne_true}
 use Rattle.std.proofs.lemmas.List.Elements.{All-nil, All-cons, All-head, All-tail}
 use Rattle.std.proofs.lemmas.List.Kept.{AllPairs-cons}
+use Rattle.prefix_lattice.proofs.Lists.{AllPairs-head, AllPairs-tail}
 
 -- x is one of these elements
 abbrev pub Among : {X : Type 0} → X → List X → Type 0
@@ -79,14 +80,6 @@ filter-among test x (y ∷ ys) among passes = by_test (λ later. filter-among te
     by_test in_rest true kept (inr later) = inr (in_rest later)
     by_test in_rest false fails (inl same) = absurd (false≢true (sym fails ∙ sym (ap test same) ∙ passes))
     by_test in_rest false fails (inr later) = in_rest later
-
--- an element and each later one
-pub AllPairs-head : {X : Type 0} (R : X → X → Type 0) (x : X) (xs : List X) → AllPairs R (x ∷ xs) → All (R x) xs
-AllPairs-head R x xs pairs = λ place default within. pairs 0 (suc place) default (omega arith) (omega arith)
-
--- the later elements among themselves
-pub AllPairs-tail : {X : Type 0} (R : X → X → Type 0) (x : X) (xs : List X) → AllPairs R (x ∷ xs) → AllPairs R xs
-AllPairs-tail R x xs pairs = λ earlier later default before within. pairs (suc earlier) (suc later) default (omega arith) (omega arith)
 
 -- what holds of each pair both ways holds of any two elements that aren't the same
 pub pairs-among : {X : Type 0} (R : X → X → Type 0) (turned : (x y : X) → R x y → R y x) (x y : X) (xs : List X) → AllPairs R xs → Among x xs → Among y xs → (x ≡ y) ⊎ R x y

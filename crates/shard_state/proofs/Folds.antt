@@ -13,7 +13,7 @@ use Rattle.space_saving.specs.TableFacts.{IsTable}
 use Rattle.shard_state.specs.Tables.{adds_of, fold_at, fold_from, IsTableAt}
 use Rattle.shard_state.specs.SnapshotValue.{SnapshotValue, IsSnapshot, total_of, entries_at}
 use Rattle.shard_state.specs.Folding.{fold_tables}
-use Rattle.shard_state.proofs.Nodes.{index_small, node_at-index_of, IsNode-node_at}
+use Rattle.prefix_lattice.proofs.NodePlaces.{index_small, node_at-index_of, IsNode-node_at}
 use Rattle.shard_state.proofs.Keyed.{have-step}
 use Rattle.shard_state.proofs.Parts.{with_entries}
 

@@ -1,4 +1,3 @@
-pub mod Nodes
 pub mod Emptiness
 pub mod Parts
 pub mod Keyed

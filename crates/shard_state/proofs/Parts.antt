@@ -11,7 +11,7 @@ use Rattle.space_saving.specs.TableFacts.{AreEntries}
 use Rattle.shard_state.specs.Tables.{IsTableAt, HasKeysOf}
 use Rattle.shard_state.specs.SnapshotValue.{IsSnapshot}
 use Rattle.shard_state.specs.SnapshotParts.{IsLike, AreTables}
-use Rattle.shard_state.proofs.Nodes.{index_small, node_at-index_of}
+use Rattle.prefix_lattice.proofs.NodePlaces.{index_small, node_at-index_of}
 
 -- a table of this capacity with these entries
 abbrev pub with_entries : ℕ → List Entry → TableValue

@@ -15,7 +15,7 @@ use Rattle.shard_state.specs.SnapshotValue.{SnapshotValue, IsSnapshot, total_of,
 use Rattle.shard_state.specs.Copying.{copied_from}
 use Rattle.shard_state.specs.ShardValue.{ShardValue, IsShard, snapshot_of}
 use Rattle.shard_state.specs.Folding.{fold_tables}
-use Rattle.shard_state.proofs.Nodes.{IsNode-node_at, index_of-node_at}
+use Rattle.prefix_lattice.proofs.NodePlaces.{IsNode-node_at, index_of-node_at}
 use Rattle.shard_state.proofs.Parts.{with_entries, entries_in}
 use Rattle.shard_state.proofs.Folds.{StepsKeep, Advances, advances, fold_from-append, fold_from-none, fold_tables-entries}
 

@@ -15,7 +15,7 @@ use Rattle.shard_state.specs.CutValue.{CutValue, IsCut, positions_of, total_of_c
 use Rattle.shard_state.specs.ShardValue.{ShardValue, snapshot_of}
 use Rattle.shard_state.specs.Standing.{SnapshotStandsFor, CutStandsFor, records_before}
 use Rattle.shard_state.specs.Weights.{Holds, HoldsWeightOver, interval_of}
-use Rattle.shard_state.proofs.Nodes.{IsNode-node_at}
+use Rattle.prefix_lattice.proofs.NodePlaces.{IsNode-node_at}
 use Rattle.shard_state.proofs.Emptiness.{none_at, length-no_entries}
 use Rattle.shard_state.proofs.Folds.{fold_at-append, entries_at-advanced, length-fold_from}
 use Rattle.shard_state.proofs.Shards.{take_further}

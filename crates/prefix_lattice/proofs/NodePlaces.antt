@@ -1,4 +1,4 @@
--- The nodes of the lattice and their places.
+-- The nodes of the lattice and their places. The crates above cite this file too.
 use Rattle.std.proofs.Common.{◌≡◌, ℕ, ◌/◌, ◌%◌, ◌<◌, ◌≤◌, ap, ◌∙◌, arith}
 use Rattle.prefix_lattice.specs.NodeValue.{NodeValue, IsNode, index_of, node_at}
 
