@@ -1,5 +1,5 @@
 -- Worked examples of what lines explain: closest lines, kept pairs and the staircase law.
-use Rattle.std.proofs.Common.{◌≡◌, ◌≢◌, ℕ, List, [], ◌∷◌, length, true, false, None, Some, AllPairs, refl, ap, arith}
+use Rattle.std.proofs.Common.{◌≡◌, ◌≢◌, List, [], ◌∷◌, length, true, false, None, Some, AllPairs, refl, ap, arith}
 use Rattle.std.proofs.lemmas.List.Elements.{All-cons, All-nil}
 use Rattle.std.proofs.lemmas.List.Kept.{AllPairs-cons}
 use Rattle.prefix_lattice.specs.RecordValue.{RecordValue}
@@ -101,7 +101,7 @@ neighbours_are_kept = refl
 pub stairs_are_incomparable : AreIncomparable stairs
 stairs_are_incomparable = record {
   distinct = pairs (λ line other. line ≢ other) (λ same. omega (arith, ap (λ p. length p.dest) same)) (λ same. omega (arith, ap (λ p. length p.dest) same))
-  (λ same. omega (arith, ap (λ p. length p.dest) same));
+      (λ same. omega (arith, ap (λ p. length p.dest) same));
   none_under = pairs (λ line other. (strictly_under line other ≡ false) × (strictly_under other line ≡ false)) (refl, refl) (refl, refl) (refl, refl);
 }
   where
