@@ -1,13 +1,12 @@
 -- Worked examples of what is kept of the frames of a capture: an IPv4 packet, an ARP frame, and the packet once more.
-use Rattle.std.proofs.Common.{ℕ, ◌≡◌, ◌-◌, ◌^◌, true, false, List, [], ◌∷◌, Some, None, Ok, Err, inl, inr, refl, arith}
-use Rattle.pcap_frames.specs.declared.fault.CaptureFault.{CaptureFault}
+use Rattle.std.proofs.Common.{ℕ, ◌≡◌, ◌-◌, ◌^◌, true, false, List, [], ◌∷◌, Some, None, Err, inl, inr, refl, arith}
 use Rattle.pcap_frames.specs.declared.fault.FaultKind.TheVariants.{ShortHeader}
 use Rattle.pcap_frames.specs.declared.fault.ReadRefusal.TheVariants.{Capture, ReadFault, OutOfMemory}
 use Rattle.pcap_frames.specs.FrameValue.{FrameValue}
 use Rattle.pcap_frames.specs.Header.{header_fault, fault_at}
-use Rattle.pcap_frames.specs.Capture.{IsCapture, HasFault}
+use Rattle.pcap_frames.specs.Capture.{IsCapture}
 use Rattle.frame_records.specs.declared.records.Records.{Records}
-use Rattle.frame_records.specs.declared.skip.Skip.TheVariants.{NotIpv4, Short, BadHeader}
+use Rattle.frame_records.specs.declared.skip.Skip.TheVariants.{Short, BadHeader}
 use Rattle.frame_records.specs.declared.weigh.Weigh.TheVariants.{Bytes, Packets}
 use Rattle.frame_records.specs.FrameRecord.{record_of}
 use Rattle.frame_records.specs.Kept.{weigh_by, capped, KeepsRecordsOf, with_skip, after_frame}
