@@ -1,7 +1,5 @@
 -- Worked examples of what a reader keeps, answers and shows, between two pieces of a capture.
-use Rattle.std.proofs.Common.{inl, inr, ℕ, ◌≡◌, ◌+◌, ◌<◌, ◌≤◌, List, [], ◌∷◌, ◌++◌, length, take, Some, None, Ok, Err, refl, ap, sym, subst₂, ◌∙◌, append-nil, subst, arith}
-use Rattle.outside_io.specs.Pieces.{IsBeginning}
-use Rattle.pcap_frames.specs.declared.fault.CaptureFault.{CaptureFault}
+use Rattle.std.proofs.Common.{inl, ℕ, ◌≡◌, ◌≤◌, List, [], ◌∷◌, ◌++◌, length, take, Some, None, Ok, Err, refl, ap, sym, subst₂, ◌∙◌, append-nil, subst, arith}
 use Rattle.pcap_frames.specs.declared.fault.FaultKind.TheVariants.{NotCapture, CutFrame}
 use Rattle.pcap_frames.specs.declared.fault.FeedFault.TheVariants.{Refused, OutOfMemory}
 use Rattle.pcap_frames.specs.declared.file_order.FileOrder.TheVariants.{Little}
@@ -12,7 +10,6 @@ use Rattle.pcap_frames.specs.FileOrder.{number_at}
 use Rattle.pcap_frames.specs.FrameValue.{FrameValue}
 use Rattle.pcap_frames.specs.Header.{magic_order, header_fault, fault_at}
 use Rattle.pcap_frames.specs.Frames.{frame_at, needed, frame_fault}
-use Rattle.pcap_frames.specs.Capture.{ShowsFault}
 use Rattle.pcap_frames.specs.ReaderState.{FramePlace, ReaderState, InHeader, InFrames, AtFault, LacksMemory, IsPartHeader, IsBehind, ReaderStandsFor, Completes, HasStopped, Advances}
 use Rattle.pcap_frames.specs.KeptValue.{KeptValue}
 use Rattle.pcap_frames.specs.Part.{frame_place, state_of, IsWithin, IsInStage}
@@ -20,7 +17,7 @@ use Rattle.pcap_frames.specs.Steps.{held_frames, SplitsFrame, Takes, ShowsFront,
 use Rattle.pcap_frames.specs.Visitor.{Sees, IsAlike}
 use Rattle.pcap_frames.specs.Feeding.{IsAnswerOf, IfMemory, Feeds, SeesBeginning, IsAnswerTo, IsEndOf}
 use Rattle.pcap_frames.proofs.Deciding.{files_decided, fronts_decided}
-use Rattle.pcap_frames.proofs.Examples.{header, frame_bytes, frame, capture, cut_file, header_and_more, header_a_frame_and_a_rest, whole_frame, two_frames, frame_of_three_bytes, header_and_frame, compressed_header, fault_of_a_cut_file}
+use Rattle.pcap_frames.proofs.Examples.{header, frame_bytes, frame, capture, cut_file, header_and_more, header_a_frame_and_a_rest, whole_frame, frame_of_three_bytes, header_and_frame, compressed_header, fault_of_a_cut_file}
 
 -- ---- a visitor
 

@@ -1,10 +1,9 @@
 -- Worked examples of what reading a source answers, and of what its visitor saw: of a capture of one frame, and of the file that
 -- it is without its last byte.
-use Rattle.std.proofs.Common.{ℕ, ◌≡◌, List, [], ◌∷◌, ◌++◌, length, Some, None, Ok, Err, refl, ap, sym, ◌∙◌, append-nil, arith}
+use Rattle.std.proofs.Common.{◌≡◌, [], ◌∷◌, ◌++◌, length, Some, Ok, Err, refl, ap, sym, ◌∙◌, append-nil, arith}
 use Rattle.pcap_frames.specs.declared.fault.FaultKind.TheVariants.{CutFrame}
 use Rattle.pcap_frames.specs.declared.fault.FeedFault.TheVariants as feed
 use Rattle.pcap_frames.specs.declared.fault.ReadRefusal.TheVariants.{Capture, ReadFault, OutOfMemory}
-use Rattle.pcap_frames.specs.FrameValue.{FrameValue}
 use Rattle.pcap_frames.specs.Header.{fault_at}
 use Rattle.pcap_frames.specs.Visitor.{Sees}
 use Rattle.pcap_frames.specs.Reading.{refusal_of, SeesCapture, SeesBeforeFault, SeesFront, SeesPart, IsSeen, IsReadOf}
