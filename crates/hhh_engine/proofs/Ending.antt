@@ -9,7 +9,8 @@ use Rattle.pcap_frames.specs.declared.fault.CaptureFault.{CaptureFault}
 use Rattle.command_words.specs.Words.{AskFor}
 use Rattle.command_words.specs.declared.command.Command.{Command}
 use Rattle.command_words.specs.declared.command.Command.TheVariants.{Weigh, Report}
-use Rattle.hhh_engine.specs.Answers.{IsAnswer, Answers, AnswersInPart, HasNoText}
+use Rattle.hhh_engine.specs.Answers.{IsAnswer, Answers, AnswersInPart}
+use Rattle.hhh_engine.specs.NoText.{HasNoText}
 use Rattle.hhh_engine.specs.Outcome.{TellsCapture}
 use Rattle.hhh_engine.specs.Reporting.{Rules}
 use Rattle.hhh_engine.specs.declared.status.Status.{Status}

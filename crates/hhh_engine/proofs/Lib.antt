@@ -2,3 +2,5 @@ pub mod Ending
 pub mod Ends
 pub mod Sessions
 pub mod Examples
+pub mod ExamplesOfSessions
+pub mod ExamplesOfStatuses

@@ -1,16 +1,12 @@
 -- What commands write.
-use Rattle.std.specs.Prelude.{⊤, ℕ, List, Option, IfSome}
+use Rattle.std.specs.Prelude.{ℕ, List, Option}
 use Rattle.std.specs.Io.KnownBytes.{Appends}
-use Rattle.outside_io.specs.Faults.{Rose}
 use Rattle.outside_io.specs.Pieces.{AppendsBeginning}
-use Rattle.pcap_frames.specs.Capture.{HasFault}
 use Rattle.command_words.specs.Words.{AskFor}
 use Rattle.command_words.specs.declared.command.Command.{Command}
 use Rattle.command_words.specs.declared.command.Command.TheVariants.{Weigh, Report}
 use Rattle.hhh_engine.specs.Weighing.{IsWeightText}
 use Rattle.hhh_engine.specs.Reporting.{Rules, IsSession}
-use Rattle.hhh_engine.specs.declared.status.Status.{Status}
-use Rattle.hhh_engine.specs.declared.status.Status.TheVariants.{BadCapture, ReadFault, OutOfMemory}
 
 -- the text that a command writes over a capture
 abbrev pub IsAnswer : Rules → Command → List ℕ → List ℕ → Type 0
@@ -32,10 +28,3 @@ pub record AnswersInPart (rules : Rules) (words : List (List ℕ)) (old new : Op
   pub text : List ℕ
   pub is_answer : IsAnswer rules command file text
   pub written : AppendsBeginning old new text
-
--- why a command has no text: its capture has this first fault, the source's count of faults rose, or memory ran out
-abbrev pub HasNoText : Option (List ℕ) → ℕ → ℕ → Status → Type 0
-HasNoText left before now (BadCapture fault) = IfSome left (λ file. HasFault file fault)
-HasNoText left before now ReadFault = Rose before now
-HasNoText left before now OutOfMemory = ⊤
-HasNoText left before now _ = ⊥

@@ -4,7 +4,7 @@ ghost use Rattle.std.specs.Prelude.{◌≡◌, ◌≤◌, ◌++◌, length, IfOk
 ghost use Rattle.std.specs.Io.KnownBytes.{IsAtEnd};
 ghost use Rattle.deal_rules.specs.Dealing.{IsDealing};
 ghost use Rattle.deal_rules.specs.Kinds.{dealer_of};
-ghost use Rattle.hhh_engine.specs.Answers.{HasNoText};
+ghost use Rattle.hhh_engine.specs.NoText.{HasNoText};
 ghost use Rattle.hhh_engine.specs.Reporting.{IsReportAtEnds, IsSession, start_of};
 ghost use Rattle.hhh_output.specs.declared.report.Report.{Report};
 ghost use Rattle.report_text.specs.Positions.{ArePositions};

@@ -8,7 +8,8 @@ ghost use Rattle.pcap_frames.specs.declared.fault.CaptureFault.{CaptureFault};
 ghost use Rattle.deal_rules.specs.Kinds.{dealer_of};
 ghost use Rattle.command_words.specs.Words.{texts, HasWordsFault, IsLimited};
 ghost use Rattle.command_words.specs.declared.words_kind.WordsKind.{WordsKind};
-ghost use Rattle.hhh_engine.specs.Answers.{IsAnswer, Answers, AnswersInPart, HasNoText};
+ghost use Rattle.hhh_engine.specs.Answers.{IsAnswer, Answers, AnswersInPart};
+ghost use Rattle.hhh_engine.specs.NoText.{HasNoText};
 ghost use Rattle.hhh_engine.specs.Outcome.{AskSomething, TellsCapture};
 ghost use Rattle.hhh_engine.specs.declared.status.Status.TheVariants.{Done, BadWords, BadCapture, ReadFault, WriteFault, OutOfMemory};
 
