@@ -101,6 +101,7 @@ whole_is_prefix = record { source = record { few = omega arith; bytes = source }
     source (suc (suc zero)) = omega arith
     source (suc (suc (suc zero))) = omega arith
     source (suc (suc (suc (suc place)))) = omega arith
+
     dest : (place : ℕ) → slice_index whole.dest place < 256
     dest zero = omega arith
     dest (suc zero) = omega arith
@@ -220,11 +221,12 @@ nothing_is_told_of_nothing = record {
   total = refl;
   threshold = record { heavy = record { some = omega arith; share = omega arith }; least = λ weight heavy. heavy.some };
   lines = λ line. (
-      (λ inside. absurd (omega (arith, inside.1))),
-      (λ asked.
-      let none = subst (λ keys. Contains keys (key_of line.prefix))
-      (ap (λ entries. monitored_keys (record { capacity = 4; entries = entries } ∷ [])) (alike [] 25 (index_of (node_of line.prefix)))) asked.monitored in
-      absurd (omega (arith, none.1))));
+    (λ inside. absurd (omega (arith, inside.1))),
+    (λ asked.
+        let none = subst (λ keys. Contains keys (key_of line.prefix))
+        (ap (λ entries. monitored_keys (record { capacity = 4; entries = entries } ∷ [])) (alike [] 25 (index_of (node_of line.prefix)))) asked.monitored in
+        absurd (omega (arith, none.1))),
+  );
 }
 
 -- two lists that begin one another are one

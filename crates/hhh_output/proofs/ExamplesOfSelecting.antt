@@ -118,8 +118,9 @@ pub no_level_has_no_line : AreDownTo merged 100 0 []
 no_level_has_no_line = record {
   above = λ line inside. absurd (omega (arith, inside.1));
   members = λ line above. (
-      (λ inside. absurd (omega (arith, inside.1))),
-      (λ selected. absurd (omega (arith, above, selected.is_prefix.source.few, selected.is_prefix.dest.few))));
+    (λ inside. absurd (omega (arith, inside.1))),
+    (λ selected. absurd (omega (arith, above, selected.is_prefix.source.few, selected.is_prefix.dest.few))),
+  );
   rising = λ place later other before within. absurd (omega arith);
   few = omega arith;
 }

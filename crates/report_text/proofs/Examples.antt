@@ -88,6 +88,7 @@ line_names_a_prefix = record { source = record { few = omega arith; bytes = sour
     source (suc (suc zero)) = omega arith
     source (suc (suc (suc zero))) = omega arith
     source (suc (suc (suc (suc place)))) = omega arith
+
     dest : (place : ℕ) → slice_index (20 ∷ 1 ∷ 2 ∷ 3 ∷ []) place < 256
     dest zero = omega arith
     dest (suc zero) = omega arith
