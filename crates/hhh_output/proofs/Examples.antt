@@ -209,7 +209,7 @@ abbrev nothing_told : Report
 nothing_told = record { positions = 0 ∷ []; total = 0; threshold = 1; lines = []; are_lines = no_lines }
 
 -- the one value of a list of one value
-alike : {X : Type 0} (x : X) (length place : ℕ) → slice_index_or (replicate length x) place x ≡ x
+pub alike : {X : Type 0} (x : X) (length place : ℕ) → slice_index_or (replicate length x) place x ≡ x
 alike x zero place = refl
 alike x (suc length) zero = refl
 alike x (suc length) (suc place) = alike x length place

@@ -1,10 +1,9 @@
 -- Worked examples of how the lines of a report are found, most by computing.
-use Rattle.std.proofs.Common.{◌≡◌, ◌≢◌, ℕ, zero, suc, ◌*◌, ◌≤◌, ◌≤ℤ◌, List, [], ◌∷◌, ◌++◌, length, All, AllPairs, Contains, refl, sym, ap, subst, arith, pos}
+use Rattle.std.proofs.Common.{◌≡◌, ◌≢◌, ℕ, ◌*◌, ◌≤◌, ◌≤ℤ◌, List, [], ◌∷◌, ◌++◌, length, All, AllPairs, Contains, refl, sym, ap, subst, arith, pos}
 use Rattle.std.proofs.Math.ListN.{replicate}
 use Rattle.std.proofs.lemmas.Int.{ints}
 use Rattle.std.proofs.lemmas.List.Elements.{All-nil, All-cons}
 use Rattle.std.proofs.lemmas.List.Kept.{AllPairs-cons}
-use Rattle.std.specs.Prelude.{slice_index_or}
 use Rattle.std.specs.Map.{keys_of}
 use Rattle.prefix_lattice.specs.NodeValue.{NodeValue, index_of}
 use Rattle.prefix_lattice.specs.PrefixValue.{PrefixValue}
@@ -15,7 +14,7 @@ use Rattle.cut_merge.specs.MergedValue.{MergedValue}
 use Rattle.cut_merge.specs.Standing.{nothing_merged, candidates_at}
 use Rattle.hhh_output.specs.declared.line.Line.{Line}
 use Rattle.hhh_output.specs.Selecting.{merged_low, merged_high, IsMergedLine, IsSelected, most_candidates, AreCandidates, nodes_before, nodes_down, AreDistinct, AreOfLevel, AreDownTo}
-use Rattle.hhh_output.proofs.Examples.{root, whole, whole_is_prefix, own, of_all}
+use Rattle.hhh_output.proofs.Examples.{root, whole, whole_is_prefix, own, of_all, alike}
 
 -- of the nodes one has level 8, and two have level 7
 pub nodes_of_the_first_levels : nodes_down 2 ≡ 3
@@ -67,12 +66,6 @@ line_with_another_interval asked = let low : 100 ≡ 0 = asked.low in omega (ari
 
 pub selected_line : IsSelected merged 100 [] own
 selected_line = record { is_prefix = whole_is_prefix; candidate = (0, omega arith, refl); asked = line_that_is_asked_for }
-
--- the one value of a list of one value
-alike : {X : Type 0} (x : X) (length place : ℕ) → slice_index_or (replicate length x) place x ≡ x
-alike x zero place = refl
-alike x (suc length) zero = refl
-alike x (suc length) (suc place) = alike x length place
 
 no_candidates : (node : NodeValue) → candidates_at nothing node ≡ []
 no_candidates node = ap (λ (merge : NodeMergeValue). keys_of merge.gains) (alike nothing_merged 25 (index_of node))
