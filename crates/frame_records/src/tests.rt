@@ -216,3 +216,16 @@ fn refuses_what_the_reader_refuses(rt: HostRuntime) -> Result<(), Fail> {
     );
     Ok(())
 }
+
+#[test]
+fn texts(rt: HostRuntime) -> Result<(), Fail> {
+    let alloc = rt.alloc();
+    for (skip, text) in [
+        (Skip::NotIpv4, "not IPv4"),
+        (Skip::Short, "short"),
+        (Skip::BadHeader, "bad header"),
+    ] {
+        assert_eq!(rt; format!(in alloc; "{skip}")?.as_str(), text);
+    }
+    Ok(())
+}

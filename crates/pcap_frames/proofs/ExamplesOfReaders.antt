@@ -11,7 +11,7 @@ use Rattle.pcap_frames.specs.FrameValue.{FrameValue}
 use Rattle.pcap_frames.specs.Header.{magic_order, header_fault, fault_at}
 use Rattle.pcap_frames.specs.Frames.{frame_at, needed, frame_fault}
 use Rattle.pcap_frames.specs.ReaderState.{FramePlace, ReaderState, InHeader, InFrames, AtFault, LacksMemory, IsPartHeader, IsBehind, ReaderStandsFor, Completes, HasStopped, Advances}
-use Rattle.pcap_frames.specs.KeptValue.{KeptValue}
+use Rattle.pcap_frames.specs.FrontValue.{FrontValue}
 use Rattle.pcap_frames.specs.Part.{frame_place, state_of, IsWithin, IsInStage}
 use Rattle.pcap_frames.specs.Steps.{held_frames, SplitsFrame, Takes, ShowsFront, LacksRoom}
 use Rattle.pcap_frames.specs.Visitor.{Sees, IsAlike}
@@ -44,7 +44,7 @@ albums_are_not_alike alike = absurd (let same : frame ∷ [] ≡ [] = alike.fort
 -- ---- a reader that was fed a file header and a frame but for its last byte
 
 -- what is kept of the frame
-abbrev kept : KeptValue
+abbrev kept : FrontValue
 kept = record { first = take 18 frame_bytes; came = 18 }
 
 abbrev part : FramePart

@@ -6,13 +6,13 @@ ghost use Rattle.pcap_frames.specs.FileOrder.{number_at};
 use crate::Frame;
 use crate::file_order::FileOrder;
 use crate::framing::frame_at;
-use crate::kept::KeptBytes;
+use crate::front::FrontBytes;
 
 /// The header and head of a whole frame, as the reader kept them.
 #[derive(Drop)]
 pub(crate) struct HeldFrame {
     pub(crate) order: FileOrder,
-    pub(crate) kept: KeptBytes,
+    pub(crate) kept: FrontBytes,
     pub ghost header: { 16 ≤ length kept.first },
     pub ghost limit: { number_at order 4 8 kept.first ≤ 262144 },
     pub ghost head: { 16 + min 42 (number_at order 4 8 kept.first) ≤ length kept.first },

@@ -12,7 +12,7 @@ use crate::file_order::FileOrder;
 use crate::framing::{MOST_FRAMES, frame_fault, needed, whole_at};
 use crate::header::{header_fault, magic_order};
 use crate::held::HeldFrame;
-use crate::kept::KeptBytes;
+use crate::front::FrontBytes;
 use crate::{CaptureFault, Frame};
 use std::mem;
 
@@ -35,7 +35,7 @@ pub(crate) struct FramePart {
     pub(crate) order: FileOrder,
     pub(crate) count: u32,
     pub(crate) place: u64,
-    pub(crate) kept: KeptBytes,
+    pub(crate) kept: FrontBytes,
 }
 
 /// What a step left of a piece, and the frame that it completed.
@@ -55,7 +55,7 @@ impl FramePart {
             order: FileOrder::Big,
             count: 0,
             place: 24,
-            kept: KeptBytes::new(),
+            kept: FrontBytes::new(),
         }
     }
 
@@ -113,7 +113,7 @@ impl FramePart {
         self.order = order;
         self.count = 0;
         self.place = 24;
-        self.kept = KeptBytes::new();
+        self.kept = FrontBytes::new();
         Stage::Frames
     }
 
@@ -170,7 +170,7 @@ impl FramePart {
         }
         self.count += 1;
         self.place += size;
-        let kept = mem::replace(&mut self.kept, KeptBytes::new());
+        let kept = mem::replace(&mut self.kept, FrontBytes::new());
         let held = HeldFrame {
             order: self.order,
             kept,

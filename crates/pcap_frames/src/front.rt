@@ -7,26 +7,26 @@ use std::marker::Model;
 /// The first 58 of the bytes that came, and how many came. 58 bytes hold a file header, and they hold
 /// a frame header with the frame's head.
 #[derive(Drop)]
-pub(crate) struct KeptBytes {
+pub(crate) struct FrontBytes {
     bytes: [u8; 58],
     came: u32,
 }
 
-impl Model for KeptBytes {
+impl Model for FrontBytes {
     ghost use Rattle.std.specs.Prelude.{take};
-    ghost use Rattle.pcap_frames.specs.KeptValue.{KeptValue};
+    ghost use Rattle.pcap_frames.specs.FrontValue.{FrontValue};
 
-    ghost Value = { KeptValue };
+    ghost Value = { FrontValue };
 
     ghost view = { λ k. record { first = take k.came k.bytes; came = k.came } };
 }
 
-impl KeptBytes {
+impl FrontBytes {
     /// No bytes.
-    pub(crate) fn new() -> KeptBytes
+    pub(crate) fn new() -> FrontBytes
         ensures { result ≡ record { first = []; came = 0 } }
     {
-        KeptBytes {
+        FrontBytes {
             bytes: [0; 58],
             came: 0,
         }

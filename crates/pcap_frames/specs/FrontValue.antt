@@ -2,6 +2,6 @@
 use Rattle.std.specs.Prelude.{ℕ, List}
 
 -- the first 58 of the bytes that came, and how many came
-pub record KeptValue : Type 0 where
+pub record FrontValue : Type 0 where
   pub first : List ℕ
   pub came : ℕ
