@@ -5,7 +5,7 @@ use Rattle.std.proofs.lemmas.Fmt.{first_decimal, decimal_injective}
 use Rattle.frame_records.specs.declared.weigh.Weigh.TheVariants.{Bytes, Packets}
 use Rattle.deal_rules.specs.declared.deal_kind.DealKind.TheVariants.{RoundRobin, Free}
 use Rattle.command_words.specs.Arguments.{option}
-use Rattle.command_words.specs.Options.{name_of, place_of, number, choice, kind_of, IsNumber, IsAllowed, IsGoodText, IsGood, IsNoNumber, IsOutside, IsNoChoice}
+use Rattle.command_words.specs.Options.{name_of, place_of, Kind, number, choice, kind_of, IsNumber, IsAllowed, IsGoodText, IsGood, IsNoNumber, IsOutside, IsNoChoice}
 use Rattle.command_words.specs.Settings.{Values, values_in, SetsNumber, SetsWeigh, SetsDeal, weigh_word, deal_word, SetsSettings, IsWide, AreLimited}
 use Rattle.command_words.specs.Words.{IsFirstBad, HasValueFault}
 use Rattle.command_words.specs.OneValue.{IsBadNumber, IsBadChoice}
@@ -22,7 +22,11 @@ name_of_the_share = refl
 pub share_is_looked_at_behind_the_capacity : place_of Capacity < place_of Phi
 share_is_looked_at_behind_the_capacity = omega arith
 
-pub limits_of_the_capacity : kind_of Capacity ≡ number 2 4096
+-- a number from 2 to 4096
+abbrev from_2_to_4096 : Kind
+from_2_to_4096 = number 2 4096
+
+pub limits_of_the_capacity : kind_of Capacity ≡ from_2_to_4096
 limits_of_the_capacity = refl
 
 pub words_for_weighing : kind_of Weigh ≡ choice (weigh_word Bytes ∷ weigh_word Packets ∷ [])
