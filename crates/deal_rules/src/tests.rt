@@ -71,34 +71,42 @@ fn list_of(
     Ok(records)
 }
 
+fn by_place(place: u64, rec: Record, shards: u32) -> u32
+    requires { IsAsked place rec shards }
+    ensures { result ≡ place % shards }
+{
+    (place % u64::from(shards)) as u32
+}
+
+fn by_source(place: u64, rec: Record, shards: u32) -> u32
+    requires { IsAsked place rec shards }
+    ensures { result ≡ rec.src % shards }
+{
+    rec.src % shards
+}
+
+fn by_both(place: u64, rec: Record, shards: u32) -> u32
+    requires { IsAsked place rec shards }
+    ensures { result ≡ bit_xor rec.src rec.dst % shards }
+{
+    (rec.src ^ rec.dst) % shards
+}
+
+// A rule that knows one shard.
+fn to_the_first(place: u64, rec: Record, shards: u32) -> u32
+    requires { IsAsked place rec shards }
+    ensures { result ≡ 0 }
+{
+    0
+}
+
 #[test]
 fn deals_by_each_kind(rt: HostRuntime) -> Result<(), Fail> {
     let alloc = rt.alloc();
-    let by_place: DealRule = Box::new(
-        alloc,
-        |place: u64, rec: Record, shards: u32| -> u32
-            requires { IsAsked place rec shards }
-            ensures { result ≡ place % shards }
-        { (place % u64::from(shards)) as u32 },
-    )?;
-    let by_source: DealRule = Box::new(
-        alloc,
-        |place: u64, rec: Record, shards: u32| -> u32
-            requires { IsAsked place rec shards }
-            ensures { result ≡ rec.src % shards }
-        { rec.src % shards },
-    )?;
-    let by_both: DealRule = Box::new(
-        alloc,
-        |place: u64, rec: Record, shards: u32| -> u32
-            requires { IsAsked place rec shards }
-            ensures { result ≡ bit_xor rec.src rec.dst % shards }
-        { (rec.src ^ rec.dst) % shards },
-    )?;
     let dealers = Dealers {
-        round: Dealer::new(DealKind::RoundRobin, by_place),
-        source: Dealer::new(DealKind::BySource, by_source),
-        free: Dealer::new(DealKind::Free, by_both),
+        round: Dealer::new(DealKind::RoundRobin, Box::new(alloc, by_place)?),
+        source: Dealer::new(DealKind::BySource, Box::new(alloc, by_source)?),
+        free: Dealer::new(DealKind::Free, Box::new(alloc, by_both)?),
     };
     assert_eq!(rt;
         dealers.of(DealKind::RoundRobin).kind(),
@@ -131,14 +139,7 @@ fn deals_by_each_kind(rt: HostRuntime) -> Result<(), Fail> {
 
 #[test]
 fn deals_all_to_one_shard(rt: HostRuntime) -> Result<(), Fail> {
-    let to_zero: DealRule = Box::new(
-        rt.alloc(),
-        |place: u64, rec: Record, shards: u32| -> u32
-            requires { IsAsked place rec shards }
-            ensures { result ≡ 0 }
-        { 0 },
-    )?;
-    let dealer = Dealer::new(DealKind::Free, to_zero);
+    let dealer = Dealer::new(DealKind::Free, Box::new(rt.alloc(), to_the_first)?);
     let rows = [
         (1, [0, 0, 0, 0, 0]),
         (2, [0, 0, 0, 0, 0]),

@@ -7,7 +7,7 @@ mod reports;
 mod weights;
 
 use super::*;
-use deal_rules::{DealKind, DealRule, Dealer, Dealers};
+use deal_rules::{DealKind, Dealer, Dealers};
 use outside_io::{MemorySink, MemorySource};
 use prefix_lattice::Record;
 use std::alloc::{AllocError, Global};
@@ -49,34 +49,42 @@ pub(crate) fn run_over(
     Ok(Ended { status, text })
 }
 
+fn by_place(place: u64, rec: Record, shards: u32) -> u32
+    requires { IsAsked place rec shards }
+    ensures { result ≡ place % shards }
+{
+    (place % u64::from(shards)) as u32
+}
+
+fn by_source(place: u64, rec: Record, shards: u32) -> u32
+    requires { IsAsked place rec shards }
+    ensures { result ≡ rec.src % shards }
+{
+    rec.src % shards
+}
+
+fn by_both(place: u64, rec: Record, shards: u32) -> u32
+    requires { IsAsked place rec shards }
+    ensures { result ≡ bit_xor rec.src rec.dst % shards }
+{
+    (rec.src ^ rec.dst) % shards
+}
+
+// A rule that knows one shard.
+fn to_the_first(place: u64, rec: Record, shards: u32) -> u32
+    requires { IsAsked place rec shards }
+    ensures { result ≡ 0 }
+{
+    0
+}
+
 #[test]
 fn answers_and_refuses(rt: HostRuntime) -> Result<(), Fail> {
     let alloc = rt.alloc();
-    let by_place: DealRule = Box::new(
-        alloc,
-        |place: u64, rec: Record, shards: u32| -> u32
-            requires { IsAsked place rec shards }
-            ensures { result ≡ place % shards }
-        { (place % u64::from(shards)) as u32 },
-    )?;
-    let by_source: DealRule = Box::new(
-        alloc,
-        |place: u64, rec: Record, shards: u32| -> u32
-            requires { IsAsked place rec shards }
-            ensures { result ≡ rec.src % shards }
-        { rec.src % shards },
-    )?;
-    let by_both: DealRule = Box::new(
-        alloc,
-        |place: u64, rec: Record, shards: u32| -> u32
-            requires { IsAsked place rec shards }
-            ensures { result ≡ bit_xor rec.src rec.dst % shards }
-        { (rec.src ^ rec.dst) % shards },
-    )?;
     let dealers = Dealers {
-        round: Dealer::new(DealKind::RoundRobin, by_place),
-        source: Dealer::new(DealKind::BySource, by_source),
-        free: Dealer::new(DealKind::Free, by_both),
+        round: Dealer::new(DealKind::RoundRobin, Box::new(alloc, by_place)?),
+        source: Dealer::new(DealKind::BySource, Box::new(alloc, by_source)?),
+        free: Dealer::new(DealKind::Free, Box::new(alloc, by_both)?),
     };
     weights::weighs_prefixes(&rt, alloc, &dealers)?;
     weights::weighs_the_longest_frame(&rt, alloc, &dealers)?;
@@ -91,31 +99,10 @@ fn answers_and_refuses(rt: HostRuntime) -> Result<(), Fail> {
 #[test]
 fn a_free_rule_deals_as_it_answers(rt: HostRuntime) -> Result<(), Fail> {
     let alloc = rt.alloc();
-    let by_place: DealRule = Box::new(
-        alloc,
-        |place: u64, rec: Record, shards: u32| -> u32
-            requires { IsAsked place rec shards }
-            ensures { result ≡ place % shards }
-        { (place % u64::from(shards)) as u32 },
-    )?;
-    let by_source: DealRule = Box::new(
-        alloc,
-        |place: u64, rec: Record, shards: u32| -> u32
-            requires { IsAsked place rec shards }
-            ensures { result ≡ rec.src % shards }
-        { rec.src % shards },
-    )?;
-    let to_the_first: DealRule = Box::new(
-        alloc,
-        |place: u64, rec: Record, shards: u32| -> u32
-            requires { IsAsked place rec shards }
-            ensures { result ≡ 0 }
-        { 0 },
-    )?;
     let dealers = Dealers {
-        round: Dealer::new(DealKind::RoundRobin, by_place),
-        source: Dealer::new(DealKind::BySource, by_source),
-        free: Dealer::new(DealKind::Free, to_the_first),
+        round: Dealer::new(DealKind::RoundRobin, Box::new(alloc, by_place)?),
+        source: Dealer::new(DealKind::BySource, Box::new(alloc, by_source)?),
+        free: Dealer::new(DealKind::Free, Box::new(alloc, to_the_first)?),
     };
     reports::deals_to_the_first(&rt, alloc, &dealers)
 }
