@@ -10,9 +10,9 @@ ghost use Rattle.pcap_frames.specs.Part.{state_of, IsInStage, IsWithin, frame_pl
 
 use crate::file_order::FileOrder;
 use crate::framing::{MOST_FRAMES, frame_fault, needed, whole_at};
+use crate::front::FrontBytes;
 use crate::header::{header_fault, magic_order};
 use crate::held::HeldFrame;
-use crate::front::FrontBytes;
 use crate::{CaptureFault, Frame};
 use std::mem;
 
