@@ -87,10 +87,13 @@ def check_row(crate, row):
                 check("src" in place or name in known.get(place, ()), f"{crate}/{place} doesn't define {name}")
     if "Clause" in row:
         check_clauses(crate, row["Clause"])
+    for name in names(row.get("Definitions", "")):
+        check(name in all_definitions, f"{crate}: no crate defines {name}")
     for name in names(row.get("Wrong bodies", "")):
         check(name in wrong_bodies(crate), f"{crate} has no wrong body {name}")
 
 
+all_definitions = {name for path in (top / "crates").iterdir() for names in definitions(path.name).values() for name in names}
 told = {}
 for crate, row in tables(top / "docs" / "GUARANTEES.md"):
     if crate:

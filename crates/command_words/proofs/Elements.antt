@@ -1,7 +1,7 @@
 -- The elements of a list, by its first and the others.
 use Rattle.std.proofs.Common.{◌≡◌, ◌≢◌, ◌↔◌, ◌∙◌, ◌==◌, ◌||◌, refl, sym, ap, subst, eq-eqb, get_or, List, [], ◌∷◌, map, ℕ, zero, suc, Bool, false, arith, Bor}
 use Rattle.std.specs.Bool.{IsTrue}
-use Rattle.std.specs.List.{All, AllPairs, Contains, list_any}
+use Rattle.std.specs.List.{Contains, list_any}
 use Rattle.std.specs.Str.{bytes_eq}
 use Rattle.std.proofs.lemmas.Bool.{false≢true}
 use Rattle.std.proofs.lemmas.List.Folds.{Any-from_list_any, list_any-from_Any, list_any_at}

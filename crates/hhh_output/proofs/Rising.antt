@@ -1,5 +1,5 @@
 -- Lists in a strict order.
-use Rattle.std.proofs.Common.{◌≡◌, zero, suc, List, [], ◌∷◌, Contains, All, AllPairs, ◌⊎◌, inl, inr, refl, sym, ap, ◌∙◌, subst, arith}
+use Rattle.std.proofs.Common.{◌≡◌, List, [], ◌∷◌, Contains, All, AllPairs, ◌⊎◌, inl, inr, refl, sym, ap, ◌∙◌, subst}
 use Rattle.std.proofs.lemmas.List.Elements.{All-contains}
 use Rattle.prefix_lattice.proofs.Lists.{Contains-head, Contains-tail, Contains-cons, Contains-nil, AllPairs-head, AllPairs-tail}
 
