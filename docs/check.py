@@ -3,7 +3,8 @@
 
 Looks at the tables of GUARANTEES.md and at the README's table of crates: each definition stands in the file that is
 named beside it, each clause on the function that is named before it, each wrong body in must-fail/ of its crate, and
-each wrong body in must-fail/ in the documents. Prints a line for each name that doesn't stand, and ends with 1 then.
+each wrong body in must-fail/ in the documents. What the README says is proved of a crate is a sentence of GUARANTEES.md.
+Prints a line for each name or sentence that doesn't stand, and ends with 1 then.
 """
 
 import re
@@ -99,9 +100,12 @@ for crate, row in tables(top / "docs" / "GUARANTEES.md"):
     if crate:
         check_row(crate, row)
         told.setdefault(crate, set()).update(names(row.get("Wrong bodies", "")))
+guarantees = (top / "docs" / "GUARANTEES.md").read_text()
 for _, row in tables(top / "README.md"):
     if "Crate" in row and "Clause" in row:
-        check_clauses(names(row["Crate"])[0], row["Clause"])
+        crate, claim = names(row["Crate"])[0], row["What is proved"]
+        check_clauses(crate, row["Clause"])
+        check(claim[0].upper() + claim[1:] + "." in guarantees, f"GUARANTEES.md doesn't say what the README says of {crate}")
 for path in sorted((top / "crates").iterdir()):
     for name in sorted(wrong_bodies(path.name) - told.get(path.name, set())):
         faults.append(f"no document names the wrong body {name} of {path.name}")

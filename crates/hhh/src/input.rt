@@ -1,5 +1,7 @@
 //! Where the capture comes from.
 
+ghost use Rattle.std.specs.Prelude.{◌≡◌};
+
 use outside_io::PathText;
 use std::fs::File;
 use std::io::{Read, Result as IoResult, Stdin};
@@ -35,7 +37,9 @@ pub struct LateFile<'a> {
 
 impl<'a> LateFile<'a> {
     /// The file of this name.
-    pub fn new(rt: &'a HostRuntime, path: PathText) -> Self {
+    pub fn new(rt: &'a HostRuntime, path: PathText) -> Self
+        ensures { result.path ≡ path }
+    {
         LateFile {
             rt,
             path,
