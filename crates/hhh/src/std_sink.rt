@@ -2,6 +2,7 @@
 
 ghost use Rattle.std.specs.Prelude.{◌≡◌, ◌<◌, ◌≤◌, length, take, None, IfOk};
 ghost use Rattle.std.specs.Io.KnownBytes.{Appends, WriteAppends};
+ghost use Rattle.outside_io.specs.Faults.{FailsByFault};
 
 use outside_io::{Failed, Sink};
 use std::io::{ErrorKind, Write};
@@ -27,7 +28,15 @@ impl<W: Write + Drop> Sink for StdSink<W> {
 
     ghost faults = { λ s. s.faults };
 
-    fn write(&mut self, bytes: &[u8]) -> Result<usize, Failed> {
+    fn write(&mut self, bytes: &[u8]) -> Result<usize, Failed>
+        ensures fits { IfOk result (λ count. count ≤ length bytes.now) }
+        ensures takes_some { IfOk result (λ count. 0 < length bytes.now → 0 < count) }
+        ensures appended { WriteAppends None None result bytes.now }
+        ensures cause { FailsByFault self.old.faults self.new.faults result }
+
+        // Where the stream tells what it holds, these bytes stand behind it.
+        ensures of_stream { IfOk result (λ count. Appends (W.contents self.old.writer) (W.contents self.new.writer) (take count bytes.now)) }
+    {
         let count = written(&mut self.writer, bytes);
         if count.is_err() {
             self.faults = self.faults.saturating_add(1);

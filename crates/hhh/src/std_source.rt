@@ -2,6 +2,7 @@
 
 ghost use Rattle.std.specs.Prelude.{◌≡◌, ◌≤◌, ◌<◌, length, vec_len, drop, None, IfOk};
 ghost use Rattle.std.specs.Io.KnownBytes.{ReadConsumes};
+ghost use Rattle.outside_io.specs.Faults.{FailsByFault};
 
 use outside_io::{Failed, Source};
 use std::alloc::{AllocError, Global};
@@ -37,7 +38,15 @@ impl<R: Read + Drop> Source for StdSource<R> {
 
     ghost faults = { λ s. s.faults };
 
-    fn read(&mut self, into: &mut [u8]) -> Result<usize, Failed> {
+    fn read(&mut self, into: &mut [u8]) -> Result<usize, Failed>
+        ensures fits { IfOk result (λ count. count ≤ length into.old) }
+        ensures later_places { IfOk result (λ count. drop count into.new ≡ drop count into.old) }
+        ensures first_bytes { ReadConsumes None None result into.new }
+        ensures cause { FailsByFault self.old.faults self.new.faults result }
+
+        // Where the stream tells what it has left, these are its next bytes.
+        ensures of_stream { ReadConsumes (R.remaining self.old.reader) (R.remaining self.new.reader) result into.new }
+    {
         let count = read_by(&mut self.reader, &mut self.buffer, into);
         if count.is_err() {
             self.faults = self.faults.saturating_add(1);
