@@ -1,6 +1,7 @@
 pub mod Ending
 pub mod Ends
 pub mod Sessions
+pub mod Parts
 pub mod Examples
 pub mod ExamplesOfSessions
 pub mod ExamplesOfStatuses
