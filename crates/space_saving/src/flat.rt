@@ -4,12 +4,19 @@ ghost use Rattle.std.specs.Prelude.{◌≡◌, ◌+◌, ◌-◌, ◌*◌, ◌^�
 ghost use Rattle.space_saving.specs.Table.{step, entry_of, total_count, least_count, interval_in};
 ghost use Rattle.space_saving.specs.TableFacts.{AreEntries};
 
-use crate::Entry;
 use crate::facts::{is_table, total_of};
 use crate::places::place_of;
 use crate::steps::add_weight;
+use crate::{Entry, EntrySource};
 use std::alloc::{AllocError, Global};
 use std::marker::Model;
+
+// Stands in the room of an entry until that is written.
+const BLANK: Entry = Entry {
+    key: 0,
+    count: 0,
+    error: 0,
+};
 
 /// A table of Space-Saving as plain entries, counts ascending, in memory that was reserved for as many as
 /// the capacity says.
@@ -123,6 +130,17 @@ impl Flat {
         ensures kept { AreEntries self.now.capacity self.now.entries }
     {
         self.total
+    }
+
+    /// Replaces the entries by those of a source, which are a table of this capacity. It takes no memory, and
+    /// its time is that of the source and one pass over the entries.
+    pub fn refill<S: EntrySource>(&mut self, source: &S)
+        requires table { AreEntries self.old.capacity (S.entries source.now) }
+        ensures { self.new ≡ record self.old { entries = S.entries source.now } }
+    {
+        self.entries.resize(source.entry_count(), BLANK).unwrap();
+        source.write_entries(&mut self.entries);
+        self.total = total_of(&self.entries).unwrap();
     }
 
     /// Adds a weight for a key, by one step of Space-Saving. It takes no memory.

@@ -3,6 +3,7 @@
 #![tactic(auto)]
 
 mod entry;
+mod entry_source;
 mod facts;
 mod flat;
 mod laws;
@@ -12,6 +13,7 @@ mod steps;
 mod summary;
 
 pub use entry::Entry;
+pub use entry_source::EntrySource;
 pub use flat::Flat;
 pub use laws::{
     adds_go_on, adds_leave_a_table, intervals_are_narrow, intervals_hold, missing_keys_are_light,

@@ -145,6 +145,48 @@ fn entries_are_tested(rt: HostRuntime) -> Result<(), Fail> {
     Ok(())
 }
 
+/// The entries of a slice, as another table would give its own.
+#[derive(Clone, Copy)]
+struct Listed<'a>(&'a [Entry]);
+
+impl EntrySource for Listed<'_> {
+    ghost entries = { λ listed. listed.0.now };
+
+    fn entry_count(&self) -> usize {
+        self.0.len()
+    }
+
+    fn write_entries(&self, into: &mut [Entry]) {
+        into.copy_from_slice(self.0);
+    }
+}
+
+#[test]
+fn tables_are_refilled(rt: HostRuntime) -> Result<(), Fail> {
+    let alloc = rt.alloc();
+    let mut flat = Flat::with_room(alloc, 3)?;
+    let cases: [&[Entry]; 4] = [
+        &[entry(A, 5, 0), entry(C, 7, 3)],
+        &[entry(B, 1, 0), entry(C, 2, 0), entry(A, 6, 3)],
+        &[],
+        &[entry(C, 4, 0)],
+    ];
+    for entries in cases {
+        let mut copied = Vec::with_capacity(alloc, 3)?;
+        copied.extend_from_slice(entries)?;
+        let same = Flat::from_entries(3, copied).ok_or("a table")?;
+        assert_eq!(rt; (same.capacity(), flat.capacity()), (3, 3));
+        let total = same.total();
+        flat.refill(&Listed(entries));
+        assert_eq!(rt; (flat.len(), flat.total()), (entries.len(), total));
+        for (place, entry) in entries.iter().enumerate() {
+            assert!(rt; place < flat.len());
+            assert_eq!(rt; flat.entry(place), *entry);
+        }
+    }
+    Ok(())
+}
+
 /// The three cases by another program: what changes goes to the end, and a stable sort by count then puts
 /// it after its equals.
 fn plain_step(
