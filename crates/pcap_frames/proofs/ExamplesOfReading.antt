@@ -1,10 +1,11 @@
 -- Worked examples of what reading a source answers, and of what its visitor saw: of a capture of one frame, and of the file that
 -- it is without its last byte.
 use Rattle.std.proofs.Common.{◌≡◌, [], ◌∷◌, ◌++◌, length, Some, Ok, Err, refl, ap, sym, ◌∙◌, append-nil, arith}
-use Rattle.pcap_frames.specs.declared.fault.FaultKind.TheVariants.{CutFrame}
+use Rattle.pcap_frames.specs.declared.fault.FaultKind.TheVariants.{CutFrame, LongFrame}
 use Rattle.pcap_frames.specs.declared.fault.FeedFault.TheVariants as feed
 use Rattle.pcap_frames.specs.declared.fault.ReadRefusal.TheVariants.{Capture, ReadFault, OutOfMemory}
 use Rattle.pcap_frames.specs.Header.{fault_at}
+use Rattle.pcap_frames.specs.Capture.{IsOfTheEnd}
 use Rattle.pcap_frames.specs.Visitor.{Sees}
 use Rattle.pcap_frames.specs.Reading.{refusal_of, SeesCapture, SeesBeforeFault, SeesFront, SeesPart, IsSeen, IsReadOf}
 use Rattle.pcap_frames.proofs.Deciding.{files_decided}
@@ -49,7 +50,15 @@ nothing_is_seen_of_a_cut_frame = record {
   are_frames = tt;
   sees = sees_nothing;
   first = fault_of_a_cut_file;
+  at_end = λ ends. refl;
 }
+
+-- that a frame is cut is not known before the source is at its end
+pub cut_frame_is_seen_at_the_end : SeesBeforeFault album [] [] (Some (cut_file ++ 9 ∷ [])) (Some (9 ∷ [])) (fault_at CutFrame 24) → ⊥
+cut_frame_is_seen_at_the_end seen = absurd (let none_left : 9 ∷ [] ≡ [] = seen.at_end tt in cc)
+
+pub only_the_end_cuts_a_frame : IsOfTheEnd CutFrame × (IsOfTheEnd LongFrame → ⊥)
+only_the_end_cuts_a_frame = (tt, λ ends. ends)
 
 -- the call behind the piece that was the cut file failed
 pub front_is_seen : SeesFront album [] [] (Some capture) (Some (9 ∷ []))

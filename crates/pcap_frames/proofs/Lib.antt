@@ -7,6 +7,7 @@ pub mod Verdicts
 pub mod Heads
 pub mod Feeds
 pub mod Deciding
+pub mod EndFaults
 pub mod SourceReads
 pub mod Examples
 pub mod ExamplesOfReaders

@@ -15,6 +15,7 @@ use Rattle.pcap_frames.specs.Feeding.{IsAnswerOf, IfMemory, Feeds, SeesBeginning
 use Rattle.pcap_frames.specs.Reading.{refusal_of, SeesCapture, SeesBeforeFault, SeesFront, SeesPart, IsSeen, IsReadOf}
 use Rattle.pcap_frames.proofs.FrameLists.{BeginsFrames-length}
 use Rattle.pcap_frames.proofs.Splitting.{ShowsFault-append}
+use Rattle.pcap_frames.proofs.EndFaults.{shown_before_the_end}
 use Rattle.pcap_frames.proofs.Steps.{needed_bound}
 use Rattle.pcap_frames.proofs.Verdicts.{stands_ends, ends_begin, completes_total, never_both}
 use Rattle.pcap_frames.proofs.Feeds.{AreFrames-append, Sees-nil, Sees-trans}
@@ -176,6 +177,7 @@ module _ {V : Type 0} (stands_for : V → List FrameValue → Type 0) where
           are_frames = AreFrames-append read.frames feeds.given read.are_frames feeds.are_frames;
           sees = Sees-trans stands_for seen mid saw read.frames feeds.given read.sees feeds.sees;
           first = consumed_front left after (read.bytes ++ piece) _ whole first;
+          at_end = λ ends. absurd (shown_before_the_end (read.bytes ++ piece) _ fault shows ends);
         },
         consumed_front left after (read.bytes ++ piece) _ whole (λ rest. ((_, first rest), λ frames capture. never_both _ frames fault capture (_, first rest))),
       )
@@ -223,6 +225,7 @@ module _ {V : Type 0} (stands_for : V → List FrameValue → Type 0) where
           are_frames = read.are_frames;
           sees = read.sees;
           first = Consumes-whole left after read.bytes (λ file. HasFaultAfter file read.frames fault) whole end first;
+          at_end = λ ends. end;
         },
         Consumes-whole left after read.bytes (λ file. IsReadOf file (Err (Capture fault))) whole end ((read.frames, first), λ frames capture. never_both read.bytes frames fault capture (read.frames, first)),
       )

@@ -1,8 +1,9 @@
 -- A capture of libpcap's file format 2.4, and the first fault of a file that is none. Faults are tested in this order: NotCapture,
 -- Version, Link, else ShortHeader; then behind each frame TooManyFrames, LongFrame, else CutFrame.
-use Rattle.std.specs.Prelude.{ℕ, ◌≡◌, ◌-◌, ◌≤◌, ◌<◌, ◌⊎◌, Some, None, List, [], length, drop}
+use Rattle.std.specs.Prelude.{⊤, ℕ, ◌≡◌, ◌-◌, ◌≤◌, ◌<◌, ◌⊎◌, Some, None, List, [], length, drop}
 use Rattle.pcap_frames.specs.declared.file_order.FileOrder.{FileOrder}
 use Rattle.pcap_frames.specs.declared.fault.CaptureFault.{CaptureFault}
+use Rattle.pcap_frames.specs.declared.fault.FaultKind.{FaultKind}
 use Rattle.pcap_frames.specs.declared.fault.FaultKind.TheVariants.{ShortHeader, CutFrame}
 use Rattle.pcap_frames.specs.FrameValue.{FrameValue}
 use Rattle.pcap_frames.specs.Header.{IsHeader, header_fault, fault_at}
@@ -55,6 +56,12 @@ pub record EndsInFrame (file : List ℕ) (frames : List FrameValue) (fault : Cap
 -- the end of the file makes this fault, and these frames stand before it
 abbrev pub EndsInside : List ℕ → List FrameValue → CaptureFault → Type 0
 EndsInside file frames fault = EndsInHeader file frames fault ⊎ EndsInFrame file frames fault
+
+-- a fault that the end of a file makes, and no byte before it
+abbrev pub IsOfTheEnd : FaultKind → Type 0
+IsOfTheEnd ShortHeader = ⊤
+IsOfTheEnd CutFrame = ⊤
+IsOfTheEnd shown = ⊥
 
 -- this is the file's first fault, and these are the frames before it
 abbrev pub HasFaultAfter : List ℕ → List FrameValue → CaptureFault → Type 0

@@ -8,7 +8,7 @@ use Rattle.pcap_frames.specs.declared.fault.ReadRefusal.TheVariants.{Capture, Re
 use Rattle.pcap_frames.specs.declared.fault.CaptureFault.{CaptureFault}
 use Rattle.pcap_frames.specs.FrameValue.{FrameValue}
 use Rattle.pcap_frames.specs.Frames.{AreFrames}
-use Rattle.pcap_frames.specs.Capture.{IsCapture, HasFaultAfter, HasFault}
+use Rattle.pcap_frames.specs.Capture.{IsCapture, IsOfTheEnd, HasFaultAfter, HasFault}
 use Rattle.pcap_frames.specs.ReaderState.{Completes}
 use Rattle.pcap_frames.specs.Visitor.{Sees}
 use Rattle.outside_io.specs.Pieces.{IsBeginning}
@@ -29,7 +29,7 @@ pub record SeesCapture {V : Type 0} (stands_for : V → List FrameValue → Type
   pub at_end : IsAtEnd now
 
 -- a front of the source was read, which has this first fault behind the frames that the visitor saw; it is the file's where the source
--- tells its bytes
+-- tells its bytes, and where the end of a file makes it the source was read to its end
 pub record SeesBeforeFault {V : Type 0} (stands_for : V → List FrameValue → Type 0) (seen saw : V) (left now : Option (List ℕ)) (fault : CaptureFault) : Type 0 where
   pub front : List ℕ
   pub frames : List FrameValue
@@ -39,6 +39,7 @@ pub record SeesBeforeFault {V : Type 0} (stands_for : V → List FrameValue → 
   pub are_frames : AreFrames frames
   pub sees : Sees stands_for seen saw frames
   pub first : IfSome left (λ file. HasFaultAfter file frames fault)
+  pub at_end : IsOfTheEnd fault.kind → IsAtEnd now
 
 -- a front of the source was read, and the visitor saw the frames that it completes
 pub record SeesFront {V : Type 0} (stands_for : V → List FrameValue → Type 0) (seen saw : V) (left now : Option (List ℕ)) : Type 0 where

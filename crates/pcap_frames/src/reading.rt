@@ -11,8 +11,8 @@ use outside_io::Source;
 /// The number of frames. The buffer has room for a byte at least, and may hold any bytes afterwards.
 ///
 /// `Capture` comes where the bytes are no capture, with the first fault. The visitor saw the frames
-/// before it, and the source may have been read past it. `ReadFault` comes just where a call of the
-/// source failed. After it, and after `OutOfMemory`, which may come at each frame, the source was read
+/// before it. The source may have been read past it, and was read to its end where that is what makes the
+/// fault, as a cut frame. `ReadFault` comes just where a call of the source failed. After it, and after `OutOfMemory`, which may come at each frame, the source was read
 /// in part, and the visitor saw the frames of that part, or after `OutOfMemory` the first of them.
 pub fn read_frames<S: Source, V: FrameVisitor>(
     source: &mut S,
