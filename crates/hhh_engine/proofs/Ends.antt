@@ -66,6 +66,10 @@ stand_at_ends stand capacity (list ∷ lists) = (
   stand_at_ends stand capacity lists,
 )
 
+-- tables of the capacity that was asked for
+alike_at_ends : (capacity : ℕ) (lists : List (List RecordValue)) → All (λ (s : SnapshotValue). s.capacity ≡ capacity) (map (at_end capacity) lists)
+alike_at_ends capacity lists = All-map (λ (s : SnapshotValue). s.capacity ≡ capacity) (at_end capacity) lists (λ k d lt. refl)
+
 -- in the end all counted all, and the cut is that at the ends
 pub all_counted : ShardsStand → (capacity : ℕ) (lists done : List (List RecordValue)) (cut : CutValue) → lists ≡ done ++ [] → cut.capacity ≡ capacity
     → cut.shards ≡ counted capacity done [] → IsCutAtEnds capacity lists cut
@@ -75,7 +79,11 @@ all_counted stand capacity lists done cut whole same_capacity shards =
     record {
       same_capacity = same_capacity;
       at_ends = ap (map (λ snapshot. snapshot.position)) is_counted ∙ positions_at_ends capacity lists;
-      stands = record { shards = subst (λ snapshots. AllZip SnapshotStandsFor snapshots lists) (sym is_counted) (stand_at_ends stand capacity lists) };
+      stands = record {
+        alike = subst (λ c. All (λ (s : SnapshotValue). s.capacity ≡ c) cut.shards) (sym same_capacity)
+            (subst (All (λ (s : SnapshotValue). s.capacity ≡ capacity)) (sym is_counted) (alike_at_ends capacity lists));
+        shards = subst (λ snapshots. AllZip SnapshotStandsFor snapshots lists) (sym is_counted) (stand_at_ends stand capacity lists);
+      };
     }
 
 -- of few records in all each list has few

@@ -2,13 +2,13 @@
 use Rattle.std.proofs.Common.{◌≡◌, ◌%◌, ℕ, List, [], ◌∷◌, ◌++◌, Some, None, false, inl, inr, refl, sym, ap, codes, arith}
 use Rattle.std.specs.Fmt.{digits}
 use Rattle.std.proofs.lemmas.List.{get_or-replicate}
-use Rattle.std.proofs.lemmas.List.Elements.{All-nil}
+use Rattle.std.proofs.lemmas.List.Elements.{All-nil, All-head, All-replicate}
 use Rattle.prefix_lattice.specs.RecordValue.{RecordValue}
 use Rattle.prefix_lattice.specs.NodeValue.{NodeValue, IsNode, index_of}
 use Rattle.prefix_lattice.specs.Prefix.{node_of, key_of}
 use Rattle.deal_rules.specs.declared.deal_kind.DealKind.TheVariants.{RoundRobin}
 use Rattle.deal_rules.specs.Dealing.{IsDealing}
-use Rattle.shard_state.specs.SnapshotValue.{no_entries, empty_snapshot, entries_at, table_at}
+use Rattle.shard_state.specs.SnapshotValue.{SnapshotValue, no_entries, empty_snapshot, entries_at, table_at}
 use Rattle.space_saving.specs.Table.{interval_in}
 use Rattle.shard_state.specs.CutValue.{CutValue}
 use Rattle.shard_state.specs.Standing.{SnapshotStandsFor}
@@ -82,8 +82,17 @@ pub cut_of_nothing : IsCutAtEnds 512 lists cut
 cut_of_nothing = record {
   same_capacity = refl;
   at_ends = refl;
-  stands = record { shards = (no_record_stands, (no_record_stands, (no_record_stands, (no_record_stands, tt)))) };
+  stands = record {
+    alike = All-replicate (λ (s : SnapshotValue). s.capacity ≡ 512) 4 (empty_snapshot 512) refl;
+    shards = (no_record_stands, (no_record_stands, (no_record_stands, (no_record_stands, tt))));
+  };
 }
+
+-- a cut whose tables have another capacity is not that of the lists
+pub cut_of_another_capacity : IsCutAtEnds 512 ([] ∷ []) (record { capacity = 512; shards = empty_snapshot 4096 ∷ [] }) → ⊥
+cut_of_another_capacity at =
+    let same : 4096 ≡ 512 = All-head (λ (s : SnapshotValue). s.capacity ≡ 512) (empty_snapshot 4096) [] at.stands.alike in
+    omega (arith, same)
 
 -- its report has no line
 pub no_lines : AreLines []

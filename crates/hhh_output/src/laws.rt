@@ -2,7 +2,7 @@
 
 ghost use Rattle.std.specs.Prelude.{◌≡◌, ℕ, ◌*◌, ◌≤◌, List, All, Some, length, slice_get};
 ghost use Rattle.prefix_lattice.specs.RecordValue.{RecordValue};
-ghost use Rattle.shard_state.specs.CutValue.{CutValue, IsCut};
+ghost use Rattle.shard_state.specs.CutValue.{CutValue, IsCut, positions_of};
 ghost use Rattle.shard_state.specs.Standing.{CutStandsFor};
 ghost use Rattle.shard_state.specs.CoreValue.{CoreValue, HasShape, IsCore, capacity_of, run};
 ghost use Rattle.shard_state.specs.Reads.{BasesStand, ReadsEach, lists_of};
@@ -16,7 +16,7 @@ ghost use Rattle.hhh_output.specs.Same.{AreSame};
 use conditioned_bounds::{bounds_hold, only_prefixes_are_asked};
 use cut_merge::{spans_are_narrow, spans_hold_weights};
 use prefix_lattice::{prefixes_are_ordered, report_order_is_total};
-use shard_state::{runs_stand, snapshots_hold_weights};
+use shard_state::{runs_stand, snapshots_hold_weights, standing_cuts_are_equal};
 
 /// A cut has one report: two that meet the definition show the same.
 pub fn a_cut_has_one_report()
@@ -25,6 +25,17 @@ pub fn a_cut_has_one_report()
 {
     prefixes_are_ordered();
     report_order_is_total();
+}
+
+/// Two cuts of one capacity, at the same positions, that stand for the same lists have one report: however the
+/// records were folded, what is reported at these positions is the same.
+pub fn standing_cuts_have_one_report()
+    ensures { (cut other_cut : CutValue) (lists : List (List RecordValue)) (phi : ℕ) (report other : Report) → cut.capacity ≡ other_cut.capacity
+        → positions_of cut ≡ positions_of other_cut → CutStandsFor cut lists → CutStandsFor other_cut lists → AreLines report.lines → AreLines other.lines
+        → IsReportOf cut phi report → IsReportOf other_cut phi other → AreSame report other }
+{
+    standing_cuts_are_equal();
+    a_cut_has_one_report();
 }
 
 /// The report of a cut that stands for lists of records is sound over them.

@@ -10,7 +10,10 @@ mod reporting;
 mod selecting;
 mod thresholds;
 
-pub use laws::{a_cut_has_one_report, reports_are_sound, reports_of_the_core_are_sound};
+pub use laws::{
+    a_cut_has_one_report, reports_are_sound, reports_of_the_core_are_sound,
+    standing_cuts_have_one_report,
+};
 pub use line::Line;
 pub use lines::Lines;
 pub use report::Report;

@@ -1,6 +1,6 @@
 -- Worked examples of snapshots and cuts, most by computing.
 use Rattle.std.proofs.Common.{◌≡◌, ℕ, zero, suc, [], ◌∷◌, length, replicate, Some, slice_get, refl, sym, subst, arith}
-use Rattle.std.proofs.lemmas.List.Elements.{All-nil}
+use Rattle.std.proofs.lemmas.List.Elements.{All-nil, All-cons, All-head}
 use Rattle.prefix_lattice.specs.NodeValue.{node_at}
 use Rattle.prefix_lattice.specs.Key.{IsKeyOf}
 use Rattle.space_saving.specs.declared.entry.Entry.{Entry}
@@ -114,7 +114,14 @@ pub stands_for_no_shorter_list : SnapshotStandsFor at_the_end (x ∷ []) → ⊥
 stands_for_no_shorter_list stands = omega (arith, stands.within)
 
 pub stands_for_two_lists : CutStandsFor cut (first ∷ (u ∷ u ∷ []) ∷ [])
-stands_for_two_lists = record { shards = (stands_for_the_first, (stands-empty 4 (u ∷ u ∷ []), tt)) }
+stands_for_two_lists = record {
+  alike = All-cons (λ (s : SnapshotValue). s.capacity ≡ 4) at_the_end (empty_snapshot 4 ∷ []) refl (All-cons (λ (s : SnapshotValue). s.capacity ≡ 4) (empty_snapshot 4) [] refl (All-nil (λ (s : SnapshotValue). s.capacity ≡ 4)));
+  shards = (stands_for_the_first, (stands-empty 4 (u ∷ u ∷ []), tt));
+}
+
+-- tables of another capacity are not those of the cut
+pub stands_for_no_other_capacity : CutStandsFor (record { capacity = 8; shards = at_the_end ∷ [] }) (first ∷ []) → ⊥
+stands_for_no_other_capacity stands = let same : 4 ≡ 8 = All-head (λ (s : SnapshotValue). s.capacity ≡ 8) at_the_end [] stands.alike in omega (arith, same)
 
 -- a cut of two shards stands for two lists
 pub stands_for_no_single_list : CutStandsFor cut (first ∷ []) → ⊥

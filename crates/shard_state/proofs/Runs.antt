@@ -9,7 +9,7 @@ use Rattle.shard_state.specs.SnapshotValue.{SnapshotValue}
 use Rattle.shard_state.specs.CutValue.{CutValue, positions_of}
 use Rattle.shard_state.specs.ShardValue.{ShardValue, IsShard, snapshot_of}
 use Rattle.shard_state.specs.Standing.{SnapshotStandsFor, CutStandsFor}
-use Rattle.shard_state.specs.CoreValue.{CoreValue, after, run, capacity_of, HasShape}
+use Rattle.shard_state.specs.CoreValue.{CoreValue, after, run, capacity_of, HasShape, IsCore}
 use Rattle.shard_state.specs.Reads.{met, position_in, reads_of, last_of, NeverFall, latest, shard_in, snapshot_in, lists_of, BasesStand, ReadsEach}
 use Rattle.shard_state.specs.declared.event.Event.{Event}
 use Rattle.shard_state.specs.declared.event.Event.TheVariants.{Fold, Read}
@@ -100,6 +100,15 @@ read_stands state before (position ∷ later) least base begun rise within some 
     latest_stands state (snapshot_of (record state { position = position })) later position base from rise.1
     (All-tail (λ p. p ≤ length state.list) position later within) (stands-shard (record state { position = position }) base from here)
 
+-- after a read a cut has tables of the shard's capacity
+latest_alike : (state : ShardValue) (before : SnapshotValue) (reads : List ℕ) → before.capacity ≡ state.base.capacity → (latest state before reads).capacity ≡ state.base.capacity
+latest_alike state before [] alike = alike
+latest_alike state before (position ∷ later) alike = latest_alike state (snapshot_of (record state { position = position })) later refl
+
+read_alike : (state : ShardValue) (before : SnapshotValue) (reads : List ℕ) → 1 ≤ length reads → (latest state before reads).capacity ≡ state.base.capacity
+read_alike state before [] some = absurd (omega arith)
+read_alike state before (position ∷ later) some = latest_alike state (snapshot_of (record state { position = position })) later refl
+
 -- what a run keeps of shapes
 pub shapes_run : (events : List Event) (core : CoreValue) (shards capacity : ℕ) → All (HasShape shards capacity) core.cuts → All (HasShape shards capacity) (run core events).cuts
 shapes_run [] core shards capacity shapes = shapes
@@ -176,17 +185,31 @@ left events core caller shard cut kept shapes is_cut in_shards =
     }
 
 -- a cut in which each shard was read stands for the shards' lists, where their bases do
-pub stands_run : (events : List Event) (core : CoreValue) (caller : ℕ) (cut : CutValue) → All IsShard core.shards
+pub stands_run : (events : List Event) (core : CoreValue) (caller : ℕ) (cut : CutValue) → IsCore core.shards
     → All (HasShape (length core.shards) (capacity_of core.shards)) core.cuts → BasesStand core.shards → slice_get (run core events).cuts caller ≡ Some cut
     → ReadsEach caller core events → CutStandsFor cut (lists_of core.shards)
-stands_run events core caller cut kept shapes bases is_cut reads =
+stands_run events core caller cut is_core shapes bases is_cut reads =
+    let kept : All IsShard core.shards = is_core.kept in
     let in_run : caller < length (run core events).cuts = slice_get_within (run core events).cuts caller cut is_cut in
     let shape : HasShape (length core.shards) (capacity_of core.shards) (get_or (run core events).cuts caller cut) =
     All-get_or (HasShape (length core.shards) (capacity_of core.shards)) (run core events).cuts caller cut in_run (shapes_run events core (length core.shards) (capacity_of core.shards) shapes) in
     let many : length cut.shards ≡ length core.shards =
     ap (λ (c : CutValue). length c.shards) (sym (get_or_from_slice_get (run core events).cuts caller cut cut is_cut)) ∙ shape.as_many in
     let list_of : ShardValue → List RecordValue = λ s. s.list in
+    let same_capacity : cut.capacity ≡ capacity_of core.shards =
+    ap (λ (c : CutValue). c.capacity) (sym (get_or_from_slice_get (run core events).cuts caller cut cut is_cut)) ∙ shape.alike in
     record {
+      alike = λ k default in_cut.
+          let in_shards : k < length core.shards = omega (arith, many, in_cut) in
+          let here : Left events core caller k cut = left events core caller k cut kept shapes is_cut in_shards in
+          let met_here = reads_of caller k core events in
+          let of_core : here.state.base.capacity ≡ capacity_of core.shards =
+          subst (λ (s : ShardValue). s.base.capacity ≡ capacity_of core.shards) (get_or_from_slice_get core.shards k here.state no_shard here.is)
+          (All-get_or (λ (s : ShardValue). s.base.capacity ≡ capacity_of core.shards) core.shards k no_shard in_shards is_core.are_shards.alike) in
+          ap (λ (s : SnapshotValue). s.capacity) (get_or_from_slice_get cut.shards k (latest here.state here.before met_here) default here.holds)
+          ∙ read_alike here.state here.before met_here (reads k in_shards)
+          ∙ of_core
+          ∙ sym same_capacity;
       shards = zip_from_places SnapshotStandsFor cut.shards (lists_of core.shards) (many ∙ sym (length-map core.shards list_of))
           (λ k snapshot list is_snapshot is_list.
           let in_cut : k < length cut.shards = slice_get_within cut.shards k snapshot is_snapshot in

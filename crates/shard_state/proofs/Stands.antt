@@ -1,6 +1,7 @@
 -- What snapshots and cuts stand for.
-use Rattle.std.proofs.Common.{◌≡◌, ℕ, ◌+◌, ◌≤◌, List, [], ◌∷◌, length, take, map, sum_by, All, refl, sym, ap, ◌∙◌, arith, subst}
+use Rattle.std.proofs.Common.{◌≡◌, ℕ, ◌+◌, ◌<◌, ◌≤◌, List, [], ◌∷◌, length, take, get_or, map, sum_by, All, refl, sym, ap, ◌∙◌, arith, subst}
 use Rattle.std.specs.List.{slice_range, AllZip}
+use Rattle.std.proofs.lemmas.List.{ext_get_or}
 use Rattle.std.proofs.lemmas.List.Sums.{sum_by-cons, sum_by-append}
 use Rattle.std.proofs.lemmas.List.Elements.{All-head, All-tail, All-take}
 use Rattle.prefix_lattice.specs.RecordValue.{RecordValue}
@@ -10,12 +11,12 @@ use Rattle.prefix_lattice.specs.Prefix.{node_of, key_of, weight_of, total_weight
 use Rattle.space_saving.specs.declared.entry.Entry.{Entry}
 use Rattle.space_saving.specs.Table.{Interval, interval_in, total_count}
 use Rattle.shard_state.specs.Tables.{records_table, fold_at}
-use Rattle.shard_state.specs.SnapshotValue.{SnapshotValue, IsSnapshot, empty_snapshot, total_of}
+use Rattle.shard_state.specs.SnapshotValue.{SnapshotValue, IsSnapshot, empty_snapshot, entries_at, total_of}
 use Rattle.shard_state.specs.CutValue.{CutValue, IsCut, positions_of, total_of_cut}
 use Rattle.shard_state.specs.ShardValue.{ShardValue, snapshot_of}
 use Rattle.shard_state.specs.Standing.{SnapshotStandsFor, CutStandsFor, records_before}
 use Rattle.shard_state.specs.Weights.{Holds, HoldsWeightOver, interval_of}
-use Rattle.prefix_lattice.proofs.NodePlaces.{IsNode-node_at}
+use Rattle.prefix_lattice.proofs.NodePlaces.{IsNode-node_at, index_of-node_at}
 use Rattle.shard_state.proofs.Emptiness.{none_at, length-no_entries}
 use Rattle.shard_state.proofs.Folds.{fold_at-append, entries_at-advanced, length-fold_from}
 use Rattle.shard_state.proofs.Shards.{take_further}
@@ -81,3 +82,48 @@ totals_before (snapshot ∷ snapshots) (list ∷ lists) hold stand kept =
 pub cut_total_stands : (cut : CutValue) (lists : List (List RecordValue)) → TablesHold → IsCut cut → CutStandsFor cut lists
     → total_of_cut cut ≡ total_weight (records_before lists (positions_of cut))
 cut_total_stands cut lists hold is stands = totals_before cut.shards lists hold stands.shards is.kept
+
+-- snapshots of one capacity at one position that stand for one list are equal
+one_snapshot : (snapshot other : SnapshotValue) (list : List RecordValue) → snapshot.capacity ≡ other.capacity → snapshot.position ≡ other.position
+    → SnapshotStandsFor snapshot list → SnapshotStandsFor other list → snapshot ≡ other
+one_snapshot snapshot other list capacity position stands other_stands =
+    let table : (place : ℕ) → place < length snapshot.tables → get_or snapshot.tables place [] ≡ get_or other.tables place [] = λ place within.
+        let is_node : IsNode (node_at place) = IsNode-node_at place (omega (arith, within, stands.shape)) in
+        let at_place : (of : SnapshotValue) → entries_at (node_at place) of ≡ get_or of.tables place [] = λ of. ap (λ p. get_or of.tables p []) (index_of-node_at place) in
+        sym (at_place snapshot)
+        ∙ stands.tables (node_at place) is_node
+        ∙ (λ i. records_table (capacity i) (node_at place) (take (position i) list))
+        ∙ sym (other_stands.tables (node_at place) is_node)
+        ∙ at_place other in
+    let tables : snapshot.tables ≡ other.tables = ext_get_or [] snapshot.tables other.tables (stands.shape ∙ sym other_stands.shape) table in
+    λ i. record { capacity = capacity i; position = position i; tables = tables i }
+
+one_row : (snapshots others : List SnapshotValue) (lists : List (List RecordValue)) (capacity : ℕ)
+    → All (λ (s : SnapshotValue). s.capacity ≡ capacity) snapshots → All (λ (s : SnapshotValue). s.capacity ≡ capacity) others
+    → map (λ (s : SnapshotValue). s.position) snapshots ≡ map (λ (s : SnapshotValue). s.position) others
+    → AllZip SnapshotStandsFor snapshots lists → AllZip SnapshotStandsFor others lists → snapshots ≡ others
+one_row [] [] lists capacity alike other_alike positions stand other_stand = refl
+one_row [] (other ∷ others) [] capacity alike other_alike positions stand other_stand = absurd other_stand
+one_row [] (other ∷ others) (list ∷ lists) capacity alike other_alike positions stand other_stand = absurd stand
+one_row (snapshot ∷ snapshots) [] [] capacity alike other_alike positions stand other_stand = absurd stand
+one_row (snapshot ∷ snapshots) [] (list ∷ lists) capacity alike other_alike positions stand other_stand = absurd other_stand
+one_row (snapshot ∷ snapshots) (other ∷ others) [] capacity alike other_alike positions stand other_stand = absurd stand
+one_row (snapshot ∷ snapshots) (other ∷ others) (list ∷ lists) capacity alike other_alike positions stand other_stand =
+    let IsAlike : SnapshotValue → Type 0 = λ s. s.capacity ≡ capacity in
+    let position_of : SnapshotValue → ℕ = λ s. s.position in
+    let same_position : snapshot.position ≡ other.position = cc in
+    let later_positions : map position_of snapshots ≡ map position_of others = cc in
+    let first : snapshot ≡ other =
+        one_snapshot snapshot other list (All-head IsAlike snapshot snapshots alike ∙ sym (All-head IsAlike other others other_alike)) same_position stand.0 other_stand.0 in
+    let rest : snapshots ≡ others =
+        one_row snapshots others lists capacity (All-tail IsAlike snapshot snapshots alike) (All-tail IsAlike other others other_alike) later_positions stand.1 other_stand.1 in
+    λ i. first i ∷ rest i
+
+-- cuts of one capacity at the same positions that stand for the same lists are equal
+pub one_cut : (cut other : CutValue) (lists : List (List RecordValue)) → cut.capacity ≡ other.capacity → positions_of cut ≡ positions_of other
+    → CutStandsFor cut lists → CutStandsFor other lists → cut ≡ other
+one_cut cut other lists capacity positions stands other_stands =
+    let other_alike : All (λ (s : SnapshotValue). s.capacity ≡ cut.capacity) other.shards =
+        subst (λ c. All (λ (s : SnapshotValue). s.capacity ≡ c) other.shards) (sym capacity) other_stands.alike in
+    let shards : cut.shards ≡ other.shards = one_row cut.shards other.shards lists cut.capacity stands.alike other_alike positions stands.shards other_stands.shards in
+    λ i. record { capacity = capacity i; shards = shards i }

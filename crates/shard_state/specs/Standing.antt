@@ -1,5 +1,5 @@
 -- What snapshots and cuts stand for.
-use Rattle.std.specs.Prelude.{ℕ, ◌≡◌, ◌≤◌, List, [], ◌∷◌, ◌++◌, length, take}
+use Rattle.std.specs.Prelude.{ℕ, ◌≡◌, ◌≤◌, List, [], ◌∷◌, ◌++◌, length, take, All}
 use Rattle.std.specs.List.{AllZip}
 use Rattle.prefix_lattice.specs.RecordValue.{RecordValue}
 use Rattle.prefix_lattice.specs.NodeValue.{NodeValue, IsNode}
@@ -13,8 +13,9 @@ pub record SnapshotStandsFor (snapshot : SnapshotValue) (list : List RecordValue
   pub shape : length snapshot.tables ≡ 25
   pub tables : (node : NodeValue) → IsNode node → entries_at node snapshot ≡ records_table snapshot.capacity node (take snapshot.position list)
 
--- a cut stands for lists of records: each snapshot for the list of its shard
+-- a cut stands for lists of records: each snapshot has the capacity of the cut and stands for the list of its shard
 pub record CutStandsFor (cut : CutValue) (lists : List (List RecordValue)) : Type 0 where
+  pub alike : All (λ snapshot. snapshot.capacity ≡ cut.capacity) cut.shards
   pub shards : AllZip SnapshotStandsFor cut.shards lists
 
 -- the records before positions: of each list the first so many, one list after the other

@@ -54,6 +54,12 @@ pub fn shards_stand()
         → shard.position ≤ length shard.list → SnapshotStandsFor (snapshot_of shard) shard.list }
 {}
 
+/// Two cuts of one capacity, at the same positions, that stand for the same lists are equal.
+pub fn standing_cuts_are_equal()
+    ensures { (cut other : CutValue) (lists : List (List RecordValue)) → cut.capacity ≡ other.capacity → positions_of cut ≡ positions_of other
+        → CutStandsFor cut lists → CutStandsFor other lists → cut ≡ other }
+{}
+
 /// In a run of events each cut of a caller that read every shard stands for the lists, where the bases do.
 pub fn runs_stand()
     ensures { (core : CoreValue) (events : List Event) (caller : ℕ) (cut : CutValue) → IsCore core.shards

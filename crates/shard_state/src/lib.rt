@@ -14,7 +14,9 @@ mod snapshot_parts;
 
 pub use cut::Cut;
 pub use event::Event;
-pub use laws::{runs_stand, shards_stand, snapshots_hold_weights, tables_hold_weights};
+pub use laws::{
+    runs_stand, shards_stand, snapshots_hold_weights, standing_cuts_are_equal, tables_hold_weights,
+};
 pub use positions::Positions;
 pub use shard_core::Core;
 pub use shard_state::{Folded, ShardState};

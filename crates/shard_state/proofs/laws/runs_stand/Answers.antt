@@ -2,4 +2,4 @@ use Rattle.shard_state.proofs.Runs.{stands_run}
 use Rattle.shard_state.proofs.laws.runs_stand.Goals as goal
 
 pub returns : goal.returns
-returns c = λ core events caller cut kept shapes bases is_cut reads. stands_run events core caller cut kept.kept shapes bases is_cut reads
+returns c = λ core events caller cut kept shapes bases is_cut reads. stands_run events core caller cut kept shapes bases is_cut reads

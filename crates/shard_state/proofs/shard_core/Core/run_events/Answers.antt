@@ -23,7 +23,7 @@ returns-clause-never_fall c = λ caller shard state is.
 pub returns-clause-stands : goal.returns-clause-stands
 returns-clause-stands c = λ bases caller cut is_cut reads.
     let start : CoreValue = record { shards = c.args.self.now; cuts = c.args.cuts.now.items } in
-    stands_run c.args.events.now start caller cut c.keeps.ensures.kept c.requires.cuts bases
+    stands_run c.args.events.now start caller cut c.keeps.ensures c.requires.cuts bases
     (ap (λ cuts. slice_get cuts caller) (sym c.run_in_order.ensures.cuts) ∙ is_cut) reads
 
 pub returns-clause-shards_stay : goal.returns-clause-shards_stay
