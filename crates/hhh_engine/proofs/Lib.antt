@@ -1,4 +1,5 @@
 pub mod Ending
+pub mod Widening
 pub mod Ends
 pub mod Sessions
 pub mod Parts

@@ -20,6 +20,10 @@ use Rattle.command_words.specs.declared.settings.Settings.{Settings}
 abbrev pub Rules : Type 1
 Rules = DealKind → ℕ → RecordValue → ℕ → ℕ → Type 0
 
+-- the rules by a formula for each kind of dealing, which give a record one number
+abbrev pub by_formula : (DealKind → ℕ → RecordValue → ℕ → ℕ) → Rules
+by_formula formula kind place rec shards number = number ≡ formula kind place rec shards
+
 -- the cut at the ends of lists: each shard counted all its records, and its tables are those of its list
 pub record IsCutAtEnds (capacity : ℕ) (lists : List (List RecordValue)) (cut : CutValue) : Type 0 where
   pub same_capacity : cut.capacity ≡ capacity

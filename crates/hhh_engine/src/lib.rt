@@ -3,6 +3,7 @@
 
 mod decimal_text;
 mod folding;
+mod laws;
 mod reporting;
 mod status;
 mod status_line;
@@ -12,6 +13,7 @@ mod weighing;
 pub use command_words::{
     Command, Opt, PathTexts, Settings, WordsKind, WordsRefusal, paths, read_words,
 };
+pub use laws::answers_follow_formulas;
 pub use status::Status;
 pub use status_line::fault_line;
 pub use top_call::run;

@@ -1,0 +1,11 @@
+-- The three rules by which the program deals records to shards.
+use Rattle.std.specs.Prelude.{ℕ, ◌%◌, bit_xor}
+use Rattle.prefix_lattice.specs.RecordValue.{RecordValue}
+use Rattle.deal_rules.specs.declared.deal_kind.DealKind.{DealKind}
+use Rattle.deal_rules.specs.declared.deal_kind.DealKind.TheVariants.{RoundRobin, BySource, Free}
+
+-- the shard of a record: in turn, by its source address, or by both its addresses
+abbrev pub shard_by : DealKind → ℕ → RecordValue → ℕ → ℕ
+shard_by RoundRobin place rec shards = place % shards
+shard_by BySource place rec shards = rec.src % shards
+shard_by Free place rec shards = bit_xor rec.src rec.dst % shards

@@ -1,0 +1,24 @@
+//! Laws of what commands write, each the contract of a function that does nothing.
+
+ghost use Rattle.std.specs.Prelude.{◌≡◌, ℕ, List, Option};
+ghost use Rattle.prefix_lattice.specs.RecordValue.{RecordValue};
+ghost use Rattle.deal_rules.specs.Kinds.{dealer_of};
+ghost use Rattle.deal_rules.specs.declared.deal_kind.DealKind.{DealKind};
+ghost use Rattle.hhh_engine.specs.Answers.{Answers, AnswersInPart};
+ghost use Rattle.hhh_engine.specs.Reporting.{by_formula};
+
+use deal_rules::{Dealer, Dealers, Deals};
+
+/// Where the functions of dealers answer by formulas, one for each kind of dealing, an answer under what they may
+/// answer is one under the formulas: the records are dealt by them.
+pub fn answers_follow_formulas(dealers: &Dealers)
+    ensures whole { (formula : DealKind → ℕ → RecordValue → ℕ → ℕ) (words : List (List ℕ)) (old new : Option (List ℕ)) (file : List ℕ)
+        → ((kind : DealKind) (place : ℕ) (rec : RecordValue) (shards number : ℕ)
+        → ⟦<Dealer as Deals>⟧.may_answer (dealer_of kind dealers.now) place rec shards number → number ≡ formula kind place rec shards)
+        → Answers (λ kind. ⟦<Dealer as Deals>⟧.may_answer (dealer_of kind dealers.now)) words old new file → Answers (by_formula formula) words old new file }
+    ensures part { (formula : DealKind → ℕ → RecordValue → ℕ → ℕ) (words : List (List ℕ)) (old new : Option (List ℕ)) (file : List ℕ)
+        → ((kind : DealKind) (place : ℕ) (rec : RecordValue) (shards number : ℕ)
+        → ⟦<Dealer as Deals>⟧.may_answer (dealer_of kind dealers.now) place rec shards number → number ≡ formula kind place rec shards)
+        → AnswersInPart (λ kind. ⟦<Dealer as Deals>⟧.may_answer (dealer_of kind dealers.now)) words old new file
+        → AnswersInPart (by_formula formula) words old new file }
+{}
