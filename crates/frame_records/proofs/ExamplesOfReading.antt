@@ -4,7 +4,7 @@ use Rattle.pcap_frames.specs.declared.fault.FaultKind.TheVariants.{ShortHeader}
 use Rattle.pcap_frames.specs.declared.fault.ReadRefusal.TheVariants.{Capture, ReadFault, OutOfMemory}
 use Rattle.pcap_frames.specs.FrameValue.{FrameValue}
 use Rattle.pcap_frames.specs.Header.{header_fault, fault_at}
-use Rattle.pcap_frames.specs.Capture.{IsCapture}
+use Rattle.frame_records.specs.CaptureFile.{HasFrames, IsRefusedFor}
 use Rattle.frame_records.specs.declared.records.Records.{Records}
 use Rattle.frame_records.specs.declared.skip.Skip.TheVariants.{Short, BadHeader}
 use Rattle.frame_records.specs.declared.weigh.Weigh.TheVariants.{Bytes, Packets}
@@ -27,7 +27,7 @@ records_and_counts = record { list = refl; frames = refl; not_ipv4 = refl; short
 pub skipped_frame_is_a_frame : AreRecordsOf Packets frames (record records { frames = 2 }) → ⊥
 skipped_frame_is_a_frame are = omega (arith, are.frames)
 
-pub records_of_a_capture : (file : List ℕ) → IsCapture file frames → HasRecords Packets (Some file) records
+pub records_of_a_capture : (file : List ℕ) → HasFrames file frames → HasRecords Packets (Some file) records
 records_of_a_capture file is = record { frames = frames; few = omega arith; told = is; are = records_and_counts }
 
 -- a source that doesn't tell its bytes had some frames
@@ -73,3 +73,7 @@ after_another_packet = refl
 
 pub after_a_bad_header : after_frame (Err BadHeader) records ≡ record records { frames = 4; bad_header = 1 }
 after_a_bad_header = refl
+
+-- no frames are taken from an empty file
+pub empty_file_has_no_frames : (frames : List FrameValue) → HasFrames [] frames → ⊥
+empty_file_has_no_frames frames (order, splits) = let header = splits.header in omega (arith, header.whole)

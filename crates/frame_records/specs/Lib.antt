@@ -1,3 +1,4 @@
+pub mod CaptureFile
 pub mod FrameRecord
 pub mod Reading
 -- within the crate

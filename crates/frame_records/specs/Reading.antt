@@ -3,7 +3,7 @@ use Rattle.std.specs.Prelude.{⊤, ℕ, ◌≡◌, ◌≤◌, List, length, Opti
 use Rattle.std.specs.Io.KnownBytes.{Consumes}
 use Rattle.pcap_frames.specs.FrameValue.{FrameValue}
 use Rattle.outside_io.specs.Faults.{Rose}
-use Rattle.pcap_frames.specs.Capture.{IsCapture, HasFault}
+use Rattle.frame_records.specs.CaptureFile.{HasFrames, IsRefusedFor}
 use Rattle.pcap_frames.specs.declared.fault.ReadRefusal.{ReadRefusal}
 use Rattle.pcap_frames.specs.declared.fault.ReadRefusal.TheVariants.{Capture, ReadFault, OutOfMemory}
 use Rattle.frame_records.specs.FrameRecord.{records_of, skipped}
@@ -23,12 +23,12 @@ pub record AreRecordsOf (weigh : Weigh) (all : List FrameValue) (records : Recor
 pub record HasRecords (weigh : Weigh) (left : Option (List ℕ)) (records : Records) : Type 0 where
   pub frames : List FrameValue
   pub few : length frames ≤ 16777216
-  pub told : IfSome left (λ file. IsCapture file frames)
+  pub told : IfSome left (λ file. HasFrames file frames)
   pub are : AreRecordsOf weigh frames records
 
 -- each refusal has its cause: the bytes told have that first fault, or the source's count of faults rose
 abbrev pub HasRefused : Option (List ℕ) → ℕ → ℕ → ReadRefusal → Type 0
-HasRefused left before now (Capture fault) = IfSome left (λ file. HasFault file fault)
+HasRefused left before now (Capture fault) = IfSome left (λ file. IsRefusedFor file fault)
 HasRefused left before now ReadFault = Rose before now
 HasRefused left before now OutOfMemory = ⊤
 

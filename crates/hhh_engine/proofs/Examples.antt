@@ -7,7 +7,7 @@ use Rattle.pcap_frames.specs.declared.file_order.FileOrder.TheVariants.{Little}
 use Rattle.pcap_frames.specs.FileOrder.{number_at}
 use Rattle.pcap_frames.specs.FrameValue.{FrameValue}
 use Rattle.pcap_frames.specs.Header.{magic_order}
-use Rattle.pcap_frames.specs.Capture.{IsCapture}
+use Rattle.frame_records.specs.CaptureFile.{HasFrames}
 use Rattle.frame_records.specs.declared.weigh.Weigh.TheVariants.{Bytes, Packets}
 use Rattle.hhh_engine.specs.Reporting.{start_of}
 use Rattle.hhh_engine.specs.Weighing.{weigh_capacity, weigh_text, text_for, IsWeightText}
@@ -58,7 +58,7 @@ file = header ++ frame_header ++ captured
 abbrev frame : FrameValue
 frame = record { head = captured; captured = 34; original = 100 }
 
-pub file_is_a_capture : IsCapture file (frame ∷ [])
+pub file_is_a_capture : HasFrames file (frame ∷ [])
 unfolding number_at magic_order
 file_is_a_capture = (
   Little,

@@ -22,7 +22,7 @@ use Rattle.pcap_frames.specs.declared.file_order.FileOrder.TheVariants.{Little}
 use Rattle.pcap_frames.specs.declared.fault.FaultKind.TheVariants.{ShortHeader}
 use Rattle.pcap_frames.specs.FileOrder.{number_at}
 use Rattle.pcap_frames.specs.Header.{magic_order, header_fault, fault_at}
-use Rattle.pcap_frames.specs.Capture.{IsCapture}
+use Rattle.frame_records.specs.CaptureFile.{HasFrames}
 use Rattle.frame_records.specs.declared.records.Records.{Records}
 use Rattle.frame_records.specs.declared.weigh.Weigh.TheVariants.{Bytes}
 use Rattle.command_words.specs.Words.{AskFor}
@@ -58,7 +58,7 @@ words = codes "report" ∷ []
 abbrev in_turn : Rules
 in_turn kind place rec shards number = number ≡ place % shards
 
-pub header_is_a_capture : IsCapture header []
+pub header_is_a_capture : HasFrames header []
 unfolding number_at magic_order
 header_is_a_capture = (Little, record { header = record { whole = omega arith; magic = refl; major = refl; minor = refl; link = refl }; begins = refl; limit = omega arith })
 

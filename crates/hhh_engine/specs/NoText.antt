@@ -1,13 +1,13 @@
 -- Why a command has no text, which no public contract cites.
 use Rattle.std.specs.Prelude.{⊤, ℕ, List, Option, IfSome}
 use Rattle.outside_io.specs.Faults.{Rose}
-use Rattle.pcap_frames.specs.Capture.{HasFault}
+use Rattle.frame_records.specs.CaptureFile.{IsRefusedFor}
 use Rattle.hhh_engine.specs.declared.status.Status.{Status}
 use Rattle.hhh_engine.specs.declared.status.Status.TheVariants.{BadCapture, ReadFault, OutOfMemory}
 
 -- why a command has no text: its capture has this first fault, the source's count of faults rose, or memory ran out
 abbrev pub HasNoText : Option (List ℕ) → ℕ → ℕ → Status → Type 0
-HasNoText left before now (BadCapture fault) = IfSome left (λ file. HasFault file fault)
+HasNoText left before now (BadCapture fault) = IfSome left (λ file. IsRefusedFor file fault)
 HasNoText left before now ReadFault = Rose before now
 HasNoText left before now OutOfMemory = ⊤
 HasNoText left before now _ = ⊥

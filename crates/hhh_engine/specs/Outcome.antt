@@ -1,7 +1,7 @@
 -- When a command ends well.
 use Rattle.std.specs.Prelude.{ℕ, ◌≡◌, List, Option, Some}
 use Rattle.pcap_frames.specs.FrameValue.{FrameValue}
-use Rattle.pcap_frames.specs.Capture.{IsCapture}
+use Rattle.frame_records.specs.CaptureFile.{HasFrames}
 use Rattle.command_words.specs.Words.{AskFor}
 use Rattle.command_words.specs.declared.command.Command.{Command}
 
@@ -15,4 +15,4 @@ pub record TellsCapture (left : Option (List ℕ)) : Type 0 where
   pub file : List ℕ
   pub told : left ≡ Some file
   pub frames : List FrameValue
-  pub capture : IsCapture file frames
+  pub capture : HasFrames file frames

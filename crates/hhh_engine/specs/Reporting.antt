@@ -9,7 +9,7 @@ use Rattle.hhh_output.specs.Output.{IsReportOf}
 use Rattle.hhh_output.specs.Sound.{IsSound}
 use Rattle.hhh_output.specs.declared.report.Report.{Report}
 use Rattle.pcap_frames.specs.FrameValue.{FrameValue}
-use Rattle.pcap_frames.specs.Capture.{IsCapture}
+use Rattle.frame_records.specs.CaptureFile.{HasFrames}
 use Rattle.frame_records.specs.Reading.{AreRecordsOf}
 use Rattle.frame_records.specs.declared.records.Records.{Records}
 use Rattle.report_text.specs.Text.{mark_text, report_text, tail_text}
@@ -48,7 +48,7 @@ pub record IsReportAtEnds (settings : Settings) (lists : List (List RecordValue)
 -- the session over a capture: its records, dealt to the shards, are counted to their ends, and the report is that of the cut there
 pub record IsSession (settings : Settings) (rules : Rules) (file text : List ℕ) : Type 0 where
   pub frames : List FrameValue
-  pub capture : IsCapture file frames
+  pub capture : HasFrames file frames
   pub records : Records
   pub are_records : AreRecordsOf settings.weigh frames records
   pub lists : List (List RecordValue)

@@ -5,7 +5,7 @@ use Rattle.prefix_lattice.specs.PrefixValue.{PrefixValue}
 use Rattle.prefix_lattice.specs.Prefix.{total_weight}
 use Rattle.shard_state.specs.Weights.{HoldsWeightOver, interval_over}
 use Rattle.pcap_frames.specs.FrameValue.{FrameValue}
-use Rattle.pcap_frames.specs.Capture.{IsCapture}
+use Rattle.frame_records.specs.CaptureFile.{HasFrames}
 use Rattle.frame_records.specs.FrameRecord.{records_of}
 use Rattle.frame_records.specs.declared.weigh.Weigh.{Weigh}
 
@@ -26,6 +26,6 @@ text_for prefix records =
 -- the text that tells the weight of a prefix over the records of a capture, which holds the weight
 pub record IsWeightText (prefix : PrefixValue) (weigh : Weigh) (file text : List ℕ) : Type 0 where
   pub frames : List FrameValue
-  pub capture : IsCapture file frames
+  pub capture : HasFrames file frames
   pub spelled : text ≡ text_for prefix (records_of weigh frames)
   pub holds : HoldsWeightOver weigh_capacity prefix (records_of weigh frames)

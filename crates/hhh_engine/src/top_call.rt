@@ -3,7 +3,7 @@
 ghost use Rattle.std.specs.Prelude.{◌≡◌, ◌⊎◌, ℕ, List, Some, IfSome, IfOk, IfErr, OnOk, IsErrOf};
 ghost use Rattle.std.specs.Io.KnownBytes.{IsAtEnd};
 ghost use Rattle.outside_io.specs.Faults.{Rose};
-ghost use Rattle.pcap_frames.specs.Capture.{HasFault};
+ghost use Rattle.frame_records.specs.CaptureFile.{IsRefusedFor};
 ghost use Rattle.pcap_frames.specs.declared.fault.CaptureFault.{CaptureFault};
 ghost use Rattle.deal_rules.specs.Kinds.{dealer_of};
 ghost use Rattle.command_words.specs.Words.{texts, HasWordsFault, IsLimited};
@@ -18,8 +18,8 @@ use crate::reporting::report;
 use crate::weighing::weigh;
 use command_words::{Command, read_words};
 use deal_rules::{Dealer, Dealers, Deals};
+use frame_records::files_are_read_or_refused;
 use outside_io::{Sink, Source, write_all};
-use pcap_frames::files_are_decided;
 use std::alloc::Global;
 
 /// Runs the command that the words ask for.
@@ -49,11 +49,11 @@ pub fn run<S: Source, K: Sink>(
     ensures refuses_words { (kind : WordsKind) → HasWordsFault (texts words.now) kind → (result ≡ BadWords kind) ⊎ (result ≡ OutOfMemory) }
 
     // The capture is refused for its fault alone, and then nothing is written.
-    ensures bad_capture { (fault : CaptureFault) → result ≡ BadCapture fault → IfSome (S.left capture.old) (λ file. HasFault file fault) }
+    ensures bad_capture { (fault : CaptureFault) → result ≡ BadCapture fault → IfSome (S.left capture.old) (λ file. IsRefusedFor file fault) }
     ensures bad_capture_unwritten { (fault : CaptureFault) → result ≡ BadCapture fault → sink.new ≡ sink.old }
 
     // A capture with a fault is refused for it, unless the source fails or memory runs out first.
-    ensures refuses { (file : List ℕ) (fault : CaptureFault) → AskSomething (texts words.now) → S.left capture.old ≡ Some file → HasFault file fault
+    ensures refuses { (file : List ℕ) (fault : CaptureFault) → AskSomething (texts words.now) → S.left capture.old ≡ Some file → IsRefusedFor file fault
         → (result ≡ BadCapture fault) ⊎ ((result ≡ ReadFault) ⊎ (result ≡ OutOfMemory)) }
 
     // A fault is told only where the source or the sink had one in this call.
@@ -76,7 +76,7 @@ pub fn run<S: Source, K: Sink>(
         → (Rose (S.faults capture.old) (S.faults capture.new) → ⊥) → (Rose (K.faults sink.old) (K.faults sink.new) → ⊥)
         → (result ≡ Done) ⊎ (result ≡ OutOfMemory) }
 {
-    files_are_decided();
+    files_are_read_or_refused();
     let command = match read_words(alloc, words) {
         Ok(command) => command,
         Err(refusal) => return Status::from(refusal),

@@ -7,11 +7,11 @@ use Rattle.hhh_engine.proofs.top_call.run.Goals as goal
 
 pub returns-in-Err-answer-clause-refuses : goal.returns-in-Err-answer-clause-refuses
 returns-in-Err-answer-clause-refuses g c = λ file fault asks told has.
-    refused_for c.files_are_decided.ensures.one_fault c.in-Err-answer.status _ _ _ file fault told has c.in-Err-answer.ensures.refused
+    refused_for c.files_are_read_or_refused.ensures.one_fault c.in-Err-answer.status _ _ _ file fault told has c.in-Err-answer.ensures.refused
 
 pub returns-in-Err-answer-clause-complete : goal.returns-in-Err-answer-clause-complete
 returns-in-Err-answer-clause-complete g c = λ asks tells no_read_fault no_write_fault.
-    wants_memory c.files_are_decided.ensures.never_both c.in-Err-answer.status _ _ _ tells no_read_fault c.in-Err-answer.ensures.refused
+    wants_memory c.files_are_read_or_refused.ensures.never_both c.in-Err-answer.status _ _ _ tells no_read_fault c.in-Err-answer.ensures.refused
 
 pub returns-in-Ok-write_all-clause-done : goal.returns-in-Ok-write_all-clause-done
 returns-in-Ok-write_all-clause-done g c = λ done.
@@ -20,11 +20,11 @@ returns-in-Ok-write_all-clause-done g c = λ done.
 
 pub returns-in-Ok-write_all-clause-refuses : goal.returns-in-Ok-write_all-clause-refuses
 returns-in-Ok-write_all-clause-refuses g c = λ file fault asks told has.
-    absurd (no_answer c.files_are_decided.ensures.never_both _ c.in-Ok.command _ file c.in-Ok-answer.text.items fault told has c.in-Ok-answer.ensures.text)
+    absurd (no_answer c.files_are_read_or_refused.ensures.never_both _ c.in-Ok.command _ file c.in-Ok-answer.text.items fault told has c.in-Ok-answer.ensures.text)
 
 pub returns-clause-refuses : goal.returns-clause-refuses
 returns-clause-refuses g c = λ file fault asks told has.
-    absurd (no_answer c.files_are_decided.ensures.never_both _ c.in-Ok.command _ file c.in-Ok-answer.text.items fault told has c.in-Ok-answer.ensures.text)
+    absurd (no_answer c.files_are_read_or_refused.ensures.never_both _ c.in-Ok.command _ file c.in-Ok-answer.text.items fault told has c.in-Ok-answer.ensures.text)
 
 pub returns-clause-write_fault_in_part : goal.returns-clause-write_fault_in_part
 returns-clause-write_fault_in_part g c = λ failed.
