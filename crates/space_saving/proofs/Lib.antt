@@ -6,5 +6,5 @@ pub mod Widths
 pub mod EntryFacts
 pub mod Running
 pub mod Placing
-pub mod Accepting
+pub mod SortedKeys
 pub mod Examples

@@ -3,10 +3,10 @@
 ghost use Rattle.std.specs.Prelude.{◌≡◌, ◌^◌, ◌<◌, ◌≤◌, ◌↔◌, IsTrue, All};
 ghost use Rattle.std.specs.Option.{SomeIff};
 ghost use Rattle.space_saving.specs.Table.{total_count};
-ghost use Rattle.space_saving.specs.TableFacts.{AreApart, HasSmallError, IsTable, RisesFrom};
+ghost use Rattle.space_saving.specs.TableFacts.{HasSmallError, IsTable, RisesFrom};
 
 use crate::Entry;
-use crate::places::place_of;
+use crate::keys::are_apart;
 
 /// The total of a table is below this number.
 const TOTAL_LIMIT: u64 = 1 << 56;
@@ -28,6 +28,7 @@ pub(crate) fn total_of(entries: &[Entry]) -> Option<u64>
 /// Whether these entries, whose counts add up to `total`, are those of a table of this capacity.
 pub(crate) fn is_table(capacity: u32, total: u64, entries: &[Entry]) -> bool
     requires some { 1 ≤ capacity }
+    requires most { capacity ≤ 4096 }
     requires total { total ≡ total_count entries.now }
     ensures { IsTrue result ↔ IsTable capacity entries.now }
 {
@@ -47,18 +48,6 @@ fn rises(entries: &[Entry]) -> bool
             return false;
         }
         least = entry.count;
-    }
-    true
-}
-
-/// Whether no two entries have one key.
-fn are_apart(entries: &[Entry]) -> bool
-    ensures { IsTrue result ↔ AreApart entries.now }
-{
-    for (place, entry) in entries.iter().enumerate() {
-        if place_of(&entries[place + 1..], entry.key).is_some() {
-            return false;
-        }
     }
     true
 }

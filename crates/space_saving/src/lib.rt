@@ -6,6 +6,7 @@ mod entry;
 mod entry_source;
 mod facts;
 mod flat;
+mod keys;
 mod laws;
 mod places;
 mod plain_table;
