@@ -27,8 +27,9 @@ pub fn weights_balance()
 }
 
 /// A law of bounds over distinct lines, whatever the intervals. Where they hold the weights over some records,
-/// the bound is at least the conditioned weight, and above it by no more than their widths, as is each number
-/// that it reaches. Where they are the weights, it is the conditioned weight.
+/// the bound is at least the conditioned weight, as is each number that it reaches. Where no interval is wider than
+/// a limit, it is above that weight by at most the limit times the number of intervals. Where they are the weights,
+/// it is the conditioned weight.
 pub fn bounds_hold()
     ensures at_least { (low high : PrefixValue → ℕ) (prefix : PrefixValue) (lines : List PrefixValue) (records : List RecordValue)
         → AllPairs (λ line other. line ≢ other) lines → HoldWeights low high records (asked_of prefix lines)
