@@ -141,6 +141,10 @@ keys_apart = (refl, (refl, tt))
 pub one_key_twice : AreApart (entry 3 4 3 ∷ entry 3 5 0 ∷ []) → ⊥
 one_key_twice apart = cc
 
+-- equal keys need not be neighbours
+pub one_key_twice_around_another : AreApart (entry 3 4 3 ∷ entry 1 5 0 ∷ entry 3 6 0 ∷ []) → ⊥
+one_key_twice_around_another apart = cc
+
 -- 3 times 2 is at most the total of 9
 pub error_within_its_share : HasSmallError 2 9 (entry 3 4 3)
 error_within_its_share = (omega arith, omega arith)

@@ -56,7 +56,7 @@ impl Flat {
     /// The table of these entries, in their order. The capacity is 2 to 4096, and the vector has memory for
     /// as many entries. `None`, which drops them, comes exactly where they are no table of this capacity: more
     /// entries than it, falling counts, a key twice, an error that isn't below its count or, times the
-    /// capacity, is above the total, or a total of 2^56 or more.
+    /// capacity, is above the total, or a total of 2^56 or more. It takes no memory, and the time of a sort of the keys.
     pub fn from_entries(capacity: u32, entries: Vec<Entry>) -> Option<Flat>
         requires least { 2 ≤ capacity }
         requires most { capacity ≤ 4096 }
@@ -132,8 +132,8 @@ impl Flat {
         self.total
     }
 
-    /// Replaces the entries by those of a source, which are a table of this capacity. It takes no memory, and
-    /// its time is that of the source and one pass over the entries.
+    /// Replaces the entries by those of a source, which are a table of this capacity. It takes no memory, and no
+    /// longer than the source and one pass over the entries.
     pub fn refill<S: EntrySource>(&mut self, source: &S)
         requires table { AreEntries self.old.capacity (S.entries source.now) }
         ensures { self.new ≡ record self.old { entries = S.entries source.now } }
