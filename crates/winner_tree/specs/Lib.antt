@@ -1,0 +1,2 @@
+-- within the crate
+pub mod Nodes
