@@ -1,0 +1,7 @@
+use Rattle.std.proofs.Common.{refl}
+use Rattle.key_index.specs.Paths.{home}
+use Rattle.key_index.proofs.homes.home_of.Goals as goal
+
+pub returns-clause-home : goal.returns-clause-home
+unfolding home
+returns-clause-home c = refl

@@ -1,0 +1,20 @@
+-- The cells of an index, which no public contract cites.
+use Rattle.std.specs.Prelude.{ℕ, ◌≡◌, ◌+◌, ◌*◌, ◌^◌, ◌<◌, ◌≤◌, List, All, length, slice_index}
+
+-- cells for so many keys, of which so many were filled
+pub record Cells : Type 0 where
+  pub room : ℕ
+  pub fills : ℕ
+  pub marks : List ℕ
+
+-- no cell holds a place beyond these
+abbrev pub AreBelow : ℕ → List ℕ → Type 0
+AreBelow count marks = All (λ mark. mark ≤ count) marks
+
+-- eight homes for each key and room behind them for as many cells as may be filled, and for one window and one free cell
+pub record AreCells (room fills : ℕ) (marks : List ℕ) : Type 0 where
+  pub some : 1 ≤ room
+  pub few : room < 2 ^ 16
+  pub shape : length marks ≡ 12 * room + 17
+  pub filled : fills ≤ 4 * room
+  pub spare : (cell : ℕ) → 8 * room + 16 + fills ≤ cell → slice_index marks cell ≡ 0

@@ -1,0 +1,98 @@
+//! The index as a list of keys.
+
+ghost use Rattle.std.specs.Prelude.{◌≡◌, ◌≢◌, ◌+◌, ◌*◌, ◌^◌, ◌<◌, ◌≤◌, ◌++◌, ◌∷◌, [], ℕ, All, IfOk, MatchOption, Some, length, slice_get, slice_set};
+ghost use Rattle.key_index.specs.Indexing.{IsFilled, IsFilledBut};
+
+use crate::cells::KeyCells;
+use std::alloc::{AllocError, Global};
+use std::marker::Model;
+
+/// A list of keys, in which the place of a key is found in a few steps.
+#[derive(Debug, Drop)]
+pub struct KeyIndex {
+    room: usize,
+    keys: Vec<u64>,
+    cells: KeyCells,
+}
+
+impl Model for KeyIndex {
+    ghost use Rattle.std.specs.Prelude.{vec_capacity};
+    ghost use Rattle.key_index.specs.IndexValue.{Keys};
+    ghost use Rattle.key_index.specs.Indexing.{IsIndex};
+
+    ghost Value = { Keys };
+
+    ghost view = { λ i. record { room = i.room; keys = i.keys.items } };
+
+    ghost invariant = { λ i. IsIndex i.room (vec_capacity i.keys) i.keys.items i.cells };
+}
+
+impl KeyIndex {
+    /// An index of no keys with memory for so many, 1 to 65,535. It takes 32 bytes for each and 34 more, and
+    /// nothing later.
+    pub fn with_room(alloc: Global, room: usize) -> Result<KeyIndex, AllocError>
+        requires some { 1 ≤ room }
+        requires few { room < 2 ^ 16 }
+        ensures { IfOk result (λ index. index ≡ record { room = room; keys = [] }) }
+    {
+        Ok(KeyIndex {
+            room,
+            keys: Vec::with_capacity(alloc, room)?,
+            cells: KeyCells::with_room(alloc, room)?,
+        })
+    }
+
+    /// A place of the key. It passes a few cells; for keys that were chosen to share their homes under several
+    /// multipliers, sixteen cells for each of these.
+    pub fn find(&self, key: u64) -> Option<usize>
+        ensures { MatchOption result (All (λ other. other ≢ key) self.now.keys)
+            (λ place. slice_get self.now.keys place ≡ Some key) }
+    {
+        self.cells.find(&self.keys, key)
+    }
+
+    /// Puts a key behind the others. It takes no memory.
+    pub fn push(&mut self, key: u64)
+        requires { length self.old.keys < self.old.room }
+        ensures { self.new ≡ record self.old { keys = self.old.keys ++ key ∷ [] } }
+    {
+        let place = self.keys.len();
+        self.keys.push(key).unwrap();
+        enter(&mut self.cells, &self.keys, place);
+    }
+
+    /// Puts a key in the place of another, which is then no longer found. It takes no memory.
+    pub fn replace(&mut self, place: usize, key: u64)
+        requires { place < length self.old.keys }
+        ensures { self.new ≡ record self.old { keys = slice_set self.old.keys place key } }
+    {
+        self.keys[place] = key;
+        enter(&mut self.cells, &self.keys, place);
+    }
+}
+
+// Enters the key at this place. Where the cells are used up, they are emptied, and all keys enter again: a cell
+// whose place has another key by now is given back by that alone.
+fn enter(cells: &mut KeyCells, keys: &[u64], place: usize)
+    requires within { place < length keys.now }
+    requires filled { IsFilledBut place cells.old.room keys.now cells.old }
+    ensures { IsFilled cells.old.room keys.now cells.new }
+{
+    if cells.are_used_up() {
+        enter_all(cells, keys);
+    } else {
+        cells.enter(place, keys[place]);
+    }
+}
+
+// Empties the cells, and enters all keys.
+fn enter_all(cells: &mut KeyCells, keys: &[u64])
+    requires few { length keys.now ≤ cells.old.room }
+    requires room { cells.old.room < 2 ^ 16 }
+    ensures { IsFilled cells.old.room keys.now cells.new }
+{
+    cells.clear();
+    for place in 0..keys.len() {
+        cells.enter(place, keys[place]);
+    }
+}
