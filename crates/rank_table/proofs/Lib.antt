@@ -1,0 +1,9 @@
+pub mod OrderLemmas
+pub mod WordLemmas
+pub mod LeafLemmas
+pub mod Changes
+pub mod KeyLemmas
+pub mod RisingLemmas
+pub mod MarkLemmas
+pub mod LoadLemmas
+pub mod TableLemmas

@@ -1,0 +1,7 @@
+use Rattle.std.proofs.Common.{◌≡◌, ◌<◌, ◌++◌, length, map, get_or, take, drop, sym, ap, ◌∙◌, arith}
+use Rattle.rank_table.specs.Marks.{slot_of}
+use Rattle.rank_table.proofs.MarkLemmas.{written_over}
+use Rattle.rank_table.proofs.copying.write_entries.Goals as goal
+
+pub loop-place-preserved : goal.loop-place-preserved
+loop-place-preserved c = written_over c.args.slots.now c.args.marks.now c.loop-place.marks c.loop-place.place (omega arith) c.loop-place.invariant

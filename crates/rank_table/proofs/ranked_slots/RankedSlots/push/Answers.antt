@@ -1,0 +1,19 @@
+use Rattle.std.proofs.Common.{◌≡◌, ◌<◌, ◌++◌, ◌∷◌, [], List, length, sym, ap, subst, ◌∙◌, arith}
+use Rattle.rank_table.specs.declared.slot.Slot.{Slot}
+use Rattle.rank_table.specs.SlotsValue.{Slots}
+use Rattle.rank_table.specs.Ranking.{AreRanked}
+use Rattle.rank_table.proofs.LeafLemmas.{AreLeaves-pushed}
+use Rattle.rank_table.proofs.ranked_slots.RankedSlots.push.Goals as goal
+
+pub invariant_of-self : goal.invariant_of-self
+invariant_of-self c =
+    let items = c.self.inside.slots.items in
+    let room : length items < c.self.inside.capacity = subst (λ (r : Slots). length r.slots < r.capacity) (sym c.self.view_is) c.requires in
+    let pushed : c.push.new.self.items ≡ items ++ c.args.slot ∷ [] = rw c.unwrap.ensures at c.push.ensures.items in
+    subst (λ (slots : List Slot). AreRanked c.self.inside.capacity c.push.new.self.cap c.self.inside.base c.self.inside.tree slots) (sym pushed)
+    (record {
+      some = c.self.invariant.some;
+      has_room = omega (arith, c.self.invariant.has_room, c.push.ensures.capacity);
+      are_leaves = AreLeaves-pushed c.self.inside.capacity c.self.inside.base c.self.inside.tree items c.args.slot c.self.invariant.are_leaves room (c.self.invariant.unbased room);
+      unbased = λ _. c.self.invariant.unbased room;
+    })

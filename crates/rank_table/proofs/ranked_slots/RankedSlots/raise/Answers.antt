@@ -1,0 +1,17 @@
+use Rattle.std.proofs.Common.{◌≡◌, ◌<◌, ◌≤◌, length, get_or, length-set, sym, ap, subst, ◌∙◌, arith}
+use Rattle.rank_table.specs.SlotsValue.{Slots}
+use Rattle.rank_table.proofs.LeafLemmas.{AreLeaves-raised}
+use Rattle.rank_table.proofs.ranked_slots.RankedSlots.raise.Goals as goal
+
+pub invariant_of-self : goal.invariant_of-self
+invariant_of-self c =
+    let items = c.self.inside.slots.items in
+    let within : c.args.place < length items = subst (λ (r : Slots). c.args.place < length r.slots) (sym c.self.view_is) c.requires.within in
+    let more = subst (λ (r : Slots). (get_or r.slots c.args.place c.args.slot).entry.count ≤ c.args.slot.entry.count) (sym c.self.view_is) (c.requires.count c.args.slot) in
+    let later = subst (λ (r : Slots). (get_or r.slots c.args.place c.args.slot).time ≤ c.args.slot.time) (sym c.self.view_is) (c.requires.time c.args.slot) in
+    record {
+      some = c.self.invariant.some;
+      has_room = c.self.invariant.has_room;
+      are_leaves = AreLeaves-raised c.self.inside.capacity c.self.inside.base c.self.inside.tree items c.args.place c.args.slot c.self.invariant.are_leaves within more later;
+      unbased = λ room. c.self.invariant.unbased (omega (arith, length-set items c.args.place c.args.slot));
+    }

@@ -1,0 +1,17 @@
+use Rattle.std.proofs.Common.{[], ℕ, List, sym, subst, refl, arith}
+use Rattle.std.specs.List.{range_with_len}
+use Rattle.rank_table.specs.declared.slot.Slot.{Slot}
+use Rattle.rank_table.specs.Ranking.{AreRanked}
+use Rattle.rank_table.proofs.LeafLemmas.{AreLeaves-start}
+use Rattle.rank_table.proofs.ranked_slots.RankedSlots.with_capacity.Goals as goal
+
+pub invariant_of-result : goal.invariant_of-result
+invariant_of-result c =
+    subst (λ (leaves : List ℕ). AreRanked c.args.capacity c.in_ok-with_capacity.field-0.cap 0 leaves c.in_ok-with_capacity.field-0.items) (sym c.in_ok-with_leaves.ensures)
+    (subst (λ (slots : List Slot). AreRanked c.args.capacity c.in_ok-with_capacity.field-0.cap 0 (range_with_len 0 c.args.capacity) slots) (sym c.in_ok-with_capacity.ensures.items)
+    (record {
+      some = omega arith;
+      has_room = omega (arith, c.in_ok-with_capacity.ensures.exact);
+      are_leaves = AreLeaves-start c.args.capacity 0 [] (omega arith) (omega arith) (λ place d within. absurd (omega arith));
+      unbased = λ room. refl;
+    }))

@@ -1,0 +1,125 @@
+//! Slots, and a tree that answers which one comes first.
+
+ghost use Rattle.std.specs.Prelude.{◌≡◌, ◌+◌, ◌<◌, ◌≤◌, ◌++◌, ◌∷◌, [], ℕ, IfOk, IsTrue, false, ◌↔◌, length, slice_index_or, slice_set};
+ghost use Rattle.rank_table.specs.declared.slot.Slot.{Slot};
+ghost use Rattle.rank_table.specs.Ranking.{AreLeaves, IsLeast};
+ghost use Rattle.rank_table.specs.Words.{word};
+
+use crate::scanning::least_of;
+use crate::slot::Slot;
+use crate::words::{MOST_EXCESS, PLACES, is_exact, word_of};
+use std::alloc::{AllocError, Global};
+use std::marker::Model;
+use winner_tree::WinnerTree;
+
+/// Slots at fixed places. The leaves of the tree are lower bounds of the slots' words, so that a slot whose rank
+/// rises leaves the tree alone.
+#[derive(Debug, Drop)]
+pub(crate) struct RankedSlots {
+    capacity: usize,
+    slots: Vec<Slot>,
+    tree: WinnerTree,
+    base: u64,
+}
+
+impl Model for RankedSlots {
+    ghost use Rattle.std.specs.Prelude.{vec_capacity};
+    ghost use Rattle.rank_table.specs.SlotsValue.{Slots};
+    ghost use Rattle.rank_table.specs.Ranking.{AreRanked};
+
+    ghost Value = { Slots };
+
+    ghost view = { λ r. record { capacity = r.capacity; slots = r.slots.items } };
+
+    ghost invariant = { λ r. AreRanked r.capacity (vec_capacity r.slots) r.base r.tree r.slots.items };
+}
+
+impl RankedSlots {
+    /// No slots, and memory for so many, 1 to 4096.
+    pub(crate) fn with_capacity(alloc: Global, capacity: usize) -> Result<RankedSlots, AllocError>
+        requires least { 1 ≤ capacity }
+        requires most { capacity ≤ 4096 }
+        ensures { IfOk result (λ ranked. ranked ≡ record { capacity = capacity; slots = [] }) }
+    {
+        Ok(RankedSlots {
+            capacity,
+            slots: Vec::with_capacity(alloc, capacity)?,
+            tree: WinnerTree::with_leaves(alloc, capacity)?,
+            base: 0,
+        })
+    }
+
+    /// The slots by place.
+    pub(crate) fn slots(&self) -> &[Slot]
+        ensures slots { result.now ≡ self.now.slots }
+        ensures within_capacity { length result.now ≤ self.now.capacity }
+    {
+        self.slots.as_slice()
+    }
+
+    /// Whether there can be one more slot.
+    pub(crate) fn has_room(&self) -> bool
+        ensures room { IsTrue result ↔ (length self.now.slots < self.now.capacity) }
+        ensures full { result ≡ false → length self.now.slots ≡ self.now.capacity }
+    {
+        self.slots.len() < self.capacity
+    }
+
+    /// Puts a slot behind the others. It takes no memory.
+    pub(crate) fn push(&mut self, slot: Slot)
+        requires { length self.old.slots < self.old.capacity }
+        ensures { self.new ≡ record self.old { slots = self.old.slots ++ slot ∷ [] } }
+    {
+        self.slots.push(slot).unwrap();
+    }
+
+    /// Changes the slot at a place to one of no smaller count and time.
+    pub(crate) fn raise(&mut self, place: usize, slot: Slot)
+        requires within { place < length self.old.slots }
+        requires count { (d : Slot) → (slice_index_or self.old.slots place d).entry.count ≤ slot.entry.count }
+        requires time { (d : Slot) → (slice_index_or self.old.slots place d).time ≤ slot.time }
+        ensures { self.new ≡ record self.old { slots = slice_set self.old.slots place slot } }
+    {
+        self.slots[place] = slot;
+    }
+
+    /// The place of the slot that comes before all others, where there is a slot at each place. It looks at all
+    /// slots where the rank of this one doesn't fit into a word.
+    pub(crate) fn least(&mut self) -> usize
+        requires { length self.old.slots ≡ self.old.capacity }
+        ensures same { self.new ≡ self.old }
+        ensures least { IsLeast self.old.slots result }
+    {
+        let place = winner(&mut self.tree, &self.slots, self.base);
+        if is_exact(self.base, &self.slots[place]) {
+            return place;
+        }
+        let place = least_of(&self.slots);
+        let least = self.slots[place].entry.count;
+        if least - self.base >= MOST_EXCESS {
+            self.tree.restart();
+            self.base = least;
+        }
+        place
+    }
+}
+
+// The place whose slot has the least word. A leaf that comes first and is less than its slot's word gets that word.
+fn winner(tree: &mut WinnerTree, slots: &[Slot], base: u64) -> usize
+    requires some { 0 < length slots.now }
+    requires leaves { AreLeaves (length slots.now) base tree.old slots.now }
+    ensures leaves { AreLeaves (length slots.now) base tree.new slots.now }
+    ensures within { result < length slots.now }
+    ensures least { (place : ℕ) (d : Slot) → place < length slots.now
+        → word base (slice_index_or slots.now result d) result ≤ word base (slice_index_or slots.now place d) place }
+{
+    'mending: loop {
+        let leaf = tree.least();
+        let place = (leaf % PLACES) as usize;
+        let word = word_of(base, &slots[place], place);
+        if word == leaf {
+            return place;
+        }
+        tree.set(place, word);
+    }
+}

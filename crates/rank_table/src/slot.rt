@@ -1,0 +1,12 @@
+//! One slot of a table.
+
+use space_saving::Entry;
+
+/// An entry, and when it was put in.
+#[derive(Clone, Copy, Debug, PartialEq, Eq)]
+pub(crate) struct Slot {
+    /// The entry of the key that has the slot.
+    pub entry: Entry,
+    /// The number of the add that changed the entry last, counted over the whole table.
+    pub time: u64,
+}

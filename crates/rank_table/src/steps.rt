@@ -1,0 +1,85 @@
+//! One step of Space-Saving on slots.
+
+ghost use Rattle.std.specs.Prelude.{◌≡◌, ◌+◌, ◌^◌, ◌<◌, ◌≤◌, ◌++◌, ◌∷◌, [], length, slice_index_or, slice_set};
+ghost use Rattle.space_saving.specs.Table.{step, total_count};
+ghost use Rattle.rank_table.specs.Order.{AreSlots, entries_of};
+ghost use Rattle.rank_table.specs.Stepping.{IsTakenOver, fresh, raised};
+ghost use Rattle.rank_table.specs.Together.{AreTogether};
+ghost use Rattle.rank_table.specs.declared.slot.Slot.{Slot};
+
+use crate::ranked_slots::RankedSlots;
+use crate::slot::Slot;
+use key_index::KeyIndex;
+use space_saving::Entry;
+
+/// Adds a weight for a key at a time later than all before: its slot's rank rises, or a new slot takes free room,
+/// or the slot that comes first is taken over.
+pub(crate) fn add_weight(index: &mut KeyIndex, ranked: &mut RankedSlots, key: u64, weight: u64, now: u64)
+    requires together { AreTogether ranked.old.capacity index.old ranked.old }
+    requires slots { AreSlots now ranked.old.slots }
+    requires weighs { 1 ≤ weight }
+    requires early { now < 2 ^ 56 }
+    requires room { total_count (entries_of ranked.old.slots) + weight < 2 ^ 56 }
+    ensures capacity { ranked.new.capacity ≡ ranked.old.capacity }
+    ensures together { AreTogether ranked.new.capacity index.new ranked.new }
+    ensures slots { AreSlots (now + 1) ranked.new.slots }
+    ensures stepped { entries_of ranked.new.slots
+        ≡ step ranked.old.capacity (entries_of ranked.old.slots) (record { key = key; weight = weight }) }
+{
+    match index.find(key) {
+        Some(place) => grow(ranked, place, weight, now),
+        None if ranked.has_room() => take_room(index, ranked, key, weight, now),
+        None => take_over(index, ranked, key, weight, now),
+    }
+}
+
+// Adds a weight to the entry at a place.
+fn grow(ranked: &mut RankedSlots, place: usize, weight: u64, now: u64)
+    requires within { place < length ranked.old.slots }
+    requires slots { AreSlots now ranked.old.slots }
+    requires early { now < 2 ^ 56 }
+    requires room { total_count (entries_of ranked.old.slots) + weight < 2 ^ 56 }
+    ensures { (d : Slot) → ranked.new ≡ record ranked.old {
+        slots = slice_set ranked.old.slots place (raised weight now (slice_index_or ranked.old.slots place d)) } }
+{
+    let slot = ranked.slots()[place];
+    let count = slot.entry.count + weight;
+    let entry = Entry { count, ..slot.entry };
+    ranked.raise(place, Slot { entry, time: now });
+}
+
+// Gives a new key a slot of its own.
+fn take_room(index: &mut KeyIndex, ranked: &mut RankedSlots, key: u64, weight: u64, now: u64)
+    requires room { length ranked.old.slots < ranked.old.capacity }
+    requires together { AreTogether ranked.old.capacity index.old ranked.old }
+    ensures index { index.new ≡ record index.old { keys = index.old.keys ++ key ∷ [] } }
+    ensures ranked { ranked.new ≡ record ranked.old { slots = ranked.old.slots ++ fresh key weight now ∷ [] } }
+{
+    let entry = Entry {
+        key,
+        count: weight,
+        error: 0,
+    };
+    index.push(key);
+    ranked.push(Slot { entry, time: now });
+}
+
+// Gives a new key the slot that comes first: its count becomes the error of the new entry.
+fn take_over(index: &mut KeyIndex, ranked: &mut RankedSlots, key: u64, weight: u64, now: u64)
+    requires full { length ranked.old.slots ≡ ranked.old.capacity }
+    requires together { AreTogether ranked.old.capacity index.old ranked.old }
+    requires slots { AreSlots now ranked.old.slots }
+    requires early { now < 2 ^ 56 }
+    requires room { total_count (entries_of ranked.old.slots) + weight < 2 ^ 56 }
+    ensures { IsTakenOver key weight now index.old ranked.old index.new ranked.new }
+{
+    let place = ranked.least();
+    let least = ranked.slots()[place].entry.count;
+    let entry = Entry {
+        key,
+        count: least + weight,
+        error: least,
+    };
+    index.replace(place, key);
+    ranked.raise(place, Slot { entry, time: now });
+}

@@ -1,0 +1,37 @@
+//! The rank of a slot in one word: excess of the count over a base in 28 bits, time in 24, place in 12.
+
+ghost use Rattle.std.specs.Prelude.{◌≡◌, ◌<◌, ◌≤◌, ◌↔◌, IsTrue};
+ghost use Rattle.rank_table.specs.Words.{IsExact, word};
+
+use crate::slot::Slot;
+
+/// A place takes this many values in a word.
+pub(crate) const PLACES: u64 = 1 << 12;
+
+/// One more of excess is as much as all times and places.
+const EXCESS_STEP: u64 = 1 << 36;
+
+/// The greatest excess that fits. A slot that has more gets this.
+pub(crate) const MOST_EXCESS: u64 = (1 << 28) - 1;
+
+/// The greatest time that fits. A slot that has a later one gets this.
+const MOST_TIME: u64 = (1 << 24) - 1;
+
+/// The rank of a slot at a place in one word: no slot of a lower rank has a greater excess and time in its word.
+pub(crate) fn word_of(base: u64, slot: &Slot, place: usize) -> u64
+    requires above { base ≤ slot.now.entry.count }
+    requires within { place < 4096 }
+    ensures { result ≡ word base slot.now place }
+{
+    let excess = (slot.entry.count - base).min(MOST_EXCESS);
+    let time = slot.time.min(MOST_TIME);
+    excess * EXCESS_STEP + time * PLACES + place as u64
+}
+
+/// Whether both parts of the rank fit into its word. Where one doesn't, slots of other ranks can have equal parts.
+pub(crate) fn is_exact(base: u64, slot: &Slot) -> bool
+    requires { base ≤ slot.now.entry.count }
+    ensures { IsTrue result ↔ IsExact base slot.now }
+{
+    slot.entry.count - base < MOST_EXCESS && slot.time < MOST_TIME
+}
