@@ -6,13 +6,14 @@ ghost use Rattle.space_saving.specs.Table.{TableValue, total_count};
 ghost use Rattle.shard_state.specs.Folding.{fold_table, fold_tables};
 
 use crate::snapshot_parts::NODES;
+use crate::table::Table;
 use prefix_lattice::{Node, Prefix, Record};
-use space_saving::{Flat, PlainTable, Summary};
+use space_saving::{Flat, Summary};
 use std::alloc::{AllocError, Global};
 
 /// Counts records in each of 25 tables, one table after the other, so that a table's entries stay in the
 /// nearest cache.
-pub(crate) fn count_in_tables(tables: &mut [PlainTable], records: &[Record])
+pub(crate) fn count_in_tables(tables: &mut [Table], records: &[Record])
     requires shape { length tables.old ≡ 25 }
     requires room { All (λ table. total_count table.entries + total_weight records.now < 2 ^ 56) tables.old }
     ensures { tables.new ≡ fold_tables 0 tables.old records.now }
@@ -24,7 +25,7 @@ pub(crate) fn count_in_tables(tables: &mut [PlainTable], records: &[Record])
 }
 
 // Counts records in the table of a node.
-fn count_in_table(table: &mut PlainTable, node: Node, records: &[Record])
+fn count_in_table(table: &mut Table, node: Node, records: &[Record])
     requires { total_count table.old.entries + total_weight records.now < 2 ^ 56 }
     ensures { table.new ≡ fold_table node records.now table.old }
 {
@@ -34,18 +35,18 @@ fn count_in_table(table: &mut PlainTable, node: Node, records: &[Record])
 }
 
 /// Tables with the content of these.
-pub(crate) fn restored(alloc: Global, flats: &[Flat]) -> Result<Vec<PlainTable>, AllocError>
+pub(crate) fn restored(alloc: Global, flats: &[Flat]) -> Result<Vec<Table>, AllocError>
     ensures { IfOk result (λ tables. tables.items ≡ flats.now) }
 {
     let mut tables = Vec::with_capacity(alloc, flats.len())?;
     for flat in flats {
-        tables.push(PlainTable::restore(alloc, flat)?)?;
+        tables.push(Table::restore(alloc, flat)?)?;
     }
     Ok(tables)
 }
 
 /// Makes flat tables equal to these, each of the capacity of its own. It takes no memory.
-pub(crate) fn copy_tables(tables: &[PlainTable], into: &mut [Flat])
+pub(crate) fn copy_tables(tables: &[Table], into: &mut [Flat])
     requires shape { length into.old ≡ length tables.now }
     requires capacities { (place : ℕ) (table flat : TableValue) → slice_get tables.now place ≡ Some table
         → slice_get into.old place ≡ Some flat → flat.capacity ≡ table.capacity }

@@ -11,6 +11,7 @@ mod shard_core;
 mod shard_state;
 mod snapshot;
 mod snapshot_parts;
+mod table;
 
 pub use cut::Cut;
 pub use event::Event;

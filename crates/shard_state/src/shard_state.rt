@@ -9,8 +9,9 @@ ghost use Rattle.shard_state.specs.ShardValue.{IsShard, folded, snapshot_of};
 
 use crate::Snapshot;
 use crate::folding::{count_in_tables, restored};
+use crate::table::Table;
 use prefix_lattice::{RecordList, keys_are_of_their_node};
-use space_saving::{PlainTable, steps_leave_a_table};
+use space_saving::steps_leave_a_table;
 use std::alloc::{AllocError, Global};
 use std::marker::Model;
 
@@ -30,7 +31,7 @@ pub struct ShardState {
     list: RecordList,
     base: Snapshot,
     position: u64,
-    tables: Vec<PlainTable>,
+    tables: Vec<Table>,
 }
 
 impl Model for ShardState {

@@ -7,8 +7,9 @@ ghost use Rattle.shard_state.specs.Copying.{copied_from};
 
 use crate::folding::copy_tables;
 use crate::snapshot_parts::{are_tables, empty_tables};
+use crate::table::Table;
 use prefix_lattice::Node;
-use space_saving::{Flat, PlainTable};
+use space_saving::Flat;
 use std::alloc::{AllocError, Global};
 use std::marker::Model;
 
@@ -117,7 +118,7 @@ impl Snapshot {
     }
 
     /// Takes over a position and the content of tables of its capacity.
-    pub(crate) fn copy_from(&mut self, position: u64, tables: &[PlainTable])
+    pub(crate) fn copy_from(&mut self, position: u64, tables: &[Table])
         requires alike { All (λ table. table.capacity ≡ self.old.capacity) tables.now }
         requires snapshot { IsSnapshot (copied_from self.old.capacity position tables.now) }
         ensures { self.new ≡ copied_from self.old.capacity position tables.now }
