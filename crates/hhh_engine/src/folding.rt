@@ -10,17 +10,15 @@ use prefix_lattice::RecordList;
 use shard_state::{Cut, ShardState, shards_stand};
 use std::alloc::{AllocError, Global};
 
-/// The cut at the ends of dealt lists. Each shard is counted to its end, in blocks, and let go once its
-/// tables are copied, so that the tables of one shard at a time are kept twice.
-pub fn cut_at_ends(
-    alloc: Global,
-    dealt: Dealt,
-    capacity: u32,
-    block: u32,
-) -> Result<Cut, AllocError>
+// As many records as any list has. One thread folds a list whole, so that each table in turn stays in the
+// nearest cache.
+const WHOLE_LIST: u32 = u32::MAX;
+
+/// The cut at the ends of dealt lists. Each shard is counted to its end, and let go once its tables are copied,
+/// so that the tables of one shard at a time are kept twice.
+pub fn cut_at_ends(alloc: Global, dealt: Dealt, capacity: u32) -> Result<Cut, AllocError>
     requires least { 2 ≤ capacity }
     requires most { capacity ≤ 4096 }
-    requires block { 1 ≤ block }
     ensures cut { IfOk result (IsCutAtEnds capacity dealt) }
     ensures weighed { IfOk result (λ cut. All (λ list. All (λ rec. 1 ≤ rec.weight) list) dealt) }
     ensures shards { AreShardLists dealt }
@@ -29,29 +27,23 @@ pub fn cut_at_ends(
     let mut cut = Cut::with_room(alloc, dealt.shards(), capacity)?;
     let mut shard = 0;
     for list in dealt.into_lists() {
-        cut.copy_shard(shard, &count_to_end(alloc, list, capacity, block)?);
+        cut.copy_shard(shard, &count_to_end(alloc, list, capacity)?);
         shard += 1;
     }
     Ok(cut)
 }
 
 // The state of a shard that counted all records of its list.
-fn count_to_end(
-    alloc: Global,
-    list: RecordList,
-    capacity: u32,
-    block: u32,
-) -> Result<ShardState, AllocError>
+fn count_to_end(alloc: Global, list: RecordList, capacity: u32) -> Result<ShardState, AllocError>
     requires few { length list ≤ 2 ^ 24 }
     requires least { 2 ≤ capacity }
     requires most { capacity ≤ 4096 }
-    requires block { 1 ≤ block }
     ensures state { IfOk result (λ state. state ≡ record { list = list; base = empty_snapshot capacity; position = length list }) }
     ensures weighed { IfOk result (λ state. All (λ rec. 1 ≤ rec.weight) list) }
 {
     let mut state = ShardState::start(alloc, list, capacity)?;
     while state.position() < state.length() {
-        state.fold_block(block);
+        state.fold_block(WHOLE_LIST);
     }
     Ok(state)
 }

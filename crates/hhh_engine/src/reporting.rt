@@ -100,7 +100,7 @@ fn last_report(alloc: Global, dealt: Dealt, settings: &Settings) -> Result<Repor
     ensures positions { IfOk result (λ report. ArePositions report.positions) }
     ensures threshold { IfOk result (λ report. 1 ≤ report.threshold) }
 {
-    let cut = cut_at_ends(alloc, dealt, settings.capacity, settings.block)?;
+    let cut = cut_at_ends(alloc, dealt, settings.capacity)?;
     // That the total of so few shards is bounded is known once they are counted.
     let _few = cut.shards();
     report_of(alloc, &cut, settings.phi)
