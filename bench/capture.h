@@ -18,6 +18,9 @@ static size_t begin, end;
 static struct record *records;
 static size_t count, room;
 
+// How many frames were read, and how many of them skipped as not IPv4, as short, for a bad header.
+static size_t frames, skipped_type, skipped_short, skipped_header;
+
 static uint32_t little(const unsigned char *p) {
     return p[0] | p[1] << 8 | p[2] << 16 | (uint32_t)p[3] << 24;
 }
@@ -64,11 +67,17 @@ static void decode(const unsigned char *frame, uint32_t captured, uint32_t origi
             break;
         place += 4;
     }
-    if (captured < place + 20 || type_at(frame + place - 2) != 0x0800)
-        return;
-    if (frame[place] >> 4 != 4 || (frame[place] & 15) < 5)
-        return;
-    keep(big(frame + place + 12), big(frame + place + 16), captured > original ? captured : original);
+    frames++;
+    if (captured < place)
+        skipped_short++;
+    else if (type_at(frame + place - 2) != 0x0800)
+        skipped_type++;
+    else if (captured < place + 20)
+        skipped_short++;
+    else if (frame[place] >> 4 != 4 || (frame[place] & 15) < 5)
+        skipped_header++;
+    else
+        keep(big(frame + place + 12), big(frame + place + 16), captured > original ? captured : original);
 }
 
 // Reads the capture to its end. Answers whether it is one.

@@ -1,5 +1,5 @@
 #!/usr/bin/env python3
-"""Writes a capture of random IPv4 traffic: make_capture.py SEED FRAMES short|whole|skewed > FILE
+"""Writes a capture of random IPv4 traffic: make_capture.py SEED FRAMES short|whole|skewed|met > FILE
 
 Addresses come from a linear congruential generator; of each side a quarter is one host, a
 quarter falls into a /22, and the rest spreads over a /8. Lengths on the wire go 100, 200, 300, 400 in turn.
@@ -8,8 +8,13 @@ quarter falls into a /22, and the rest spreads over a /8. Lengths on the wire go
 `skewed` frames are as short, and of each side three quarters fall to 255 hosts, which are strewn over the /8:
 as often to host 1 as to 2 and 3 together, to 4 up to 7, and so on up to 128 to 255. So a host has about
 half of what the host of half its number has. The last quarter spreads over the /8.
+
+`met` frames are as short, and made against the index of the tables at their default capacity: no two have one pair
+of addresses, and all pairs share their first home in each of the nine tables that keep two bytes or more of
+each side. There are 1,048,576 such pairs.
 """
 
+import bisect
 import struct
 import sys
 
@@ -17,6 +22,9 @@ MULTIPLIER = 6364136223846793005
 INCREMENT = 1442695040888963407
 STATES = 1 << 64
 STREWING = 0x9E3779
+# The multiplier of the first turn of a search, and how many homes the index of a table of 512 entries has.
+FIRST_TURN = 0x9E3779B97F4A7C15
+HOMES = 8 * 512
 FILE_HEADER = struct.pack("<IHHIIII", 0xA1B2C3D4, 2, 4, 0, 0, 262144, 1)
 ETHERNET = bytes.fromhex("020000000002" "020000000001" "0800")
 
@@ -41,14 +49,35 @@ def skewed_address(first_byte, draw):
     return first_byte << 24 | low
 
 
-def frames(seed, count, kind):
+def random_pairs(seed, pick):
+    """Pairs of addresses without end."""
     state = seed
-    pick = skewed_address if kind == "skewed" else address
-    for place in range(count):
+    while True:
         state = (MULTIPLIER * state + INCREMENT) % STATES
         source = pick(10, state >> 32)
         state = (MULTIPLIER * state + INCREMENT) % STATES
-        destination = pick(20, state >> 32)
+        yield source, pick(20, state >> 32)
+
+
+def met_pairs():
+    """Pairs of /16 networks whose key's product with the first multiplier is below the second home."""
+    low = sorted(((second << 16) * FIRST_TURN % STATES, second) for second in range(1 << 16))
+    for first in range(1 << 16):
+        missing = -(first << 48) * FIRST_TURN % STATES
+        place = bisect.bisect_left(low, (missing, 0))
+        for turn in range(len(low)):
+            product, second = low[(place + turn) % len(low)]
+            if (product - missing) % STATES >= STATES // HOMES:
+                break
+            yield first << 16, second << 16
+
+
+def frames(seed, count, kind):
+    if kind == "met":
+        pairs = met_pairs()
+    else:
+        pairs = random_pairs(seed, skewed_address if kind == "skewed" else address)
+    for place, (source, destination) in zip(range(count), pairs):
         wire = 100 * (1 + place % 4)
         captured = wire if kind == "whole" else 34
         yield struct.pack("<IIII", place, 0, captured, wire) + ETHERNET + struct.pack(

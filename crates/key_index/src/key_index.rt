@@ -92,7 +92,7 @@ fn enter_all(cells: &mut KeyCells, keys: &[u64])
     ensures { IsFilled cells.old.room keys.now cells.new }
 {
     cells.clear();
-    for place in 0..keys.len() {
-        cells.enter(place, keys[place]);
+    for (place, key) in keys.iter().enumerate() {
+        cells.enter(place, *key);
     }
 }

@@ -7,3 +7,4 @@ pub mod RisingLemmas
 pub mod MarkLemmas
 pub mod LoadLemmas
 pub mod TableLemmas
+pub mod Examples

@@ -75,11 +75,17 @@ fn take_over(index: &mut KeyIndex, ranked: &mut RankedSlots, key: u64, weight: u
 {
     let place = ranked.least();
     let least = ranked.slots()[place].entry.count;
-    let entry = Entry {
+    let heir = Entry {
         key,
         count: least + weight,
         error: least,
     };
     index.replace(place, key);
-    ranked.raise(place, Slot { entry, time: now });
+    ranked.raise(
+        place,
+        Slot {
+            entry: heir,
+            time: now,
+        },
+    );
 }

@@ -8,8 +8,8 @@ use Rattle.rank_table.proofs.steps.take_over.Goals as goal
 abbrev blank : Slot
 blank = record { entry = record { key = 0; count = 0; error = 0 }; time = 0 }
 
-pub overflow_add-entry : goal.overflow_add-entry
-overflow_add-entry c =
+pub overflow_add-heir : goal.overflow_add-heir
+overflow_add-heir c =
     let slots = c.args.ranked.now.slots in
     let at : (get_or c.slots.result.now c.least-place.result blank).entry.count ≡ (get_or slots c.least-place.result blank).entry.count =
         ap (λ (l : List Slot). (get_or l c.least-place.result blank).entry.count) (c.slots.ensures.slots ∙ ap (λ (r : Slots). r.slots) c.least-place.ensures.same) in

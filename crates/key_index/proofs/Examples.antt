@@ -1,0 +1,92 @@
+-- Worked examples of the definitions, most by computing.
+use Rattle.std.proofs.Common.{◌≡◌, ◌<◌, ◌≤◌, ℕ, List, [], ◌∷◌, true, false, zero, suc, get_or, refl, All, arith}
+use Rattle.std.proofs.lemmas.List.Elements.{All-from_recursion, All-head}
+use Rattle.key_index.specs.IndexValue.{Keys}
+use Rattle.key_index.specs.Paths.{home, window, leads_to}
+use Rattle.key_index.specs.CellsValue.{Cells, AreBelow, AreCells}
+use Rattle.key_index.specs.Searching.{IsOther, AreOthers, EndsAt}
+use Rattle.key_index.specs.declared.searching.End.TheVariants.{At, Free, Past}
+
+-- key 0 is at home first at every turn
+pub home_of_key_0 : home 2 7 0 ≡ 0
+unfolding home
+home_of_key_0 = refl
+
+-- key 1 has homes of its own for each multiplier, among the 4,096 of an index for 512 keys
+pub last_home_of_key_1 : home 512 0 1 ≡ 1413
+unfolding home
+last_home_of_key_1 = refl
+
+pub first_home_of_key_1 : home 512 7 1 ≡ 2531
+unfolding home
+first_home_of_key_1 = refl
+
+pub window_of_sixteen : window 3 ≡ 3 ∷ 4 ∷ 5 ∷ 6 ∷ 7 ∷ 8 ∷ 9 ∷ 10 ∷ 11 ∷ 12 ∷ 13 ∷ 14 ∷ 15 ∷ 16 ∷ 17 ∷ 18 ∷ []
+unfolding window
+window_of_sixteen = refl
+
+-- cell 1 holds place 0, cell 2 place 1, and the others are free
+abbrev marks : List ℕ
+marks = 0 ∷ 1 ∷ 2 ∷ 0 ∷ []
+
+-- past the place of another key
+pub walk_to_the_second_place : leads_to (1 ∷ 2 ∷ 3 ∷ []) marks 1 ≡ true
+walk_to_the_second_place = refl
+
+-- a free cell ends a walk
+pub walk_ends_at_a_free_cell : leads_to (0 ∷ 1 ∷ []) marks 0 ≡ false
+walk_ends_at_a_free_cell = refl
+
+pub walk_past_all_cells : leads_to (1 ∷ []) marks 1 ≡ false
+walk_past_all_cells = refl
+
+-- keys 40 and 50 have these places
+abbrev keys : List ℕ
+keys = 40 ∷ 50 ∷ []
+
+abbrev two_keys : Keys
+two_keys = record { room = 2; keys = keys }
+
+pub second_key : get_or two_keys.keys 1 0 ≡ 50
+second_key = refl
+
+pub marks_name_two_places : AreBelow 2 marks
+marks_name_two_places = All-from_recursion (λ mark. mark ≤ 2) marks (omega arith, (omega arith, (omega arith, (omega arith, tt))))
+
+pub place_beyond_the_keys : AreBelow 1 (2 ∷ []) → ⊥
+place_beyond_the_keys below = omega (arith, All-head (λ mark. mark ≤ 1) 2 [] below)
+
+pub place_of_another_key : IsOther marks keys 50 1
+place_of_another_key = ((λ none. omega (arith, none)), (λ same. omega (arith, same)))
+
+pub place_of_the_key_itself : IsOther marks keys 40 1 → ⊥
+place_of_the_key_itself other = other.1 refl
+
+pub free_cell_is_no_other : IsOther marks keys 40 0 → ⊥
+free_cell_is_no_other other = other.0 refl
+
+pub ends_at_the_place : EndsAt (At 1) marks keys 50 1 4
+ends_at_the_place = (omega arith, refl)
+
+pub ends_at_another_place : EndsAt (At 0) marks keys 50 1 4 → ⊥
+ends_at_another_place ends = omega (arith, ends.1)
+
+-- key 60 is missing: cell 0 is free
+pub ends_at_the_free_cell : EndsAt Free marks keys 60 0 4
+ends_at_the_free_cell = (0, omega arith, omega arith, refl, λ cell least below. absurd (omega arith))
+
+pub ends_past_one_cell : EndsAt Past marks keys 60 1 2
+ends_past_one_cell = one
+  where
+    one : AreOthers marks keys 60 1 2
+    one zero least below = absurd (omega arith)
+    one (suc zero) least below = ((λ none. omega (arith, none)), (λ same. omega (arith, same)))
+    one (suc (suc cell)) least below = absurd (omega arith)
+
+-- no cells for no keys
+pub cells_of_no_keys : AreCells 0 0 [] → ⊥
+cells_of_no_keys cells = omega (arith, cells.some)
+
+-- five cells of an index for one key can't be filled before it is emptied
+pub one_fill_too_many : (marks : List ℕ) → AreCells 1 5 marks → ⊥
+one_fill_too_many marks cells = omega (arith, cells.filled)
