@@ -1,7 +1,8 @@
 #!/bin/sh
-# Measures `report` over two captures of 1,000,000 frames beside the exact report of a plain program, in one
-# run: processor times as ratios, frames a second and peak memory, then each part of it, then the instructions
-# of folding by capacity. Needs cc, python3, /usr/bin/time, gdb with Python, and valgrind.
+# Measures `report` over two captures of 1,000,000 frames beside two plain programs, one of the same algorithm and an
+# exact one, in one run: processor times as ratios, frames a second and peak memory, then each part of it, then the
+# times by capacity, those over a capture made against the index of the tables, and the instructions of
+# folding by capacity. Needs cc, python3, /usr/bin/time, gdb with Python, and valgrind.
 set -eu
 here=$(dirname "$(readlink -f "$0")")
 rounds=${1:-3}
@@ -60,13 +61,18 @@ part_instructions() {
 }
 
 compile exact
+compile space_saving
 for kind in short skewed; do
     make_capture $kind
-    set -- $(measure 1 "$work/$kind" "$work/exact") $(measure 1 "$work/$kind" "$hhh" report)
-    awk -v kind=$kind -v exact="$1" -v exact_peak="$2" -v hhh="$3" -v hhh_peak="$4" 'BEGIN {
-        printf "%s frames: exact %d ms, hhh %d ms; hhh/exact %.2f; hhh %d frames a second; peak memory: exact %d kB, hhh %d kB, hhh/exact %.2f\n",
-            kind, exact, hhh, hhh / exact, 1000000000 / hhh, exact_peak, hhh_peak, hhh_peak / exact_peak
-    }'
+    "$work/space_saving" <"$work/$kind" >"$work/session"
+    "$hhh" report <"$work/$kind" | cmp - "$work/session" && echo "$kind frames: the plain program of the same algorithm writes the same session"
+    for plain in space_saving exact; do
+        set -- $(measure 3 "$work/$kind" "$work/$plain") $(measure 3 "$work/$kind" "$hhh" report)
+        awk -v kind=$kind -v plain=$plain -v ms="$1" -v peak="$2" -v hhh="$3" -v hhh_peak="$4" 'BEGIN {
+            printf "%s frames: %s %d ms, hhh %d ms; ratio %.2f; hhh %d frames a second; peak memory: %s %d kB, hhh %d kB, ratio %.2f\n",
+                kind, plain, ms, hhh, hhh / ms, 1000000000 / hhh, plain, peak, hhh_peak, hhh_peak / peak
+        }'
+    done
     part_times "$work/$kind" >"$work/part_times"
     part_instructions "$work/$kind" >"$work/part_instructions"
     paste -d ' ' "$work/part_times" "$work/part_instructions" | awk -v few=$few '
@@ -77,6 +83,15 @@ for kind in short skewed; do
             printf "query/feeding: %.5f by time over 1000000 frames, %.5f by instructions over %d\n",
                 query / feeding, query_instructions / feeding_instructions, few
         }'
+done
+
+# Times by capacity, and over a capture made against the index at the default capacity.
+make_capture met
+for kind in short skewed met; do
+    for capacity in 64 512 4096; do
+        set -- $(measure 3 "$work/$kind" "$hhh" report --capacity $capacity --phi $((2000000 / capacity + 1)))
+        echo "$kind frames, capacity $capacity: hhh $1 ms"
+    done
 done
 
 # One shard, so that its tables are full early. The capacity bounds `phi` from below.

@@ -1,8 +1,10 @@
 -- Worked examples of the definitions, most by computing.
-use Rattle.std.proofs.Common.{◌≡◌, ◌<◌, ◌≤◌, ℕ, List, [], ◌∷◌, true, false, zero, suc, get_or, refl, All, arith}
+use Rattle.std.proofs.Common.{◌+◌, ◌*◌, length, ◌≡◌, ◌≤◌, ℕ, List, [], ◌∷◌, true, false, zero, suc, get_or, refl, arith}
 use Rattle.std.proofs.lemmas.List.Elements.{All-from_recursion, All-head}
 use Rattle.key_index.specs.IndexValue.{Keys}
-use Rattle.key_index.specs.Paths.{home, window, leads_to}
+use Rattle.std.proofs.lemmas.Bool.{false≢true}
+use Rattle.key_index.specs.Paths.{home, window, path_from, path, leads_to, IsFound}
+use Rattle.key_index.specs.Indexing.{IsFilled, IsFilledBut, IsIndex}
 use Rattle.key_index.specs.CellsValue.{Cells, AreBelow, AreCells}
 use Rattle.key_index.specs.Searching.{IsOther, AreOthers, EndsAt}
 use Rattle.key_index.specs.declared.searching.End.TheVariants.{At, Free, Past}
@@ -90,3 +92,47 @@ cells_of_no_keys cells = omega (arith, cells.some)
 -- five cells of an index for one key can't be filled before it is emptied
 pub one_fill_too_many : (marks : List ℕ) → AreCells 1 5 marks → ⊥
 one_fill_too_many marks cells = omega (arith, cells.filled)
+
+-- at the last turn key 0 goes over all 29 cells of an index for one key
+pub last_turn_goes_to_the_end : length (path_from 1 0 0) ≡ 29
+unfolding home
+last_turn_goes_to_the_end = refl
+
+-- before that over seven windows
+pub whole_path : length (path 1 0) ≡ 7 * 16 + 29
+unfolding path window home
+whole_path = refl
+
+pub first_cell_has_key_0 : IsFound 1 (1 ∷ []) 0 0
+unfolding path window home
+first_cell_has_key_0 = refl
+
+pub place_1_is_not_found : IsFound 1 (1 ∷ []) 0 1 → ⊥
+unfolding path window home
+place_1_is_not_found found = false≢true found
+
+-- free cells for one key
+abbrev no_cells : Cells
+no_cells = record { room = 1; fills = 0; marks = [] }
+
+pub no_keys_are_found : IsFilled 1 [] no_cells
+no_keys_are_found = record { roomy = refl; places = λ k d below. absurd (omega arith); found = λ place below. absurd (omega arith) }
+
+pub cells_of_another_room : IsFilled 2 [] no_cells → ⊥
+cells_of_another_room filled = omega (arith, filled.roomy)
+
+-- the one key is still to enter
+pub all_but_the_new_key : IsFilledBut 0 1 (40 ∷ []) no_cells
+all_but_the_new_key = record {
+  few = omega arith;
+  fits = omega arith;
+  roomy = refl;
+  places = λ k d below. absurd (omega arith);
+  found = λ place below other. absurd (other (let e : place ≡ 0 = omega arith in e));
+}
+
+pub index_of_no_keys : IsIndex 1 1 [] no_cells
+index_of_no_keys = record { some = omega arith; few = omega arith; fits = omega arith; has_room = omega arith; filled = no_keys_are_found }
+
+pub more_keys_than_room : IsIndex 1 2 keys no_cells → ⊥
+more_keys_than_room index = omega (arith, index.few)

@@ -1,9 +1,9 @@
 -- Where walks over cells lead, by induction on the cells.
 use Rattle.std.proofs.Common.{◌≡◌, ◌≢◌, ℕ, ◌+◌, ◌-◌, ◌*◌, ◌<◌, ◌≤◌, zero, suc, true, false, cond, eqb, List, [], ◌∷◌, ◌++◌, length, get_or, set, refl, sym, ap, ◌∙◌, subst, ⊎_elim, arith, get_or-set_same, get_or-set_other}
 use Rattle.std.specs.List.{range_with_len}
-use Rattle.std.proofs.lemmas.Bool.{cases_eq, cond-true, cond-false, cond_both, eq-eqb, ne_eqb, eqb-true, eqb-false, false≢true}
-use Rattle.std.proofs.lemmas.List.{append-nil, get_or_past}
-use Rattle.key_index.specs.Paths.{home, window, path_from, path, leads_to, IsFound}
+use Rattle.std.proofs.lemmas.Bool.{cases_eq, cond-true, cond-false, cond_both, eq-eqb, ne_eqb, false≢true}
+use Rattle.std.proofs.lemmas.List.{append-nil}
+use Rattle.key_index.specs.Paths.{home, window, path_from, path, leads_to}
 use Rattle.key_index.specs.Searching.{IsOther, AreOthers}
 
 -- a walk that meets the place of another key goes on
@@ -11,7 +11,8 @@ past_other : (marks keys rest : List ℕ) (cell key place : ℕ) → get_or keys
     → leads_to (cell ∷ rest) marks place ≡ leads_to rest marks place
 past_other marks keys rest cell key place has other =
     let mark = get_or marks cell 0 in
-    let apart : mark ≡ place + 1 → ⊥ = λ same. other.1 (ap (λ n. get_or keys (n - 1) 0) same ∙ ap (λ n. get_or keys n 0) (let e : place + 1 - 1 ≡ place = omega arith in e) ∙ has) in
+    let apart : mark ≡ place + 1 → ⊥ = λ same. other.1 (ap (λ n. get_or keys (n - 1) 0) same
+    ∙ ap (λ n. get_or keys n 0) (let e : place + 1 - 1 ≡ place = omega arith in e) ∙ has) in
     cond-false (eqb mark (place + 1)) true (cond (eqb mark 0) false (leads_to rest marks place)) (ne_eqb mark (place + 1) apart)
     ∙ cond-false (eqb mark 0) false (leads_to rest marks place) (ne_eqb mark 0 other.0)
 
@@ -38,12 +39,14 @@ stops_at_free (suc count) first cell marks keys rest key place has least below f
     ⊎_elim
     (λ (here : cell ≡ first). at_free marks (range_with_len (first + 1) count ++ rest) first place (ap (λ n. get_or marks n 0) (sym here) ∙ free))
     (λ (later : cell ≡ first → ⊥).
-        past_other marks keys (range_with_len (first + 1) count ++ rest) first key place has (others first (omega arith) (omega arith))
-        ∙ stops_at_free count (first + 1) cell marks keys rest key place has (omega arith) (omega arith) free (λ other behind before. others other (omega arith) before))
+    past_other marks keys (range_with_len (first + 1) count ++ rest) first key place has (others first (omega arith) (omega arith))
+    ∙ stops_at_free count (first + 1) cell marks keys rest key place has (omega arith) (omega arith) free
+    (λ other behind before. others other (omega arith) before))
     (cases_eq cell first)
 
 -- a walk over filled cells goes on until it comes to the place
-through_filled : (marks rest : List ℕ) (cell place : ℕ) → get_or marks cell 0 ≢ 0 → leads_to rest marks place ≡ true → leads_to (cell ∷ rest) marks place ≡ true
+through_filled : (marks rest : List ℕ) (cell place : ℕ) → get_or marks cell 0 ≢ 0 → leads_to rest marks place ≡ true
+    → leads_to (cell ∷ rest) marks place ≡ true
 through_filled marks rest cell place filled leads =
     let mark = get_or marks cell 0 in
     cond_both (eqb mark (place + 1)) true (cond (eqb mark 0) false (leads_to rest marks place)) (λ b. b ≡ true)
@@ -70,27 +73,29 @@ comes_to_place (suc count) first cell marks rest place least below is filled =
     ⊎_elim
     (λ (here : cell ≡ first). at_place marks (range_with_len (first + 1) count ++ rest) first place (ap (λ n. get_or marks n 0) (sym here) ∙ is))
     (λ (later : cell ≡ first → ⊥).
-        through_filled marks (range_with_len (first + 1) count ++ rest) first place (filled first (omega arith) (omega arith))
-        (comes_to_place count (first + 1) cell marks rest place (omega arith) (omega arith) is (λ other behind before. filled other (omega arith) before)))
+    through_filled marks (range_with_len (first + 1) count ++ rest) first place (filled first (omega arith) (omega arith))
+    (comes_to_place count (first + 1) cell marks rest place (omega arith) (omega arith) is (λ other behind before. filled other (omega arith) before)))
     (cases_eq cell first)
 
 -- a free cell that is filled leaves each place where a walk came to it
-pub leads_to-set : (cells marks : List ℕ) (cell mark place : ℕ) → get_or marks cell 0 ≡ 0 → leads_to cells marks place ≡ true → leads_to cells (set marks cell mark) place ≡ true
+pub leads_to-set : (cells marks : List ℕ) (cell mark place : ℕ) → get_or marks cell 0 ≡ 0 → leads_to cells marks place ≡ true
+    → leads_to cells (set marks cell mark) place ≡ true
 leads_to-set [] marks cell mark place free leads = leads
 leads_to-set (first ∷ rest) marks cell mark place free leads =
     ⊎_elim
     (λ (here : first ≡ cell). absurd (false≢true (sym (at_free marks rest first place (ap (λ n. get_or marks n 0) here ∙ free)) ∙ leads)))
     (λ (other : first ≡ cell → ⊥).
-        let same : get_or (set marks cell mark) first 0 ≡ get_or marks first 0 = get_or-set_other marks cell first mark 0 other in
-        subst (λ n. cond (eqb n (place + 1)) true (cond (eqb n 0) false (leads_to rest (set marks cell mark) place)) ≡ true) (sym same)
-        ((elim (eqb (get_or marks first 0) (place + 1)) as (λ b. cond b true (cond (eqb (get_or marks first 0) 0) false (leads_to rest marks place)) ≡ true
-            → cond b true (cond (eqb (get_or marks first 0) 0) false (leads_to rest (set marks cell mark) place)) ≡ true) [
-          | true ↦ λ _. refl
-          | false ↦ (elim (eqb (get_or marks first 0) 0) as (λ b. cond b false (leads_to rest marks place) ≡ true → cond b false (leads_to rest (set marks cell mark) place) ≡ true) [
-              | true ↦ λ no. no
-              | false ↦ λ yes. leads_to-set rest marks cell mark place free yes
-            ])
-        ]) leads))
+    let same : get_or (set marks cell mark) first 0 ≡ get_or marks first 0 = get_or-set_other marks cell first mark 0 other in
+    subst (λ n. cond (eqb n (place + 1)) true (cond (eqb n 0) false (leads_to rest (set marks cell mark) place)) ≡ true) (sym same)
+    ((elim (eqb (get_or marks first 0) (place + 1)) as (λ b. cond b true (cond (eqb (get_or marks first 0) 0) false (leads_to rest marks place)) ≡ true
+    → cond b true (cond (eqb (get_or marks first 0) 0) false (leads_to rest (set marks cell mark) place)) ≡ true) [
+      | true ↦ λ _. refl
+      | false ↦ (elim (eqb (get_or marks first 0) 0) as (λ b. cond b false (leads_to rest marks place) ≡ true
+          → cond b false (leads_to rest (set marks cell mark) place) ≡ true) [
+            | true ↦ λ no. no
+            | false ↦ λ yes. leads_to-set rest marks cell mark place free yes
+          ])
+    ]) leads))
     (cases_eq first cell)
 
 -- what is left of a path at a turn that isn't the last
@@ -108,7 +113,8 @@ window_past room turn key place marks keys some has others =
     ∙ past_others 16 (home room turn key) marks keys (path_from room (turn - 1) key) key place has others
 
 -- a search that ended in the window of its turn
-pub window_stops : (room turn key place cell : ℕ) (marks keys : List ℕ) → 0 < turn → get_or keys place 0 ≡ key → home room turn key ≤ cell → cell < home room turn key + 16
+pub window_stops : (room turn key place cell : ℕ) (marks keys : List ℕ) → 0 < turn → get_or keys place 0 ≡ key → home room turn key ≤ cell
+    → cell < home room turn key + 16
     → get_or marks cell 0 ≡ 0 → AreOthers marks keys key (home room turn key) cell → leads_to (path_from room turn key) marks place ≡ false
 unfolding window
 window_stops room turn key place cell marks keys some has least below free others =
@@ -116,7 +122,8 @@ window_stops room turn key place cell marks keys some has least below free other
     ∙ stops_at_free 16 (home room turn key) cell marks keys (path_from room (turn - 1) key) key place has least below free others
 
 -- the last turn goes on to the end
-last_is : (room key place : ℕ) (marks : List ℕ) → leads_to (range_with_len (home room 0 key) (12 * room + 17 - home room 0 key) ++ []) marks place ≡ leads_to (path_from room 0 key) marks place
+last_is : (room key place : ℕ) (marks : List ℕ) → leads_to (range_with_len (home room 0 key)
+    (12 * room + 17 - home room 0 key) ++ []) marks place ≡ leads_to (path_from room 0 key) marks place
 last_is room key place marks = ap (λ p. leads_to p marks place) (append-nil (range_with_len (home room 0 key) (12 * room + 17 - home room 0 key)))
 
 -- a search that passed all cells of the last turn, or stopped among them
@@ -126,7 +133,8 @@ last_past room key place end marks keys low is has others =
     sym (last_is room key place marks)
     ∙ past_others (12 * room + 17 - home room 0 key) (home room 0 key) marks keys [] key place has (λ cell least below. others cell least (omega arith))
 
-pub last_stops : (room key place cell end : ℕ) (marks keys : List ℕ) → home room 0 key < 8 * room → end ≡ 12 * room + 17 → get_or keys place 0 ≡ key → home room 0 key ≤ cell → cell < end
+pub last_stops : (room key place cell end : ℕ) (marks keys : List ℕ) → home room 0 key < 8 * room → end ≡ 12 * room + 17
+    → get_or keys place 0 ≡ key → home room 0 key ≤ cell → cell < end
     → get_or marks cell 0 ≡ 0 → AreOthers marks keys key (home room 0 key) cell → leads_to (path_from room 0 key) marks place ≡ false
 last_stops room key place cell end marks keys low is has least below free others =
     sym (last_is room key place marks)
@@ -143,34 +151,42 @@ pub through_window : (room turn key place : ℕ) (marks after : List ℕ) → 0 
 unfolding window
 through_window room turn key place marks after some filled covers leads =
     ap (λ p. leads_to p after place) (path_from-turn room turn key some)
-    ∙ through_filled_cells 16 (home room turn key) after (path_from room (turn - 1) key) place (λ cell least below. covers cell (filled cell least below)) leads
+    ∙ through_filled_cells 16 (home room turn key) after (path_from room (turn - 1) key) place
+    (λ cell least below. covers cell (filled cell least below)) leads
 
 -- a mark on a free cell covers what was filled
 Covers-set : (marks : List ℕ) (cell place : ℕ) → cell < length marks → Covers marks (set marks cell (place + 1))
 Covers-set marks cell place within other filled =
     ⊎_elim
     (λ (here : other ≡ cell). λ (none : get_or (set marks cell (place + 1)) other 0 ≡ 0).
-        let is : get_or (set marks cell (place + 1)) other 0 ≡ place + 1 = ap (λ n. get_or (set marks cell (place + 1)) n 0) here ∙ get_or-set_same marks cell (place + 1) 0 within in
-        (let no : ⊥ = omega arith in no))
+    let is : get_or (set marks cell (place + 1)) other 0 ≡ place + 1 = ap (λ n. get_or (set marks cell (place + 1)) n 0) here
+    ∙ get_or-set_same marks cell (place + 1) 0 within in
+    (let no : ⊥ = omega arith in no))
     (λ (there : other ≡ cell → ⊥). λ (none : get_or (set marks cell (place + 1)) other 0 ≡ 0).
-        filled (sym (get_or-set_other marks cell other (place + 1) 0 there) ∙ none))
+    filled (sym (get_or-set_other marks cell other (place + 1) 0 there) ∙ none))
     (cases_eq other cell)
 
 -- the place that is written to the first free cell of a window
-pub written_in_window : (room turn key place cell : ℕ) (marks : List ℕ) → 0 < turn → cell < length marks → home room turn key ≤ cell → cell < home room turn key + 16
-    → ((other : ℕ) → home room turn key ≤ other → other < cell → get_or marks other 0 ≢ 0) → leads_to (path_from room turn key) (set marks cell (place + 1)) place ≡ true
+pub written_in_window : (room turn key place cell : ℕ) (marks : List ℕ) → 0 < turn → cell < length marks → home room turn key ≤ cell
+    → cell < home room turn key + 16
+    → ((other : ℕ) → home room turn key ≤ other → other < cell → get_or marks other 0 ≢ 0)
+    → leads_to (path_from room turn key) (set marks cell (place + 1)) place ≡ true
 unfolding window
 written_in_window room turn key place cell marks some within least below filled =
     ap (λ p. leads_to p (set marks cell (place + 1)) place) (path_from-turn room turn key some)
-    ∙ comes_to_place 16 (home room turn key) cell (set marks cell (place + 1)) (path_from room (turn - 1) key) place least below (get_or-set_same marks cell (place + 1) 0 within)
-      (λ other behind before. Covers-set marks cell place within other (filled other behind before))
+    ∙ comes_to_place 16 (home room turn key) cell (set marks cell (place + 1))
+    (path_from room (turn - 1) key) place least below (get_or-set_same marks cell (place + 1) 0 within)
+    (λ other behind before. Covers-set marks cell place within other (filled other behind before))
 
-pub written_at_last : (room key place cell : ℕ) (marks : List ℕ) → home room 0 key < 8 * room → cell < length marks → cell < 12 * room + 17 → home room 0 key ≤ cell
-    → ((other : ℕ) → home room 0 key ≤ other → other < cell → get_or marks other 0 ≢ 0) → leads_to (path_from room 0 key) (set marks cell (place + 1)) place ≡ true
+pub written_at_last : (room key place cell : ℕ) (marks : List ℕ) → home room 0 key < 8 * room → cell < length marks → cell < 12 * room + 17
+    → home room 0 key ≤ cell
+    → ((other : ℕ) → home room 0 key ≤ other → other < cell → get_or marks other 0 ≢ 0)
+    → leads_to (path_from room 0 key) (set marks cell (place + 1)) place ≡ true
 written_at_last room key place cell marks low within below least filled =
     sym (last_is room key place (set marks cell (place + 1)))
-    ∙ comes_to_place (12 * room + 17 - home room 0 key) (home room 0 key) cell (set marks cell (place + 1)) [] place least (omega arith) (get_or-set_same marks cell (place + 1) 0 within)
-      (λ other behind before. Covers-set marks cell place within other (filled other behind before))
+    ∙ comes_to_place (12 * room + 17 - home room 0 key) (home room 0 key) cell (set marks cell (place + 1)) [] place least (omega arith)
+    (get_or-set_same marks cell (place + 1) 0 within)
+    (λ other behind before. Covers-set marks cell place within other (filled other behind before))
 
 -- what a walk through the rest of a path comes to, one along all of it does
 abbrev pub LeavesPath : ℕ → ℕ → ℕ → List ℕ → Type 0
@@ -182,16 +198,21 @@ unfolding path
 LeavesPath-start room key marks after place covers leads = leads
 
 -- and a place written on the way is found
-pub found_in_window : (room turn key place cell : ℕ) (marks : List ℕ) → LeavesPath room turn key marks → 0 < turn → cell < length marks → home room turn key ≤ cell → cell < home room turn key + 16
-    → ((other : ℕ) → home room turn key ≤ other → other < cell → get_or marks other 0 ≢ 0) → leads_to (path room key) (set marks cell (place + 1)) place ≡ true
+pub found_in_window : (room turn key place cell : ℕ) (marks : List ℕ) → LeavesPath room turn key marks → 0 < turn → cell < length marks
+    → home room turn key ≤ cell → cell < home room turn key + 16
+    → ((other : ℕ) → home room turn key ≤ other → other < cell → get_or marks other 0 ≢ 0)
+    → leads_to (path room key) (set marks cell (place + 1)) place ≡ true
 found_in_window room turn key place cell marks leaves some within least below filled =
-    leaves (set marks cell (place + 1)) place (Covers-set marks cell place within) (written_in_window room turn key place cell marks some within least below filled)
+    leaves (set marks cell (place + 1)) place (Covers-set marks cell place within)
+    (written_in_window room turn key place cell marks some within least below filled)
 
-pub found_at_last : (room turn key place cell : ℕ) (marks : List ℕ) → LeavesPath room turn key marks → turn ≡ 0 → home room 0 key < 8 * room → length marks ≡ 12 * room + 17 → cell < length marks → home room 0 key ≤ cell
+pub found_at_last : (room turn key place cell : ℕ) (marks : List ℕ) → LeavesPath room turn key marks → turn ≡ 0 → home room 0 key < 8 * room
+    → length marks ≡ 12 * room + 17 → cell < length marks → home room 0 key ≤ cell
     → ((other : ℕ) → home room 0 key ≤ other → other < cell → get_or marks other 0 ≢ 0) → leads_to (path room key) (set marks cell (place + 1)) place ≡ true
 found_at_last room turn key place cell marks leaves none low shape within least filled =
     leaves (set marks cell (place + 1)) place (Covers-set marks cell place within)
-    (ap (λ t. leads_to (path_from room t key) (set marks cell (place + 1)) place) none ∙ written_at_last room key place cell marks low within (omega arith) least filled)
+    (ap (λ t. leads_to (path_from room t key) (set marks cell (place + 1)) place) none
+    ∙ written_at_last room key place cell marks low within (omega arith) least filled)
 
 -- one turn on
 pub LeavesPath-turn : (room turn key : ℕ) (marks : List ℕ) → LeavesPath room turn key marks → 0 < turn

@@ -84,6 +84,9 @@ fn keys_that_share_a_home_are_found(rt: HostRuntime) -> Result<(), Fail> {
     for (place, key) in list.iter().enumerate() {
         assert_eq!(rt; index.find(*key), Some(place));
     }
-    assert_eq!(rt; index.find(((5 << 32) + 512u64).wrapping_mul(inverse)), None);
+    assert_eq!(rt;
+        index.find(((5 << 32) + 512u64).wrapping_mul(inverse)),
+        None
+    );
     Ok(())
 }

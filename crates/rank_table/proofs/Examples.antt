@@ -1,15 +1,15 @@
 -- Worked examples of the definitions, most by computing.
-use Rattle.std.proofs.Common.{◌≡◌, ◌<◌, ◌≤◌, ◌^◌, ◌*◌, ◌+◌, ℕ, List, [], ◌∷◌, zero, suc, slice_index_or, refl, arith}
+use Rattle.std.proofs.Common.{◌≡◌, ◌<◌, ◌≤◌, ◌^◌, ◌*◌, ◌+◌, ℕ, List, [], ◌∷◌, zero, suc, slice_index_or, lit<, refl, arith}
 use Rattle.space_saving.specs.declared.entry.Entry.{Entry}
 use Rattle.key_index.specs.{Keys}
 use Rattle.rank_table.specs.declared.slot.Slot.{Slot}
 use Rattle.rank_table.specs.Order.{rank, ranked_in, in_order, entries_of, IsApart, AreDistinct, AreSlots}
 use Rattle.rank_table.specs.SlotsValue.{Slots}
 use Rattle.rank_table.specs.Words.{word, IsExact}
-use Rattle.rank_table.specs.Ranking.{IsLeast, AreLeaves}
+use Rattle.rank_table.specs.Ranking.{IsLeast, AreLeaves, AreRanked}
 use Rattle.rank_table.specs.Marks.{mark_of, marks_from, rank_of_mark, blank, slot_of, numbered}
-use Rattle.rank_table.specs.Stepping.{raised, fresh, heir}
-use Rattle.rank_table.specs.Together.{AreTogether}
+use Rattle.rank_table.specs.Stepping.{raised, fresh, heir, IsTakenOver}
+use Rattle.rank_table.specs.Together.{AreTogether, IsRankTable}
 
 abbrev entry : ℕ → ℕ → ℕ → Entry
 entry key count error = record { key = key; count = count; error = error }
@@ -139,3 +139,29 @@ keys_of_the_slots = record { roomy = refl; as_many = refl; keyed = refl }
 -- an index that kept the key of another slot
 pub stale_key : AreTogether 4 (record { room = 4; keys = 1 ∷ 3 ∷ [] }) two_slots → ⊥
 stale_key together = cc
+
+-- no tables of no capacity
+pub no_room_for_slots : AreRanked 0 4 0 [] [] → ⊥
+no_room_for_slots ranked = omega (arith, ranked.some)
+
+-- key 6 takes over the slot of key 2
+pub slot_taken_over : IsTakenOver 6 4 7 (record { room = 2; keys = 1 ∷ 2 ∷ [] }) (record { capacity = 2; slots = slot 1 5 0 2 ∷ slot 2 3 0 0 ∷ [] })
+    (record { room = 2; keys = 1 ∷ 6 ∷ [] }) (record { capacity = 2; slots = slot 1 5 0 2 ∷ slot 6 7 3 7 ∷ [] })
+slot_taken_over = record { place = 1; least = least_of_two; indexed = refl; taken = λ d. refl }
+
+pub empty_table : IsRankTable 2 0 0 (record { room = 2; keys = [] }) (record { capacity = 2; slots = [] })
+empty_table = record {
+  least = omega arith;
+  most = omega arith;
+  together = record { roomy = refl; as_many = refl; keyed = refl };
+  slots = record { timed = tt; distinct = tt };
+  clocked = omega arith;
+  adds_up = refl;
+  are_entries = record {
+    is_table = record { fits = omega arith; ascending = tt; distinct = tt; small_errors = λ k d below. absurd (omega arith) };
+    bounded = lit< tt;
+  };
+}
+
+pub more_adds_than_weight : IsRankTable 2 1 0 (record { room = 2; keys = [] }) (record { capacity = 2; slots = [] }) → ⊥
+more_adds_than_weight table = omega (arith, table.clocked)

@@ -1,8 +1,8 @@
 -- Leaves beside slots, through changes of both.
-use Rattle.std.proofs.Common.{◌≡◌, ◌≢◌, ℕ, ◌+◌, ◌-◌, ◌*◌, ◌%◌, ◌^◌, ◌<◌, ◌≤◌, List, [], ◌∷◌, ◌++◌, length, get_or, set, refl, sym, ap, ◌∙◌, subst, ⊎_elim, arith, All, Contains, sum, length-set, length-append, get_or-set_same, get_or-set_other}
+use Rattle.std.proofs.Common.{◌≡◌, ◌≢◌, ℕ, ◌+◌, ◌-◌, ◌*◌, ◌%◌, ◌^◌, ◌<◌, ◌≤◌, List, [], ◌∷◌, ◌++◌, length, get_or, set, sym, ap, ◌∙◌, subst, ⊎_elim, arith, All, Contains, sum, length-set, get_or-set_same, get_or-set_other}
 use Rattle.std.specs.List.{range_with_len}
 use Rattle.std.proofs.lemmas.Bool.{cases_eq, cases_lt}
-use Rattle.std.proofs.lemmas.List.{get_or_default, get_or_append_left, get_or_push, length_push}
+use Rattle.std.proofs.lemmas.List.{get_or_default, get_or_append_left, length_push}
 use Rattle.std.proofs.lemmas.List.FromFn.{length-range_with_len, get_or-range_with_len}
 use Rattle.std.proofs.lemmas.List.Sums.{sum_by-set, sum_by-le}
 use Rattle.rank_table.specs.declared.slot.Slot.{Slot}
@@ -15,7 +15,9 @@ use Rattle.rank_table.proofs.WordLemmas.{place_of-word, place-le-word, word-fits
 pub AreLeaves-start : (capacity base : ℕ) (slots : List Slot) → capacity ≤ 4096 → length slots ≤ capacity
     → ((place : ℕ) (d : Slot) → place < length slots → base ≤ (get_or slots place d).entry.count) → AreLeaves capacity base (range_with_len 0 capacity) slots
 AreLeaves-start capacity base slots most fits based =
-    let number : (place : ℕ) → place < capacity → get_or (range_with_len 0 capacity) place 0 ≡ place = λ place within. get_or-range_with_len 0 capacity place 0 within ∙ (let e : 0 + place ≡ place = omega arith in e) in
+    let number : (place : ℕ) → place < capacity
+    → get_or (range_with_len 0 capacity) place 0 ≡ place = λ place within. get_or-range_with_len 0 capacity place 0 within
+    ∙ (let e : 0 + place ≡ place = omega arith in e) in
     record {
       most = most;
       shape = length-range_with_len 0 capacity;
@@ -37,34 +39,40 @@ named_place capacity base leaf leaves slots are present =
     (omega arith, ap (λ n. get_or leaves n 0) named ∙ is)
 
 -- a leaf that becomes its slot's word
-pub AreLeaves-mended : (capacity base : ℕ) (leaves : List ℕ) (slots : List Slot) (place : ℕ) (slot : Slot) → AreLeaves capacity base leaves slots → place < length slots
+pub AreLeaves-mended : (capacity base : ℕ) (leaves : List ℕ) (slots : List Slot) (place : ℕ) (slot : Slot) → AreLeaves capacity base leaves slots
+    → place < length slots
     → slot ≡ get_or slots place slot → AreLeaves capacity base (set leaves place (word base slot place)) slots
 AreLeaves-mended capacity base leaves slots place slot are within read =
     let shape : length leaves ≡ capacity = are.shape in
     let fits : length slots ≤ capacity = are.fits in
     let most : capacity ≤ 4096 = are.most in
-    let here : get_or (set leaves place (word base slot place)) place 0 ≡ word base slot place = get_or-set_same leaves place (word base slot place) 0 (omega arith) in
+    let here : get_or (set leaves place (word base slot place)) place 0 ≡ word base slot place = get_or-set_same leaves place
+    (word base slot place) 0 (omega arith) in
     let there = λ (other : ℕ) (apart : other ≢ place). get_or-set_other leaves place other (word base slot place) 0 apart in
     record {
       most = are.most;
       shape = length-set leaves place (word base slot place) ∙ are.shape;
       fits = are.fits;
       placed = λ other inside. ⊎_elim
-          (λ (same : other ≡ place). ap (λ n. get_or (set leaves place (word base slot place)) n 0 % 4096) same ∙ ap (λ n. n % 4096) here ∙ place_of-word base slot place (omega arith) ∙ sym same)
+          (λ (same : other ≡ place). ap (λ n. get_or (set leaves place (word base slot place)) n 0 % 4096) same ∙ ap (λ n. n % 4096) here
+          ∙ place_of-word base slot place (omega arith) ∙ sym same)
           (λ (apart : other ≢ place). ap (λ n. n % 4096) (there other apart) ∙ are.placed other inside)
           (cases_eq other place);
       early = λ other behind inside. let apart : other ≢ place = omega arith in there other apart ∙ are.early other behind inside;
       below = λ other d inside. ⊎_elim
           (λ (same : other ≡ place). subst (λ n. get_or (set leaves place (word base slot place)) n 0 ≤ word base (get_or slots n d) n) (sym same)
-              (subst (λ (s : Slot). get_or (set leaves place (word base slot place)) place 0 ≤ word base s place) (read ∙ get_or_default slots place slot d within) (omega (arith, here))))
+          (subst (λ (s : Slot). get_or (set leaves place (word base slot place)) place 0 ≤ word base s place) (read
+          ∙ get_or_default slots place slot d within) (omega (arith, here))))
           (λ (apart : other ≢ place). subst (λ n. n ≤ word base (get_or slots other d) other) (sym (there other apart)) (are.below other d inside))
           (cases_eq other place);
       based = are.based;
     }
 
 -- a slot that changes to one of no smaller count and time
-pub AreLeaves-raised : (capacity base : ℕ) (leaves : List ℕ) (slots : List Slot) (place : ℕ) (slot : Slot) → AreLeaves capacity base leaves slots → place < length slots
-    → (get_or slots place slot).entry.count ≤ slot.entry.count → (get_or slots place slot).time ≤ slot.time → AreLeaves capacity base leaves (set slots place slot)
+pub AreLeaves-raised : (capacity base : ℕ) (leaves : List ℕ) (slots : List Slot) (place : ℕ) (slot : Slot) → AreLeaves capacity base leaves slots
+    → place < length slots
+    → (get_or slots place slot).entry.count ≤ slot.entry.count → (get_or slots place slot).time ≤ slot.time
+    → AreLeaves capacity base leaves (set slots place slot)
 AreLeaves-raised capacity base leaves slots place slot are within more later =
     let same_length : length (set slots place slot) ≡ length slots = length-set slots place slot in
     record {
@@ -75,19 +83,22 @@ AreLeaves-raised capacity base leaves slots place slot are within more later =
       early = λ other behind inside. are.early other (omega (arith, same_length)) inside;
       below = λ other d inside. ⊎_elim
           (λ (same : other ≡ place). subst (λ n. get_or leaves n 0 ≤ word base (get_or (set slots place slot) n d) n) (sym same)
-              (subst (λ (s : Slot). get_or leaves place 0 ≤ word base s place) (sym (get_or-set_same slots place slot d within))
-              (omega (arith, are.below place slot within, word-rises base (get_or slots place slot) slot place more later))))
-          (λ (apart : other ≢ place). subst (λ (s : Slot). get_or leaves other 0 ≤ word base s other) (sym (get_or-set_other slots place other slot d apart)) (are.below other d (omega (arith, same_length))))
+          (subst (λ (s : Slot). get_or leaves place 0 ≤ word base s place) (sym (get_or-set_same slots place slot d within))
+          (omega (arith, are.below place slot within, word-rises base (get_or slots place slot) slot place more later))))
+          (λ (apart : other ≢ place). subst (λ (s : Slot). get_or leaves other 0 ≤ word base s other)
+          (sym (get_or-set_other slots place other slot d apart)) (are.below other d (omega (arith, same_length))))
           (cases_eq other place);
       based = λ other d inside. ⊎_elim
           (λ (same : other ≡ place). subst (λ n. base ≤ (get_or (set slots place slot) n d).entry.count) (sym same)
-              (subst (λ (s : Slot). base ≤ s.entry.count) (sym (get_or-set_same slots place slot d within)) (omega (arith, are.based place slot within))))
-          (λ (apart : other ≢ place). subst (λ (s : Slot). base ≤ s.entry.count) (sym (get_or-set_other slots place other slot d apart)) (are.based other d (omega (arith, same_length))))
+          (subst (λ (s : Slot). base ≤ s.entry.count) (sym (get_or-set_same slots place slot d within)) (omega (arith, are.based place slot within))))
+          (λ (apart : other ≢ place). subst (λ (s : Slot). base ≤ s.entry.count) (sym (get_or-set_other slots place other slot d apart))
+          (are.based other d (omega (arith, same_length))))
           (cases_eq other place);
     }
 
 -- a slot more, where the base is 0
-pub AreLeaves-pushed : (capacity base : ℕ) (leaves : List ℕ) (slots : List Slot) (slot : Slot) → AreLeaves capacity base leaves slots → length slots < capacity → base ≡ 0
+pub AreLeaves-pushed : (capacity base : ℕ) (leaves : List ℕ) (slots : List Slot) (slot : Slot) → AreLeaves capacity base leaves slots
+    → length slots < capacity → base ≡ 0
     → AreLeaves capacity base leaves (slots ++ slot ∷ [])
 AreLeaves-pushed capacity base leaves slots slot are room unbased =
     let one_more : length (slots ++ slot ∷ []) ≡ length slots + 1 = length_push slots slot in
@@ -98,14 +109,21 @@ AreLeaves-pushed capacity base leaves slots slot are room unbased =
       placed = are.placed;
       early = λ other behind inside. are.early other (omega (arith, one_more)) inside;
       below = λ other d inside. ⊎_elim
-          (λ (old : other < length slots). subst (λ (s : Slot). get_or leaves other 0 ≤ word base s other) (sym (get_or_append_left slots (slot ∷ []) d other old)) (are.below other d old))
-          (λ (new : length slots ≤ other). omega (arith, are.early other new (omega (arith, one_more)), place-le-word base (get_or (slots ++ slot ∷ []) other d) other))
+          (λ (old : other < length slots). subst (λ (s : Slot). get_or leaves other 0 ≤ word base s other)
+          (sym (get_or_append_left slots (slot ∷ []) d other old)) (are.below other d old))
+          (λ (new : length slots ≤ other). omega (
+            arith,
+            are.early other new (omega (arith, one_more)),
+            place-le-word base (get_or
+                (slots ++ slot ∷ []) other d) other,
+          ))
           (cases_lt other (length slots));
       based = λ other d inside. omega arith;
     }
 
 -- so much can leaves still rise
-pub leaves_rise : (capacity base : ℕ) (leaves : List ℕ) (slots : List Slot) (place : ℕ) (slot : Slot) → AreLeaves capacity base leaves slots → capacity ≡ length slots → place < capacity
+pub leaves_rise : (capacity base : ℕ) (leaves : List ℕ) (slots : List Slot) (place : ℕ) (slot : Slot) → AreLeaves capacity base leaves slots
+    → capacity ≡ length slots → place < capacity
     → slot ≡ get_or slots place slot → get_or leaves place 0 ≢ word base slot place
     → length (set leaves place (word base slot place)) * 2 ^ 64 - sum (set leaves place (word base slot place)) < length leaves * 2 ^ 64 - sum leaves
 leaves_rise capacity base leaves slots place slot are full within read differs =
@@ -113,15 +131,17 @@ leaves_rise capacity base leaves slots place slot are full within read differs =
     let most : capacity ≤ 4096 = are.most in
     let new = word base slot place in
     let after = AreLeaves-mended capacity base leaves slots place slot are (omega arith) read in
-    let rises : get_or leaves place 0 ≤ new = subst (λ (s : Slot). get_or leaves place 0 ≤ word base s place) (sym read) (are.below place slot (omega arith)) in
+    let rises : get_or leaves place 0 ≤ new = subst (λ (s : Slot). get_or leaves place 0 ≤ word base s place) (sym read)
+    (are.below place slot (omega arith)) in
     let small : All (λ leaf. leaf ≤ 2 ^ 64) (set leaves place new) = λ other d inside.
-        let inner : other < capacity = omega (arith, length-set leaves place new) in
-        let low = after.below other slot (omega arith) in
-        omega (arith, get_or_default (set leaves place new) other d 0 inside, low, word-fits base (get_or slots other slot) other (omega arith)) in
+    let inner : other < capacity = omega (arith, length-set leaves place new) in
+    let low = after.below other slot (omega arith) in
+    omega (arith, get_or_default (set leaves place new) other d 0 inside, low, word-fits base (get_or slots other slot) other (omega arith)) in
     omega (arith, length-set leaves place new, sum_by-set (λ x. x) leaves place new 0 (omega arith), sum_by-le (λ x. x) (2 ^ 64) (set leaves place new) small)
 
 -- the winner of an exact rank comes first
-pub least_from_exact : (capacity base : ℕ) (leaves : List ℕ) (slots : List Slot) (place : ℕ) (slot : Slot) → AreLeaves capacity base leaves slots → place < length slots
+pub least_from_exact : (capacity base : ℕ) (leaves : List ℕ) (slots : List Slot) (place : ℕ) (slot : Slot) → AreLeaves capacity base leaves slots
+    → place < length slots
     → slot ≡ get_or slots place slot → IsExact base slot
     → ((other : ℕ) (d : Slot) → other < length slots → word base (get_or slots place d) place ≤ word base (get_or slots other d) other) → IsLeast slots place
 least_from_exact capacity base leaves slots place slot are within read exact least =
@@ -132,18 +152,22 @@ least_from_exact capacity base leaves slots place slot are within read exact lea
       least = λ other d inside.
           let at : slot ≡ get_or slots place d = read ∙ get_or_default slots place slot d within in
           subst (λ (s : Slot). rank s ≤ rank (get_or slots other d)) at
-          (exact_is_least base slot (get_or slots other d) place other exact (subst (λ (s : Slot). base ≤ s.entry.count) (sym read) (are.based place slot within)) (are.based other d inside)
-              (omega arith) (omega arith) (subst (λ (s : Slot). word base s place ≤ word base (get_or slots other d) other) (sym at) (least other d inside)));
+          (exact_is_least base slot (get_or slots other d) place other exact (subst (λ (s : Slot). base ≤ s.entry.count) (sym read)
+          (are.based place slot within)) (are.based other d inside)
+          (omega arith) (omega arith) (subst (λ (s : Slot). word base s place ≤ word base (get_or slots other d) other) (sym at) (least other d inside)));
     }
 
 -- a tree that restarts from the least count
-pub AreRanked-restarted : (capacity reserved base : ℕ) (leaves : List ℕ) (slots : List Slot) (place : ℕ) (slot : Slot) → AreRanked capacity reserved base leaves slots → length slots ≡ capacity
-    → place < length slots → slot ≡ get_or slots place slot → ((other : ℕ) (d : Slot) → other < length slots → (get_or slots place d).entry.count ≤ (get_or slots other d).entry.count)
+pub AreRanked-restarted : (capacity reserved base : ℕ) (leaves : List ℕ) (slots : List Slot) (place : ℕ) (slot : Slot)
+    → AreRanked capacity reserved base leaves slots → length slots ≡ capacity
+    → place < length slots → slot ≡ get_or slots place slot → ((other : ℕ) (d : Slot) → other < length slots
+    → (get_or slots place d).entry.count ≤ (get_or slots other d).entry.count)
     → AreRanked capacity reserved slot.entry.count (range_with_len 0 capacity) slots
 AreRanked-restarted capacity reserved base leaves slots place slot are full within read least = record {
   some = are.some;
   has_room = are.has_room;
   are_leaves = AreLeaves-start capacity slot.entry.count slots are.are_leaves.most are.are_leaves.fits
-      (λ other d inside. subst (λ (s : Slot). s.entry.count ≤ (get_or slots other d).entry.count) (sym (read ∙ get_or_default slots place slot d within)) (least other d inside));
+      (λ other d inside. subst (λ (s : Slot). s.entry.count ≤ (get_or slots other d).entry.count) (sym (read
+      ∙ get_or_default slots place slot d within)) (least other d inside));
   unbased = λ room. absurd (omega arith);
 }

@@ -1,5 +1,5 @@
 -- Entries of a table that are put in one after the other.
-use Rattle.std.proofs.Common.{◌≡◌, ◌≢◌, ℕ, ◌+◌, ◌*◌, ◌^◌, ◌<◌, ◌≤◌, zero, suc, true, false, cond, eqb, List, [], ◌∷◌, ◌++◌, length, map, All, None, Some, refl, sym, ap, ◌∙◌, subst, arith}
+use Rattle.std.proofs.Common.{◌≡◌, ℕ, ◌+◌, ◌<◌, ◌≤◌, true, false, cond, eqb, List, [], ◌∷◌, ◌++◌, length, map, None, Some, refl, sym, ap, ◌∙◌, arith}
 use Rattle.std.specs.List.{AllByRecursion}
 use Rattle.std.proofs.lemmas.Bool.{eqb-false}
 use Rattle.std.proofs.lemmas.List.Elements.{recursion_from_All}
@@ -9,7 +9,7 @@ use Rattle.space_saving.specs.Table.{entry_of, total_count}
 use Rattle.space_saving.specs.TableFacts.{RisesFrom, AreApart, HasSmallError, AreEntries}
 use Rattle.rank_table.specs.declared.slot.Slot.{Slot}
 use Rattle.rank_table.specs.Marks.{numbered}
-use Rattle.rank_table.specs.Order.{rank, ranked_in, in_order, entries_of, IsApart, AreDistinct, AreSlots}
+use Rattle.rank_table.specs.Order.{rank, ranked_in, in_order, entries_of, IsApart, AreSlots}
 use Rattle.rank_table.proofs.OrderLemmas.{entry_at, ranked_in-least}
 use Rattle.rank_table.proofs.KeyLemmas.{key_at}
 
@@ -20,7 +20,8 @@ length-numbered time (entry ∷ rest) = omega (arith, length-numbered (time + 1)
 pub numbered-push : (time : ℕ) (entries : List Entry) (entry : Entry) (last : ℕ) → time + length entries ≡ last
     → numbered time (entries ++ entry ∷ []) ≡ numbered time entries ++ (let s : Slot = record { entry = entry; time = last } in s) ∷ []
 numbered-push time [] entry last is = ap (λ n. (let s : Slot = record { entry = entry; time = n } in s) ∷ []) (let e : time ≡ last = omega arith in e)
-numbered-push time (first ∷ rest) entry last is = ap (λ l. (let s : Slot = record { entry = first; time = time } in s) ∷ l) (numbered-push (time + 1) rest entry last (omega arith))
+numbered-push time (first ∷ rest) entry last is = ap (λ l. (let s : Slot = record { entry = first; time = time } in s) ∷ l)
+    (numbered-push (time + 1) rest entry last (omega arith))
 
 -- counts that rise from a number rise from less
 rises_less : (less least : ℕ) (entries : List Entry) → RisesFrom least entries → less ≤ least → RisesFrom less entries
@@ -30,13 +31,15 @@ rises_less less least (entry ∷ rest) rises below = (let above : least ≤ entr
 -- the first entry has another key than one that is missing
 missing_parts : (key : ℕ) (entry : Entry) (rest : List Entry) → entry_of key (entry ∷ rest) ≡ None → (entry.key ≡ key → ⊥) × (entry_of key rest ≡ None)
 missing_parts key entry rest missing =
-    (elim (eqb entry.key key) as (λ b. eqb entry.key key ≡ b → cond b (Some entry) (entry_of key rest) ≡ None → (entry.key ≡ key → ⊥) × (entry_of key rest ≡ None)) [
+    (elim (eqb entry.key key) as (λ b. eqb entry.key key ≡ b → cond b (Some entry) (entry_of key rest) ≡ None → (entry.key ≡ key
+    → ⊥) × (entry_of key rest ≡ None)) [
       | true ↦ λ _ is. cc
       | false ↦ λ no is. (eqb-false entry.key key no, is)
     ]) refl missing
 
 -- slots of rising counts and times stand in order
-ranks_rise : (slot : Slot) (time : ℕ) (entries : List Entry) → slot.time < time → RisesFrom slot.entry.count entries → AllByRecursion (λ other. rank slot ≤ rank other) (numbered time entries)
+ranks_rise : (slot : Slot) (time : ℕ) (entries : List Entry) → slot.time < time → RisesFrom slot.entry.count entries
+    → AllByRecursion (λ other. rank slot ≤ rank other) (numbered time entries)
 unfolding rank
 ranks_rise slot time [] sooner rises = tt
 ranks_rise slot time (entry ∷ rest) sooner rises =
@@ -62,7 +65,8 @@ keys-numbered time [] = refl
 keys-numbered time (entry ∷ rest) = ap (λ l. entry.key ∷ l) (keys-numbered (time + 1) rest)
 
 -- an entry that is missing among others is apart from their slots
-apart_from_numbered : (slot : Slot) (time : ℕ) (entries : List Entry) → slot.time < time → entry_of slot.entry.key entries ≡ None → AllByRecursion (IsApart slot) (numbered time entries)
+apart_from_numbered : (slot : Slot) (time : ℕ) (entries : List Entry) → slot.time < time → entry_of slot.entry.key entries ≡ None
+    → AllByRecursion (IsApart slot) (numbered time entries)
 apart_from_numbered slot time [] sooner missing = tt
 apart_from_numbered slot time (entry ∷ rest) sooner missing =
     let parts = missing_parts slot.entry.key entry rest missing in
@@ -89,4 +93,5 @@ counts_something capacity total (entry ∷ rest) small =
 
 pub length-le-total : (capacity : ℕ) (entries : List Entry) → AreEntries capacity entries → length entries ≤ total_count entries
 length-le-total capacity entries are =
-    counts_something capacity (total_count entries) entries (recursion_from_All (HasSmallError capacity (total_count entries)) entries are.is_table.small_errors)
+    counts_something capacity (total_count entries) entries (recursion_from_All (HasSmallError capacity
+    (total_count entries)) entries are.is_table.small_errors)

@@ -1,5 +1,5 @@
 -- What the words of slots say of their ranks.
-use Rattle.std.proofs.Common.{◌≡◌, ℕ, ◌+◌, ◌-◌, ◌*◌, ◌/◌, ◌%◌, ◌^◌, ◌<◌, ◌≤◌, min, refl, sym, ap, ◌∙◌, ⊎_elim, arith}
+use Rattle.std.proofs.Common.{◌≡◌, ℕ, ◌+◌, ◌-◌, ◌*◌, ◌%◌, ◌^◌, ◌<◌, ◌≤◌, min, ap, ◌∙◌, ⊎_elim, arith}
 use Rattle.std.proofs.lemmas.Bool.{cases_order}
 use Rattle.std.proofs.lemmas.Nat.{mod-mul-add}
 use Rattle.rank_table.specs.declared.slot.Slot.{Slot}
@@ -26,12 +26,14 @@ unfolding word
 word-fits base slot place within = omega arith
 
 -- a word doesn't fall where count and time don't
-pub word-rises : (base : ℕ) (slot after : Slot) (place : ℕ) → slot.entry.count ≤ after.entry.count → slot.time ≤ after.time → word base slot place ≤ word base after place
+pub word-rises : (base : ℕ) (slot after : Slot) (place : ℕ) → slot.entry.count ≤ after.entry.count → slot.time ≤ after.time
+    → word base slot place ≤ word base after place
 unfolding word
 word-rises base slot after place more later = omega arith
 
 -- an exact slot of a word that is no greater has a rank that is no greater
-pub exact_is_least : (base : ℕ) (slot other : Slot) (place at : ℕ) → IsExact base slot → base ≤ slot.entry.count → base ≤ other.entry.count → place < 4096 → at < 4096
+pub exact_is_least : (base : ℕ) (slot other : Slot) (place at : ℕ) → IsExact base slot → base ≤ slot.entry.count → base ≤ other.entry.count
+    → place < 4096 → at < 4096
     → word base slot place ≤ word base other at → rank slot ≤ rank other
 unfolding rank word
 exact_is_least base slot other place at exact above over within inside no_greater =
@@ -40,7 +42,7 @@ exact_is_least base slot other place at exact above over within inside no_greate
     ⊎_elim
     (λ (same : slot.entry.count ≡ other.entry.count). omega arith)
     (λ rest. ⊎_elim
-        (λ (less : slot.entry.count < other.entry.count). omega arith)
-        (λ (more : other.entry.count < slot.entry.count). omega arith)
-        rest)
+    (λ (less : slot.entry.count < other.entry.count). omega arith)
+    (λ (more : other.entry.count < slot.entry.count). omega arith)
+    rest)
     (cases_order slot.entry.count other.entry.count)

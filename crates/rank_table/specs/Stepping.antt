@@ -1,8 +1,7 @@
 -- The slots that a step makes, which no public contract cites.
-use Rattle.std.specs.Prelude.{ℕ, ◌≡◌, ◌+◌, ◌<◌, List, length, slice_index_or, slice_set}
+use Rattle.std.specs.Prelude.{ℕ, ◌≡◌, ◌+◌, slice_index_or, slice_set}
 use Rattle.key_index.specs.{Keys}
 use Rattle.rank_table.specs.declared.slot.Slot.{Slot}
-use Rattle.rank_table.specs.Order.{rank}
 use Rattle.rank_table.specs.Ranking.{IsLeast}
 use Rattle.rank_table.specs.SlotsValue.{Slots}
 

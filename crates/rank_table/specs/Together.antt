@@ -1,5 +1,5 @@
 -- The parts of a table, which no public contract cites.
-use Rattle.std.specs.Prelude.{ℕ, ◌≡◌, ◌<◌, ◌≤◌, List, length, map}
+use Rattle.std.specs.Prelude.{ℕ, ◌≡◌, ◌≤◌, map}
 use Rattle.key_index.specs.{Keys}
 use Rattle.space_saving.specs.Table.{total_count}
 use Rattle.space_saving.specs.TableFacts.{AreEntries}

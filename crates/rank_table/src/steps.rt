@@ -14,7 +14,13 @@ use space_saving::Entry;
 
 /// Adds a weight for a key at a time later than all before: its slot's rank rises, or a new slot takes free room,
 /// or the slot that comes first is taken over.
-pub(crate) fn add_weight(index: &mut KeyIndex, ranked: &mut RankedSlots, key: u64, weight: u64, now: u64)
+pub(crate) fn add_weight(
+    index: &mut KeyIndex,
+    ranked: &mut RankedSlots,
+    key: u64,
+    weight: u64,
+    now: u64,
+)
     requires together { AreTogether ranked.old.capacity index.old ranked.old }
     requires slots { AreSlots now ranked.old.slots }
     requires weighs { 1 ≤ weight }
@@ -40,11 +46,15 @@ fn grow(ranked: &mut RankedSlots, place: usize, weight: u64, now: u64)
     requires early { now < 2 ^ 56 }
     requires room { total_count (entries_of ranked.old.slots) + weight < 2 ^ 56 }
     ensures { (d : Slot) → ranked.new ≡ record ranked.old {
-        slots = slice_set ranked.old.slots place (raised weight now (slice_index_or ranked.old.slots place d)) } }
+      slots = slice_set ranked.old.slots place (raised weight now (slice_index_or ranked.old.slots place d));
+    } }
 {
     let slot = ranked.slots()[place];
     let count = slot.entry.count + weight;
-    let entry = Entry { count, ..slot.entry };
+    let entry = Entry {
+        count,
+        ..slot.entry
+    };
     ranked.raise(place, Slot { entry, time: now });
 }
 

@@ -48,7 +48,10 @@ fn compare(
     plain.copy_into(&mut expected);
     let mut flat = Flat::with_room(alloc, table.capacity())?;
     table.copy_into(&mut flat);
-    assert_eq!(rt; (flat.len(), flat.total()), (expected.len(), expected.total()));
+    assert_eq!(rt;
+        (flat.len(), flat.total()),
+        (expected.len(), expected.total())
+    );
     for place in 0..flat.len() {
         assert!(rt; place < expected.len());
         assert_eq!(rt; flat.entry(place), expected.entry(place), "place {place}");
@@ -136,7 +139,10 @@ fn ranks_that_do_not_fit_are_never_wrong(rt: HostRuntime) -> Result<(), Fail> {
 fn tables_answer(rt: HostRuntime) -> Result<(), Fail> {
     let alloc = rt.alloc();
     let mut table = RankTable::with_capacity(alloc, 2)?;
-    assert_eq!(rt; (table.len(), table.full(), table.interval(7)), (0, false, (0, 0)));
+    assert_eq!(rt;
+        (table.len(), table.full(), table.interval(7)),
+        (0, false, (0, 0))
+    );
     table.add(1, 5);
     table.add(2, 3);
     assert_eq!(rt; table.interval(7), (0, 3));
@@ -144,7 +150,10 @@ fn tables_answer(rt: HostRuntime) -> Result<(), Fail> {
     assert_eq!(rt; table.interval(1), (5, 5));
     assert_eq!(rt; table.interval(3), (4, 7));
     assert_eq!(rt; table.interval(2), (0, 5));
-    assert_eq!(rt; (table.len(), table.capacity(), table.total(), table.full()), (2, 2, 12, true));
+    assert_eq!(rt;
+        (table.len(), table.capacity(), table.total(), table.full()),
+        (2, 2, 12, true)
+    );
     assert_eq!(rt; table.entry(0), entry(1, 5, 0));
     assert_eq!(rt; table.entry(1), entry(3, 7, 3));
     Ok(())

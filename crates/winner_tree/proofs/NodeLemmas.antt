@@ -1,5 +1,5 @@
 -- What a write to a node leaves, and what the root is.
-use Rattle.std.proofs.Common.{◌≡◌, ◌≢◌, ℕ, ◌+◌, ◌*◌, ◌/◌, ◌-◌, ◌<◌, ◌≤◌, zero, suc, List, length, get_or, set, drop, min, refl, sym, ap, ◌∙◌, subst, ⊎_elim, arith, get_or-set_same, get_or-set_other, length-drop, All, Contains}
+use Rattle.std.proofs.Common.{◌≡◌, ◌≢◌, ℕ, ◌+◌, ◌*◌, ◌/◌, ◌-◌, ◌<◌, ◌≤◌, zero, suc, List, length, get_or, set, drop, min, sym, ap, ◌∙◌, subst, ⊎_elim, arith, get_or-set_same, get_or-set_other, length-drop, All, Contains}
 use Rattle.std.proofs.lemmas.Bool.{cases_lt, cases_eq}
 use Rattle.std.specs.List.{range_with_len}
 use Rattle.std.proofs.lemmas.List.{get_or-drop, get_or_default, ext_get_or}
@@ -29,26 +29,31 @@ pub lesser_of_siblings : (nodes : List ℕ) (node parent sibling word : ℕ) →
 lesser_of_siblings nodes node parent sibling word is_parent is_sibling carried =
     ⊎_elim
     (λ (even : 2 * parent ≡ node). let next : sibling ≡ 2 * parent + 1 = omega arith in
-        ap (λ n. min n (get_or nodes sibling 0)) (sym carried ∙ ap (λ i. get_or nodes i 0) (sym even)) ∙ ap (λ i. min (get_or nodes (2 * parent) 0) (get_or nodes i 0)) next)
+    ap (λ n. min n (get_or nodes sibling 0)) (sym carried ∙ ap (λ i. get_or nodes i 0) (sym even))
+    ∙ ap (λ i. min (get_or nodes (2 * parent) 0) (get_or nodes i 0)) next)
     (λ (odd : 2 * parent ≡ node → ⊥). let last : node ≡ 2 * parent + 1 = omega arith in let first : sibling ≡ 2 * parent = omega arith in
-        min_comm word (get_or nodes sibling 0)
-        ∙ ap (λ n. min (get_or nodes sibling 0) n) (sym carried ∙ ap (λ i. get_or nodes i 0) last) ∙ ap (λ i. min (get_or nodes i 0) (get_or nodes (2 * parent + 1) 0)) first)
+    min_comm word (get_or nodes sibling 0)
+    ∙ ap (λ n. min (get_or nodes sibling 0) n) (sym carried ∙ ap (λ i. get_or nodes i 0) last)
+    ∙ ap (λ i. min (get_or nodes i 0) (get_or nodes (2 * parent + 1) 0)) first)
     (cases_eq (2 * parent) node)
 
 -- the root is at most each node
-root_below : (leaves : ℕ) (nodes : List ℕ) (steps node : ℕ) → IsTree leaves nodes → node ≤ steps → 1 ≤ node → node < 2 * leaves → get_or nodes 1 0 ≤ get_or nodes node 0
+root_below : (leaves : ℕ) (nodes : List ℕ) (steps node : ℕ) → IsTree leaves nodes → node ≤ steps → 1 ≤ node → node < 2 * leaves
+    → get_or nodes 1 0 ≤ get_or nodes node 0
 root_below leaves nodes zero node tree small inner within = absurd (omega arith)
 root_below leaves nodes (suc steps) node tree small inner within =
     ⊎_elim
     (λ (root : node ≡ 1). subst (λ i. get_or nodes 1 0 ≤ get_or nodes i 0) (sym root) (omega arith))
     (λ (lower : node ≡ 1 → ⊥).
-        let parent = node / 2 in
-        let above : get_or nodes 1 0 ≤ get_or nodes (node / 2) 0 = root_below leaves nodes steps (node / 2) tree (omega arith) (omega arith) (omega arith) in
-        let lesser : get_or nodes (node / 2) 0 ≡ min (get_or nodes (2 * (node / 2)) 0) (get_or nodes (2 * (node / 2) + 1) 0) = tree.mended (node / 2) (omega arith) (omega arith) in
-        ⊎_elim
-        (λ (even : 2 * (node / 2) ≡ node). subst (λ i. get_or nodes 1 0 ≤ get_or nodes i 0) even (omega arith))
-        (λ (odd : 2 * (node / 2) ≡ node → ⊥). let last : 2 * (node / 2) + 1 ≡ node = omega arith in subst (λ i. get_or nodes 1 0 ≤ get_or nodes i 0) last (omega arith))
-        (cases_eq (2 * (node / 2)) node))
+    let parent = node / 2 in
+    let above : get_or nodes 1 0 ≤ get_or nodes (node / 2) 0 = root_below leaves nodes steps (node / 2) tree (omega arith) (omega arith) (omega arith) in
+    let lesser : get_or nodes (node / 2) 0 ≡ min (get_or nodes (2 * (node / 2)) 0) (get_or nodes (2 * (node / 2) + 1) 0) = tree.mended (node / 2)
+    (omega arith) (omega arith) in
+    ⊎_elim
+    (λ (even : 2 * (node / 2) ≡ node). subst (λ i. get_or nodes 1 0 ≤ get_or nodes i 0) even (omega arith))
+    (λ (odd : 2 * (node / 2) ≡ node → ⊥). let last : 2 * (node / 2) + 1 ≡ node = omega arith in subst
+    (λ i. get_or nodes 1 0 ≤ get_or nodes i 0) last (omega arith))
+    (cases_eq (2 * (node / 2)) node))
     (cases_eq node 1)
 
 -- each node is the word of some leaf
@@ -58,18 +63,18 @@ leaf_below leaves nodes zero node tree small inner within = absurd (omega arith)
 leaf_below leaves nodes (suc steps) node tree small inner within =
     ⊎_elim
     (λ (upper : node < leaves).
-        let lesser : get_or nodes node 0 ≡ min (get_or nodes (2 * node) 0) (get_or nodes (2 * node + 1) 0) = tree.mended node inner upper in
-        ⊎_elim
-        (λ (less : get_or nodes (2 * node) 0 < get_or nodes (2 * node + 1) 0).
-            let below = leaf_below leaves nodes steps (2 * node) tree (omega arith) (omega arith) (omega arith) in
-            (below.0, below.1, below.2 ∙ (let same : get_or nodes (2 * node) 0 ≡ get_or nodes node 0 = omega arith in same)))
-        (λ (more : get_or nodes (2 * node + 1) 0 ≤ get_or nodes (2 * node) 0).
-            let below = leaf_below leaves nodes steps (2 * node + 1) tree (omega arith) (omega arith) (omega arith) in
-            (below.0, below.1, below.2 ∙ (let same : get_or nodes (2 * node + 1) 0 ≡ get_or nodes node 0 = omega arith in same)))
-        (cases_lt (get_or nodes (2 * node) 0) (get_or nodes (2 * node + 1) 0)))
+    let lesser : get_or nodes node 0 ≡ min (get_or nodes (2 * node) 0) (get_or nodes (2 * node + 1) 0) = tree.mended node inner upper in
+    ⊎_elim
+    (λ (less : get_or nodes (2 * node) 0 < get_or nodes (2 * node + 1) 0).
+    let below = leaf_below leaves nodes steps (2 * node) tree (omega arith) (omega arith) (omega arith) in
+    (below.0, below.1, below.2 ∙ (let same : get_or nodes (2 * node) 0 ≡ get_or nodes node 0 = omega arith in same)))
+    (λ (more : get_or nodes (2 * node + 1) 0 ≤ get_or nodes (2 * node) 0).
+    let below = leaf_below leaves nodes steps (2 * node + 1) tree (omega arith) (omega arith) (omega arith) in
+    (below.0, below.1, below.2 ∙ (let same : get_or nodes (2 * node + 1) 0 ≡ get_or nodes node 0 = omega arith in same)))
+    (cases_lt (get_or nodes (2 * node) 0) (get_or nodes (2 * node + 1) 0)))
     (λ (leaf : leaves ≤ node).
-        let at : leaves + (node - leaves) ≡ node = omega arith in
-        (node - leaves, omega arith, ap (λ i. get_or nodes i 0) at))
+    let at : leaves + (node - leaves) ≡ node = omega arith in
+    (node - leaves, omega arith, ap (λ i. get_or nodes i 0) at))
     (cases_lt node leaves)
 
 -- the root is a leaf
@@ -80,17 +85,23 @@ root_is_leaf leaves nodes root tree read =
     let is_root : root ≡ get_or nodes 1 0 = read ∙ get_or_default nodes 1 root 0 (omega arith) in
     let found = leaf_below leaves nodes (2 * leaves) 1 tree (omega arith) (omega arith) (omega arith) in
     let place = found.0 in
-    let low : place < leaves = found.1 in
-    (place, omega (arith, length-drop leaves nodes), get_or-drop leaves nodes place root ∙ get_or_default nodes (leaves + place) root 0 (omega arith) ∙ found.2 ∙ sym is_root)
+    let low : place < leaves = found.1 in (
+      place,
+      omega (arith, length-drop leaves nodes),
+      get_or-drop leaves nodes place root
+          ∙ get_or_default nodes (leaves + place) root 0 (omega arith) ∙ found.2 ∙ sym is_root,
+    )
 
 -- the root is at most each leaf
-pub root_is_least : (leaves : ℕ) (nodes : List ℕ) (root : ℕ) → IsTree leaves nodes → root ≡ get_or nodes 1 root → All (λ leaf. root ≤ leaf) (drop leaves nodes)
+pub root_is_least : (leaves : ℕ) (nodes : List ℕ) (root : ℕ) → IsTree leaves nodes → root ≡ get_or nodes 1 root
+    → All (λ leaf. root ≤ leaf) (drop leaves nodes)
 root_is_least leaves nodes root tree read place d within =
     let shape : length nodes ≡ 2 * leaves = tree.shape in
     let some : 1 ≤ leaves = tree.some in
     let is_root : root ≡ get_or nodes 1 0 = read ∙ get_or_default nodes 1 root 0 (omega arith) in
     let low : place < leaves = omega (arith, length-drop leaves nodes) in
-    let is_leaf : get_or (drop leaves nodes) place d ≡ get_or nodes (leaves + place) 0 = get_or-drop leaves nodes place d ∙ get_or_default nodes (leaves + place) d 0 (omega arith) in
+    let is_leaf : get_or (drop leaves nodes) place d ≡ get_or nodes (leaves + place) 0 = get_or-drop leaves nodes place d
+    ∙ get_or_default nodes (leaves + place) d 0 (omega arith) in
     let below = root_below leaves nodes (leaves + place) (leaves + place) tree (omega arith) (omega arith) (omega arith) in
     omega (arith, is_leaf, is_root, below)
 
@@ -112,4 +123,4 @@ leaves_are_numbered nodes leaves shape numbered =
     let long : length (drop leaves nodes) ≡ leaves = omega (arith, length-drop leaves nodes) in
     ext_get_or 0 (drop leaves nodes) (range_with_len 0 leaves) (long ∙ sym (length-range_with_len 0 leaves))
     (λ place within. let low : place < leaves = omega (arith, long) in
-        get_or-drop leaves nodes place 0 ∙ numbered place low ∙ sym (get_or-range_with_len 0 leaves place 0 low ∙ (let e : 0 + place ≡ place = omega arith in e)))
+    get_or-drop leaves nodes place 0 ∙ numbered place low ∙ sym (get_or-range_with_len 0 leaves place 0 low ∙ (let e : 0 + place ≡ place = omega arith in e)))

@@ -19,7 +19,11 @@ fn follow_a_list(rt: &impl Abort, alloc: Global, leaves: usize) -> Result<(), Al
         tree.set(place, word);
         assert!(rt; place < list.len());
         list[place] = word;
-        assert_eq!(rt; Some(tree.least()), list.iter().copied().min(), "change {turn}");
+        assert_eq!(rt;
+            Some(tree.least()),
+            list.iter().copied().min(),
+            "change {turn}"
+        );
     }
     tree.restart();
     assert_eq!(rt; tree.least(), 0);

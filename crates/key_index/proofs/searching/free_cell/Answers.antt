@@ -27,6 +27,6 @@ returns-clause-reached c = λ place.
     let from = MatchOption-at_some ⊤ (λ cell. c.home_of.result ≤ cell) c.unwrap.result c.unwrap.ensures c.first_free-2.ensures.from in
     let to = MatchOption-at_some ⊤ (λ cell. cell < length c.args.marks.now) c.unwrap.result c.unwrap.ensures c.first_free-2.ensures.to in
     let first = MatchOption-at_some ⊤ (λ cell. (other : ℕ) → c.home_of.result ≤ other → other < cell → get_or c.args.marks.now other 0 ≢ 0)
-        c.unwrap.result c.unwrap.ensures c.first_free-2.ensures.first in
+    c.unwrap.result c.unwrap.ensures c.first_free-2.ensures.first in
     found_at_last c.args.room c.loop-turn.turn c.args.key place c.unwrap.result c.args.marks.now c.loop-turn.invariant.leaves (omega arith)
     (omega arith) c.requires.shape to (omega (arith, from)) (λ other behind before. first other (omega (arith, behind)) before)

@@ -12,8 +12,9 @@ returns-in-Free-clause-missing c = λ place has.
     let at_home : home c.args.room c.loop-turn.turn c.args.key ≡ c.home_of-home.result = sym c.home_of-home.ensures.home in
     let end = c.in-Free.ensures in
     c.loop-turn.invariant.still place has
-    ∙ window_stops c.args.room c.loop-turn.turn c.args.key place end.0 c.args.marks.now c.args.keys.now (omega arith) has (omega (arith, end.1)) (omega (arith, end.2)) end.3
-      (λ cell behind before. end.4 cell (omega (arith, behind)) before)
+    ∙ window_stops c.args.room c.loop-turn.turn c.args.key place end.0 c.args.marks.now c.args.keys.now (omega arith) has (omega (arith, end.1))
+    (omega (arith, end.2)) end.3
+    (λ cell behind before. end.4 cell (omega (arith, behind)) before)
 
 pub loop-turn-preserved : goal.loop-turn-preserved
 loop-turn-preserved c =
@@ -22,7 +23,7 @@ loop-turn-preserved c =
       turns = omega arith;
       still = λ place has. c.loop-turn.invariant.still place has
           ∙ window_past c.args.room c.loop-turn.turn c.args.key place c.args.marks.now c.args.keys.now (omega arith) has
-            (λ cell behind before. c.in-Past.ensures cell (omega (arith, behind)) (omega (arith, before)));
+          (λ cell behind before. c.in-Past.ensures cell (omega (arith, behind)) (omega (arith, before)));
     }
 
 pub returns-in-Free-search-clause-missing : goal.returns-in-Free-search-clause-missing
@@ -31,8 +32,9 @@ returns-in-Free-search-clause-missing c = λ place has.
     let none : c.loop-turn.turn ≡ 0 = omega arith in
     let end = c.in-Free-search.ensures in
     c.loop-turn.invariant.still place has ∙ ap (λ turn. leads_to (path_from c.args.room turn c.args.key) c.args.marks.now place) none
-    ∙ last_stops c.args.room c.args.key place end.0 (length c.args.marks.now) c.args.marks.now c.args.keys.now (omega arith) c.requires.shape has (omega (arith, end.1)) end.2 end.3
-      (λ cell behind before. end.4 cell (omega (arith, behind)) before)
+    ∙ last_stops c.args.room c.args.key place end.0 (length c.args.marks.now) c.args.marks.now c.args.keys.now (omega arith) c.requires.shape has
+    (omega (arith, end.1)) end.2 end.3
+    (λ cell behind before. end.4 cell (omega (arith, behind)) before)
 
 pub returns-in-Past-search-clause-missing : goal.returns-in-Past-search-clause-missing
 returns-in-Past-search-clause-missing c = λ place has.
@@ -40,4 +42,4 @@ returns-in-Past-search-clause-missing c = λ place has.
     let none : c.loop-turn.turn ≡ 0 = omega arith in
     c.loop-turn.invariant.still place has ∙ ap (λ turn. leads_to (path_from c.args.room turn c.args.key) c.args.marks.now place) none
     ∙ last_past c.args.room c.args.key place (length c.args.marks.now) c.args.marks.now c.args.keys.now (omega arith) c.requires.shape has
-      (λ cell behind before. c.in-Past-search.ensures cell (omega (arith, behind)) before)
+    (λ cell behind before. c.in-Past-search.ensures cell (omega (arith, behind)) before)

@@ -1,5 +1,4 @@
-use Rattle.std.proofs.Common.{◌≡◌, ◌<◌, ◌++◌, length, map, get_or, take, drop, sym, ap, ◌∙◌, arith}
-use Rattle.rank_table.specs.Marks.{slot_of}
+use Rattle.std.proofs.Common.{arith}
 use Rattle.rank_table.proofs.MarkLemmas.{written_over}
 use Rattle.rank_table.proofs.copying.write_entries.Goals as goal
 

@@ -1,4 +1,4 @@
-use Rattle.std.proofs.Common.{◌≡◌, ℕ, ◌<◌, length, get_or}
+use Rattle.std.proofs.Common.{◌≡◌, ℕ, ◌<◌, get_or}
 use Rattle.space_saving.specs.declared.entry.Entry.{Entry}
 use Rattle.rank_table.specs.Marks.{mark_of, blank}
 use Rattle.rank_table.proofs.copying.write_marks.Given as goal

@@ -1,4 +1,4 @@
-use Rattle.std.proofs.Common.{◌≡◌, ◌+◌, ◌<◌, ◌≤◌, ◌++◌, ◌∷◌, [], length, map, take, sym, ap, ◌∙◌, subst, arith}
+use Rattle.std.proofs.Common.{◌≡◌, ◌+◌, ◌<◌, ◌++◌, ◌∷◌, [], length, map, take, sym, ap, ◌∙◌, subst, arith}
 use Rattle.std.proofs.lemmas.List.{length-take-le, take_more, map-append}
 use Rattle.std.proofs.lemmas.Option.{get_or_from_slice_get}
 use Rattle.key_index.specs.{Keys}
@@ -21,14 +21,22 @@ loop-place-preserved c =
     let place = c.loop-place.place in
     let entry = c.entry-entry.result in
     let more : take (place + 1) entries ≡ take place entries ++ entry ∷ [] =
-        take_more entries place entry (omega arith) ∙ ap (λ (e : Entry). take place entries ++ e ∷ []) (get_or_from_slice_get entries place entry entry c.entry-entry.ensures.entry) in
+    take_more entries place entry (omega arith) ∙ ap (λ (e : Entry). take place entries ++ e ∷ [])
+    (get_or_from_slice_get entries place entry entry c.entry-entry.ensures.entry) in
     let count : 0 + length (take place entries) ≡ place = omega (arith, length-take-le place entries (omega arith)) in
     record {
       index = c.push.ensures ∙ ap (λ (i : Keys). let k : Keys = record { room = i.room; keys = i.keys ++ entry.key ∷ [] } in k) c.loop-place.invariant.index
           ∙ ap (λ keys. let k : Keys = record { room = c.args.index.now.room; keys = keys } in k)
-            (sym (ap (map (λ (e : Entry). e.key)) more ∙ map-append (λ (e : Entry). e.key) (take place entries) (entry ∷ [])));
+          (sym (ap (map (λ (e : Entry). e.key)) more ∙ map-append (λ (e : Entry). e.key) (take place entries) (entry ∷ [])));
       ranked = c.push-in-loop-place.ensures
-          ∙ ap (λ (r : Slots). let s : Slots = record { capacity = r.capacity; slots = r.slots ++ (let t : Slot = record { entry = entry; time = place } in t) ∷ [] } in s) c.loop-place.invariant.ranked
+          ∙ ap (λ (r : Slots). let s : Slots = record {
+            capacity = r.capacity;
+            slots = r.slots ++ (let t : Slot = record {
+              entry = entry;
+              time =
+                  place;
+            } in t) ∷ [];
+          } in s) c.loop-place.invariant.ranked
           ∙ ap (λ slots. let s : Slots = record { capacity = c.args.ranked.now.capacity; slots = slots } in s)
-            (sym (ap (numbered 0) more ∙ numbered-push 0 (take place entries) entry place count));
+          (sym (ap (numbered 0) more ∙ numbered-push 0 (take place entries) entry place count));
     }

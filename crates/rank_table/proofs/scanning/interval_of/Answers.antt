@@ -1,4 +1,4 @@
-use Rattle.std.proofs.Common.{◌^◌, sym, ap, ◌∙◌, arith}
+use Rattle.std.proofs.Common.{◌^◌, sym, ap, arith}
 use Rattle.space_saving.specs.Table.{TableValue, interval_from}
 use Rattle.rank_table.specs.Marks.{blank}
 use Rattle.rank_table.specs.Order.{entries_of}
@@ -10,7 +10,11 @@ use Rattle.rank_table.proofs.scanning.interval_of.Goals as goal
 pub overflow_sub-result : goal.overflow_sub-result
 overflow_sub-result c =
     let slots = c.args.slots.now in
-    omega (arith, error-lt-count c.args.capacity c.in-Some.place slots blank c.requires.entries (place_of_slot c.args.key c.in-Some.place c.args.index.now.keys slots c.requires.keyed c.in-Some.ensures))
+    omega (
+      arith,
+      error-lt-count c.args.capacity c.in-Some.place slots blank c.requires.entries
+          (place_of_slot c.args.key c.in-Some.place c.args.index.now.keys slots c.requires.keyed c.in-Some.ensures),
+    )
 
 pub returns-in-Some-clause-low : goal.returns-in-Some-clause-low
 returns-in-Some-clause-low c =
@@ -32,21 +36,25 @@ pub returns-in-None-clause-low : goal.returns-in-None-clause-low
 returns-in-None-clause-low c =
     let slots = c.args.slots.now in
     let table : TableValue = record { capacity = c.args.capacity; entries = entries_of slots } in
-    sym (ap (λ o. (interval_from o table).low) (missing_entry c.args.key slots (missing_slot c.args.key c.args.index.now.keys slots c.requires.keyed c.in-None.ensures)))
+    sym (ap (λ o. (interval_from o table).low) (missing_entry c.args.key slots
+    (missing_slot c.args.key c.args.index.now.keys slots c.requires.keyed c.in-None.ensures)))
 
 pub returns-in-None-clause-high : goal.returns-in-None-clause-high
 returns-in-None-clause-high c =
     let slots = c.args.slots.now in
-    high_of_missing_in_room c.args.capacity c.args.key slots (missing_entry c.args.key slots (missing_slot c.args.key c.args.index.now.keys slots c.requires.keyed c.in-None.ensures)) (omega arith)
+    high_of_missing_in_room c.args.capacity c.args.key slots (missing_entry c.args.key slots
+    (missing_slot c.args.key c.args.index.now.keys slots c.requires.keyed c.in-None.ensures)) (omega arith)
 
 pub returns-in-None-2-clause-low : goal.returns-in-None-2-clause-low
 returns-in-None-2-clause-low c =
     let slots = c.args.slots.now in
     let table : TableValue = record { capacity = c.args.capacity; entries = entries_of slots } in
-    sym (ap (λ o. (interval_from o table).low) (missing_entry c.args.key slots (missing_slot c.args.key c.args.index.now.keys slots c.requires.keyed c.in-None-2.ensures)))
+    sym (ap (λ o. (interval_from o table).low) (missing_entry c.args.key slots
+    (missing_slot c.args.key c.args.index.now.keys slots c.requires.keyed c.in-None-2.ensures)))
 
 pub returns-in-None-2-clause-high : goal.returns-in-None-2-clause-high
 returns-in-None-2-clause-high c =
     let slots = c.args.slots.now in
-    high_of_missing_when_full c.args.capacity c.args.key c.least_of.result slots blank (missing_entry c.args.key slots (missing_slot c.args.key c.args.index.now.keys slots c.requires.keyed c.in-None-2.ensures))
+    high_of_missing_when_full c.args.capacity c.args.key c.least_of.result slots blank (missing_entry c.args.key slots
+    (missing_slot c.args.key c.args.index.now.keys slots c.requires.keyed c.in-None-2.ensures))
     (omega arith) c.requires.slots c.least_of.ensures.least

@@ -1,11 +1,10 @@
-use Rattle.std.proofs.Common.{◌≡◌, ◌<◌, ◌≤◌, ◌+◌, ◌∷◌, [], List, length, map, get_or, set, slice_get, Some, refl, sym, ap, subst, ◌∙◌, arith}
+use Rattle.std.proofs.Common.{◌+◌, get_or, set, refl, sym, ap, subst, ◌∙◌, arith}
 use Rattle.std.proofs.lemmas.List.{map-set}
 use Rattle.key_index.specs.{Keys}
-use Rattle.space_saving.specs.Table.{step}
 use Rattle.rank_table.specs.declared.slot.Slot.{Slot}
 use Rattle.rank_table.specs.Order.{AreSlots, entries_of}
 use Rattle.rank_table.specs.SlotsValue.{Slots}
-use Rattle.rank_table.specs.Stepping.{raised, fresh, heir}
+use Rattle.rank_table.specs.Stepping.{raised, heir}
 use Rattle.rank_table.specs.Together.{AreTogether}
 use Rattle.rank_table.proofs.Changes.{AreSlots-grown, AreSlots-fresh, AreSlots-heir, step-grown, step-fresh, step-heir}
 use Rattle.rank_table.proofs.KeyLemmas.{key_at, missing_slot, place_of_slot, key_of_slot, keyed-kept}
@@ -33,7 +32,8 @@ pub returns-in-Some-clause-slots : goal.returns-in-Some-clause-slots
 returns-in-Some-clause-slots c =
     let slots = c.args.ranked.now.slots in
     subst (λ (r : Slots). AreSlots (c.args.now + 1) r.slots) (sym (c.grow.ensures blank))
-    (AreSlots-grown c.args.weight c.args.now c.in-Some.place slots blank c.requires.slots (place_of_slot c.args.key c.in-Some.place c.args.index.now.keys slots c.requires.together.keyed c.in-Some.ensures))
+    (AreSlots-grown c.args.weight c.args.now c.in-Some.place slots blank c.requires.slots
+    (place_of_slot c.args.key c.in-Some.place c.args.index.now.keys slots c.requires.together.keyed c.in-Some.ensures))
 
 pub returns-in-Some-clause-stepped : goal.returns-in-Some-clause-stepped
 returns-in-Some-clause-stepped c =
@@ -41,8 +41,8 @@ returns-in-Some-clause-stepped c =
     let keyed = c.requires.together.keyed in
     ap (λ (r : Slots). entries_of r.slots) (c.grow.ensures blank)
     ∙ step-grown c.args.ranked.now.capacity c.args.key c.args.weight c.args.now c.in-Some.place slots blank (omega arith) c.requires.slots
-      (place_of_slot c.args.key c.in-Some.place c.args.index.now.keys slots keyed c.in-Some.ensures)
-      (key_of_slot c.args.key c.in-Some.place c.args.index.now.keys slots blank keyed c.in-Some.ensures)
+    (place_of_slot c.args.key c.in-Some.place c.args.index.now.keys slots keyed c.in-Some.ensures)
+    (key_of_slot c.args.key c.in-Some.place c.args.index.now.keys slots blank keyed c.in-Some.ensures)
 
 pub returns-in-None-2-clause-capacity : goal.returns-in-None-2-clause-capacity
 returns-in-None-2-clause-capacity c = ap (λ (r : Slots). r.capacity) (c.take_over.ensures.taken blank)
@@ -53,11 +53,15 @@ returns-in-None-2-clause-together c =
     let place = c.take_over.ensures.place in
     let keyed = c.requires.together.keyed in
     subst (λ (r : Slots). AreTogether r.capacity c.take_over.new.index r) (sym (c.take_over.ensures.taken blank))
-    (subst (λ (i : Keys). AreTogether c.args.ranked.now.capacity i (record c.args.ranked.now { slots = set slots place (heir c.args.key c.args.weight c.args.now (get_or slots place blank)) })) (sym c.take_over.ensures.indexed)
+    (subst (λ (i : Keys). AreTogether c.args.ranked.now.capacity i (record c.args.ranked.now {
+      slots = set slots place
+          (heir c.args.key c.args.weight c.args.now (get_or slots place blank));
+    })) (sym c.take_over.ensures.indexed)
     (record {
       roomy = c.requires.together.roomy;
       as_many = refl;
-      keyed = ap (λ keys. set keys place c.args.key) keyed ∙ sym (map-set key_at slots place (heir c.args.key c.args.weight c.args.now (get_or slots place blank)));
+      keyed = ap (λ keys. set keys place c.args.key) keyed
+          ∙ sym (map-set key_at slots place (heir c.args.key c.args.weight c.args.now (get_or slots place blank)));
     }))
 
 pub returns-in-None-2-clause-slots : goal.returns-in-None-2-clause-slots
@@ -72,17 +76,20 @@ returns-in-None-2-clause-stepped c =
     let slots = c.args.ranked.now.slots in
     let missing = missing_slot c.args.key c.args.index.now.keys slots c.requires.together.keyed c.in-None-2.ensures in
     ap (λ (r : Slots). entries_of r.slots) (c.take_over.ensures.taken blank)
-    ∙ step-heir c.args.ranked.now.capacity c.args.key c.args.weight c.args.now c.take_over.ensures.place slots blank (omega arith) c.requires.slots missing (c.has_room.ensures.full c.if-has_room.false) c.take_over.ensures.least
+    ∙ step-heir c.args.ranked.now.capacity c.args.key c.args.weight c.args.now c.take_over.ensures.place slots blank
+    (omega arith) c.requires.slots missing (c.has_room.ensures.full c.if-has_room.false) c.take_over.ensures.least
 
 pub returns-in-None-clause-slots : goal.returns-in-None-clause-slots
 returns-in-None-clause-slots c =
     let slots = c.args.ranked.now.slots in
     let missing = missing_slot c.args.key c.args.index.now.keys slots c.requires.together.keyed c.in-None.ensures in
-    subst (λ (r : Slots). AreSlots (c.args.now + 1) r.slots) (sym c.take_room.ensures.ranked) (AreSlots-fresh c.args.key c.args.weight c.args.now slots c.requires.slots missing)
+    subst (λ (r : Slots). AreSlots (c.args.now + 1) r.slots) (sym c.take_room.ensures.ranked)
+    (AreSlots-fresh c.args.key c.args.weight c.args.now slots c.requires.slots missing)
 
 pub returns-in-None-clause-stepped : goal.returns-in-None-clause-stepped
 returns-in-None-clause-stepped c =
     let slots = c.args.ranked.now.slots in
     let missing = missing_slot c.args.key c.args.index.now.keys slots c.requires.together.keyed c.in-None.ensures in
     ap (λ (r : Slots). entries_of r.slots) c.take_room.ensures.ranked
-    ∙ step-fresh c.args.ranked.now.capacity c.args.key c.args.weight c.args.now slots (omega arith) c.requires.slots missing (c.has_room.ensures.room.0 c.if-has_room.true)
+    ∙ step-fresh c.args.ranked.now.capacity c.args.key c.args.weight c.args.now slots (omega arith) c.requires.slots missing
+    (c.has_room.ensures.room.0 c.if-has_room.true)

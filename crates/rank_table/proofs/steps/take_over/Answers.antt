@@ -1,4 +1,4 @@
-use Rattle.std.proofs.Common.{◌≡◌, ◌<◌, ◌≤◌, ◌+◌, List, length, get_or, sym, ap, subst, ◌∙◌, arith}
+use Rattle.std.proofs.Common.{◌≡◌, ◌<◌, ◌≤◌, List, length, get_or, sym, ap, subst, ◌∙◌, arith}
 use Rattle.std.proofs.lemmas.List.{get_or_default}
 use Rattle.rank_table.specs.declared.slot.Slot.{Slot}
 use Rattle.rank_table.specs.SlotsValue.{Slots}
@@ -12,15 +12,18 @@ pub overflow_add-heir : goal.overflow_add-heir
 overflow_add-heir c =
     let slots = c.args.ranked.now.slots in
     let at : (get_or c.slots.result.now c.least-place.result blank).entry.count ≡ (get_or slots c.least-place.result blank).entry.count =
-        ap (λ (l : List Slot). (get_or l c.least-place.result blank).entry.count) (c.slots.ensures.slots ∙ ap (λ (r : Slots). r.slots) c.least-place.ensures.same) in
+    ap (λ (l : List Slot). (get_or l c.least-place.result blank).entry.count) (c.slots.ensures.slots
+    ∙ ap (λ (r : Slots). r.slots) c.least-place.ensures.same) in
     omega (arith, count-le-total c.least-place.result slots blank c.least-place.ensures.least.within)
 
 pub raise-requires-clause-count : goal.raise-requires-clause-count
 raise-requires-clause-count c = λ d.
     let after = c.least-place.new.self.slots in
-    let within : c.least-place.result < length after = subst (λ (r : Slots). c.least-place.result < length r.slots) (sym c.least-place.ensures.same) c.least-place.ensures.least.within in
+    let within : c.least-place.result < length after = subst (λ (r : Slots). c.least-place.result < length r.slots)
+    (sym c.least-place.ensures.same) c.least-place.ensures.least.within in
     let at : (get_or c.slots.result.now c.least-place.result blank).entry.count ≡ (get_or after c.least-place.result d).entry.count =
-        ap (λ (l : List Slot). (get_or l c.least-place.result blank).entry.count) c.slots.ensures.slots ∙ ap (λ (s : Slot). s.entry.count) (get_or_default after c.least-place.result blank d within) in
+    ap (λ (l : List Slot). (get_or l c.least-place.result blank).entry.count) c.slots.ensures.slots
+    ∙ ap (λ (s : Slot). s.entry.count) (get_or_default after c.least-place.result blank d within) in
     omega arith
 
 pub raise-requires-clause-time : goal.raise-requires-clause-time

@@ -10,19 +10,23 @@ invariant_of-self c =
     let some : 1 ≤ c.self.inside.capacity = omega (arith, c.self.invariant.least) in
     let weighs : 1 ≤ c.from-weight.result = omega (arith, c.from-weight.ensures, c.requires.weighs) in
     let fits : total_count (entries_of c.self.inside.ranked.slots) + c.from-weight.result < 2 ^ 56 =
-        subst (λ (t : TableValue). total_count t.entries + c.from-weight.result < 2 ^ 56) (sym c.self.view_is) (omega (arith, c.from-weight.ensures, c.requires.room)) in
+    subst (λ (t : TableValue). total_count t.entries + c.from-weight.result < 2 ^ 56) (sym c.self.view_is)
+    (omega (arith, c.from-weight.ensures, c.requires.room)) in
     IsRankTable-add c.self.inside.capacity c.self.inside.clock c.self.inside.total c.from-weight.result c.self.inside.index c.add_weight.new.index c.self.inside.ranked c.add_weight.new.ranked add
     c.self.invariant refl weighs fits
     (λ entries table. c.steps_leave_a_table.ensures.table c.self.inside.capacity entries add some weighs table)
     (λ entries. c.steps_leave_a_table.ensures.total c.self.inside.capacity entries add some)
     c.add_weight.ensures.capacity c.add_weight.ensures.together c.add_weight.ensures.slots
-    (subst (λ n. entries_of c.add_weight.new.ranked.slots ≡ step n (entries_of c.self.inside.ranked.slots) add) c.self.invariant.together.as_many c.add_weight.ensures.stepped)
+    (subst (λ n. entries_of c.add_weight.new.ranked.slots ≡ step n
+    (entries_of c.self.inside.ranked.slots) add) c.self.invariant.together.as_many c.add_weight.ensures.stepped)
 
 pub returns-clause-grew : goal.returns-clause-grew
 returns-clause-grew c =
     let add : Add = record { key = c.args.key; weight = c.from-weight.result } in
     let some : 1 ≤ c.self.inside.capacity = omega (arith, c.self.invariant.least) in
-    let stepped = subst (λ n. entries_of c.add_weight.new.ranked.slots ≡ step n (entries_of c.self.inside.ranked.slots) add) c.self.invariant.together.as_many c.add_weight.ensures.stepped in
+    let stepped = subst (λ n. entries_of c.add_weight.new.ranked.slots ≡ step n
+    (entries_of c.self.inside.ranked.slots) add) c.self.invariant.together.as_many c.add_weight.ensures.stepped in
     let grew = ap total_count stepped ∙ c.steps_leave_a_table.ensures.total c.self.inside.capacity (entries_of c.self.inside.ranked.slots) add some in
-    let same : total_count (entries_of c.self.inside.ranked.slots) ≡ total_count c.args.self.now.entries = ap (λ (t : TableValue). total_count t.entries) c.self.view_is in
+    let same : total_count (entries_of c.self.inside.ranked.slots) ≡ total_count c.args.self.now.entries = ap
+    (λ (t : TableValue). total_count t.entries) c.self.view_is in
     omega (arith, grew, same, c.from-weight.ensures)

@@ -1,4 +1,4 @@
-use Rattle.std.proofs.Common.{◌≡◌, ◌^◌, List, map, slice_get, Some, sym, ap, ◌∙◌, subst, arith}
+use Rattle.std.proofs.Common.{◌^◌, List, slice_get, sym, ap, ◌∙◌, subst, arith}
 use Rattle.std.proofs.lemmas.Option.{slice_get-map}
 use Rattle.std.specs.Option.{option_map}
 use Rattle.space_saving.specs.Table.{TableValue}
@@ -14,7 +14,8 @@ slot_at-requires-clause-within c =
 
 pub slot_at-requires-clause-slots : goal.slot_at-requires-clause-slots
 slot_at-requires-clause-slots c =
-    subst (AreSlots (2 ^ 64)) (sym c.slots.ensures.slots) (small_times c.self.inside.capacity c.self.inside.clock c.self.inside.total c.self.inside.index c.self.inside.ranked c.self.invariant)
+    subst (AreSlots (2 ^ 64)) (sym c.slots.ensures.slots)
+    (small_times c.self.inside.capacity c.self.inside.clock c.self.inside.total c.self.inside.index c.self.inside.ranked c.self.invariant)
 
 pub returns : goal.returns
 returns c =

@@ -1,7 +1,6 @@
-use Rattle.std.proofs.Common.{◌≡◌, List, sym, ap, ◌∙◌, subst, arith}
+use Rattle.std.proofs.Common.{sym, ap, ◌∙◌, subst}
 use Rattle.key_index.specs.{Keys}
-use Rattle.space_saving.specs.declared.entry.Entry.{Entry}
-use Rattle.space_saving.specs.Table.{TableValue, total_count}
+use Rattle.space_saving.specs.Table.{TableValue}
 use Rattle.space_saving.specs.TableFacts.{AreEntries}
 use Rattle.rank_table.specs.Order.{entries_of}
 use Rattle.rank_table.specs.SlotsValue.{Slots}
@@ -17,7 +16,8 @@ invariant_of-result c =
     let are = subst (λ n. AreEntries n entries) (sym c.capacity-capacity.ensures.capacity) c.total-total.ensures.kept in
     subst (λ n. IsRankTable capacity n c.total-total.result c.load.new.index c.load.new.ranked) (sym c.len.ensures.length)
     (IsRankTable-loaded capacity c.total-total.result entries c.load.new.index c.load.new.ranked c.capacity-capacity.ensures.least c.capacity-capacity.ensures.most are c.total-total.ensures.total
-    (ap (λ (i : Keys). i.room) c.load.ensures.index ∙ ap (λ (i : Keys). i.room) c.in_ok-index.ensures) (ap (λ (r : Slots). r.capacity) c.load.ensures.ranked ∙ ap (λ (r : Slots). r.capacity) c.in_ok-ranked.ensures)
+    (ap (λ (i : Keys). i.room) c.load.ensures.index ∙ ap (λ (i : Keys). i.room) c.in_ok-index.ensures) (ap
+    (λ (r : Slots). r.capacity) c.load.ensures.ranked ∙ ap (λ (r : Slots). r.capacity) c.in_ok-ranked.ensures)
     (ap (λ (i : Keys). i.keys) c.load.ensures.index) (ap (λ (r : Slots). r.slots) c.load.ensures.ranked))
 
 pub returns : goal.returns

@@ -1,4 +1,4 @@
-use Rattle.std.proofs.Common.{◌≡◌, ◌<◌, ◌++◌, ◌∷◌, [], List, length, sym, ap, subst, ◌∙◌, arith}
+use Rattle.std.proofs.Common.{◌≡◌, ◌<◌, ◌++◌, ◌∷◌, [], List, length, sym, subst, arith}
 use Rattle.rank_table.specs.declared.slot.Slot.{Slot}
 use Rattle.rank_table.specs.SlotsValue.{Slots}
 use Rattle.rank_table.specs.Ranking.{AreRanked}
@@ -14,6 +14,7 @@ invariant_of-self c =
     (record {
       some = c.self.invariant.some;
       has_room = omega (arith, c.self.invariant.has_room, c.push.ensures.capacity);
-      are_leaves = AreLeaves-pushed c.self.inside.capacity c.self.inside.base c.self.inside.tree items c.args.slot c.self.invariant.are_leaves room (c.self.invariant.unbased room);
+      are_leaves = AreLeaves-pushed c.self.inside.capacity c.self.inside.base c.self.inside.tree items c.args.slot c.self.invariant.are_leaves room
+          (c.self.invariant.unbased room);
       unbased = λ _. c.self.invariant.unbased room;
     })

@@ -1,4 +1,4 @@
-use Rattle.std.proofs.Common.{◌≡◌, ◌<◌, ◌≤◌, length, get_or, length-set, sym, ap, subst, ◌∙◌, arith}
+use Rattle.std.proofs.Common.{◌<◌, ◌≤◌, length, get_or, length-set, sym, subst, arith}
 use Rattle.rank_table.specs.SlotsValue.{Slots}
 use Rattle.rank_table.proofs.LeafLemmas.{AreLeaves-raised}
 use Rattle.rank_table.proofs.ranked_slots.RankedSlots.raise.Goals as goal
@@ -7,7 +7,8 @@ pub invariant_of-self : goal.invariant_of-self
 invariant_of-self c =
     let items = c.self.inside.slots.items in
     let within : c.args.place < length items = subst (λ (r : Slots). c.args.place < length r.slots) (sym c.self.view_is) c.requires.within in
-    let more = subst (λ (r : Slots). (get_or r.slots c.args.place c.args.slot).entry.count ≤ c.args.slot.entry.count) (sym c.self.view_is) (c.requires.count c.args.slot) in
+    let more = subst (λ (r : Slots). (get_or r.slots c.args.place c.args.slot).entry.count ≤ c.args.slot.entry.count) (sym c.self.view_is)
+    (c.requires.count c.args.slot) in
     let later = subst (λ (r : Slots). (get_or r.slots c.args.place c.args.slot).time ≤ c.args.slot.time) (sym c.self.view_is) (c.requires.time c.args.slot) in
     record {
       some = c.self.invariant.some;

@@ -7,8 +7,10 @@ use Rattle.rank_table.proofs.ranked_slots.RankedSlots.with_capacity.Goals as goa
 
 pub invariant_of-result : goal.invariant_of-result
 invariant_of-result c =
-    subst (λ (leaves : List ℕ). AreRanked c.args.capacity c.in_ok-with_capacity.field-0.cap 0 leaves c.in_ok-with_capacity.field-0.items) (sym c.in_ok-with_leaves.ensures)
-    (subst (λ (slots : List Slot). AreRanked c.args.capacity c.in_ok-with_capacity.field-0.cap 0 (range_with_len 0 c.args.capacity) slots) (sym c.in_ok-with_capacity.ensures.items)
+    subst (λ (leaves : List ℕ). AreRanked c.args.capacity c.in_ok-with_capacity.field-0.cap 0 leaves c.in_ok-with_capacity.field-0.items)
+    (sym c.in_ok-with_leaves.ensures)
+    (subst (λ (slots : List Slot). AreRanked c.args.capacity c.in_ok-with_capacity.field-0.cap 0 (range_with_len 0 c.args.capacity) slots)
+    (sym c.in_ok-with_capacity.ensures.items)
     (record {
       some = omega arith;
       has_room = omega (arith, c.in_ok-with_capacity.ensures.exact);
