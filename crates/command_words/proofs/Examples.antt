@@ -8,7 +8,7 @@ use Rattle.command_words.specs.Scanning.{option_name, text_at, FitsRest}
 use Rattle.command_words.specs.Forms.{form_of}
 use Rattle.command_words.specs.Words.{texts}
 use Rattle.command_words.specs.declared.command_word.CommandWord.TheVariants.{Weigh, Report}
-use Rattle.command_words.proofs.Elements.{among, not_among, apart, no_equals_sign_in}
+use Rattle.command_words.proofs.ElementLemmas.{among, not_among, apart, no_equals_sign_in}
 
 -- the two signs that part words
 pub two_hyphens_before_a_name : long (codes "phi") ≡ codes "--phi"

@@ -7,7 +7,7 @@ use Rattle.command_words.specs.Matches.{Tells, TellsWords, values_told}
 use Rattle.command_words.specs.Parser.{option_rule, bare_parser, with_positionals, with_options, parser_for}
 use Rattle.command_words.specs.declared.command_word.CommandWord.TheVariants.{Weigh}
 use Rattle.command_words.specs.declared.opt.Opt.TheVariants as opt
-use Rattle.command_words.proofs.Elements.{not_among}
+use Rattle.command_words.proofs.ElementLemmas.{not_among}
 use Rattle.command_words.proofs.Examples.{arguments}
 use Rattle.command_words.proofs.ExamplesOfWords.{weigh_line, words_of_a_command}
 

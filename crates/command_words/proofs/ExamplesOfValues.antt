@@ -13,7 +13,7 @@ use Rattle.command_words.specs.declared.opt.Opt.{Opt}
 use Rattle.command_words.specs.declared.opt.Opt.TheVariants.{Weigh, Shards, Capacity, Phi, Deal}
 use Rattle.command_words.specs.declared.settings.Settings.{Settings}
 use Rattle.command_words.specs.declared.words_kind.WordsKind.TheVariants.{BadNumber, OutOfLimits, BadChoice}
-use Rattle.command_words.proofs.Elements.{among, not_among}
+use Rattle.command_words.proofs.ElementLemmas.{among, not_among}
 use Rattle.command_words.proofs.Examples.{arguments}
 
 pub name_of_the_share : name_of Phi ≡ codes "phi"

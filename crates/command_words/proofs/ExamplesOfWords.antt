@@ -5,9 +5,7 @@ use Rattle.std.specs.Fmt.{digits}
 use Rattle.std.specs.List.{Contains}
 use Rattle.std.proofs.lemmas.List.Elements.{All-cons, All-nil}
 use Rattle.std.proofs.lemmas.List.Kept.{AllPairs-cons}
-use Rattle.prefix_lattice.specs.Bytes.{AreLeadingBytes}
-use Rattle.prefix_lattice.specs.PrefixValue.{PrefixValue}
-use Rattle.prefix_lattice.specs.PrefixText.{SpellsPrefix}
+use Rattle.prefix_lattice.specs.{AreLeadingBytes, PrefixValue, SpellsPrefix}
 use Rattle.prefix_lattice.specs.declared.prefix_fault.Side.TheVariants.{Source}
 use Rattle.prefix_lattice.specs.declared.prefix_fault.PrefixFault.TheVariants.{LooseBits}
 use Rattle.frame_records.specs.declared.weigh.Weigh.TheVariants.{Packets}
@@ -24,8 +22,8 @@ use Rattle.command_words.specs.declared.opt.Opt.{Opt}
 use Rattle.command_words.specs.declared.opt.Opt.TheVariants as opt
 use Rattle.command_words.specs.declared.settings.Settings.{Settings}
 use Rattle.command_words.specs.declared.words_kind.WordsKind.TheVariants.{NoCommand, UnknownCommand, Refused, BadPrefix, OutOfLimits, Bound}
-use Rattle.command_words.proofs.Elements.{among, apart, no_equals_sign_in}
-use Rattle.command_words.proofs.OneReading.{one_reading}
+use Rattle.command_words.proofs.ElementLemmas.{among, apart, no_equals_sign_in}
+use Rattle.command_words.proofs.OneReadingLemmas.{one_reading}
 use Rattle.command_words.proofs.Examples.{words, arguments, words_of_weigh}
 use Rattle.command_words.proofs.ExamplesOfValues.{defaults, nothing_sets_the_defaults, defaults_are_within_their_limits, defaults_are_wide, seventeen_shards, tables_too_small_for_a_share}
 

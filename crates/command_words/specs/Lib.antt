@@ -9,3 +9,6 @@ pub mod Scanning
 pub mod OneValue
 pub mod Matches
 pub mod Parser
+-- the face: what contracts of other crates cite
+pub use Rattle.command_words.specs.Settings.{AreLimited, IsWide}
+pub use Rattle.command_words.specs.Words.{AskFor, HasWordsFault, IsLimited, texts}

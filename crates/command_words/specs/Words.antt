@@ -1,8 +1,7 @@
 -- What the words of a command line ask, or the first thing that is wrong with them.
 use Rattle.std.specs.Prelude.{⊤, ◌≡◌, ◌≢◌, ◌<◌, List, [], ◌∷◌, map, Some}
 use Rattle.std.specs.Borrow.{Bor}
-use Rattle.prefix_lattice.specs.PrefixValue.{PrefixValue}
-use Rattle.prefix_lattice.specs.PrefixText.{SpellsPrefix, HasPrefixFault}
+use Rattle.prefix_lattice.specs.{PrefixValue, SpellsPrefix, HasPrefixFault}
 use Rattle.prefix_lattice.specs.declared.prefix_fault.PrefixFault.{PrefixFault}
 use Rattle.command_words.specs.Arguments.{Text, Argument, positionals_in, AreWellFormed}
 use Rattle.command_words.specs.Forms.{word_of, form_of, AreWordsOf}

@@ -1,10 +1,7 @@
 -- Worked examples of the definitions, most by computing.
 use Rattle.std.proofs.Common.{◌≡◌, ℕ, ◌-◌, ◌*◌, ◌≤◌, cond, List, [], ◌∷◌, refl, pos, negsuc, arith}
 use Rattle.std.proofs.lemmas.List.Elements.{All-from_recursion}
-use Rattle.prefix_lattice.specs.RecordValue.{RecordValue}
-use Rattle.prefix_lattice.specs.PrefixValue.{PrefixValue}
-use Rattle.prefix_lattice.specs.Prefix.{covers, weight_of}
-use Rattle.prefix_lattice.specs.Explaining.{conditioned_weight}
+use Rattle.prefix_lattice.specs.{RecordValue, PrefixValue, covers, weight_of, conditioned_weight}
 use Rattle.conditioned_bounds.specs.Bounds.{bound_of, asked_of, HoldWeights, AreNarrow, AreWeights}
 
 -- 9 bytes from 10.1.1.1 to 20.1.1.1

@@ -1,5 +1,5 @@
-pub mod Weighing
-pub mod Summing
-pub mod Balancing
-pub mod Bounding
+pub mod WeightLemmas
+pub mod IntervalSumLemmas
+pub mod BalanceLemmas
+pub mod BoundLemmas
 pub mod Examples

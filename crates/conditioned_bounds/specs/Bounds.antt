@@ -1,9 +1,6 @@
 -- Bounds on conditioned weights, from intervals that hold weights (Mitzenmacher, Steinke, Thaler 2012).
 use Rattle.std.specs.Prelude.{ℕ, ◌≡◌, ◌+◌, ◌-◌, ◌*◌, ◌≤◌, List, ◌∷◌, ◌++◌, All, sum_by, ℤ, pos, ◌-ℤ◌}
-use Rattle.prefix_lattice.specs.RecordValue.{RecordValue}
-use Rattle.prefix_lattice.specs.PrefixValue.{PrefixValue}
-use Rattle.prefix_lattice.specs.Prefix.{weight_of}
-use Rattle.prefix_lattice.specs.Explaining.{closest, kept_pairs}
+use Rattle.prefix_lattice.specs.{RecordValue, PrefixValue, weight_of, closest, kept_pairs}
 
 -- the bound of a prefix over some lines: its high and the highs of the meets of its closest lines' kept pairs, less the lows of those lines
 abbrev pub bound_of : (PrefixValue → ℕ) → (PrefixValue → ℕ) → PrefixValue → List PrefixValue → ℤ

@@ -1,8 +1,7 @@
 //! Bounds on conditioned weights.
 
 ghost use Rattle.std.specs.Prelude.{◌≡◌, ◌≢◌, ℕ, ◌+◌, ◌*◌, List, length, AllPairs, IfOk, sum_by, pos, ◌-ℤ◌, ◌*ℤ◌, ◌≤ℤ◌};
-ghost use Rattle.prefix_lattice.specs.RecordValue.{RecordValue};
-ghost use Rattle.prefix_lattice.specs.Explaining.{closest, kept_pairs, conditioned_weight};
+ghost use Rattle.prefix_lattice.specs.{RecordValue, closest, kept_pairs, conditioned_weight};
 ghost use Rattle.conditioned_bounds.specs.Bounds.{bound_of, asked_of, HoldWeights, AreNarrow, AreWeights};
 
 use crate::sums::{sum_of_highs, sum_of_lows};

@@ -1,7 +1,7 @@
 //! Where the intervals of prefixes come from.
 
 ghost use Rattle.std.specs.Prelude.{◌≡◌, ◌^◌, ◌<◌, ◌≤◌, ℕ};
-ghost use Rattle.prefix_lattice.specs.PrefixValue.{PrefixValue};
+ghost use Rattle.prefix_lattice.specs.{PrefixValue};
 
 use prefix_lattice::Prefix;
 

@@ -1,10 +1,7 @@
 //! Laws of bounds. A caller that runs one has it at hand.
 
 ghost use Rattle.std.specs.Prelude.{◌≡◌, ◌≢◌, ℕ, ◌+◌, ◌*◌, ◌≤◌, List, length, All, AllPairs, sum_by, pos, ◌*ℤ◌, ◌≤ℤ◌};
-ghost use Rattle.prefix_lattice.specs.RecordValue.{RecordValue};
-ghost use Rattle.prefix_lattice.specs.PrefixValue.{PrefixValue, IsPrefix};
-ghost use Rattle.prefix_lattice.specs.Prefix.{weight_of};
-ghost use Rattle.prefix_lattice.specs.Explaining.{closest, kept_pairs, conditioned_weight};
+ghost use Rattle.prefix_lattice.specs.{RecordValue, PrefixValue, IsPrefix, weight_of, closest, kept_pairs, conditioned_weight};
 ghost use Rattle.conditioned_bounds.specs.Bounds.{bound_of, asked_of, HoldWeights, AreNarrow, AreWeights};
 
 use prefix_lattice::{

@@ -2,8 +2,7 @@
 
 ghost use Rattle.std.specs.Prelude.{◌≡◌, IfOk};
 ghost use Rattle.std.specs.List.{list_any};
-ghost use Rattle.prefix_lattice.specs.Lattice.{strictly_under};
-ghost use Rattle.prefix_lattice.specs.Explaining.{lines_under, greatest, closest};
+ghost use Rattle.prefix_lattice.specs.{strictly_under, lines_under, greatest, closest};
 
 use prefix_lattice::{Prefix, Prefixes};
 use std::alloc::{AllocError, Global};

@@ -2,8 +2,7 @@
 
 ghost use Rattle.std.specs.Prelude.{◌≡◌, ◌++◌, IfOk, OnOk};
 ghost use Rattle.std.specs.List.{filter_map};
-ghost use Rattle.prefix_lattice.specs.Lattice.{same_prefix};
-ghost use Rattle.prefix_lattice.specs.Explaining.{under_third, kept_meet, kept_pairs};
+ghost use Rattle.prefix_lattice.specs.{same_prefix, under_third, kept_meet, kept_pairs};
 
 use prefix_lattice::{Prefix, Prefixes};
 use std::alloc::{AllocError, Global};

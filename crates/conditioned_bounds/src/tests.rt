@@ -1,5 +1,5 @@
 ghost use Rattle.std.specs.Prelude.{◌≤◌, ◌<◌, ◌^◌, if◌then◌else◌};
-ghost use Rattle.prefix_lattice.specs.Prefix.{covers};
+ghost use Rattle.prefix_lattice.specs.{covers};
 
 use super::*;
 use prefix_lattice::{Prefix, Prefixes, Record};

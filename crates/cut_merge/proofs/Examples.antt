@@ -3,23 +3,15 @@ use Rattle.std.proofs.Common.{◌≡◌, ℕ, zero, suc, ◌+◌, ◌*◌, ◌^�
 use Rattle.std.proofs.Math.ListN.{replicate}
 use Rattle.std.specs.Prelude.{slice_index_or}
 use Rattle.std.specs.Map.{keys_of}
-use Rattle.prefix_lattice.specs.RecordValue.{RecordValue}
-use Rattle.prefix_lattice.specs.NodeValue.{index_of}
-use Rattle.prefix_lattice.specs.Bytes.{AreLeadingBytes}
-use Rattle.prefix_lattice.specs.PrefixValue.{PrefixValue, IsPrefix}
-use Rattle.prefix_lattice.specs.Prefix.{node_of, key_of}
+use Rattle.prefix_lattice.specs.{RecordValue, index_of, AreLeadingBytes, PrefixValue, IsPrefix, node_of, key_of}
 use Rattle.space_saving.specs.declared.entry.Entry.{Entry}
-use Rattle.space_saving.specs.Table.{TableValue, Interval}
-use Rattle.shard_state.specs.Tables.{fold_from}
-use Rattle.shard_state.specs.SnapshotValue.{SnapshotValue}
-use Rattle.shard_state.specs.CutValue.{CutValue, total_of_cut}
-use Rattle.cut_merge.specs.FirstSeen.{first_seen}
-use Rattle.cut_merge.specs.Tables.{merged_interval, table_keys, monitored_keys}
+use Rattle.space_saving.specs.{TableValue, Interval}
+use Rattle.shard_state.specs.{fold_from, SnapshotValue, CutValue, total_of_cut}
+use Rattle.cut_merge.specs.Tables.{first_seen, merged_interval, table_keys, monitored_keys}
 use Rattle.cut_merge.specs.Span.{node_tables, span, monitored_at, IsWithinTotal}
 use Rattle.cut_merge.specs.declared.gain.Gain.{Gain}
-use Rattle.cut_merge.specs.NodeMergeValue.{NodeMergeValue}
-use Rattle.cut_merge.specs.MergedValue.{MergedValue}
-use Rattle.cut_merge.specs.Standing.{nothing_merged, interval_for_key, merge_at, interval_for, candidates_at, StandsForCut, IsMerged}
+use Rattle.cut_merge.specs.NodeMerge.{NodeMergeValue}
+use Rattle.cut_merge.specs.Merged.{MergedValue, nothing_merged, interval_for_key, merge_at, interval_for, candidates_at, StandsForCut, IsMerged}
 
 -- each key stands where it is seen first
 pub keys_are_seen_once : first_seen (3 ∷ 1 ∷ 3 ∷ 2 ∷ 1 ∷ []) ≡ 3 ∷ 1 ∷ 2 ∷ []

@@ -2,13 +2,11 @@
 use Rattle.std.proofs.Common.{◌≡◌, ℕ, ◌≤◌, [], ◌∷◌, None, Some, refl, sym, ap, subst, ⊎_elim, arith}
 use Rattle.std.proofs.lemmas.Bool.{cases_eq, ne_eqb}
 use Rattle.space_saving.specs.declared.entry.Entry.{Entry}
-use Rattle.space_saving.specs.Table.{TableValue, Interval, entry_of}
+use Rattle.space_saving.specs.{TableValue, Interval, entry_of}
 use Rattle.cut_merge.specs.declared.gain.Gain.{Gain}
-use Rattle.cut_merge.specs.NodeMergeValue.{NodeMergeValue}
+use Rattle.cut_merge.specs.NodeMerge.{NodeMergeValue, no_gain, noted, gain_of}
 use Rattle.cut_merge.specs.Tables.{merged_interval}
-use Rattle.cut_merge.specs.Gains.{no_gain, noted, gain_of}
-use Rattle.cut_merge.specs.Standing.{nothing_merged, interval_for_key}
-use Rattle.cut_merge.specs.Merging.{seen, missing_high, IsBounded, plus, gain_from, AddsTable, StandsForTables}
+use Rattle.cut_merge.specs.Merged.{nothing_merged, interval_for_key, seen, missing_high, IsBounded, plus, gain_from, AddsTable, StandsForTables}
 
 -- an entry of a key, with a count and an error
 abbrev entry : ℕ → ℕ → ℕ → Entry

@@ -7,9 +7,9 @@ use Rattle.std.proofs.lemmas.List.Kept.{AllPairs-cons, AllPairs-filter}
 use Rattle.std.proofs.lemmas.List.Sums.{length-filter, count_by-le-length}
 use Rattle.std.proofs.lemmas.Map.Views.{any-filter_same}
 use Rattle.std.specs.List.{list_any}
-use Rattle.prefix_lattice.proofs.Lists.{Contains-head, Contains-tail, Contains-cons, Contains-nil}
-use Rattle.cut_merge.specs.FirstSeen.{first_seen}
-use Rattle.cut_merge.specs.Merging.{seen}
+use Rattle.prefix_lattice.proofs.ListLemmas.{Contains-head, Contains-tail, Contains-cons, Contains-nil}
+use Rattle.cut_merge.specs.Tables.{first_seen}
+use Rattle.cut_merge.specs.Merged.{seen}
 
 -- the keys that differ from a first one
 abbrev others : ℕ → List ℕ → List ℕ

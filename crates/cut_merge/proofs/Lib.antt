@@ -1,10 +1,10 @@
 pub mod Examples
 pub mod ExamplesOfMerging
-pub mod Noting
-pub mod NotingEntries
+pub mod GainLemmas
+pub mod EntryGainLemmas
 pub mod FirstSeenLemmas
-pub mod MergingTables
-pub mod CutTables
-pub mod MergingCut
-pub mod Spans
-pub mod MonitoredKeys
+pub mod TableMergeLemmas
+pub mod CutTableLemmas
+pub mod CutMergeLemmas
+pub mod SpanLemmas
+pub mod MonitoredKeyLemmas

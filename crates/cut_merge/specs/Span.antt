@@ -1,12 +1,9 @@
 -- The intervals and the monitored prefixes of a cut.
 use Rattle.std.specs.Prelude.{ℕ, ◌≤◌, List, map}
-use Rattle.prefix_lattice.specs.NodeValue.{NodeValue}
-use Rattle.prefix_lattice.specs.PrefixValue.{PrefixValue}
-use Rattle.prefix_lattice.specs.Prefix.{node_of, key_of}
-use Rattle.space_saving.specs.Table.{TableValue}
-pub use Rattle.space_saving.specs.Table.{Interval}
-use Rattle.shard_state.specs.SnapshotValue.{table_at}
-use Rattle.shard_state.specs.CutValue.{CutValue}
+use Rattle.prefix_lattice.specs.{NodeValue, PrefixValue, node_of, key_of}
+use Rattle.space_saving.specs.{TableValue}
+pub use Rattle.space_saving.specs.{Interval}
+use Rattle.shard_state.specs.{table_at, CutValue}
 use Rattle.cut_merge.specs.Tables.{merged_interval, monitored_keys}
 
 -- the tables of a node, one for each shard of a cut

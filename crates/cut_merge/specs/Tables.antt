@@ -1,8 +1,12 @@
--- Tables of one node, one for each shard, read together.
-use Rattle.std.specs.Prelude.{ℕ, List, map, sum_by}
+-- Keys in the order in which they are first seen.
+use Rattle.std.specs.Prelude.{ℕ, ◌==◌, not, List, [], ◌∷◌, filter, map, sum_by}
 use Rattle.std.specs.List.{flat_map}
-use Rattle.space_saving.specs.Table.{TableValue, Interval, interval_in}
-use Rattle.cut_merge.specs.FirstSeen.{first_seen}
+use Rattle.space_saving.specs.{TableValue, Interval, interval_in}
+
+-- the keys of a list, each once, in the order in which they are first seen
+abbrev pub first_seen : List ℕ → List ℕ
+first_seen [] = []
+first_seen (key ∷ keys) = key ∷ filter (λ other. not (key == other)) (first_seen keys)
 
 -- the interval of a key over some tables: their lows and highs, each added up
 abbrev pub merged_interval : List TableValue → ℕ → Interval

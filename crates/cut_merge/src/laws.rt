@@ -1,16 +1,10 @@
 //! What the spans of a cut say of weights, each law the contract of a function that does nothing.
 
 ghost use Rattle.std.specs.Prelude.{◌≡◌, ◌≢◌, ℕ, ◌*◌, ◌^◌, ◌<◌, ◌≤◌, List, length, All, AllPairs, Contains};
-ghost use Rattle.prefix_lattice.specs.RecordValue.{RecordValue};
-ghost use Rattle.prefix_lattice.specs.NodeValue.{NodeValue, IsNode};
-ghost use Rattle.prefix_lattice.specs.PrefixValue.{PrefixValue, IsPrefix};
-ghost use Rattle.prefix_lattice.specs.Prefix.{node_of, key_of, weight_of, total_weight};
-ghost use Rattle.prefix_lattice.specs.Key.{IsKeyOf};
-ghost use Rattle.shard_state.specs.CutValue.{CutValue, IsCut, positions_of, total_of_cut};
-ghost use Rattle.shard_state.specs.Standing.{CutStandsFor, records_before};
-ghost use Rattle.shard_state.specs.Weights.{Holds};
+ghost use Rattle.prefix_lattice.specs.{RecordValue, NodeValue, IsNode, PrefixValue, IsPrefix, node_of, key_of, weight_of, total_weight, IsKeyOf};
+ghost use Rattle.shard_state.specs.{CutValue, IsCut, positions_of, total_of_cut, CutStandsFor, records_before, Holds};
 ghost use Rattle.cut_merge.specs.Span.{node_tables, span, monitored_at, IsWithinTotal};
-ghost use Rattle.cut_merge.specs.Merging.{IsBounded};
+ghost use Rattle.cut_merge.specs.Merged.{IsBounded};
 
 use shard_state::snapshots_hold_weights;
 use space_saving::intervals_are_narrow;

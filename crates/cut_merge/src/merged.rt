@@ -1,11 +1,10 @@
 //! The tables of a cut, merged.
 
 ghost use Rattle.std.specs.Prelude.{◌≡◌, ◌^◌, ◌<◌, ◌≤◌, ℕ, IfOk};
-ghost use Rattle.prefix_lattice.specs.NodeValue.{IsNode};
-ghost use Rattle.shard_state.specs.CutValue.{CutValue, total_of_cut};
-ghost use Rattle.cut_merge.specs.Merging.{StandsForTables};
+ghost use Rattle.prefix_lattice.specs.{IsNode};
+ghost use Rattle.shard_state.specs.{CutValue, total_of_cut};
+ghost use Rattle.cut_merge.specs.Merged.{StandsForTables, merge_at, interval_for, candidates_at, StandsForCut, interval_for_key};
 ghost use Rattle.cut_merge.specs.Span.{node_tables, span, monitored_at, IsWithinTotal};
-ghost use Rattle.cut_merge.specs.Standing.{merge_at, interval_for, candidates_at, StandsForCut, interval_for_key};
 
 use crate::laws::tables_are_bounded;
 use crate::node_merge::NodeMerge;
@@ -24,8 +23,7 @@ pub struct Merged {
 }
 
 impl Model for Merged {
-    ghost use Rattle.cut_merge.specs.MergedValue.{MergedValue};
-    ghost use Rattle.cut_merge.specs.Standing.{IsMerged};
+    ghost use Rattle.cut_merge.specs.Merged.{MergedValue, IsMerged};
 
     ghost Value = { MergedValue };
 

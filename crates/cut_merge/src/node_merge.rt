@@ -2,11 +2,10 @@
 
 ghost use Rattle.std.specs.Prelude.{◌≡◌, ◌==◌, ◌+◌, ◌^◌, ◌<◌, ◌≤◌, ℕ, [], OnOk, fold, if◌then◌else◌};
 ghost use Rattle.std.specs.Map.{keys_of};
-ghost use Rattle.space_saving.specs.Table.{entry_of, total_count};
-ghost use Rattle.cut_merge.specs.Merging.{seen, missing_high, gain_from, AddsTable, plus};
-ghost use Rattle.cut_merge.specs.Standing.{interval_for_key};
+ghost use Rattle.space_saving.specs.{entry_of, total_count};
+ghost use Rattle.cut_merge.specs.Merged.{seen, missing_high, gain_from, AddsTable, plus, interval_for_key};
 ghost use Rattle.cut_merge.specs.Tables.{table_keys};
-ghost use Rattle.cut_merge.specs.Gains.{gain_of};
+ghost use Rattle.cut_merge.specs.NodeMerge.{gain_of};
 
 use crate::gain::Gain;
 use indexmap::IndexMap;
@@ -23,7 +22,7 @@ pub(crate) struct NodeMerge {
 }
 
 impl Model for NodeMerge {
-    ghost use Rattle.cut_merge.specs.NodeMergeValue.{NodeMergeValue};
+    ghost use Rattle.cut_merge.specs.NodeMerge.{NodeMergeValue};
 
     ghost Value = { NodeMergeValue };
 

@@ -2,13 +2,12 @@
 use Rattle.std.proofs.Common.{◌≡◌, ℕ, zero, suc, ◌<◌, ◌%◌, List, [], ◌∷◌, Some, slice_get, get_or, refl, ap, arith}
 use Rattle.std.specs.List.{sum_by}
 use Rattle.std.proofs.lemmas.List.Elements.{All-from_recursion}
-use Rattle.prefix_lattice.specs.RecordValue.{RecordValue}
-use Rattle.prefix_lattice.specs.Prefix.{total_weight}
+use Rattle.prefix_lattice.specs.{RecordValue, total_weight}
 use Rattle.deal_rules.specs.declared.deal_kind.DealKind.TheVariants.{RoundRobin, BySource, Free}
 use Rattle.deal_rules.specs.declared.dealers.Dealers.{Dealers}
 use Rattle.deal_rules.specs.Rule.{IsAsked, IsOfKind, MayBeDealt}
 use Rattle.deal_rules.specs.Dealing.{dealt_list, dealt_lists, AreDealt, FollowRule, IsDealing, AreShardLists}
-use Rattle.deal_rules.specs.Kinds.{dealer_of}
+use Rattle.deal_rules.specs.Dealers.{dealer_of}
 
 -- three records, of 5, 6 and 7 bytes
 abbrev first : RecordValue

@@ -1,7 +1,7 @@
 -- Dealing: one shard number for each record, and each shard's records in their order.
 use Rattle.std.specs.Prelude.{ℕ, ◌≡◌, ◌<◌, ◌≤◌, ◌^◌, ◌==◌, List, length, map, filter, All, slice_get, Some}
 use Rattle.std.specs.List.{zip, range_with_len, sum_by}
-use Rattle.prefix_lattice.specs.RecordValue.{RecordValue}
+use Rattle.prefix_lattice.specs.{RecordValue}
 use Rattle.deal_rules.specs.declared.deal_kind.DealKind.{DealKind}
 use Rattle.deal_rules.specs.Rule.{MayBeDealt}
 

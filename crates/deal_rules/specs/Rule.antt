@@ -1,6 +1,6 @@
 -- What a rule of dealing is asked, and what it may answer.
 use Rattle.std.specs.Prelude.{ℕ, ◌≡◌, ◌%◌, ◌^◌, ◌<◌, ◌≤◌}
-use Rattle.prefix_lattice.specs.RecordValue.{RecordValue}
+use Rattle.prefix_lattice.specs.{RecordValue}
 use Rattle.deal_rules.specs.declared.deal_kind.DealKind.{DealKind}
 use Rattle.deal_rules.specs.declared.deal_kind.DealKind.TheVariants.{RoundRobin, BySource}
 

@@ -1,7 +1,7 @@
 //! Choosing a dealer.
 
 ghost use Rattle.std.specs.Prelude.{◌≡◌};
-ghost use Rattle.deal_rules.specs.Kinds.{dealer_of};
+ghost use Rattle.deal_rules.specs.Dealers.{dealer_of};
 
 use crate::{DealKind, Dealer, Dealers, Deals};
 

@@ -1,7 +1,7 @@
 //! A stored rule of dealing.
 
 ghost use Rattle.std.specs.Prelude.{◌≡◌, ◌↔◌, ℕ, ◌<◌, ◌≤◌};
-ghost use Rattle.prefix_lattice.specs.RecordValue.{RecordValue};
+ghost use Rattle.prefix_lattice.specs.{RecordValue};
 ghost use Rattle.deal_rules.specs.declared.deal_kind.DealKind.{DealKind};
 ghost use Rattle.deal_rules.specs.Rule.{IsAsked, IsOfKind, MayBeDealt};
 

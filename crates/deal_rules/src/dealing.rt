@@ -3,9 +3,7 @@
 ghost use Rattle.std.specs.Prelude.{◌≡◌, ℕ, ◌≤◌, List, [], length, IfOk};
 ghost use Rattle.std.specs.List.{flat_map, sum_by};
 ghost use Rattle.std.specs.List.Sorted.{IsPermutation};
-ghost use Rattle.prefix_lattice.specs.PrefixValue.{PrefixValue};
-ghost use Rattle.prefix_lattice.specs.RecordValue.{RecordValue};
-ghost use Rattle.prefix_lattice.specs.Prefix.{weight_of, total_weight};
+ghost use Rattle.prefix_lattice.specs.{PrefixValue, weight_of, total_weight, RecordValue};
 ghost use Rattle.deal_rules.specs.Dealing.{AreDealt, IsDealing, dealt_lists};
 
 use crate::{Dealer, Deals, Dealt};

@@ -15,7 +15,7 @@ pub struct Dealt {
 
 impl Model for Dealt {
     ghost use Rattle.std.specs.Prelude.{List};
-    ghost use Rattle.prefix_lattice.specs.RecordValue.{RecordValue};
+    ghost use Rattle.prefix_lattice.specs.{RecordValue};
     ghost use Rattle.deal_rules.specs.Dealing.{AreShardLists};
 
     ghost Value = { List (List RecordValue) };

@@ -1,7 +1,7 @@
 -- Worked examples of the records of frames, each by computing.
 use Rattle.std.proofs.Common.{◌≡◌, ℕ, true, false, List, [], ◌∷◌, ◌++◌, take, length, Some, None, Ok, Err, refl}
-use Rattle.prefix_lattice.specs.RecordValue.{RecordValue}
-use Rattle.pcap_frames.specs.FrameValue.{FrameValue}
+use Rattle.prefix_lattice.specs.{RecordValue}
+use Rattle.pcap_frames.specs.{FrameValue}
 use Rattle.frame_records.specs.FrameRecord.{has_tag_at, tag_bytes, network_place, begins_ipv4, skip_at, skip_of, weight_of_frame, record_at, unless_skipped, record_of, records_of, is_skipped, skipped}
 use Rattle.frame_records.specs.declared.weigh.Weigh.TheVariants.{Bytes, Packets}
 use Rattle.frame_records.specs.declared.skip.Skip.TheVariants.{NotIpv4, Short, BadHeader}

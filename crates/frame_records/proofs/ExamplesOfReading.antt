@@ -2,15 +2,14 @@
 use Rattle.std.proofs.Common.{ℕ, ◌≡◌, ◌-◌, ◌^◌, true, false, List, [], ◌∷◌, Some, None, Err, inl, inr, refl, arith}
 use Rattle.pcap_frames.specs.declared.fault.FaultKind.TheVariants.{ShortHeader}
 use Rattle.pcap_frames.specs.declared.fault.ReadRefusal.TheVariants.{Capture, ReadFault, OutOfMemory}
-use Rattle.pcap_frames.specs.FrameValue.{FrameValue}
-use Rattle.pcap_frames.specs.Header.{header_fault, fault_at}
+use Rattle.pcap_frames.specs.{FrameValue, header_fault, fault_at}
 use Rattle.frame_records.specs.CaptureFile.{HasFrames, IsRefusedFor}
 use Rattle.frame_records.specs.declared.records.Records.{Records}
 use Rattle.frame_records.specs.declared.skip.Skip.TheVariants.{Short, BadHeader}
 use Rattle.frame_records.specs.declared.weigh.Weigh.TheVariants.{Bytes, Packets}
 use Rattle.frame_records.specs.FrameRecord.{record_of}
-use Rattle.frame_records.specs.Kept.{weigh_by, capped, KeepsRecordsOf, with_skip, after_frame}
-use Rattle.frame_records.specs.Reading.{AreRecordsOf, HasRecords, HasRefused, HasReadFront}
+use Rattle.frame_records.specs.RecordVisitor.{weigh_by, capped, KeepsRecordsOf, with_skip, after_frame}
+use Rattle.frame_records.specs.Records.{AreRecordsOf, HasRecords, HasRefused, HasReadFront}
 use Rattle.frame_records.proofs.Examples.{plain, arp, weighing}
 
 abbrev frames : List FrameValue

@@ -1,3 +1,3 @@
-pub mod Keeping
+pub mod RecordVisitorLemmas
 pub mod Examples
 pub mod ExamplesOfReading

@@ -1,8 +1,7 @@
 -- Files, as crates above see them: which frames are taken from a file, and for which fault it is refused.
 use Rattle.std.specs.Prelude.{ℕ, List}
 use Rattle.pcap_frames.specs.declared.fault.CaptureFault.{CaptureFault}
-use Rattle.pcap_frames.specs.FrameValue.{FrameValue}
-use Rattle.pcap_frames.specs.Capture.{IsCapture, HasFault}
+use Rattle.pcap_frames.specs.{FrameValue, IsCapture, HasFault}
 
 -- these are the frames taken from a file: it is a capture of them
 abbrev pub HasFrames : List ℕ → List FrameValue → Type 0

@@ -4,8 +4,8 @@ use Rattle.std.specs.Prelude.{ℕ, ◌+◌, ◌-◌, ◌/◌, ◌%◌, ◌==◌,
 use Rattle.std.specs.List.{filter_map}
 use Rattle.std.specs.Result.{result_ok}
 use Rattle.byteorder.specs.Endian.{big_from}
-use Rattle.prefix_lattice.specs.RecordValue.{RecordValue}
-use Rattle.pcap_frames.specs.FrameValue.{FrameValue}
+use Rattle.prefix_lattice.specs.{RecordValue}
+use Rattle.pcap_frames.specs.{FrameValue}
 use Rattle.frame_records.specs.declared.weigh.Weigh.{Weigh}
 use Rattle.frame_records.specs.declared.weigh.Weigh.TheVariants.{Bytes, Packets}
 use Rattle.frame_records.specs.declared.skip.Skip.{Skip}

@@ -1,5 +1,9 @@
 pub mod CaptureFile
 pub mod FrameRecord
-pub mod Reading
+pub mod Records
 -- within the crate
-pub mod Kept
+pub mod RecordVisitor
+-- the face: what contracts of other crates cite
+pub use Rattle.frame_records.specs.CaptureFile.{HasFrames, IsRefusedFor}
+pub use Rattle.frame_records.specs.FrameRecord.{records_of}
+pub use Rattle.frame_records.specs.Records.{AreRecordsOf, HasRecords}

@@ -2,7 +2,7 @@
 
 ghost use Rattle.std.specs.Prelude.{◌≡◌, ◌≤◌, ◌+◌, min, length};
 ghost use Rattle.byteorder.specs.Endian.{big_from};
-ghost use Rattle.pcap_frames.specs.Frame.{content_of};
+ghost use Rattle.pcap_frames.specs.{content_of};
 ghost use Rattle.frame_records.specs.FrameRecord.{record_of, has_tag_at, tag_bytes, begins_ipv4};
 
 use crate::{Skip, Weigh};

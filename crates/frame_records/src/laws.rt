@@ -1,7 +1,7 @@
 //! What holds of files as crates above see them, each law the contract of a function that does nothing.
 
 ghost use Rattle.std.specs.Prelude.{◌≡◌, ◌⊎◌, ℕ, List};
-ghost use Rattle.pcap_frames.specs.FrameValue.{FrameValue};
+ghost use Rattle.pcap_frames.specs.{FrameValue};
 ghost use Rattle.pcap_frames.specs.declared.fault.CaptureFault.{CaptureFault};
 ghost use Rattle.frame_records.specs.CaptureFile.{HasFrames, IsRefusedFor};
 

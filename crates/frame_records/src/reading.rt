@@ -2,8 +2,8 @@
 
 ghost use Rattle.std.specs.Prelude.{◌≡◌, ◌≤◌, ◌<◌, vec_len, length, IfOk, IfErr, OnOk, OnErr, IsErrOf};
 ghost use Rattle.std.specs.Io.KnownBytes.{IsAtEnd};
-ghost use Rattle.frame_records.specs.Reading.{HasRecords, HasRefused, HasReadFront};
-ghost use Rattle.frame_records.specs.Kept.{weigh_by};
+ghost use Rattle.frame_records.specs.Records.{HasRecords, HasRefused, HasReadFront};
+ghost use Rattle.frame_records.specs.RecordVisitor.{weigh_by};
 
 use crate::record_visitor::RecordVisitor;
 use crate::{Records, Weigh};

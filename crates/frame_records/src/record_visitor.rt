@@ -1,9 +1,8 @@
 //! A visitor that keeps the records of the frames that it saw.
 
 ghost use Rattle.std.specs.Prelude.{◌≡◌, [], ◌∷◌, OnOk, OnErr};
-ghost use Rattle.pcap_frames.specs.Frame.{content_of};
-ghost use Rattle.pcap_frames.specs.Visitor.{Sees};
-ghost use Rattle.frame_records.specs.Kept.{KeepsRecordsOf, weigh_by};
+ghost use Rattle.pcap_frames.specs.{content_of, Sees};
+ghost use Rattle.frame_records.specs.RecordVisitor.{KeepsRecordsOf, weigh_by};
 
 use crate::{Records, Weigh, record_of};
 use pcap_frames::{Frame, FrameVisitor};

@@ -21,7 +21,7 @@ pub struct Records {
 
 impl Records {
     ghost use Rattle.std.specs.Prelude.{◌≡◌, OnOk, OnErr};
-    ghost use Rattle.frame_records.specs.Kept.{after_frame, with_skip};
+    ghost use Rattle.frame_records.specs.RecordVisitor.{after_frame, with_skip};
 
     /// Takes the record of the next frame, or why it has none. After an `Err` all is as before.
     pub(crate) fn take(&mut self, outcome: Result<Record, Skip>) -> Result<(), AllocError>

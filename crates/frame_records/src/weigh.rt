@@ -2,7 +2,7 @@
 
 ghost use Rattle.std.specs.Prelude.{◌≡◌};
 ghost use Rattle.frame_records.specs.FrameRecord.{weight_of_frame};
-ghost use Rattle.pcap_frames.specs.Frame.{content_of};
+ghost use Rattle.pcap_frames.specs.{content_of};
 
 use pcap_frames::Frame;
 

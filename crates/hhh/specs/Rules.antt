@@ -1,6 +1,6 @@
 -- The three rules by which the program deals records to shards.
 use Rattle.std.specs.Prelude.{ℕ, ◌%◌, bit_xor}
-use Rattle.prefix_lattice.specs.RecordValue.{RecordValue}
+use Rattle.prefix_lattice.specs.{RecordValue}
 use Rattle.deal_rules.specs.declared.deal_kind.DealKind.{DealKind}
 use Rattle.deal_rules.specs.declared.deal_kind.DealKind.TheVariants.{RoundRobin, BySource, Free}
 

@@ -2,7 +2,7 @@
 
 ghost use Rattle.std.specs.Prelude.{◌≡◌, ◌<◌, ◌≤◌, length, take, None, IfOk};
 ghost use Rattle.std.specs.Io.KnownBytes.{Appends, WriteAppends};
-ghost use Rattle.outside_io.specs.Faults.{FailsByFault};
+ghost use Rattle.outside_io.specs.{FailsByFault};
 
 use outside_io::{Failed, Sink};
 use std::io::{ErrorKind, Write};

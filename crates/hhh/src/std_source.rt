@@ -2,7 +2,7 @@
 
 ghost use Rattle.std.specs.Prelude.{◌≡◌, ◌≤◌, ◌<◌, length, vec_len, drop, None, IfOk};
 ghost use Rattle.std.specs.Io.KnownBytes.{ReadConsumes};
-ghost use Rattle.outside_io.specs.Faults.{FailsByFault};
+ghost use Rattle.outside_io.specs.{FailsByFault};
 
 use outside_io::{Failed, Source};
 use std::alloc::{AllocError, Global};

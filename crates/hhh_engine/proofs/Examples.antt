@@ -1,16 +1,13 @@
 -- Worked examples of what is written for a capture of one packet.
 use Rattle.std.proofs.Common.{◌≡◌, ℕ, List, [], ◌∷◌, ◌++◌, refl, codes, arith}
 use Rattle.std.specs.Fmt.{digits}
-use Rattle.prefix_lattice.specs.RecordValue.{RecordValue}
-use Rattle.prefix_lattice.specs.PrefixValue.{PrefixValue}
+use Rattle.prefix_lattice.specs.{RecordValue, PrefixValue}
 use Rattle.pcap_frames.specs.declared.file_order.FileOrder.TheVariants.{Little}
-use Rattle.pcap_frames.specs.FileOrder.{number_at}
-use Rattle.pcap_frames.specs.FrameValue.{FrameValue}
-use Rattle.pcap_frames.specs.Header.{magic_order}
-use Rattle.frame_records.specs.CaptureFile.{HasFrames}
+use Rattle.pcap_frames.specs.{number_at, FrameValue, magic_order}
+use Rattle.frame_records.specs.{HasFrames}
 use Rattle.frame_records.specs.declared.weigh.Weigh.TheVariants.{Bytes, Packets}
-use Rattle.hhh_engine.specs.Reporting.{start_of}
-use Rattle.hhh_engine.specs.Weighing.{weigh_capacity, weigh_text, text_for, IsWeightText}
+use Rattle.hhh_engine.specs.Session.{start_of}
+use Rattle.hhh_engine.specs.WeightText.{weigh_capacity, weigh_text, text_for, IsWeightText}
 
 -- 100 bytes from 10.1.2.3 to 20.1.2.3
 abbrev packet : RecordValue

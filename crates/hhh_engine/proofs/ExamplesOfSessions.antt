@@ -3,36 +3,27 @@ use Rattle.std.proofs.Common.{◌≡◌, ◌%◌, ℕ, List, [], ◌∷◌, ◌+
 use Rattle.std.specs.Fmt.{digits}
 use Rattle.std.proofs.lemmas.List.{get_or-replicate}
 use Rattle.std.proofs.lemmas.List.Elements.{All-nil, All-head, All-replicate}
-use Rattle.prefix_lattice.specs.RecordValue.{RecordValue}
-use Rattle.prefix_lattice.specs.NodeValue.{NodeValue, IsNode, index_of}
-use Rattle.prefix_lattice.specs.Prefix.{node_of, key_of}
+use Rattle.prefix_lattice.specs.{RecordValue, NodeValue, IsNode, index_of, node_of, key_of}
 use Rattle.deal_rules.specs.declared.deal_kind.DealKind.TheVariants.{RoundRobin}
-use Rattle.deal_rules.specs.Dealing.{IsDealing}
-use Rattle.shard_state.specs.SnapshotValue.{SnapshotValue, no_entries, empty_snapshot, entries_at, table_at}
-use Rattle.space_saving.specs.Table.{interval_in}
-use Rattle.shard_state.specs.CutValue.{CutValue}
-use Rattle.shard_state.specs.Standing.{SnapshotStandsFor}
-use Rattle.hhh_output.specs.Lines.{AreLines}
-use Rattle.hhh_output.specs.Output.{IsLineOf, IsReportOf}
-use Rattle.hhh_output.specs.Sound.{IsSound}
-use Rattle.hhh_output.specs.Threshold.{IsThreshold}
+use Rattle.deal_rules.specs.{IsDealing}
+use Rattle.shard_state.specs.{SnapshotValue, no_entries, empty_snapshot, entries_at, table_at, SnapshotStandsFor, CutValue}
+use Rattle.space_saving.specs.{interval_in}
+use Rattle.hhh_output.specs.{AreLines, IsLineOf, IsReportOf, IsSound, IsThreshold}
 use Rattle.hhh_output.specs.declared.line.Line.{Line}
 use Rattle.hhh_output.specs.declared.report.Report.{Report}
 use Rattle.pcap_frames.specs.declared.file_order.FileOrder.TheVariants.{Little}
 use Rattle.pcap_frames.specs.declared.fault.FaultKind.TheVariants.{ShortHeader}
-use Rattle.pcap_frames.specs.FileOrder.{number_at}
-use Rattle.pcap_frames.specs.Header.{magic_order, header_fault, fault_at}
-use Rattle.frame_records.specs.CaptureFile.{HasFrames}
+use Rattle.pcap_frames.specs.{number_at, magic_order, header_fault, fault_at}
+use Rattle.frame_records.specs.{HasFrames}
 use Rattle.frame_records.specs.declared.records.Records.{Records}
 use Rattle.frame_records.specs.declared.weigh.Weigh.TheVariants.{Bytes}
-use Rattle.command_words.specs.Words.{AskFor}
+use Rattle.command_words.specs.{AskFor}
 use Rattle.command_words.specs.declared.command.Command.{Command}
 use Rattle.command_words.specs.declared.command.Command.TheVariants.{Weigh, Report as report_command}
 use Rattle.command_words.specs.declared.settings.Settings.{Settings}
-use Rattle.hhh_engine.specs.Answers.{IsAnswer, Answers, AnswersInPart}
+use Rattle.hhh_engine.specs.Answer.{IsAnswer, Answers, AnswersInPart, AskSomething, TellsCapture}
 use Rattle.hhh_engine.specs.NoText.{HasNoText}
-use Rattle.hhh_engine.specs.Outcome.{AskSomething, TellsCapture}
-use Rattle.hhh_engine.specs.Reporting.{Rules, IsCutAtEnds, start_of, session_text, IsReportAtEnds, IsSession}
+use Rattle.hhh_engine.specs.Session.{Rules, IsCutAtEnds, start_of, session_text, IsReportAtEnds, IsSession}
 use Rattle.hhh_engine.specs.declared.status.Status.TheVariants.{Done, BadCapture, ReadFault, OutOfMemory}
 use Rattle.hhh_engine.proofs.Examples.{header}
 

@@ -7,8 +7,7 @@ use Rattle.pcap_frames.specs.declared.fault.ReadRefusal.TheVariants as refusals
 use Rattle.command_words.specs.declared.opt.Opt.TheVariants.{Shards}
 use Rattle.command_words.specs.declared.words_kind.WordsKind.TheVariants.{Refused, OutOfLimits, Bound}
 use Rattle.command_words.specs.declared.words_kind.WordsRefusal.TheVariants as words
-use Rattle.hhh_engine.specs.StatusLine.{words_text, fault_text, status_text, line_of}
-use Rattle.hhh_engine.specs.StatusOf.{number_of, status_of, status_of_words}
+use Rattle.hhh_engine.specs.Status.{words_text, fault_text, status_text, line_of, number_of, status_of, status_of_words}
 use Rattle.hhh_engine.specs.declared.status.Status.TheVariants.{Done, BadWords, BadCapture, WriteFault}
 
 -- a capture that ends inside its first frame

@@ -1,8 +1,8 @@
-pub mod Ending
-pub mod Widening
-pub mod Ends
-pub mod Sessions
-pub mod Parts
+pub mod StatusLemmas
+pub mod WiderRulesLemmas
+pub mod CutAtEndsLemmas
+pub mod SessionLemmas
+pub mod WeightTextLemmas
 pub mod Examples
 pub mod ExamplesOfSessions
 pub mod ExamplesOfStatuses

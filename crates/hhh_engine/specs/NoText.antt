@@ -1,7 +1,7 @@
 -- Why a command has no text, which no public contract cites.
 use Rattle.std.specs.Prelude.{⊤, ℕ, List, Option, IfSome}
-use Rattle.outside_io.specs.Faults.{Rose}
-use Rattle.frame_records.specs.CaptureFile.{IsRefusedFor}
+use Rattle.outside_io.specs.{Rose}
+use Rattle.frame_records.specs.{IsRefusedFor}
 use Rattle.hhh_engine.specs.declared.status.Status.{Status}
 use Rattle.hhh_engine.specs.declared.status.Status.TheVariants.{BadCapture, ReadFault, OutOfMemory}
 

@@ -1,9 +1,9 @@
 //! Counting all records of the shards, in the calling thread.
 
 ghost use Rattle.std.specs.Prelude.{◌≡◌, ◌^◌, ◌≤◌, All, length, IfOk};
-ghost use Rattle.deal_rules.specs.Dealing.{AreShardLists};
-ghost use Rattle.shard_state.specs.SnapshotValue.{empty_snapshot};
-ghost use Rattle.hhh_engine.specs.Reporting.{IsCutAtEnds};
+ghost use Rattle.deal_rules.specs.{AreShardLists};
+ghost use Rattle.shard_state.specs.{empty_snapshot};
+ghost use Rattle.hhh_engine.specs.Session.{IsCutAtEnds};
 
 use deal_rules::Dealt;
 use prefix_lattice::RecordList;

@@ -1,11 +1,11 @@
 //! Laws of what commands write, each the contract of a function that does nothing.
 
 ghost use Rattle.std.specs.Prelude.{◌≡◌, ℕ, List, Option};
-ghost use Rattle.prefix_lattice.specs.RecordValue.{RecordValue};
-ghost use Rattle.deal_rules.specs.Kinds.{dealer_of};
+ghost use Rattle.prefix_lattice.specs.{RecordValue};
+ghost use Rattle.deal_rules.specs.{dealer_of};
 ghost use Rattle.deal_rules.specs.declared.deal_kind.DealKind.{DealKind};
-ghost use Rattle.hhh_engine.specs.Answers.{Answers, AnswersInPart};
-ghost use Rattle.hhh_engine.specs.Reporting.{by_formula};
+ghost use Rattle.hhh_engine.specs.Answer.{Answers, AnswersInPart};
+ghost use Rattle.hhh_engine.specs.Session.{by_formula};
 
 use deal_rules::{Dealer, Dealers, Deals};
 

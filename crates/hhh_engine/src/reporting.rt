@@ -2,15 +2,13 @@
 
 ghost use Rattle.std.specs.Prelude.{◌≡◌, ◌≤◌, ◌++◌, length, IfOk, IfErr, IfSome, OnOk, IsErrOf};
 ghost use Rattle.std.specs.Io.KnownBytes.{IsAtEnd};
-ghost use Rattle.deal_rules.specs.Dealing.{IsDealing};
-ghost use Rattle.deal_rules.specs.Kinds.{dealer_of};
+ghost use Rattle.deal_rules.specs.{IsDealing, dealer_of};
 ghost use Rattle.hhh_engine.specs.NoText.{HasNoText};
-ghost use Rattle.hhh_engine.specs.Reporting.{IsReportAtEnds, IsSession, start_of};
+ghost use Rattle.hhh_engine.specs.Session.{IsReportAtEnds, IsSession, start_of};
 ghost use Rattle.hhh_output.specs.declared.report.Report.{Report};
-ghost use Rattle.report_text.specs.Positions.{ArePositions};
-ghost use Rattle.report_text.specs.Text.{mark_text, report_text};
+ghost use Rattle.report_text.specs.{ArePositions, mark_text, report_text};
 ghost use Rattle.report_text.specs.declared.mark.Mark.TheVariants.{Opened};
-ghost use Rattle.command_words.specs.Settings.{AreLimited, IsWide};
+ghost use Rattle.command_words.specs.{AreLimited, IsWide};
 
 use crate::folding::cut_at_ends;
 use crate::{Settings, Status};

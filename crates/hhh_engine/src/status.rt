@@ -1,7 +1,7 @@
 //! How the program ended.
 
 ghost use Rattle.std.specs.Prelude.{◌≡◌};
-ghost use Rattle.hhh_engine.specs.StatusOf.{status_of, status_of_words, number_of};
+ghost use Rattle.hhh_engine.specs.Status.{status_of, status_of_words, number_of};
 
 use command_words::{WordsKind, WordsRefusal};
 use pcap_frames::{CaptureFault, ReadRefusal};

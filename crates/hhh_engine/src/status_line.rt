@@ -1,7 +1,7 @@
 //! The line that tells how a command ended.
 
 ghost use Rattle.std.specs.Prelude.{◌≡◌, ◌++◌, codes, decimal, IfOk, OnOk};
-ghost use Rattle.hhh_engine.specs.StatusLine.{line_of, status_text, words_text, fault_text};
+ghost use Rattle.hhh_engine.specs.Status.{line_of, status_text, words_text, fault_text};
 
 use crate::decimal_text::push_number;
 use crate::{Status, WordsKind};

@@ -1,5 +1,5 @@
 ghost use Rattle.std.specs.Prelude.{◌≡◌, ◌%◌, bit_xor};
-ghost use Rattle.deal_rules.specs.Rule.{IsAsked};
+ghost use Rattle.deal_rules.specs.{IsAsked};
 
 mod captures;
 mod refusals;

@@ -2,15 +2,14 @@
 
 ghost use Rattle.std.specs.Prelude.{◌≡◌, ◌⊎◌, ℕ, List, Some, IfSome, IfOk, IfErr, OnOk, IsErrOf};
 ghost use Rattle.std.specs.Io.KnownBytes.{IsAtEnd};
-ghost use Rattle.outside_io.specs.Faults.{Rose};
-ghost use Rattle.frame_records.specs.CaptureFile.{IsRefusedFor};
+ghost use Rattle.outside_io.specs.{Rose};
+ghost use Rattle.frame_records.specs.{IsRefusedFor};
 ghost use Rattle.pcap_frames.specs.declared.fault.CaptureFault.{CaptureFault};
-ghost use Rattle.deal_rules.specs.Kinds.{dealer_of};
-ghost use Rattle.command_words.specs.Words.{texts, HasWordsFault, IsLimited};
+ghost use Rattle.deal_rules.specs.{dealer_of};
+ghost use Rattle.command_words.specs.{texts, HasWordsFault, IsLimited};
 ghost use Rattle.command_words.specs.declared.words_kind.WordsKind.{WordsKind};
-ghost use Rattle.hhh_engine.specs.Answers.{IsAnswer, Answers, AnswersInPart};
+ghost use Rattle.hhh_engine.specs.Answer.{IsAnswer, Answers, AnswersInPart, AskSomething, TellsCapture};
 ghost use Rattle.hhh_engine.specs.NoText.{HasNoText};
-ghost use Rattle.hhh_engine.specs.Outcome.{AskSomething, TellsCapture};
 ghost use Rattle.hhh_engine.specs.declared.status.Status.TheVariants.{Done, BadWords, BadCapture, ReadFault, WriteFault, OutOfMemory};
 
 use crate::Status;

@@ -2,11 +2,10 @@
 
 ghost use Rattle.std.specs.Prelude.{◌≡◌, ◌≤◌, ◌^◌, List, length, All, IfOk, IfErr, IfSome, OnOk, IsErrOf};
 ghost use Rattle.std.specs.Io.KnownBytes.{IsAtEnd};
-ghost use Rattle.prefix_lattice.specs.RecordValue.{RecordValue};
-ghost use Rattle.shard_state.specs.Tables.{records_table};
-ghost use Rattle.shard_state.specs.Weights.{HoldsWeightOver};
+ghost use Rattle.prefix_lattice.specs.{RecordValue};
+ghost use Rattle.shard_state.specs.{records_table, HoldsWeightOver};
 ghost use Rattle.hhh_engine.specs.NoText.{HasNoText};
-ghost use Rattle.hhh_engine.specs.Weighing.{text_for, weigh_capacity, weigh_text, IsWeightText};
+ghost use Rattle.hhh_engine.specs.WeightText.{text_for, weigh_capacity, weigh_text, IsWeightText};
 
 use crate::decimal_text::push_number;
 use crate::{Settings, Status};

@@ -8,21 +8,12 @@ use Rattle.std.proofs.lemmas.List.Kept.{AllPairs-cons}
 use Rattle.std.specs.Prelude.{slice_index_or, slice_index}
 use Rattle.std.specs.declared.cmp.Ordering.{Ordering}
 use Rattle.std.specs.declared.cmp.Ordering.TheVariants.{Less, Equal, Greater}
-use Rattle.prefix_lattice.specs.RecordValue.{RecordValue}
-use Rattle.prefix_lattice.specs.NodeValue.{index_of}
-use Rattle.prefix_lattice.specs.Bytes.{begins_with}
-use Rattle.prefix_lattice.specs.PrefixValue.{PrefixValue, IsPrefix}
-use Rattle.prefix_lattice.specs.Prefix.{covers, weight_of, node_of, key_of}
-use Rattle.prefix_lattice.specs.Lattice.{under, report_order}
-use Rattle.prefix_lattice.specs.Explaining.{conditioned_weight}
-use Rattle.shard_state.specs.Tables.{fold_from}
-use Rattle.shard_state.specs.SnapshotValue.{no_entries, empty_snapshot}
-use Rattle.shard_state.specs.CutValue.{CutValue}
-use Rattle.cut_merge.specs.Tables.{monitored_keys}
+use Rattle.prefix_lattice.specs.{RecordValue, index_of, begins_with, PrefixValue, IsPrefix, covers, weight_of, node_of, key_of, under, report_order, conditioned_weight}
+use Rattle.shard_state.specs.{fold_from, no_entries, empty_snapshot, CutValue}
+use Rattle.cut_merge.specs.{monitored_keys}
 use Rattle.hhh_output.specs.Lines.{prefixes_of, AreLines}
-use Rattle.hhh_output.specs.Output.{IsMonitored, low_in, high_in, IsUnexplained, IsLineOf, IsReportOf}
-use Rattle.hhh_output.specs.Same.{AreSame}
-use Rattle.hhh_output.specs.Sound.{HoldsWeight, IsNarrow, IsJustified, IsSound}
+use Rattle.hhh_output.specs.Report.{IsMonitored, low_in, high_in, IsUnexplained, IsLineOf, IsReportOf, AreSame}
+use Rattle.hhh_output.specs.SoundReport.{HoldsWeight, IsNarrow, IsJustified, IsSound}
 use Rattle.hhh_output.specs.Threshold.{IsHeavy, IsThreshold}
 use Rattle.hhh_output.specs.declared.line.Line.{Line}
 use Rattle.hhh_output.specs.declared.report.Report.{Report}

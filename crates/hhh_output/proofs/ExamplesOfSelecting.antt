@@ -5,13 +5,8 @@ use Rattle.std.proofs.lemmas.Int.{ints}
 use Rattle.std.proofs.lemmas.List.Elements.{All-nil, All-cons}
 use Rattle.std.proofs.lemmas.List.Kept.{AllPairs-cons}
 use Rattle.std.specs.Map.{keys_of}
-use Rattle.prefix_lattice.specs.NodeValue.{NodeValue, index_of}
-use Rattle.prefix_lattice.specs.PrefixValue.{PrefixValue}
-use Rattle.prefix_lattice.specs.Prefix.{node_of, key_of}
-use Rattle.prefix_lattice.specs.Key.{IsKeyOf}
-use Rattle.cut_merge.specs.NodeMergeValue.{NodeMergeValue}
-use Rattle.cut_merge.specs.MergedValue.{MergedValue}
-use Rattle.cut_merge.specs.Standing.{nothing_merged, candidates_at}
+use Rattle.prefix_lattice.specs.{NodeValue, index_of, PrefixValue, node_of, key_of, IsKeyOf}
+use Rattle.cut_merge.specs.{NodeMergeValue, MergedValue, nothing_merged, candidates_at}
 use Rattle.hhh_output.specs.declared.line.Line.{Line}
 use Rattle.hhh_output.specs.Selecting.{merged_low, merged_high, IsMergedLine, IsSelected, most_candidates, AreCandidates, nodes_before, nodes_down, AreDistinct, AreOfLevel, AreDownTo}
 use Rattle.hhh_output.proofs.Examples.{root, whole, whole_is_prefix, own, of_all, alike}

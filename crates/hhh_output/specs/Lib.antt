@@ -1,7 +1,11 @@
 pub mod Threshold
 pub mod Lines
-pub mod Output
-pub mod Sound
-pub mod Same
+pub mod Report
+pub mod SoundReport
 -- within the crate
 pub mod Selecting
+-- the face: what contracts of other crates cite
+pub use Rattle.hhh_output.specs.Lines.{AreLines}
+pub use Rattle.hhh_output.specs.Report.{AreSame, IsLineOf, IsReportOf}
+pub use Rattle.hhh_output.specs.SoundReport.{IsSound}
+pub use Rattle.hhh_output.specs.Threshold.{IsThreshold}

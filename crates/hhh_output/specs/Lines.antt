@@ -1,8 +1,7 @@
 -- The lines of a report.
 use Rattle.std.specs.Prelude.{◌≡◌, ◌^◌, ◌<◌, ◌≤◌, List, length, map, All, AllPairs}
 use Rattle.std.specs.declared.cmp.Ordering.TheVariants.{Less}
-use Rattle.prefix_lattice.specs.PrefixValue.{PrefixValue}
-use Rattle.prefix_lattice.specs.Lattice.{report_order}
+use Rattle.prefix_lattice.specs.{PrefixValue, report_order}
 use Rattle.hhh_output.specs.declared.line.Line.{Line}
 
 -- the prefixes of some lines

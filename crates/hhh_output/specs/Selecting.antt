@@ -1,14 +1,9 @@
 -- How the lines of a report are found among the candidates of merged tables, level by level, which no public contract cites.
 use Rattle.std.specs.Prelude.{ℕ, ◌≡◌, ◌≢◌, ◌+◌, ◌-◌, ◌*◌, ◌<◌, ◌≤◌, ◌==◌, ◌↔◌, zero, suc, List, length, if◌then◌else◌, All, AllPairs, Contains, pos, ◌≤ℤ◌}
 use Rattle.std.specs.declared.cmp.Ordering.TheVariants.{Less}
-use Rattle.prefix_lattice.specs.NodeValue.{NodeValue, IsNode, node_at, level_of}
-use Rattle.prefix_lattice.specs.PrefixValue.{PrefixValue, IsPrefix}
-use Rattle.prefix_lattice.specs.Prefix.{node_of, key_of}
-use Rattle.prefix_lattice.specs.Key.{IsKeyOf}
-use Rattle.prefix_lattice.specs.Lattice.{report_order}
-use Rattle.cut_merge.specs.MergedValue.{MergedValue}
-use Rattle.cut_merge.specs.Standing.{interval_for, candidates_at}
-use Rattle.conditioned_bounds.specs.Bounds.{bound_of}
+use Rattle.prefix_lattice.specs.{NodeValue, IsNode, node_at, level_of, PrefixValue, IsPrefix, node_of, key_of, IsKeyOf, report_order}
+use Rattle.cut_merge.specs.{MergedValue, interval_for, candidates_at}
+use Rattle.conditioned_bounds.specs.{bound_of}
 use Rattle.hhh_output.specs.declared.line.Line.{Line}
 use Rattle.hhh_output.specs.Lines.{prefixes_of}
 

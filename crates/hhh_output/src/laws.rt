@@ -1,17 +1,13 @@
 //! Laws of reports, each the contract of a function that does nothing.
 
 ghost use Rattle.std.specs.Prelude.{◌≡◌, ℕ, ◌*◌, ◌≤◌, List, All, Some, length, slice_get};
-ghost use Rattle.prefix_lattice.specs.RecordValue.{RecordValue};
-ghost use Rattle.shard_state.specs.CutValue.{CutValue, IsCut, positions_of};
-ghost use Rattle.shard_state.specs.Standing.{CutStandsFor};
-ghost use Rattle.shard_state.specs.CoreValue.{CoreValue, HasShape, IsCore, capacity_of, run};
-ghost use Rattle.shard_state.specs.Reads.{BasesStand, ReadsEach, lists_of};
+ghost use Rattle.prefix_lattice.specs.{RecordValue};
+ghost use Rattle.shard_state.specs.{CutValue, IsCut, positions_of, CutStandsFor, CoreValue, HasShape, IsCore, capacity_of, run, BasesStand, ReadsEach, lists_of};
 ghost use Rattle.shard_state.specs.declared.event.Event.{Event};
 ghost use Rattle.hhh_output.specs.declared.report.Report.{Report};
 ghost use Rattle.hhh_output.specs.Lines.{AreLines};
-ghost use Rattle.hhh_output.specs.Output.{IsReportOf};
-ghost use Rattle.hhh_output.specs.Sound.{IsSound};
-ghost use Rattle.hhh_output.specs.Same.{AreSame};
+ghost use Rattle.hhh_output.specs.Report.{IsReportOf, AreSame};
+ghost use Rattle.hhh_output.specs.SoundReport.{IsSound};
 
 use conditioned_bounds::{bounds_hold, only_prefixes_are_asked};
 use cut_merge::{spans_are_narrow, spans_hold_weights};

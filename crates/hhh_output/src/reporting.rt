@@ -1,11 +1,10 @@
 //! The report of a cut.
 
 ghost use Rattle.std.specs.Prelude.{◌≡◌, ◌*◌, ◌≤◌, ◌<◌, ◌^◌, List, All, IfOk};
-ghost use Rattle.prefix_lattice.specs.RecordValue.{RecordValue};
-ghost use Rattle.shard_state.specs.CutValue.{total_of_cut};
-ghost use Rattle.shard_state.specs.Standing.{CutStandsFor};
-ghost use Rattle.hhh_output.specs.Output.{IsReportOf};
-ghost use Rattle.hhh_output.specs.Sound.{IsSound};
+ghost use Rattle.prefix_lattice.specs.{RecordValue};
+ghost use Rattle.shard_state.specs.{total_of_cut, CutStandsFor};
+ghost use Rattle.hhh_output.specs.Report.{IsReportOf};
+ghost use Rattle.hhh_output.specs.SoundReport.{IsSound};
 
 use crate::selecting::select_lines;
 use crate::{Report, reports_are_sound, threshold};

@@ -3,9 +3,8 @@
 
 ghost use Rattle.std.specs.Prelude.{◌≡◌, ◌≢◌, ◌+◌, ◌≤◌, ◌<◌, ◌^◌, ◌↔◌, ◌⊎◌, [], ◌++◌, length, All, AllPairs, Contains, IfOk, OnOk, Some};
 ghost use Rattle.std.specs.Option.{option_to_list};
-ghost use Rattle.prefix_lattice.specs.NodeValue.{IsNode, level_of};
-ghost use Rattle.prefix_lattice.specs.Prefix.{node_of};
-ghost use Rattle.cut_merge.specs.Standing.{candidates_at};
+ghost use Rattle.prefix_lattice.specs.{IsNode, level_of, node_of};
+ghost use Rattle.cut_merge.specs.{candidates_at};
 ghost use Rattle.hhh_output.specs.declared.line.Line.{Line as LineValue};
 ghost use Rattle.hhh_output.specs.Lines.{prefixes_of};
 ghost use Rattle.hhh_output.specs.Selecting.{IsMergedLine, IsSelected, AreCandidates, AreDistinct, AreOfLevel, AreDownTo};

@@ -1,12 +1,11 @@
 -- Worked examples of the definitions, most by computing.
 use Rattle.std.proofs.Common.{◌+◌, ◌*◌, length, ◌≡◌, ◌≤◌, ℕ, List, [], ◌∷◌, true, false, zero, suc, get_or, refl, arith}
 use Rattle.std.proofs.lemmas.List.Elements.{All-from_recursion, All-head}
-use Rattle.key_index.specs.IndexValue.{Keys}
+use Rattle.key_index.specs.KeyIndex.{Keys, IsFilled, IsFilledBut, IsIndex}
 use Rattle.std.proofs.lemmas.Bool.{false≢true}
 use Rattle.key_index.specs.Paths.{home, window, path_from, path, leads_to, IsFound}
-use Rattle.key_index.specs.Indexing.{IsFilled, IsFilledBut, IsIndex}
-use Rattle.key_index.specs.CellsValue.{Cells, AreBelow, AreCells}
-use Rattle.key_index.specs.Searching.{IsOther, AreOthers, EndsAt}
+use Rattle.key_index.specs.Cells.{Cells, AreBelow, AreCells}
+use Rattle.key_index.specs.CellSearch.{IsOther, AreOthers, EndsAt}
 use Rattle.key_index.specs.declared.searching.End.TheVariants.{At, Free, Past}
 
 -- key 0 is at home first at every turn

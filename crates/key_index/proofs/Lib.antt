@@ -1,2 +1,2 @@
-pub mod Leading
+pub mod PathLemmas
 pub mod Examples

@@ -1,7 +1,6 @@
-pub use Rattle.key_index.specs.IndexValue.{Keys}
-pub mod IndexValue
+pub use Rattle.key_index.specs.KeyIndex.{Keys}
+pub mod KeyIndex
 -- within the crate
 pub mod Paths
-pub mod CellsValue
-pub mod Searching
-pub mod Indexing
+pub mod Cells
+pub mod CellSearch

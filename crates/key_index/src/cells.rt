@@ -1,7 +1,7 @@
 //! The cells of an index, which are only ever filled, until all are emptied at once.
 
 ghost use Rattle.std.specs.Prelude.{◌≡◌, ◌+◌, ◌*◌, ◌^◌, ◌<◌, ◌≤◌, ◌↔◌, ℕ, IfOk, IfSome, IfNone, IsTrue, false, length, replicate, slice_index};
-ghost use Rattle.key_index.specs.CellsValue.{AreBelow};
+ghost use Rattle.key_index.specs.Cells.{AreBelow};
 ghost use Rattle.key_index.specs.Paths.{IsFound, leads_to, path};
 
 use crate::homes::HOMES_A_KEY;
@@ -24,7 +24,7 @@ pub(crate) struct KeyCells {
 }
 
 impl Model for KeyCells {
-    ghost use Rattle.key_index.specs.CellsValue.{Cells, AreCells};
+    ghost use Rattle.key_index.specs.Cells.{Cells, AreCells};
 
     ghost Value = { Cells };
 

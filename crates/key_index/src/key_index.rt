@@ -1,7 +1,7 @@
 //! The index as a list of keys.
 
 ghost use Rattle.std.specs.Prelude.{◌≡◌, ◌≢◌, ◌+◌, ◌*◌, ◌^◌, ◌<◌, ◌≤◌, ◌++◌, ◌∷◌, [], ℕ, All, IfOk, MatchOption, Some, length, slice_get, slice_set};
-ghost use Rattle.key_index.specs.Indexing.{IsFilled, IsFilledBut};
+ghost use Rattle.key_index.specs.KeyIndex.{IsFilled, IsFilledBut};
 
 use crate::cells::KeyCells;
 use std::alloc::{AllocError, Global};
@@ -17,8 +17,7 @@ pub struct KeyIndex {
 
 impl Model for KeyIndex {
     ghost use Rattle.std.specs.Prelude.{vec_capacity};
-    ghost use Rattle.key_index.specs.IndexValue.{Keys};
-    ghost use Rattle.key_index.specs.Indexing.{IsIndex};
+    ghost use Rattle.key_index.specs.KeyIndex.{Keys, IsIndex};
 
     ghost Value = { Keys };
 

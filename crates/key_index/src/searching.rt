@@ -1,9 +1,9 @@
 //! Walks over the cells of an index. A free cell holds 0, another a place among the keys and 1 more.
 
 ghost use Rattle.std.specs.Prelude.{◌≡◌, ◌≢◌, ◌+◌, ◌*◌, ◌^◌, ◌<◌, ◌≤◌, ℕ, IfSome, IfNone, false, true, length, slice_index, slice_set};
-ghost use Rattle.key_index.specs.CellsValue.{AreBelow};
+ghost use Rattle.key_index.specs.Cells.{AreBelow};
 ghost use Rattle.key_index.specs.Paths.{leads_to, path};
-ghost use Rattle.key_index.specs.Searching.{EndsAt};
+ghost use Rattle.key_index.specs.CellSearch.{EndsAt};
 
 use crate::homes::{TURNS, WINDOW, home_of};
 

@@ -2,10 +2,8 @@
 use Rattle.std.proofs.Common.{ℕ, ◌≡◌, ◌-◌, ◌^◌, [], ◌∷◌, length, length-append, ap, None, Some, Ok, Err, true, false, refl, arith}
 use Rattle.outside_io.specs.Faults.{counted, Rose, FailsByFault}
 use Rattle.outside_io.specs.Pieces.{IsBeginning, AppendsBeginning}
-use Rattle.outside_io.specs.MemorySinkState.{MemorySinkState}
-use Rattle.outside_io.specs.MemorySink.{room_left, write_fails, accepted, sink_after_fault, sink_after_bytes}
-use Rattle.outside_io.specs.MemorySourceState.{MemorySourceState}
-use Rattle.outside_io.specs.MemorySource.{read_fails, given, source_after_fault, source_after_bytes}
+use Rattle.outside_io.specs.MemorySink.{MemorySinkState, room_left, write_fails, accepted, sink_after_fault, sink_after_bytes}
+use Rattle.outside_io.specs.MemorySource.{MemorySourceState, read_fails, given, source_after_fault, source_after_bytes}
 
 pub first_fault_is_counted : counted 0 ≡ 1
 first_fault_is_counted = refl

@@ -1,3 +1,3 @@
-pub mod Sending
-pub mod Giving
+pub mod PieceLemmas
+pub mod MemorySourceLemmas
 pub mod Examples

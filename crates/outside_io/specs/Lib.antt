@@ -1,6 +1,7 @@
 pub mod Faults
-pub mod MemorySinkState
 pub mod MemorySink
-pub mod MemorySourceState
 pub mod MemorySource
 pub mod Pieces
+-- the face: what contracts of other crates cite
+pub use Rattle.outside_io.specs.Faults.{FailsByFault, Rose}
+pub use Rattle.outside_io.specs.Pieces.{AppendsBeginning, IsBeginning}

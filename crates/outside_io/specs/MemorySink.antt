@@ -1,8 +1,15 @@
--- What a call of a sink in memory does.
-use Rattle.std.specs.Prelude.{ℕ, ◌-◌, Bool, ◌==◌, ◌||◌, ◌&&◌, nat_lt, min, List, ◌++◌, length, take}
+-- What a test sees of a sink in memory.
+use Rattle.std.specs.Prelude.{ℕ, List, ◌-◌, Bool, ◌==◌, ◌||◌, ◌&&◌, nat_lt, min, ◌++◌, length, take}
 use Rattle.std.specs.List.{list_any}
 use Rattle.outside_io.specs.Faults.{counted}
-use Rattle.outside_io.specs.MemorySinkState.{MemorySinkState}
+
+-- the bytes taken, the most it takes in all, the numbers of the calls that fail, the calls so far and those that failed
+pub record MemorySinkState : Type 0 where
+  pub taken : List ℕ
+  pub room : ℕ
+  pub fails : List ℕ
+  pub calls : ℕ
+  pub faults : ℕ
 
 -- how many bytes the sink can still take
 abbrev pub room_left : MemorySinkState → ℕ

@@ -1,8 +1,15 @@
--- What a call of a source in memory does.
-use Rattle.std.specs.Prelude.{ℕ, Bool, ◌==◌, min, length, drop}
+-- What a test sees of a source in memory.
+use Rattle.std.specs.Prelude.{ℕ, List, Bool, ◌==◌, min, length, drop}
 use Rattle.std.specs.List.{list_any}
 use Rattle.outside_io.specs.Faults.{counted}
-use Rattle.outside_io.specs.MemorySourceState.{MemorySourceState}
+
+-- the bytes left, the numbers of the calls that fail, the most bytes a call gives, the calls so far and those that failed
+pub record MemorySourceState : Type 0 where
+  pub left : List ℕ
+  pub fails : List ℕ
+  pub step : ℕ
+  pub calls : ℕ
+  pub faults : ℕ
 
 -- whether the next call is one of those that fail
 abbrev pub read_fails : MemorySourceState → Bool

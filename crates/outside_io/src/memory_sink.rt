@@ -23,7 +23,7 @@ pub struct MemorySink {
 
 impl Model for MemorySink {
     ghost use Rattle.std.specs.Prelude.{◌≤◌, vec_len, vec_capacity};
-    ghost use Rattle.outside_io.specs.MemorySinkState.{MemorySinkState};
+    ghost use Rattle.outside_io.specs.MemorySink.{MemorySinkState};
 
     ghost Value = { MemorySinkState };
 

@@ -23,7 +23,7 @@ pub struct MemorySource {
 
 impl Model for MemorySource {
     ghost use Rattle.std.specs.Prelude.{◌≤◌, drop, vec_len};
-    ghost use Rattle.outside_io.specs.MemorySourceState.{MemorySourceState};
+    ghost use Rattle.outside_io.specs.MemorySource.{MemorySourceState};
 
     ghost Value = { MemorySourceState };
 

@@ -5,12 +5,11 @@ use Rattle.pcap_frames.specs.declared.fault.CaptureFault.{CaptureFault}
 use Rattle.pcap_frames.specs.declared.fault.FaultKind.TheVariants.{ShortHeader, NotCapture, Version, Link, LongFrame, CutFrame, TooManyFrames}
 use Rattle.pcap_frames.specs.declared.frame.Frame.{Frame}
 use Rattle.pcap_frames.specs.FileOrder.{number_at}
-use Rattle.pcap_frames.specs.FrameValue.{FrameValue}
-use Rattle.pcap_frames.specs.Frame.{content_of}
+use Rattle.pcap_frames.specs.Frame.{FrameValue, content_of}
 use Rattle.pcap_frames.specs.Header.{IsHeader, is_magic, magic_order, fields_fault, header_fault, fault_at}
 use Rattle.pcap_frames.specs.Frames.{frame_at, BeginsFrame, BeginsFrames, needed, frame_fault, IsFrame, AreFrames}
 use Rattle.pcap_frames.specs.Capture.{Splits, IsCapture, ShowsInHeader, ShowsInFrames, ShowsFault, EndsInHeader, EndsInFrame, EndsInside, HasFaultAfter, HasFault}
-use Rattle.pcap_frames.proofs.Deciding.{files_decided}
+use Rattle.pcap_frames.proofs.CaptureLawLemmas.{files_decided}
 
 -- the header of a little-endian capture
 abbrev pub header : List ℕ

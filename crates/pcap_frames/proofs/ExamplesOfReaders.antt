@@ -7,7 +7,7 @@ use Rattle.pcap_frames.specs.declared.held.HeldFrame.{HeldFrame}
 use Rattle.pcap_frames.specs.declared.part.FramePart.{FramePart}
 use Rattle.pcap_frames.specs.declared.part.Stage.TheVariants as stage
 use Rattle.pcap_frames.specs.FileOrder.{number_at}
-use Rattle.pcap_frames.specs.FrameValue.{FrameValue}
+use Rattle.pcap_frames.specs.Frame.{FrameValue}
 use Rattle.pcap_frames.specs.Header.{magic_order, header_fault, fault_at}
 use Rattle.pcap_frames.specs.Frames.{frame_at, needed, frame_fault}
 use Rattle.pcap_frames.specs.ReaderState.{FramePlace, ReaderState, InHeader, InFrames, AtFault, LacksMemory, IsPartHeader, IsBehind, ReaderStandsFor, Completes, HasStopped, Advances}
@@ -16,7 +16,7 @@ use Rattle.pcap_frames.specs.Part.{frame_place, state_of, IsWithin, IsInStage}
 use Rattle.pcap_frames.specs.Steps.{held_frames, SplitsFrame, Takes, ShowsFront, LacksRoom}
 use Rattle.pcap_frames.specs.Visitor.{Sees, IsAlike}
 use Rattle.pcap_frames.specs.Feeding.{IsAnswerOf, IfMemory, Feeds, SeesBeginning, IsAnswerTo, IsEndOf}
-use Rattle.pcap_frames.proofs.Deciding.{files_decided, fronts_decided}
+use Rattle.pcap_frames.proofs.CaptureLawLemmas.{files_decided, fronts_decided}
 use Rattle.pcap_frames.proofs.Examples.{header, frame_bytes, frame, capture, cut_file, header_and_more, header_a_frame_and_a_rest, whole_frame, frame_of_three_bytes, header_and_frame, compressed_header, fault_of_a_cut_file}
 
 -- ---- a visitor

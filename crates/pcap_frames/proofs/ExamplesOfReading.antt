@@ -8,7 +8,7 @@ use Rattle.pcap_frames.specs.Header.{fault_at}
 use Rattle.pcap_frames.specs.Capture.{IsOfTheEnd}
 use Rattle.pcap_frames.specs.Visitor.{Sees}
 use Rattle.pcap_frames.specs.Reading.{refusal_of, SeesCapture, SeesBeforeFault, SeesFront, SeesPart, IsSeen, IsReadOf}
-use Rattle.pcap_frames.proofs.Deciding.{files_decided}
+use Rattle.pcap_frames.proofs.CaptureLawLemmas.{files_decided}
 use Rattle.pcap_frames.proofs.Examples.{frame, capture, cut_file, frame_of_three_bytes, header_and_frame, fault_of_a_cut_file, cut_file_is_no_capture, capture_has_no_fault}
 use Rattle.pcap_frames.proofs.ExamplesOfReaders.{album, cut_file_completes_no_frame, capture_completes_the_frame}
 

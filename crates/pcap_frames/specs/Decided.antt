@@ -1,11 +1,11 @@
 -- What holds of the definitions of a capture and of its first fault.
 use Rattle.std.specs.Prelude.{ℕ, ◌≡◌, ◌<◌, ◌⊎◌, List, ◌++◌, slice_index}
 use Rattle.pcap_frames.specs.declared.fault.CaptureFault.{CaptureFault}
-use Rattle.pcap_frames.specs.FrameValue.{FrameValue}
+use Rattle.pcap_frames.specs.Frame.{FrameValue}
 use Rattle.pcap_frames.specs.Frames.{AreFrames}
 use Rattle.pcap_frames.specs.Capture.{IsCapture, ShowsFault, HasFaultAfter, HasFault}
 use Rattle.pcap_frames.specs.ReaderState.{Completes}
-use Rattle.outside_io.specs.Pieces.{IsBeginning}
+use Rattle.outside_io.specs.{IsBeginning}
 
 -- each file is a capture or has a fault, never both; it has one list of frames, or one first fault behind one list of frames
 pub record FilesAreDecided : Type 0 where

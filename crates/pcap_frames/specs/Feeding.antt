@@ -1,10 +1,10 @@
 -- What a reader answers, and what its visitor saw.
 use Rattle.std.specs.Prelude.{⊤, ℕ, ◌≡◌, IsOk, List, ◌++◌, length, Result, Ok, Err}
-use Rattle.outside_io.specs.Pieces.{IsBeginning}
+use Rattle.outside_io.specs.{IsBeginning}
 use Rattle.pcap_frames.specs.declared.fault.FeedFault.{FeedFault}
 use Rattle.pcap_frames.specs.declared.fault.FeedFault.TheVariants.{Refused, OutOfMemory}
 use Rattle.pcap_frames.specs.declared.fault.CaptureFault.{CaptureFault}
-use Rattle.pcap_frames.specs.FrameValue.{FrameValue}
+use Rattle.pcap_frames.specs.Frame.{FrameValue}
 use Rattle.pcap_frames.specs.Frames.{AreFrames}
 use Rattle.pcap_frames.specs.Capture.{IsCapture, ShowsFault, HasFaultAfter}
 use Rattle.pcap_frames.specs.ReaderState.{ReaderState, InHeader, InFrames, AtFault, LacksMemory, ReaderStandsFor, Completes, Advances}

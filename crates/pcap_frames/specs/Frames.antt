@@ -6,7 +6,7 @@ use Rattle.pcap_frames.specs.declared.file_order.FileOrder.{FileOrder}
 use Rattle.pcap_frames.specs.declared.fault.CaptureFault.{CaptureFault}
 use Rattle.pcap_frames.specs.declared.fault.FaultKind.TheVariants.{LongFrame, TooManyFrames}
 use Rattle.pcap_frames.specs.FileOrder.{number_at}
-use Rattle.pcap_frames.specs.FrameValue.{FrameValue}
+use Rattle.pcap_frames.specs.Frame.{FrameValue}
 use Rattle.pcap_frames.specs.Header.{fault_at}
 
 -- what the bytes say that a frame at their front is: incl_len, orig_len, and the first 42 of its captured bytes

@@ -2,7 +2,7 @@
 use Rattle.std.specs.Prelude.{⊤, ℕ, ◌≡◌, ◌+◌, ◌<◌, None, List, [], length, take, ◌++◌}
 use Rattle.pcap_frames.specs.declared.file_order.FileOrder.{FileOrder}
 use Rattle.pcap_frames.specs.declared.fault.CaptureFault.{CaptureFault}
-use Rattle.pcap_frames.specs.FrameValue.{FrameValue}
+use Rattle.pcap_frames.specs.Frame.{FrameValue}
 use Rattle.pcap_frames.specs.Header.{header_fault}
 use Rattle.pcap_frames.specs.Frames.{frame_fault, needed}
 use Rattle.pcap_frames.specs.Capture.{Splits, ShowsFault}

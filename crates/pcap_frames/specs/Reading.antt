@@ -6,12 +6,12 @@ use Rattle.pcap_frames.specs.declared.fault.FeedFault.TheVariants as feed
 use Rattle.pcap_frames.specs.declared.fault.ReadRefusal.{ReadRefusal}
 use Rattle.pcap_frames.specs.declared.fault.ReadRefusal.TheVariants.{Capture, ReadFault, OutOfMemory}
 use Rattle.pcap_frames.specs.declared.fault.CaptureFault.{CaptureFault}
-use Rattle.pcap_frames.specs.FrameValue.{FrameValue}
+use Rattle.pcap_frames.specs.Frame.{FrameValue}
 use Rattle.pcap_frames.specs.Frames.{AreFrames}
 use Rattle.pcap_frames.specs.Capture.{IsCapture, IsOfTheEnd, HasFaultAfter, HasFault}
 use Rattle.pcap_frames.specs.ReaderState.{Completes}
 use Rattle.pcap_frames.specs.Visitor.{Sees}
-use Rattle.outside_io.specs.Pieces.{IsBeginning}
+use Rattle.outside_io.specs.{IsBeginning}
 
 -- a reader's answer as that of reading a source
 abbrev pub refusal_of : FeedFault → ReadRefusal

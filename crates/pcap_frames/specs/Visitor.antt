@@ -1,6 +1,6 @@
 -- What a visitor saw.
 use Rattle.std.specs.Prelude.{List, ◌++◌}
-use Rattle.pcap_frames.specs.FrameValue.{FrameValue}
+use Rattle.pcap_frames.specs.Frame.{FrameValue}
 
 -- for each list of frames for which the visitor stood, it now stands for that list followed by these frames
 abbrev pub Sees : {V : Type 0} → (V → List FrameValue → Type 0) → V → V → List FrameValue → Type 0

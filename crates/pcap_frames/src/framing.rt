@@ -33,7 +33,7 @@ pub(crate) fn frame_at(order: FileOrder, bytes: &[u8]) -> Frame<'_>
 }
 
 /// The first 42 of this many captured bytes behind the frame header.
-#[tactic(auto, using(crate::proofs::Heads::take_of_take))]
+#[tactic(auto, using(crate::proofs::FrameHeadLemmas::take_of_take))]
 fn head_of(bytes: &[u8], captured: u32) -> &[u8]
     requires header { 16 ≤ length bytes.now }
     requires head { 16 + min 42 captured ≤ length bytes.now }

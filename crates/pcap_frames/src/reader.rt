@@ -1,7 +1,7 @@
 //! Reading a capture in pieces of any size.
 
 ghost use Rattle.std.specs.Prelude.{◌≡◌, ℕ, ◌<◌, List, [], ◌∷◌, ◌++◌, length, IfOk, OnOk, OnErr, IfSome, IfNone, IsTrue, ◌↔◌};
-ghost use Rattle.pcap_frames.specs.FrameValue.{FrameValue};
+ghost use Rattle.pcap_frames.specs.Frame.{FrameValue};
 ghost use Rattle.pcap_frames.specs.Steps.{held_frames};
 ghost use Rattle.pcap_frames.specs.ReaderState.{InHeader, ReaderStandsFor, HasStopped};
 ghost use Rattle.pcap_frames.specs.Feeding.{IsAnswerOf, IfMemory, Feeds, SeesBeginning, IsAnswerTo, IsEndOf};

@@ -1,7 +1,7 @@
 //! Reading a capture from a source.
 
 ghost use Rattle.std.specs.Prelude.{◌≡◌, ℕ, ◌≤◌, ◌<◌, List, length, IfSome, IsErrOf};
-ghost use Rattle.outside_io.specs.Faults.{Rose};
+ghost use Rattle.outside_io.specs.{Rose};
 ghost use Rattle.pcap_frames.specs.Reading.{IsSeen, IsReadOf};
 
 use crate::{FrameReader, FrameVisitor, ReadRefusal};

@@ -1,8 +1,7 @@
 //! Who is shown the frames of a capture.
 
 ghost use Rattle.std.specs.Prelude.{List, [], ◌∷◌, OnOk, OnErr};
-ghost use Rattle.pcap_frames.specs.FrameValue.{FrameValue};
-ghost use Rattle.pcap_frames.specs.Frame.{content_of};
+ghost use Rattle.pcap_frames.specs.Frame.{FrameValue, content_of};
 ghost use Rattle.pcap_frames.specs.Visitor.{Sees, IsAlike};
 
 use crate::Frame;

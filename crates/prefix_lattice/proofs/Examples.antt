@@ -1,14 +1,12 @@
 -- Worked examples of addresses, records, nodes, prefixes and keys, and of the lattice.
 use Rattle.std.proofs.Common.{◌≡◌, ℕ, ◌<◌, zero, suc, [], ◌∷◌, slice_index, ap, true, false, None, Some, refl, arith}
 use Rattle.std.specs.declared.cmp.Ordering.TheVariants.{Less, Equal, Greater}
-use Rattle.prefix_lattice.specs.RecordValue.{RecordValue}
-use Rattle.prefix_lattice.specs.NodeValue.{NodeValue, IsNode, index_of, node_at, level_of}
-use Rattle.prefix_lattice.specs.Key.{IsKeyOf, HasKey}
-use Rattle.prefix_lattice.specs.PrefixValue.{PrefixValue, IsPrefix}
-use Rattle.prefix_lattice.specs.Bytes.{digits, number_from, address_bytes, address_of, begins_with, AreLeadingBytes}
-use Rattle.prefix_lattice.specs.Prefix.{covers, weight_of, total_weight, node_of, prefix_at, key_of}
+use Rattle.prefix_lattice.specs.Record.{RecordValue}
+use Rattle.prefix_lattice.specs.Node.{NodeValue, IsNode, index_of, node_at, level_of}
+use Rattle.prefix_lattice.specs.Prefix.{IsKeyOf, HasKey, PrefixValue, IsPrefix, covers, weight_of, total_weight, node_of, prefix_at, key_of}
+use Rattle.prefix_lattice.specs.KeptBytes.{digits, number_from, address_bytes, address_of, begins_with, AreLeadingBytes}
 use Rattle.prefix_lattice.specs.Lattice.{under, same_prefix, strictly_under, longer_side, prefix_of_sides, meet, ShareAddresses, report_order}
-use Rattle.prefix_lattice.proofs.Meets.{meet-some}
+use Rattle.prefix_lattice.proofs.MeetLemmas.{meet-some}
 
 -- 100 bytes from 10.1.2.3 to 20.1.2.3
 abbrev pub packet : RecordValue

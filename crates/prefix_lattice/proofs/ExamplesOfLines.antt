@@ -2,10 +2,10 @@
 use Rattle.std.proofs.Common.{◌≡◌, ◌≢◌, List, [], ◌∷◌, length, true, false, None, Some, AllPairs, refl, ap, arith}
 use Rattle.std.proofs.lemmas.List.Elements.{All-cons, All-nil}
 use Rattle.std.proofs.lemmas.List.Kept.{AllPairs-cons}
-use Rattle.prefix_lattice.specs.RecordValue.{RecordValue}
-use Rattle.prefix_lattice.specs.PrefixValue.{PrefixValue}
+use Rattle.prefix_lattice.specs.Record.{RecordValue}
+use Rattle.prefix_lattice.specs.Prefix.{PrefixValue}
 use Rattle.prefix_lattice.specs.Lattice.{strictly_under, meet}
-use Rattle.prefix_lattice.specs.Explaining.{lines_under, one_covers, conditioned_weight, greatest, closest, under_third, unless_under_third, kept_meet, kept_among, kept_pairs, AreIncomparable, covering_count, ObeysStaircase}
+use Rattle.prefix_lattice.specs.ClosestLines.{lines_under, one_covers, conditioned_weight, greatest, closest, under_third, unless_under_third, kept_meet, kept_among, kept_pairs, AreIncomparable, covering_count, ObeysStaircase}
 use Rattle.prefix_lattice.proofs.Examples.{packet, answer, prefix, root, to_twenty, from_ten_to_twenty}
 
 -- the root and three under it, of which the first is under the other two

@@ -2,12 +2,11 @@
 use Rattle.std.proofs.Common.{◌≡◌, ℕ, ◌*◌, ◌≤◌, List, [], ◌∷◌, drop, slice_index, codes, decimal, inl, inr, refl, ap, arith}
 use Rattle.std.specs.Fmt.{digits}
 use Rattle.std.proofs.lemmas.Fmt.{decimal_injective}
-use Rattle.prefix_lattice.specs.PrefixText.{dot, slash, space, address_text, side_text_of, side_text, prefix_text, source_part, dest_part, SpellsSide, IsAddressText, before_slash, HasLength, HasLooseBits, HasSideFault, SpellsPrefix, HasPrefixFault}
-use Rattle.prefix_lattice.specs.Writing.{WritesPart}
+use Rattle.prefix_lattice.specs.PrefixText.{dot, slash, space, address_text, side_text_of, side_text, prefix_text, source_part, dest_part, SpellsSide, IsAddressText, before_slash, HasLength, HasLooseBits, HasSideFault, SpellsPrefix, HasPrefixFault, WritesPart}
 use Rattle.prefix_lattice.specs.declared.prefix_fault.Side.TheVariants.{Source, Dest}
 use Rattle.prefix_lattice.specs.declared.prefix_fault.PrefixFault.TheVariants.{BadAddress, BadLength, LooseBits}
-use Rattle.prefix_lattice.proofs.AddressText.{first_number, second_number}
-use Rattle.prefix_lattice.proofs.Cuts.{no_next_number}
+use Rattle.prefix_lattice.proofs.AddressTextLemmas.{first_number, second_number}
+use Rattle.prefix_lattice.proofs.TextCutLemmas.{no_next_number}
 use Rattle.prefix_lattice.proofs.Examples.{prefix, leading_bytes_of_the_source, leading_bytes_of_the_destination}
 
 pub dot_between_numbers : codes "." ≡ dot ∷ []

@@ -1,10 +1,10 @@
 -- The text of a prefix: it spells one prefix at most, and has one fault exactly where it spells none.
 use Rattle.std.proofs.Common.{◌≡◌, List, ℕ, Result, Ok, Err, IfOk, IfErr, inl, inr, ap, ◌∙◌, subst}
-use Rattle.prefix_lattice.specs.PrefixValue.{PrefixValue}
+use Rattle.prefix_lattice.specs.Prefix.{PrefixValue}
 use Rattle.prefix_lattice.specs.PrefixText.{SpellsPrefix, HasPrefixFault}
 use Rattle.prefix_lattice.specs.declared.prefix_fault.Side.TheVariants.{Source, Dest}
 use Rattle.prefix_lattice.specs.declared.prefix_fault.PrefixFault.{PrefixFault}
-use Rattle.prefix_lattice.proofs.SideText.{one_side, no_side_fault, one_side_fault}
+use Rattle.prefix_lattice.proofs.SideTextLemmas.{one_side, no_side_fault, one_side_fault}
 
 -- two texts spell one prefix at most
 pub one_prefix : (source dest : List ℕ) (prefix other : PrefixValue) → SpellsPrefix source dest prefix → SpellsPrefix source dest other → prefix ≡ other

@@ -2,11 +2,10 @@
 use Rattle.std.specs.Prelude.{ℕ, ◌≡◌, ◌^◌, ◌<◌, ◌&&◌, not, Bool, true, List, length, Option, None, Some, if◌then◌else◌}
 use Rattle.std.specs.declared.cmp.Ordering.{Ordering}
 use Rattle.std.specs.Ordering.{nat_cmp, ordering_then}
-use Rattle.prefix_lattice.specs.Bytes.{address_of, begins_with}
-use Rattle.prefix_lattice.specs.NodeValue.{level_of}
-use Rattle.prefix_lattice.specs.RecordValue.{RecordValue}
-use Rattle.prefix_lattice.specs.PrefixValue.{PrefixValue}
-use Rattle.prefix_lattice.specs.Prefix.{covers, node_of}
+use Rattle.prefix_lattice.specs.KeptBytes.{address_of, begins_with}
+use Rattle.prefix_lattice.specs.Node.{level_of}
+use Rattle.prefix_lattice.specs.Record.{RecordValue}
+use Rattle.prefix_lattice.specs.Prefix.{PrefixValue, covers, node_of}
 
 -- a prefix is under another whose kept bytes begin its own, on both sides
 abbrev pub under : PrefixValue → PrefixValue → Bool

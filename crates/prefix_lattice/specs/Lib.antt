@@ -1,10 +1,15 @@
-pub mod Bytes
-pub mod RecordValue
-pub mod NodeValue
-pub mod PrefixValue
+pub mod KeptBytes
+pub mod Record
+pub mod Node
 pub mod Prefix
-pub mod Key
 pub mod PrefixText
-pub mod Writing
 pub mod Lattice
-pub mod Explaining
+pub mod ClosestLines
+-- the face: what contracts of other crates cite
+pub use Rattle.prefix_lattice.specs.ClosestLines.{ObeysStaircase, closest, conditioned_weight, covering_count, greatest, kept_among, kept_meet, kept_pairs, lines_under, one_covers, under_third, unless_under_third}
+pub use Rattle.prefix_lattice.specs.KeptBytes.{AreLeadingBytes, address_of, begins_with}
+pub use Rattle.prefix_lattice.specs.Lattice.{meet, report_order, same_prefix, strictly_under, under}
+pub use Rattle.prefix_lattice.specs.Node.{IsNode, NodeValue, index_of, level_of, node_at}
+pub use Rattle.prefix_lattice.specs.Prefix.{HasKey, IsKeyOf, IsPrefix, PrefixValue, covers, key_of, node_of, prefix_at, total_weight, weight_of}
+pub use Rattle.prefix_lattice.specs.PrefixText.{HasPrefixFault, SpellsPrefix, address_text, prefix_text, side_text, space}
+pub use Rattle.prefix_lattice.specs.Record.{RecordValue}

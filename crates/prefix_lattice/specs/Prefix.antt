@@ -1,9 +1,18 @@
--- Prefixes, what they cover, and the weight of what they cover.
-use Rattle.std.specs.Prelude.{ℕ, ◌+◌, ◌*◌, ◌^◌, ◌&&◌, Bool, List, length, take, sum_by, filter}
-use Rattle.prefix_lattice.specs.Bytes.{address_bytes, address_of, begins_with}
-use Rattle.prefix_lattice.specs.RecordValue.{RecordValue}
-use Rattle.prefix_lattice.specs.NodeValue.{NodeValue}
-use Rattle.prefix_lattice.specs.PrefixValue.{PrefixValue}
+-- Prefixes of records, their weights and their keys.
+use Rattle.std.specs.Prelude.{ℕ, List, ◌+◌, ◌*◌, ◌^◌, ◌&&◌, Bool, length, take, sum_by, filter, ◌≡◌, ◌-◌, ◌/◌, ◌%◌}
+use Rattle.prefix_lattice.specs.KeptBytes.{AreLeadingBytes, address_bytes, address_of, begins_with}
+use Rattle.prefix_lattice.specs.Record.{RecordValue}
+use Rattle.prefix_lattice.specs.Node.{NodeValue}
+
+-- the leading bytes of the source and of the destination
+pub record PrefixValue : Type 0 where
+  pub source : List ℕ
+  pub dest : List ℕ
+
+-- a pair of lists of leading bytes (Mitzenmacher, Steinke, Thaler 2012, at the granularity of bytes)
+pub record IsPrefix (prefix : PrefixValue) : Type 0 where
+  pub source : AreLeadingBytes prefix.source
+  pub dest : AreLeadingBytes prefix.dest
 
 -- a prefix covers a record whose addresses begin with its bytes
 abbrev pub covers : PrefixValue → RecordValue → Bool
@@ -31,3 +40,14 @@ prefix_at node rec = record {
 -- the two addresses of a prefix as one number, the source in the high half
 abbrev pub key_of : PrefixValue → ℕ
 key_of prefix = address_of prefix.source * 2 ^ 32 + address_of prefix.dest
+
+-- a key of a node: in neither address a bit is set past the bytes that the node keeps
+pub record IsKeyOf (node : NodeValue) (key : ℕ) : Type 0 where
+  pub source : key / 2 ^ 32 % 256 ^ (4 - node.source_bytes) ≡ 0
+  pub dest : key % 2 ^ 32 % 256 ^ (4 - node.dest_bytes) ≡ 0
+
+-- a prefix of this node that has this key
+pub record HasKey (node : NodeValue) (key : ℕ) (prefix : PrefixValue) : Type 0 where
+  pub is_prefix : IsPrefix prefix
+  pub of_node : node_of prefix ≡ node
+  pub of_key : key_of prefix ≡ key

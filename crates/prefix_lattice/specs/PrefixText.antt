@@ -1,8 +1,8 @@
 -- The text of a prefix: how it is spelled, and what is wrong with a text that spells none.
-use Rattle.std.specs.Prelude.{ℕ, ◌≡◌, ◌≢◌, ◌-◌, ◌*◌, ◌^◌, ◌%◌, ◌<◌, ◌≤◌, ◌⊎◌, ◌==◌, List, ◌∷◌, ◌++◌, length, map, decimal}
+use Rattle.std.specs.Prelude.{ℕ, ◌≡◌, ◌≢◌, ◌-◌, ◌*◌, ◌^◌, ◌%◌, ◌<◌, ◌≤◌, ◌⊎◌, ◌==◌, List, ◌∷◌, ◌++◌, length, map, decimal, ◌+◌, take, drop}
 use Rattle.std.specs.List.{join_with_byte, before_first, after_first}
-use Rattle.prefix_lattice.specs.Bytes.{address_bytes, address_of, AreLeadingBytes}
-use Rattle.prefix_lattice.specs.PrefixValue.{PrefixValue}
+use Rattle.prefix_lattice.specs.KeptBytes.{address_bytes, address_of, AreLeadingBytes}
+use Rattle.prefix_lattice.specs.Prefix.{PrefixValue}
 use Rattle.prefix_lattice.specs.declared.prefix_fault.Side.{Side}
 use Rattle.prefix_lattice.specs.declared.prefix_fault.Side.TheVariants.{Source, Dest}
 use Rattle.prefix_lattice.specs.declared.prefix_fault.PrefixFault.{PrefixFault}
@@ -84,3 +84,8 @@ pub record SpellsPrefix (source_text dest_text : List ℕ) (prefix : PrefixValue
 -- what is wrong with the two texts: the source is looked at wholly before the destination
 abbrev pub HasPrefixFault : List ℕ → List ℕ → PrefixFault → Type 0
 HasPrefixFault source dest fault = HasSideFault Source source fault ⊎ (((front : List ℕ) × SpellsSide source front) × HasSideFault Dest dest fault)
+
+-- this part was written from a place on, and other bytes stay
+pub record WritesPart (old new : List ℕ) (start end : ℕ) (part : List ℕ) : Type 0 where
+  pub ends : end ≡ start + length part
+  pub written : new ≡ take start old ++ part ++ drop end old

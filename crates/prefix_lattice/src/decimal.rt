@@ -1,7 +1,7 @@
 //! Decimal numbers in text, read and written.
 
 ghost use Rattle.std.specs.Prelude.{◌≡◌, ◌≢◌, ◌+◌, ◌<◌, ◌≤◌, ◌^◌, ℕ, length, IfSome, IfNone, decimal};
-ghost use Rattle.prefix_lattice.specs.Writing.{WritesPart};
+ghost use Rattle.prefix_lattice.specs.PrefixText.{WritesPart};
 
 use itoa::Buffer;
 use std::str;

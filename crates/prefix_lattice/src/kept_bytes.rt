@@ -1,7 +1,7 @@
 //! One half of a prefix: some leading bytes of an address.
 
 ghost use Rattle.std.specs.Prelude.{◌≡◌, ◌≢◌, ◌≤◌, ◌-◌, ◌*◌, ◌/◌, ◌%◌, ◌^◌, length, take, IfSome, IfNone};
-ghost use Rattle.prefix_lattice.specs.Bytes.{address_bytes, address_of, begins_with, AreLeadingBytes};
+ghost use Rattle.prefix_lattice.specs.KeptBytes.{address_bytes, address_of, begins_with, AreLeadingBytes};
 ghost use Rattle.prefix_lattice.specs.Lattice.{longer_side};
 
 use std::marker::Model;
@@ -15,7 +15,7 @@ pub struct KeptBytes {
 
 impl Model for KeptBytes {
     ghost use Rattle.std.specs.Prelude.{◌≡◌, ◌<◌, ◌≤◌, ◌^◌, ℕ, List, take, length};
-    ghost use Rattle.prefix_lattice.specs.Bytes.{address_bytes, address_of};
+    ghost use Rattle.prefix_lattice.specs.KeptBytes.{address_bytes, address_of};
 
     ghost Value = { List ℕ };
 

@@ -2,13 +2,12 @@
 
 ghost use Rattle.std.specs.Prelude.{◌≡◌, ◌≢◌, ◌<◌, ◌≤◌, ◌↔◌, ℕ, List, ◌∷◌, ◌++◌, length, All, AllPairs, IsSomeAnd, true};
 ghost use Rattle.std.specs.Cmp.{IsTotalOrder};
-ghost use Rattle.prefix_lattice.specs.NodeValue.{level_of};
-ghost use Rattle.prefix_lattice.specs.RecordValue.{RecordValue};
-ghost use Rattle.prefix_lattice.specs.PrefixValue.{PrefixValue, IsPrefix};
-ghost use Rattle.prefix_lattice.specs.Prefix.{covers, node_of};
+ghost use Rattle.prefix_lattice.specs.Node.{level_of};
+ghost use Rattle.prefix_lattice.specs.Record.{RecordValue};
+ghost use Rattle.prefix_lattice.specs.Prefix.{PrefixValue, IsPrefix, covers, node_of};
 ghost use Rattle.prefix_lattice.specs.Lattice.{under, strictly_under, meet, report_order};
 ghost use Rattle.prefix_lattice.specs.PrefixText.{space, source_part, dest_part, prefix_text, SpellsPrefix};
-ghost use Rattle.prefix_lattice.specs.Explaining.{lines_under, one_covers, closest, kept_pairs, AreIncomparable, ObeysStaircase};
+ghost use Rattle.prefix_lattice.specs.ClosestLines.{lines_under, one_covers, closest, kept_pairs, AreIncomparable, ObeysStaircase};
 
 use std::cmp::Ordering;
 

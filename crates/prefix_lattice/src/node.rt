@@ -1,7 +1,7 @@
 //! The nodes of the lattice.
 
 ghost use Rattle.std.specs.Prelude.{◌≡◌, ◌<◌, ◌≤◌, ◌↔◌, ◌⊎◌, IsNone, IfSome};
-ghost use Rattle.prefix_lattice.specs.NodeValue.{IsNode, index_of, node_at, level_of};
+ghost use Rattle.prefix_lattice.specs.Node.{IsNode, index_of, node_at, level_of};
 
 use std::marker::Model;
 
@@ -14,7 +14,7 @@ pub struct Node {
 
 impl Model for Node {
     ghost use Rattle.std.specs.Prelude.{◌≤◌};
-    ghost use Rattle.prefix_lattice.specs.NodeValue.{NodeValue};
+    ghost use Rattle.prefix_lattice.specs.Node.{NodeValue};
 
     ghost Value = { NodeValue };
 

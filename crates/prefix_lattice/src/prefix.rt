@@ -1,14 +1,12 @@
 //! Prefixes of pairs of addresses.
 
 ghost use Rattle.std.specs.Prelude.{◌≡◌, ◌==◌, ◌↔◌, ◌≤◌, ℕ, List, true, IfOk, IfErr, IfSome, IfNone, IsSome};
-ghost use Rattle.prefix_lattice.specs.NodeValue.{NodeValue, IsNode, level_of};
-ghost use Rattle.prefix_lattice.specs.RecordValue.{RecordValue};
-ghost use Rattle.prefix_lattice.specs.Bytes.{address_of};
-ghost use Rattle.prefix_lattice.specs.Key.{IsKeyOf, HasKey};
-ghost use Rattle.prefix_lattice.specs.PrefixValue.{PrefixValue, IsPrefix};
+ghost use Rattle.prefix_lattice.specs.Node.{NodeValue, IsNode, level_of};
+ghost use Rattle.prefix_lattice.specs.Record.{RecordValue};
+ghost use Rattle.prefix_lattice.specs.KeptBytes.{address_of};
+ghost use Rattle.prefix_lattice.specs.Prefix.{IsKeyOf, HasKey, PrefixValue, IsPrefix, covers, node_of, prefix_at, key_of};
 ghost use Rattle.prefix_lattice.specs.PrefixText.{SpellsPrefix, HasPrefixFault};
 ghost use Rattle.prefix_lattice.specs.declared.prefix_fault.PrefixFault.{PrefixFault};
-ghost use Rattle.prefix_lattice.specs.Prefix.{covers, node_of, prefix_at, key_of};
 
 mod lattice;
 mod writing;
@@ -26,7 +24,7 @@ pub struct Prefix {
 }
 
 impl Model for Prefix {
-    ghost use Rattle.prefix_lattice.specs.PrefixValue.{PrefixValue};
+    ghost use Rattle.prefix_lattice.specs.Prefix.{PrefixValue};
 
     ghost Value = { PrefixValue };
 

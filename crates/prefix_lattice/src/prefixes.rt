@@ -1,7 +1,7 @@
 //! Prefixes in their order.
 
 ghost use Rattle.std.specs.Prelude.{◌≡◌, ◌==◌, ◌<◌, ◌++◌, [], ◌∷◌, length, All, OnOk, OnErr, slice_get, Some};
-ghost use Rattle.prefix_lattice.specs.PrefixValue.{IsPrefix};
+ghost use Rattle.prefix_lattice.specs.Prefix.{IsPrefix};
 
 use crate::Prefix;
 use std::alloc::{AllocError, Global};
@@ -15,7 +15,7 @@ pub struct Prefixes {
 
 impl Model for Prefixes {
     ghost use Rattle.std.specs.Prelude.{List, All};
-    ghost use Rattle.prefix_lattice.specs.PrefixValue.{PrefixValue, IsPrefix};
+    ghost use Rattle.prefix_lattice.specs.Prefix.{PrefixValue, IsPrefix};
 
     ghost Value = { List PrefixValue };
 

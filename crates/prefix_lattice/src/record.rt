@@ -17,7 +17,7 @@ pub struct Record {
 
 impl Model for Record {
     ghost use Rattle.std.specs.Prelude.{◌≤◌};
-    ghost use Rattle.prefix_lattice.specs.RecordValue.{RecordValue};
+    ghost use Rattle.prefix_lattice.specs.Record.{RecordValue};
 
     ghost Value = { RecordValue };
 

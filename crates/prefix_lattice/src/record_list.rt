@@ -14,7 +14,7 @@ pub struct RecordList {
 
 impl Model for RecordList {
     ghost use Rattle.std.specs.Prelude.{◌<◌, ◌≤◌, ◌^◌, List, All};
-    ghost use Rattle.prefix_lattice.specs.RecordValue.{RecordValue};
+    ghost use Rattle.prefix_lattice.specs.Record.{RecordValue};
 
     ghost Value = { List RecordValue };
 

@@ -1,8 +1,7 @@
 //! Writing one side of the text of a prefix.
 
 ghost use Rattle.std.specs.Prelude.{◌≡◌, ◌+◌, ◌≤◌, ◌∷◌, length, decimal};
-ghost use Rattle.prefix_lattice.specs.Writing.{WritesPart};
-ghost use Rattle.prefix_lattice.specs.PrefixText.{address_text, side_text};
+ghost use Rattle.prefix_lattice.specs.PrefixText.{WritesPart, address_text, side_text};
 
 use crate::decimal::write_number;
 use crate::kept_bytes::KeptBytes;

@@ -3,13 +3,13 @@ use Rattle.std.proofs.Common.{◌≡◌, ◌<◌, ◌≤◌, ◌^◌, ◌*◌, �
 use Rattle.space_saving.specs.declared.entry.Entry.{Entry}
 use Rattle.key_index.specs.{Keys}
 use Rattle.rank_table.specs.declared.slot.Slot.{Slot}
-use Rattle.rank_table.specs.Order.{rank, ranked_in, in_order, entries_of, IsApart, AreDistinct, AreSlots}
-use Rattle.rank_table.specs.SlotsValue.{Slots}
+use Rattle.rank_table.specs.SlotOrder.{rank, ranked_in, in_order, entries_of, IsApart, AreDistinct, AreSlots}
+use Rattle.rank_table.specs.Slots.{Slots}
 use Rattle.rank_table.specs.Words.{word, IsExact}
-use Rattle.rank_table.specs.Ranking.{IsLeast, AreLeaves, AreRanked}
+use Rattle.rank_table.specs.Ranks.{IsLeast, AreLeaves, AreRanked}
 use Rattle.rank_table.specs.Marks.{mark_of, marks_from, rank_of_mark, blank, slot_of, numbered}
-use Rattle.rank_table.specs.Stepping.{raised, fresh, heir, IsTakenOver}
-use Rattle.rank_table.specs.Together.{AreTogether, IsRankTable}
+use Rattle.rank_table.specs.Steps.{raised, fresh, heir, IsTakenOver}
+use Rattle.rank_table.specs.RankTable.{AreTogether, IsRankTable}
 
 abbrev entry : ℕ → ℕ → ℕ → Entry
 entry key count error = record { key = key; count = count; error = error }

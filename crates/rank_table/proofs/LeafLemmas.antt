@@ -6,9 +6,9 @@ use Rattle.std.proofs.lemmas.List.{get_or_default, get_or_append_left, length_pu
 use Rattle.std.proofs.lemmas.List.FromFn.{length-range_with_len, get_or-range_with_len}
 use Rattle.std.proofs.lemmas.List.Sums.{sum_by-set, sum_by-le}
 use Rattle.rank_table.specs.declared.slot.Slot.{Slot}
-use Rattle.rank_table.specs.Order.{rank}
+use Rattle.rank_table.specs.SlotOrder.{rank}
 use Rattle.rank_table.specs.Words.{word, IsExact}
-use Rattle.rank_table.specs.Ranking.{AreLeaves, AreRanked, IsLeast}
+use Rattle.rank_table.specs.Ranks.{AreLeaves, AreRanked, IsLeast}
 use Rattle.rank_table.proofs.WordLemmas.{place_of-word, place-le-word, word-fits, word-rises, exact_is_least}
 
 -- leaves that are their places' numbers

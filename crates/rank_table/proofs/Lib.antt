@@ -1,7 +1,7 @@
 pub mod OrderLemmas
 pub mod WordLemmas
 pub mod LeafLemmas
-pub mod Changes
+pub mod SlotChangeLemmas
 pub mod KeyLemmas
 pub mod RisingLemmas
 pub mod MarkLemmas

@@ -5,11 +5,10 @@ use Rattle.std.proofs.lemmas.Bool.{eqb-false}
 use Rattle.std.proofs.lemmas.List.Elements.{recursion_from_All}
 use Rattle.std.proofs.lemmas.List.Sums.{sum_by-cons}
 use Rattle.space_saving.specs.declared.entry.Entry.{Entry}
-use Rattle.space_saving.specs.Table.{entry_of, total_count}
-use Rattle.space_saving.specs.TableFacts.{RisesFrom, AreApart, HasSmallError, AreEntries}
+use Rattle.space_saving.specs.{entry_of, total_count, RisesFrom, AreApart, HasSmallError, AreEntries}
 use Rattle.rank_table.specs.declared.slot.Slot.{Slot}
 use Rattle.rank_table.specs.Marks.{numbered}
-use Rattle.rank_table.specs.Order.{rank, ranked_in, in_order, entries_of, IsApart, AreSlots}
+use Rattle.rank_table.specs.SlotOrder.{rank, ranked_in, in_order, entries_of, IsApart, AreSlots}
 use Rattle.rank_table.proofs.OrderLemmas.{entry_at, ranked_in-least}
 use Rattle.rank_table.proofs.KeyLemmas.{key_at}
 

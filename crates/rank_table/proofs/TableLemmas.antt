@@ -5,16 +5,15 @@ use Rattle.std.proofs.lemmas.Bool.{cond-true, cond-false, lt-ltb, le-ltb}
 use Rattle.std.proofs.lemmas.List.Elements.{recursion_from_All}
 use Rattle.key_index.specs.{Keys}
 use Rattle.space_saving.specs.declared.entry.Entry.{Entry}
-use Rattle.space_saving.specs.Table.{Add, TableValue, step, entry_of, total_count, least_count, interval_from, interval_in}
-use Rattle.space_saving.specs.TableFacts.{HasSmallError, IsTable, AreEntries}
+use Rattle.space_saving.specs.{Add, TableValue, step, entry_of, total_count, least_count, interval_from, interval_in, HasSmallError, IsTable, AreEntries}
 use Rattle.rank_table.specs.declared.slot.Slot.{Slot}
-use Rattle.rank_table.specs.Order.{in_order, entries_of, AreSlots}
-use Rattle.rank_table.specs.Ranking.{IsLeast}
-use Rattle.rank_table.specs.SlotsValue.{Slots}
-use Rattle.rank_table.specs.Together.{AreTogether, IsRankTable}
+use Rattle.rank_table.specs.SlotOrder.{in_order, entries_of, AreSlots}
+use Rattle.rank_table.specs.Ranks.{IsLeast}
+use Rattle.rank_table.specs.Slots.{Slots}
+use Rattle.rank_table.specs.RankTable.{AreTogether, IsRankTable}
 use Rattle.rank_table.proofs.OrderLemmas.{entry_at, all-at}
 use Rattle.rank_table.specs.Marks.{numbered}
-use Rattle.rank_table.proofs.Changes.{AreSlots-later, entries-least, length-entries_of}
+use Rattle.rank_table.proofs.SlotChangeLemmas.{AreSlots-later, entries-least, length-entries_of}
 use Rattle.rank_table.proofs.KeyLemmas.{key_at}
 use Rattle.rank_table.proofs.LoadLemmas.{entries_of-numbered, keys-numbered, AreSlots-loaded, length-le-total}
 use Rattle.rank_table.proofs.RisingLemmas.{all-from_order}

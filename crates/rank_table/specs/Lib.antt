@@ -1,8 +1,8 @@
 -- within the crate
-pub mod Order
-pub mod SlotsValue
+pub mod SlotOrder
+pub mod Slots
 pub mod Words
-pub mod Ranking
+pub mod Ranks
 pub mod Marks
-pub mod Stepping
-pub mod Together
+pub mod Steps
+pub mod RankTable

@@ -4,7 +4,7 @@
 ghost use Rattle.std.specs.Prelude.{◌≡◌, ◌^◌, ◌<◌, All, length, map};
 ghost use Rattle.std.specs.List.Sorted.{IsNonDecreasingBy, IsPermutation};
 ghost use Rattle.rank_table.specs.Marks.{marks_from, rank_of_mark, slot_of};
-ghost use Rattle.rank_table.specs.Order.{AreSlots, entries_of};
+ghost use Rattle.rank_table.specs.SlotOrder.{AreSlots, entries_of};
 
 use crate::slot::Slot;
 use space_saving::Entry;

@@ -27,9 +27,9 @@ pub struct RankTable {
 }
 
 impl Model for RankTable {
-    ghost use Rattle.space_saving.specs.Table.{TableValue};
-    ghost use Rattle.rank_table.specs.Order.{entries_of};
-    ghost use Rattle.rank_table.specs.Together.{IsRankTable};
+    ghost use Rattle.space_saving.specs.{TableValue};
+    ghost use Rattle.rank_table.specs.SlotOrder.{entries_of};
+    ghost use Rattle.rank_table.specs.RankTable.{IsRankTable};
 
     ghost Value = { TableValue };
 

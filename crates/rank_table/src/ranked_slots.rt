@@ -2,7 +2,7 @@
 
 ghost use Rattle.std.specs.Prelude.{◌≡◌, ◌+◌, ◌<◌, ◌≤◌, ◌++◌, ◌∷◌, [], ℕ, IfOk, IsTrue, false, ◌↔◌, length, slice_index_or, slice_set};
 ghost use Rattle.rank_table.specs.declared.slot.Slot.{Slot};
-ghost use Rattle.rank_table.specs.Ranking.{AreLeaves, IsLeast};
+ghost use Rattle.rank_table.specs.Ranks.{AreLeaves, IsLeast};
 ghost use Rattle.rank_table.specs.Words.{word};
 
 use crate::scanning::least_of;
@@ -24,8 +24,8 @@ pub(crate) struct RankedSlots {
 
 impl Model for RankedSlots {
     ghost use Rattle.std.specs.Prelude.{vec_capacity};
-    ghost use Rattle.rank_table.specs.SlotsValue.{Slots};
-    ghost use Rattle.rank_table.specs.Ranking.{AreRanked};
+    ghost use Rattle.rank_table.specs.Slots.{Slots};
+    ghost use Rattle.rank_table.specs.Ranks.{AreRanked};
 
     ghost Value = { Slots };
 

@@ -2,10 +2,9 @@
 
 ghost use Rattle.std.specs.Prelude.{◌≡◌, ◌^◌, ◌<◌, ◌≤◌, ℕ, Some, IsTrue, false, nat_lt, length, map, slice_get, slice_index_or, count_by};
 ghost use Rattle.rank_table.specs.declared.slot.Slot.{Slot};
-ghost use Rattle.space_saving.specs.Table.{interval_in};
-ghost use Rattle.space_saving.specs.TableFacts.{AreEntries};
-ghost use Rattle.rank_table.specs.Order.{AreSlots, entries_of, in_order, rank};
-ghost use Rattle.rank_table.specs.Ranking.{IsLeast};
+ghost use Rattle.space_saving.specs.{interval_in, AreEntries};
+ghost use Rattle.rank_table.specs.SlotOrder.{AreSlots, entries_of, in_order, rank};
+ghost use Rattle.rank_table.specs.Ranks.{IsLeast};
 
 use crate::slot::Slot;
 use key_index::KeyIndex;

@@ -1,10 +1,10 @@
 //! One step of Space-Saving on slots.
 
 ghost use Rattle.std.specs.Prelude.{◌≡◌, ◌+◌, ◌^◌, ◌<◌, ◌≤◌, ◌++◌, ◌∷◌, [], length, slice_index_or, slice_set};
-ghost use Rattle.space_saving.specs.Table.{step, total_count};
-ghost use Rattle.rank_table.specs.Order.{AreSlots, entries_of};
-ghost use Rattle.rank_table.specs.Stepping.{IsTakenOver, fresh, raised};
-ghost use Rattle.rank_table.specs.Together.{AreTogether};
+ghost use Rattle.space_saving.specs.{step, total_count};
+ghost use Rattle.rank_table.specs.SlotOrder.{AreSlots, entries_of};
+ghost use Rattle.rank_table.specs.Steps.{IsTakenOver, fresh, raised};
+ghost use Rattle.rank_table.specs.RankTable.{AreTogether};
 ghost use Rattle.rank_table.specs.declared.slot.Slot.{Slot};
 
 use crate::ranked_slots::RankedSlots;

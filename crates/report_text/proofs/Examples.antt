@@ -4,15 +4,13 @@ use Rattle.std.proofs.Math.ListN.{replicate}
 use Rattle.std.proofs.lemmas.List.Elements.{All-nil, All-cons, All-from_recursion}
 use Rattle.std.specs.Fmt.{digits}
 use Rattle.std.specs.Prelude.{slice_index}
-use Rattle.prefix_lattice.specs.PrefixValue.{IsPrefix}
+use Rattle.prefix_lattice.specs.{IsPrefix}
 use Rattle.frame_records.specs.declared.records.Records.{Records}
 use Rattle.hhh_output.specs.declared.line.Line.{Line}
 use Rattle.hhh_output.specs.declared.report.Report.{Report}
 use Rattle.report_text.specs.declared.mark.Mark.TheVariants.{Opened, Saved}
-use Rattle.report_text.specs.Positions.{ArePositions}
-use Rattle.report_text.specs.Apart.{IsTold, IsTellable}
-use Rattle.report_text.specs.Text.{text_line, number_line, positions_line, mark_name, line_text, lines_text, mark_text, report_text, tail_text}
-use Rattle.report_text.proofs.InOrder.{one_line_in_order}
+use Rattle.report_text.specs.ReportText.{ArePositions, IsTold, IsTellable, text_line, number_line, positions_line, mark_name, line_text, lines_text, mark_text, report_text, tail_text}
+use Rattle.report_text.proofs.OrderedListLemmas.{one_line_in_order}
 
 -- 100 bytes from 10.1.2.3 to 20.1.2.3
 abbrev line : Line

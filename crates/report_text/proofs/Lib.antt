@@ -1,5 +1,5 @@
-pub mod Parts
-pub mod Words
-pub mod Apart
-pub mod InOrder
+pub mod TextPartLemmas
+pub mod TextWordLemmas
+pub mod OneTextLemmas
+pub mod OrderedListLemmas
 pub mod Examples

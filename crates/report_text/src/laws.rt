@@ -1,10 +1,9 @@
 //! Laws of texts. A caller that runs one has it at hand.
 
 ghost use Rattle.std.specs.Prelude.{◌≡◌};
-ghost use Rattle.hhh_output.specs.Same.{AreSame};
+ghost use Rattle.hhh_output.specs.{AreSame};
 ghost use Rattle.hhh_output.specs.declared.report.Report.{Report};
-ghost use Rattle.report_text.specs.Text.{report_text};
-ghost use Rattle.report_text.specs.Apart.{IsTellable};
+ghost use Rattle.report_text.specs.ReportText.{report_text, IsTellable};
 
 use prefix_lattice::prefix_texts_read_back;
 

@@ -1,8 +1,7 @@
 //! The text of reports and of the lines around them.
 
 ghost use Rattle.std.specs.Prelude.{◌≡◌, ◌≤◌, ◌++◌, OnOk, OnErr};
-ghost use Rattle.report_text.specs.Positions.{ArePositions};
-ghost use Rattle.report_text.specs.Text.{report_text, mark_text, tail_text};
+ghost use Rattle.report_text.specs.ReportText.{ArePositions, report_text, mark_text, tail_text};
 
 use crate::Mark;
 use crate::putting::{put, put_lines, put_number, put_positions};

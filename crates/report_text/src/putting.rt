@@ -1,8 +1,8 @@
 //! Putting parts of a text behind it, where there is room for them already.
 
 ghost use Rattle.std.specs.Prelude.{◌≡◌, ◌+◌, ◌*◌, ◌≤◌, ◌∷◌, ◌++◌, length, decimal, vec_len, vec_capacity};
-ghost use Rattle.prefix_lattice.specs.PrefixText.{prefix_text};
-ghost use Rattle.report_text.specs.Text.{line_text, lines_text, positions_line};
+ghost use Rattle.prefix_lattice.specs.{prefix_text};
+ghost use Rattle.report_text.specs.ReportText.{line_text, lines_text, positions_line};
 
 use hhh_output::Line;
 use itoa::Buffer;

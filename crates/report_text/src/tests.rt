@@ -1,5 +1,5 @@
 ghost use Rattle.std.specs.Prelude.{◌≤◌, IfOk};
-ghost use Rattle.report_text.specs.Positions.{ArePositions};
+ghost use Rattle.report_text.specs.ReportText.{ArePositions};
 
 use crate::{Mark, print, print_positions, print_tail};
 use frame_records::Records;
@@ -18,7 +18,7 @@ fn line_of(source: &str, dest: &str, lo: u64, hi: u64) -> Result<Line, Fail> {
 }
 
 // The positions of two shards.
-#[tactic(auto, using(crate::proofs::InOrder::two_positions))]
+#[tactic(auto, using(crate::proofs::OrderedListLemmas::two_positions))]
 fn positions_of(alloc: Global, first: u64, second: u64) -> Result<Positions, AllocError>
     requires first { first ≤ 16777216 }
     requires second { second ≤ 16777216 }
@@ -31,7 +31,7 @@ fn positions_of(alloc: Global, first: u64, second: u64) -> Result<Positions, All
 }
 
 // A report of two lines in their order.
-#[tactic(auto, using(crate::proofs::InOrder::two_lines_in_order))]
+#[tactic(auto, using(crate::proofs::OrderedListLemmas::two_lines_in_order))]
 fn report_of(alloc: Global, positions: Positions, first: Line, second: Line) -> Result<Report, Fail>
     requires { ArePositions positions }
     ensures positions { IfOk result (λ report. ArePositions report.positions) }

@@ -1,20 +1,14 @@
 -- Worked examples of the tables of a shard, most by computing.
 use Rattle.std.proofs.Common.{◌≡◌, ◌≤◌, ◌<◌, ◌^◌, ℕ, List, [], ◌∷◌, refl, lit<, arith}
 use Rattle.std.proofs.lemmas.List.Elements.{All-from_recursion, All-head}
-use Rattle.prefix_lattice.specs.RecordValue.{RecordValue}
-use Rattle.prefix_lattice.specs.NodeValue.{node_at}
-use Rattle.prefix_lattice.specs.Key.{IsKeyOf}
-use Rattle.prefix_lattice.specs.PrefixValue.{PrefixValue}
+use Rattle.prefix_lattice.specs.{RecordValue, node_at, IsKeyOf, PrefixValue}
 use Rattle.space_saving.specs.declared.entry.Entry.{Entry}
-use Rattle.space_saving.specs.Table.{TableValue}
-use Rattle.space_saving.specs.TableFacts.{HasSmallError}
-use Rattle.shard_state.specs.Tables.{adds_of, records_table, fold_at, fold_from, HasKeysOf, IsTableAt}
-use Rattle.shard_state.specs.Folding.{fold_table, fold_tables}
-use Rattle.shard_state.specs.SnapshotValue.{no_entries, empty_snapshot, entries_at, total_of}
-use Rattle.shard_state.specs.ShardValue.{ShardValue, IsShard, folded, snapshot_of}
+use Rattle.space_saving.specs.{TableValue, HasSmallError}
+use Rattle.shard_state.specs.Snapshot.{adds_of, records_table, fold_at, fold_from, HasKeysOf, IsTableAt, fold_table, fold_tables, no_entries, empty_snapshot, entries_at, total_of}
+use Rattle.shard_state.specs.ShardState.{ShardValue, IsShard, folded, snapshot_of}
 use Rattle.shard_state.specs.Weights.{Holds, HoldsWeightOver, interval_over, interval_of}
-use Rattle.shard_state.proofs.Emptiness.{IsSnapshot-empty}
-use Rattle.shard_state.proofs.Shards.{begun}
+use Rattle.shard_state.proofs.EmptyTableLemmas.{IsSnapshot-empty}
+use Rattle.shard_state.proofs.ShardStateLemmas.{begun}
 
 -- packets from N.0.0.1 to (100 + N).0.0.1
 abbrev pub x : RecordValue

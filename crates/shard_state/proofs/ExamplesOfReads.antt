@@ -1,15 +1,13 @@
 -- Worked examples of events, and of what reads leave.
 use Rattle.std.proofs.Common.{◌≡◌, zero, suc, ◌+◌, List, [], ◌∷◌, None, Some, refl, arith}
 use Rattle.std.proofs.lemmas.List.Elements.{All-from_recursion}
-use Rattle.shard_state.specs.SnapshotValue.{empty_snapshot}
-use Rattle.shard_state.specs.CutValue.{empty_cut}
-use Rattle.shard_state.specs.ShardValue.{ShardValue, IsShard, folded, snapshot_of}
-use Rattle.shard_state.specs.Standing.{SnapshotStandsFor}
-use Rattle.shard_state.specs.CoreValue.{CoreValue, changed, with_read, after, run, capacity_of, AreShards, IsCore, HasShape, IsEventFor}
-use Rattle.shard_state.specs.Reads.{position_in, met, reads_of, last_of, NeverFall, latest, shard_in, snapshot_in, lists_of, BasesStand, ReadsEach}
+use Rattle.shard_state.specs.Snapshot.{empty_snapshot, SnapshotStandsFor}
+use Rattle.shard_state.specs.Cut.{empty_cut}
+use Rattle.shard_state.specs.ShardState.{ShardValue, IsShard, folded, snapshot_of}
+use Rattle.shard_state.specs.ShardCore.{CoreValue, changed, with_read, after, run, capacity_of, AreShards, IsCore, HasShape, IsEventFor, position_in, met, reads_of, last_of, NeverFall, latest, shard_in, snapshot_in, lists_of, BasesStand, ReadsEach}
 use Rattle.shard_state.specs.declared.event.Event.{Event}
 use Rattle.shard_state.specs.declared.event.Event.TheVariants.{Fold, Read}
-use Rattle.shard_state.proofs.Stands.{stands-empty}
+use Rattle.shard_state.proofs.RepresentationLemmas.{stands-empty}
 use Rattle.shard_state.proofs.Examples.{first, shard, begun_shard}
 
 pub second_changed : changed (λ n. n + 10) 1 (1 ∷ 2 ∷ 3 ∷ []) ≡ 1 ∷ 12 ∷ 3 ∷ []

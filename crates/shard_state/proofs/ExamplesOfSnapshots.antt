@@ -1,18 +1,14 @@
 -- Worked examples of snapshots and cuts, most by computing.
 use Rattle.std.proofs.Common.{◌≡◌, ℕ, zero, suc, [], ◌∷◌, length, replicate, Some, slice_get, refl, sym, subst, arith}
 use Rattle.std.proofs.lemmas.List.Elements.{All-nil, All-cons, All-head}
-use Rattle.prefix_lattice.specs.NodeValue.{node_at}
-use Rattle.prefix_lattice.specs.Key.{IsKeyOf}
+use Rattle.prefix_lattice.specs.{node_at, IsKeyOf}
 use Rattle.space_saving.specs.declared.entry.Entry.{Entry}
-use Rattle.space_saving.specs.Table.{TableValue}
-use Rattle.shard_state.specs.SnapshotValue.{SnapshotValue, IsSnapshot, no_entries, empty_snapshot, entries_at, table_at, tables_of, total_of}
-use Rattle.shard_state.specs.SnapshotParts.{IsLike, AreTables, AreParts}
-use Rattle.shard_state.specs.Copying.{copied_from}
-use Rattle.shard_state.specs.CutValue.{CutValue, IsCut, empty_cut, positions_of, total_of_cut}
-use Rattle.shard_state.specs.ShardValue.{folded, snapshot_of}
-use Rattle.shard_state.specs.Standing.{SnapshotStandsFor, CutStandsFor, records_before}
-use Rattle.shard_state.proofs.Emptiness.{empty_table, IsSnapshot-empty, IsCut-empty}
-use Rattle.shard_state.proofs.Stands.{stands-empty, stands-shard}
+use Rattle.space_saving.specs.{TableValue}
+use Rattle.shard_state.specs.Snapshot.{SnapshotValue, IsSnapshot, no_entries, empty_snapshot, entries_at, table_at, tables_of, total_of, IsLike, AreTables, AreParts, copied_from, SnapshotStandsFor}
+use Rattle.shard_state.specs.Cut.{CutValue, IsCut, empty_cut, positions_of, total_of_cut, CutStandsFor, records_before}
+use Rattle.shard_state.specs.ShardState.{folded, snapshot_of}
+use Rattle.shard_state.proofs.EmptyTableLemmas.{empty_table, IsSnapshot-empty, IsCut-empty}
+use Rattle.shard_state.proofs.RepresentationLemmas.{stands-empty, stands-shard}
 use Rattle.shard_state.proofs.Examples.{x, u, first, entry, shard}
 
 -- the six packets are counted

@@ -1,11 +1,8 @@
 -- What the interval of a prefix says of its weight.
 use Rattle.std.specs.Prelude.{ℕ, ◌-◌, ◌*◌, ◌≤◌, List}
-use Rattle.prefix_lattice.specs.RecordValue.{RecordValue}
-use Rattle.prefix_lattice.specs.PrefixValue.{PrefixValue}
-use Rattle.prefix_lattice.specs.Prefix.{node_of, key_of, weight_of, total_weight}
-use Rattle.space_saving.specs.Table.{Interval, interval_in, interval_after}
-use Rattle.shard_state.specs.Tables.{adds_of}
-use Rattle.shard_state.specs.SnapshotValue.{SnapshotValue, table_at}
+use Rattle.prefix_lattice.specs.{RecordValue, PrefixValue, node_of, key_of, weight_of, total_weight}
+use Rattle.space_saving.specs.{Interval, interval_in, interval_after}
+use Rattle.shard_state.specs.Snapshot.{adds_of, SnapshotValue, table_at}
 
 -- an interval holds a weight, and is no wider than a total divided by a capacity
 pub record Holds (interval : Interval) (capacity weight total : ℕ) : Type 0 where

@@ -1,9 +1,9 @@
 //! One snapshot for each shard.
 
 ghost use Rattle.std.specs.Prelude.{◌≡◌, ◌^◌, ◌<◌, ◌≤◌, length, slice_get, slice_set, IfOk, Some};
-ghost use Rattle.shard_state.specs.SnapshotValue.{IsSnapshot};
-ghost use Rattle.shard_state.specs.ShardValue.{snapshot_of};
-ghost use Rattle.shard_state.specs.CutValue.{IsCut, empty_cut, positions_of, total_of_cut};
+ghost use Rattle.shard_state.specs.Snapshot.{IsSnapshot};
+ghost use Rattle.shard_state.specs.ShardState.{snapshot_of};
+ghost use Rattle.shard_state.specs.Cut.{IsCut, empty_cut, positions_of, total_of_cut};
 
 use crate::{Positions, ShardState, Snapshot};
 use std::alloc::{AllocError, Global};
@@ -17,8 +17,8 @@ pub struct Cut {
 }
 
 impl Model for Cut {
-    ghost use Rattle.shard_state.specs.ShardValue.{snapshot_of};
-    ghost use Rattle.shard_state.specs.CutValue.{CutValue, IsCut};
+    ghost use Rattle.shard_state.specs.ShardState.{snapshot_of};
+    ghost use Rattle.shard_state.specs.Cut.{CutValue, IsCut};
 
     ghost Value = { CutValue };
 

@@ -1,9 +1,9 @@
 //! Counting records in tables.
 
 ghost use Rattle.std.specs.Prelude.{◌≡◌, ◌+◌, ◌^◌, ◌<◌, ℕ, length, map, slice_get, Some, All, IfOk};
-ghost use Rattle.prefix_lattice.specs.Prefix.{total_weight};
-ghost use Rattle.space_saving.specs.Table.{TableValue, total_count};
-ghost use Rattle.shard_state.specs.Folding.{fold_table, fold_tables};
+ghost use Rattle.prefix_lattice.specs.{total_weight};
+ghost use Rattle.space_saving.specs.{TableValue, total_count};
+ghost use Rattle.shard_state.specs.Snapshot.{fold_table, fold_tables};
 
 use crate::snapshot_parts::NODES;
 use crate::table::Table;

@@ -1,19 +1,13 @@
 //! What the tables of shards say of weights, each law the contract of a function that does nothing.
 
 ghost use Rattle.std.specs.Prelude.{◌≡◌, ◌≤◌, ℕ, List, All, Some, length, slice_get, take};
-ghost use Rattle.prefix_lattice.specs.RecordValue.{RecordValue};
-ghost use Rattle.prefix_lattice.specs.NodeValue.{NodeValue};
-ghost use Rattle.prefix_lattice.specs.PrefixValue.{PrefixValue, IsPrefix};
-ghost use Rattle.prefix_lattice.specs.Prefix.{weight_of, total_weight};
-ghost use Rattle.space_saving.specs.Table.{total_count};
-ghost use Rattle.shard_state.specs.Tables.{records_table};
-ghost use Rattle.shard_state.specs.SnapshotValue.{SnapshotValue, empty_snapshot, total_of};
-ghost use Rattle.shard_state.specs.CutValue.{CutValue, IsCut, positions_of, total_of_cut};
-ghost use Rattle.shard_state.specs.ShardValue.{ShardValue, snapshot_of};
-ghost use Rattle.shard_state.specs.Standing.{SnapshotStandsFor, CutStandsFor, records_before};
+ghost use Rattle.prefix_lattice.specs.{RecordValue, NodeValue, PrefixValue, IsPrefix, weight_of, total_weight};
+ghost use Rattle.space_saving.specs.{total_count};
+ghost use Rattle.shard_state.specs.Snapshot.{records_table, SnapshotValue, empty_snapshot, total_of, SnapshotStandsFor};
+ghost use Rattle.shard_state.specs.Cut.{CutValue, IsCut, positions_of, total_of_cut, CutStandsFor, records_before};
+ghost use Rattle.shard_state.specs.ShardState.{ShardValue, snapshot_of};
 ghost use Rattle.shard_state.specs.Weights.{Holds, HoldsWeightOver, interval_of};
-ghost use Rattle.shard_state.specs.CoreValue.{CoreValue, HasShape, IsCore, capacity_of, run};
-ghost use Rattle.shard_state.specs.Reads.{BasesStand, ReadsEach, lists_of};
+ghost use Rattle.shard_state.specs.ShardCore.{CoreValue, HasShape, IsCore, capacity_of, run, BasesStand, ReadsEach, lists_of};
 ghost use Rattle.shard_state.specs.declared.event.Event.{Event};
 
 use prefix_lattice::keys_tell_covering;

@@ -1,12 +1,10 @@
 //! The pure core: shards and callers' cuts under a list of events.
 
 ghost use Rattle.std.specs.Prelude.{◌≡◌, ◌<◌, ◌≤◌, ℕ, length, slice_get, Some, All};
-ghost use Rattle.shard_state.specs.SnapshotValue.{SnapshotValue};
-ghost use Rattle.shard_state.specs.CutValue.{CutValue, positions_of};
-ghost use Rattle.shard_state.specs.ShardValue.{ShardValue, IsShard, folded};
-ghost use Rattle.shard_state.specs.Standing.{CutStandsFor};
-ghost use Rattle.shard_state.specs.CoreValue.{AreShards, HasShape, IsCore, IsEventFor, after, capacity_of, changed, run, with_read};
-ghost use Rattle.shard_state.specs.Reads.{BasesStand, NeverFall, ReadsEach, last_of, latest, lists_of, reads_of, snapshot_in};
+ghost use Rattle.shard_state.specs.Snapshot.{SnapshotValue};
+ghost use Rattle.shard_state.specs.Cut.{CutValue, positions_of, CutStandsFor};
+ghost use Rattle.shard_state.specs.ShardState.{ShardValue, IsShard, folded};
+ghost use Rattle.shard_state.specs.ShardCore.{AreShards, HasShape, IsCore, IsEventFor, after, capacity_of, changed, run, with_read, BasesStand, NeverFall, ReadsEach, last_of, latest, lists_of, reads_of, snapshot_in};
 
 use crate::{Cut, Event, ShardState};
 use std::marker::Model;
@@ -19,8 +17,8 @@ pub struct Core {
 
 impl Model for Core {
     ghost use Rattle.std.specs.Prelude.{List};
-    ghost use Rattle.shard_state.specs.ShardValue.{ShardValue};
-    ghost use Rattle.shard_state.specs.CoreValue.{IsCore};
+    ghost use Rattle.shard_state.specs.ShardState.{ShardValue};
+    ghost use Rattle.shard_state.specs.ShardCore.{IsCore};
 
     ghost Value = { List ShardValue };
 

@@ -2,10 +2,9 @@
 
 ghost use Rattle.std.specs.Prelude.{◌≡◌, ◌+◌, ◌^◌, ◌≤◌, ◌↔◌, length, take, IfOk};
 ghost use Rattle.std.specs.List.{slice_range};
-ghost use Rattle.prefix_lattice.specs.Prefix.{total_weight};
-ghost use Rattle.shard_state.specs.Tables.{fold_from};
-ghost use Rattle.shard_state.specs.SnapshotValue.{empty_snapshot, total_of};
-ghost use Rattle.shard_state.specs.ShardValue.{IsShard, folded, snapshot_of};
+ghost use Rattle.prefix_lattice.specs.{total_weight};
+ghost use Rattle.shard_state.specs.Snapshot.{fold_from, empty_snapshot, total_of};
+ghost use Rattle.shard_state.specs.ShardState.{IsShard, folded, snapshot_of};
 
 use crate::Snapshot;
 use crate::folding::{count_in_tables, restored};
@@ -36,8 +35,8 @@ pub struct ShardState {
 
 impl Model for ShardState {
     ghost use Rattle.std.specs.Prelude.{◌≡◌};
-    ghost use Rattle.shard_state.specs.SnapshotValue.{tables_of};
-    ghost use Rattle.shard_state.specs.ShardValue.{ShardValue, IsShard, snapshot_of};
+    ghost use Rattle.shard_state.specs.Snapshot.{tables_of};
+    ghost use Rattle.shard_state.specs.ShardState.{ShardValue, IsShard, snapshot_of};
 
     ghost Value = { ShardValue };
 

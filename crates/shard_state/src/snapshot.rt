@@ -1,9 +1,7 @@
 //! The tables of a shard at one position.
 
 ghost use Rattle.std.specs.Prelude.{◌≡◌, ◌^◌, ◌<◌, ◌≤◌, ◌↔◌, All, IfOk, IfSome, IsSome};
-ghost use Rattle.shard_state.specs.SnapshotValue.{IsSnapshot, empty_snapshot, table_at, tables_of, total_of};
-ghost use Rattle.shard_state.specs.SnapshotParts.{AreParts};
-ghost use Rattle.shard_state.specs.Copying.{copied_from};
+ghost use Rattle.shard_state.specs.Snapshot.{IsSnapshot, empty_snapshot, table_at, tables_of, total_of, AreParts, copied_from};
 
 use crate::folding::copy_tables;
 use crate::snapshot_parts::{are_tables, empty_tables};
@@ -26,7 +24,7 @@ pub struct Snapshot {
 
 impl Model for Snapshot {
     ghost use Rattle.std.specs.Prelude.{◌≡◌, All, map};
-    ghost use Rattle.shard_state.specs.SnapshotValue.{SnapshotValue, IsSnapshot};
+    ghost use Rattle.shard_state.specs.Snapshot.{SnapshotValue, IsSnapshot};
 
     ghost Value = { SnapshotValue };
 

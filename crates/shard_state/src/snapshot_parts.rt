@@ -2,11 +2,9 @@
 
 ghost use Rattle.std.specs.Prelude.{◌≡◌, ◌<◌, ◌≤◌, ◌↔◌, ℕ, [], length, slice_get, Some, IfOk, IsTrue};
 ghost use Rattle.std.proofs.Math.ListN.{replicate};
-ghost use Rattle.prefix_lattice.specs.NodeValue.{node_at};
-ghost use Rattle.shard_state.specs.SnapshotParts.{IsLike, AreTables};
-ghost use Rattle.shard_state.specs.Tables.{HasKeysOf};
-ghost use Rattle.space_saving.specs.Table.{TableValue};
-ghost use Rattle.space_saving.specs.TableFacts.{AreEntries};
+ghost use Rattle.prefix_lattice.specs.{node_at};
+ghost use Rattle.shard_state.specs.Snapshot.{IsLike, AreTables, HasKeysOf};
+ghost use Rattle.space_saving.specs.{TableValue, AreEntries};
 
 use prefix_lattice::{Node, Prefix};
 use space_saving::Flat;

@@ -1,5 +1,5 @@
 ghost use Rattle.std.specs.Prelude.{◌≡◌, ◌^◌, ◌≤◌, length, All, IfOk};
-ghost use Rattle.shard_state.specs.CoreValue.{HasShape, capacity_of};
+ghost use Rattle.shard_state.specs.ShardCore.{HasShape, capacity_of};
 
 use super::*;
 use prefix_lattice::{Node, Record, RecordList};

@@ -2,8 +2,7 @@
 use Rattle.std.proofs.Common.{◌≡◌, ◌≤◌, ℕ, List, [], ◌∷◌, None, Some, refl, lit<, arith}
 use Rattle.std.proofs.lemmas.List.Elements.{All-from_recursion, All-head}
 use Rattle.space_saving.specs.declared.entry.Entry.{Entry}
-use Rattle.space_saving.specs.Table.{Add, TableValue, Interval, put, entry_of, without, replace_head, enter, step_from, step, table_of, total_count, least_count, interval_from, interval_in, interval_after, weight_of_key, total_added}
-use Rattle.space_saving.specs.TableFacts.{RisesFrom, AreApart, HasSmallError, IsTable, AreEntries, IsKept, AreWeighed}
+use Rattle.space_saving.specs.Table.{Add, TableValue, Interval, put, entry_of, without, replace_head, enter, step_from, step, table_of, total_count, least_count, interval_from, interval_in, interval_after, weight_of_key, total_added, RisesFrom, AreApart, HasSmallError, IsTable, AreEntries, IsKept, AreWeighed}
 use Rattle.space_saving.specs.Places.{IsPlaceOf}
 
 -- this weight for this key

@@ -2,8 +2,7 @@
 
 ghost use Rattle.std.specs.Prelude.{◌≡◌, ◌^◌, ◌<◌, ◌≤◌, ◌↔◌, IsTrue, All};
 ghost use Rattle.std.specs.Option.{SomeIff};
-ghost use Rattle.space_saving.specs.Table.{total_count};
-ghost use Rattle.space_saving.specs.TableFacts.{HasSmallError, IsTable, RisesFrom};
+ghost use Rattle.space_saving.specs.Table.{total_count, HasSmallError, IsTable, RisesFrom};
 
 use crate::Entry;
 use crate::keys::are_apart;

@@ -1,8 +1,7 @@
 //! A table as plain entries.
 
 ghost use Rattle.std.specs.Prelude.{◌≡◌, ◌+◌, ◌-◌, ◌*◌, ◌^◌, ◌<◌, ◌≤◌, ◌↔◌, [], length, take, slice_get, vec_capacity, IfOk, IfSome, IsSome, None};
-ghost use Rattle.space_saving.specs.Table.{step, entry_of, total_count, least_count, interval_in};
-ghost use Rattle.space_saving.specs.TableFacts.{AreEntries};
+ghost use Rattle.space_saving.specs.Table.{step, entry_of, total_count, least_count, interval_in, AreEntries};
 
 use crate::facts::{is_table, total_of};
 use crate::places::place_of;
@@ -29,8 +28,7 @@ pub struct Flat {
 
 impl Model for Flat {
     ghost use Rattle.std.specs.Prelude.{vec_capacity};
-    ghost use Rattle.space_saving.specs.Table.{TableValue};
-    ghost use Rattle.space_saving.specs.TableFacts.{IsKept};
+    ghost use Rattle.space_saving.specs.Table.{TableValue, IsKept};
 
     ghost Value = { TableValue };
 

@@ -3,7 +3,7 @@
 ghost use Rattle.std.specs.Prelude.{◌≡◌, ◌≤◌, ◌↔◌, IsTrue, length, map, IsPermutation, IsSorted};
 ghost use Rattle.std.specs.List.Sorted.{IsStrictlyIncreasing};
 ghost use Rattle.std.specs.Ordering.{nat_cmp};
-ghost use Rattle.space_saving.specs.TableFacts.{AreApart};
+ghost use Rattle.space_saving.specs.Table.{AreApart};
 
 use crate::Entry;
 

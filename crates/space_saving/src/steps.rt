@@ -1,8 +1,7 @@
 //! One step of Space-Saving on a list of entries.
 
 ghost use Rattle.std.specs.Prelude.{◌≡◌, ◌+◌, ◌^◌, ◌<◌, ◌≤◌, vec_capacity};
-ghost use Rattle.space_saving.specs.Table.{step, total_count};
-ghost use Rattle.space_saving.specs.TableFacts.{IsTable};
+ghost use Rattle.space_saving.specs.Table.{step, total_count, IsTable};
 
 use crate::Entry;
 use crate::places::{place_for, place_of, settle};

@@ -1,8 +1,7 @@
 //! A table of Space-Saving, whatever it keeps its entries in.
 
 ghost use Rattle.std.specs.Prelude.{◌≡◌, ◌+◌, ◌-◌, ◌*◌, ◌^◌, ◌<◌, ◌≤◌, ◌↔◌, [], length, slice_get, IfOk, IsTrue, Some};
-ghost use Rattle.space_saving.specs.Table.{TableValue, step, total_count, interval_in};
-ghost use Rattle.space_saving.specs.TableFacts.{AreEntries};
+ghost use Rattle.space_saving.specs.Table.{TableValue, step, total_count, interval_in, AreEntries};
 
 use crate::{Entry, Flat};
 use std::alloc::{AllocError, Global};

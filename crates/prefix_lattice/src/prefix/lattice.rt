@@ -1,7 +1,7 @@
 //! Which prefix is under which, the greatest under two, and the order of a report.
 
 ghost use Rattle.std.specs.Prelude.{◌≡◌, ◌≢◌, ◌↔◌, true, IsTrue, IsSome, IsSomeAnd, IfSome};
-ghost use Rattle.prefix_lattice.specs.PrefixValue.{PrefixValue, IsPrefix};
+ghost use Rattle.prefix_lattice.specs.Prefix.{PrefixValue, IsPrefix};
 ghost use Rattle.prefix_lattice.specs.Lattice.{under, strictly_under, meet, ShareAddresses, report_order};
 
 use crate::Prefix;
@@ -24,7 +24,7 @@ impl Prefix {
     }
 
     /// Under the other prefix, and not equal to it.
-    #[tactic(auto, using(crate::proofs::Meets::strictly_by_tests))]
+    #[tactic(auto, using(crate::proofs::MeetLemmas::strictly_by_tests))]
     pub fn strictly_under(&self, other: &Prefix) -> bool
         ensures value { result ≡ strictly_under self.now other.now }
         ensures differs { IsTrue result ↔ (IsTrue (under self.now other.now) × (self.now ≢ other.now)) }

@@ -2,7 +2,7 @@ use Rattle.std.proofs.Common.{◌≡◌, ◌∙◌, true≢false, ap, sym}
 use Rattle.clap.specs.Words.{App, is_simple, matches_of, takes}
 use Rattle.clap.specs.declared.error.kind.ErrorKind.TheVariants.{OutOfMemory}
 use Rattle.command_words.specs.Words.{texts}
-use Rattle.command_words.proofs.Taking.{rows_tell, simple_parser, well_formed_found, well_formed_taken}
+use Rattle.command_words.proofs.ParserLemmas.{rows_tell, simple_parser, well_formed_found, well_formed_taken}
 use Rattle.command_words.proofs.parsing.parse.Goals as goal
 
 -- the parser takes well-formed words, so that it fails for want of memory alone

@@ -1,7 +1,7 @@
 use Rattle.std.proofs.Common.{rules, []}
 use Rattle.clap.specs.Words.{app_of, rule_of}
 use Rattle.command_words.specs.Parser.{option_rule}
-use Rattle.command_words.proofs.Building.{rule_more}
+use Rattle.command_words.proofs.ParserRuleLemmas.{rule_more}
 use Rattle.command_words.proofs.parsing.take_options.Goals as goal
 
 pub loop-name-preserved : goal.loop-name-preserved

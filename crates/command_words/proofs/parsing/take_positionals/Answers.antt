@@ -1,6 +1,6 @@
 use Rattle.std.proofs.Common.{rules, []}
 use Rattle.clap.specs.Words.{app_of, new_rule, rule_of}
-use Rattle.command_words.proofs.Building.{rule_more}
+use Rattle.command_words.proofs.ParserRuleLemmas.{rule_more}
 use Rattle.command_words.proofs.parsing.take_positionals.Goals as goal
 
 pub loop-name-preserved : goal.loop-name-preserved

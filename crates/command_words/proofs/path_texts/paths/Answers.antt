@@ -1,6 +1,6 @@
 -- Words have one meaning, so what is read soundly is read exactly.
 use Rattle.command_words.specs.Words.{texts}
-use Rattle.command_words.proofs.OneMeaning.{HasOneReading, accepts_all, tells_all}
+use Rattle.command_words.proofs.OneMeaningLemmas.{HasOneReading, accepts_all, tells_all}
 use Rattle.command_words.proofs.path_texts.paths.Goals as goal
 
 pub returns-clause-complete : goal.returns-clause-complete

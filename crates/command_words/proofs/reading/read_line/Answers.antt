@@ -2,7 +2,7 @@
 use Rattle.std.proofs.Common.{sym, ◌∙◌}
 use Rattle.std.proofs.lemmas.Bool.{false≢true}
 use Rattle.command_words.specs.Words.{texts}
-use Rattle.command_words.proofs.FirstWord.{unknown_first, refused_behind, tells_behind, told_as_bad}
+use Rattle.command_words.proofs.FirstWordLemmas.{unknown_first, refused_behind, tells_behind, told_as_bad}
 use Rattle.command_words.proofs.reading.read_line.Goals as goal
 
 pub returns-in_default-of-clause-bad : goal.returns-in_default-of-clause-bad

@@ -1,8 +1,8 @@
 -- Words have one meaning, so what is read soundly is read exactly.
 use Rattle.std.proofs.lemmas.Result.{IfOk-weaker}
 use Rattle.command_words.specs.Words.{texts, AskFor, IsLimited}
-use Rattle.command_words.proofs.Limits.{asked_is_limited}
-use Rattle.command_words.proofs.OneMeaning.{HasOneReading, reads_all, tells_all}
+use Rattle.command_words.proofs.LimitLemmas.{asked_is_limited}
+use Rattle.command_words.proofs.OneMeaningLemmas.{HasOneReading, reads_all, tells_all}
 use Rattle.command_words.proofs.reading.read_words.Goals as goal
 
 pub returns-clause-complete : goal.returns-clause-complete

@@ -4,7 +4,7 @@ use Rattle.std.proofs.lemmas.Result.{err_from_is_err_and}
 use Rattle.command_words.specs.Settings.{SetsSettings}
 use Rattle.command_words.specs.Words.{HasSides}
 use Rattle.command_words.specs.declared.command_word.CommandWord.TheVariants.{Weigh}
-use Rattle.command_words.proofs.ToldWords.{told_sides, told_is_found, told_values, told_fault, found_sides}
+use Rattle.command_words.proofs.MatchLemmas.{told_sides, told_is_found, told_values, told_fault, found_sides}
 use Rattle.command_words.proofs.reading.weigh_command.Goals as goal
 
 pub unwrap-source-requires : goal.unwrap-source-requires

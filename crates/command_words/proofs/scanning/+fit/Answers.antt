@@ -4,8 +4,8 @@ use Rattle.std.proofs.lemmas.Bool.Decides.{Decides-eqb, Decides-ltb}
 use Rattle.command_words.specs.Scanning.{text_at}
 use Rattle.command_words.specs.Forms.{form_of}
 use Rattle.command_words.specs.Words.{texts}
-use Rattle.command_words.proofs.Behind.{begins_range, no_texts, no_words}
-use Rattle.command_words.proofs.Fitting.{none_fit, fit_none, positional_fits, fit_positional, option_fits, fit_option}
+use Rattle.command_words.proofs.ArgumentTailLemmas.{begins_range, no_texts, no_words}
+use Rattle.command_words.proofs.FormLemmas.{none_fit, fit_none, positional_fits, fit_positional, option_fits, fit_option}
 use Rattle.command_words.proofs.scanning.+fit.Goals as goal
 
 pub returns-then-is_empty : goal.returns-then-is_empty

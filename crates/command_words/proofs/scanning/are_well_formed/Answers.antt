@@ -3,7 +3,7 @@ use Rattle.std.proofs.lemmas.List.{length-map}
 use Rattle.command_words.specs.Arguments.{Text}
 use Rattle.command_words.specs.Forms.{form_of}
 use Rattle.command_words.specs.Words.{texts}
-use Rattle.command_words.proofs.Fitting.{well_formed_fit}
+use Rattle.command_words.proofs.FormLemmas.{well_formed_fit}
 use Rattle.command_words.proofs.scanning.are_well_formed.Goals as goal
 
 pub returns : goal.returns

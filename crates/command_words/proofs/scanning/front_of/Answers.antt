@@ -2,8 +2,8 @@ use Rattle.std.proofs.Common.{refl, sym, ap, ◌∙◌, arith, subst, Some, None
 use Rattle.std.proofs.lemmas.Str.Pattern.{split_parts}
 use Rattle.command_words.specs.Arguments.{positional, option, equals_sign, IsValue, long}
 use Rattle.command_words.specs.Words.{texts}
-use Rattle.command_words.proofs.Fronts.{given_if, none_unless, none_given, none_behind, is_name, is_long, begins_positional, begins_joined, begins_apart, no_positional_begins, no_joined_begins, no_apart_begins}
-use Rattle.command_words.proofs.OneReading.{same_head}
+use Rattle.command_words.proofs.WordFrontLemmas.{given_if, none_unless, none_given, none_behind, is_name, is_long, begins_positional, begins_joined, begins_apart, no_positional_begins, no_joined_begins, no_apart_begins}
+use Rattle.command_words.proofs.OneReadingLemmas.{same_head}
 use Rattle.command_words.proofs.scanning.front_of.Goals as goal
 
 pub returns-in_default-clause-some : goal.returns-in_default-clause-some

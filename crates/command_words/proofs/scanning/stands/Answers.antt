@@ -1,7 +1,7 @@
 use Rattle.std.proofs.Common.{◌≤◌, ◌-◌, refl, sym, ◌∙◌, length, arith}
 use Rattle.std.proofs.lemmas.Bool.{false≢true}
 use Rattle.std.proofs.lemmas.List.{length-drop, take_rest}
-use Rattle.command_words.proofs.Behind.{begins_from, none_from, leaves_others, stands_here, stands_nowhere}
+use Rattle.command_words.proofs.ArgumentTailLemmas.{begins_from, none_from, leaves_others, stands_here, stands_nowhere}
 use Rattle.command_words.proofs.scanning.stands.Goals as goal
 
 pub returns-then-names : goal.returns-then-names

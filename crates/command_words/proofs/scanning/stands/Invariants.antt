@@ -1,7 +1,7 @@
 use Rattle.std.proofs.Common.{List, length, drop, ◌≤◌, ◌-◌}
 use Rattle.command_words.specs.Arguments.{Argument, SpellsAll}
 use Rattle.command_words.specs.Words.{texts}
-use Rattle.command_words.proofs.Behind.{LeavesNames}
+use Rattle.command_words.proofs.ArgumentTailLemmas.{LeavesNames}
 use Rattle.command_words.proofs.scanning.stands.Given as goal
 
 -- whatever arguments the words spell, the name stands among them just where it stands among those left

@@ -3,7 +3,7 @@ use Rattle.std.proofs.Common.{sym}
 use Rattle.std.proofs.lemmas.Result.{err_from_is_err_and}
 use Rattle.command_words.specs.Matches.{values_told}
 use Rattle.command_words.specs.declared.opt.Opt.TheVariants.{Weigh, Shards, Capacity, Phi, Deal}
-use Rattle.command_words.proofs.GoodValues.{good_before_first, good_before_next, weigh_is_good, number_is_good, number_is_first, choice_is_first}
+use Rattle.command_words.proofs.ValueLemmas.{good_before_first, good_before_next, weigh_is_good, number_is_good, number_is_first, choice_is_first}
 use Rattle.command_words.proofs.values.settings_of.Goals as goal
 
 pub returns-in_err-weigh-clause-err : goal.returns-in_err-weigh-clause-err

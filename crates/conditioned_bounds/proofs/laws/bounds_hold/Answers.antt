@@ -1,6 +1,6 @@
-use Rattle.conditioned_bounds.proofs.Bounding.{bound_of-least, bound_of-most, bound_of-exact}
+use Rattle.conditioned_bounds.proofs.BoundLemmas.{bound_of-least, bound_of-most, bound_of-exact}
 use Rattle.conditioned_bounds.specs.Bounds.{bound_of}
-use Rattle.conditioned_bounds.proofs.Summing.{times_reached}
+use Rattle.conditioned_bounds.proofs.IntervalSumLemmas.{times_reached}
 use Rattle.conditioned_bounds.proofs.laws.bounds_hold.Goals as goal
 
 pub returns-clause-at_least : goal.returns-clause-at_least

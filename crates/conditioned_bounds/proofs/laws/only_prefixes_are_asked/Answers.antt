@@ -1,9 +1,7 @@
 use Rattle.std.proofs.Common.{not, ◌++◌}
 use Rattle.std.specs.List.{list_any}
 use Rattle.std.proofs.lemmas.List.Elements.{All-cons, All-append, All-filter}
-use Rattle.prefix_lattice.specs.PrefixValue.{IsPrefix}
-use Rattle.prefix_lattice.specs.Lattice.{strictly_under}
-use Rattle.prefix_lattice.specs.Explaining.{lines_under, closest, kept_pairs}
+use Rattle.prefix_lattice.specs.{IsPrefix, strictly_under, lines_under, closest, kept_pairs}
 use Rattle.conditioned_bounds.proofs.laws.only_prefixes_are_asked.Goals as goal
 
 pub returns : goal.returns

@@ -1,7 +1,7 @@
 use Rattle.std.proofs.Common.{sym}
-use Rattle.conditioned_bounds.proofs.Weighing.{weights_balance}
-use Rattle.prefix_lattice.specs.Explaining.{closest, kept_pairs}
-use Rattle.conditioned_bounds.proofs.Balancing.{balances}
+use Rattle.conditioned_bounds.proofs.WeightLemmas.{weights_balance}
+use Rattle.prefix_lattice.specs.{closest, kept_pairs}
+use Rattle.conditioned_bounds.proofs.BalanceLemmas.{balances}
 use Rattle.conditioned_bounds.proofs.laws.weights_balance.Goals as goal
 
 pub returns : goal.returns

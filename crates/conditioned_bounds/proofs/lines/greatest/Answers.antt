@@ -2,8 +2,7 @@ use Rattle.std.proofs.Common.{◌≡◌, ℕ, ◌+◌, ◌<◌, Bool, true, fals
 use Rattle.std.specs.List.{list_any}
 use Rattle.std.proofs.lemmas.Bool.{cond-true, cond-false}
 use Rattle.std.proofs.lemmas.List.Elements.{filter_more}
-use Rattle.prefix_lattice.specs.PrefixValue.{PrefixValue}
-use Rattle.prefix_lattice.specs.Lattice.{strictly_under}
+use Rattle.prefix_lattice.specs.{PrefixValue, strictly_under}
 use Rattle.conditioned_bounds.proofs.lines.greatest.Goals as goal
 use Rattle.conditioned_bounds.proofs.lines.greatest.Goals.{then-not-is_under_another+in_ok-push, else-not-is_under_another}
 

@@ -1,6 +1,6 @@
 use Rattle.std.proofs.Common.{◌≡◌, not, filter, take}
 use Rattle.std.specs.List.{list_any}
-use Rattle.prefix_lattice.specs.Lattice.{strictly_under}
+use Rattle.prefix_lattice.specs.{strictly_under}
 use Rattle.conditioned_bounds.proofs.lines.greatest.Given as goal
 
 -- those of the members so far

@@ -1,5 +1,5 @@
 use Rattle.std.proofs.Common.{◌≡◌, take}
-use Rattle.prefix_lattice.specs.Explaining.{lines_under}
+use Rattle.prefix_lattice.specs.{lines_under}
 use Rattle.conditioned_bounds.proofs.lines.lines_under.Given as goal
 
 -- those of the lines so far

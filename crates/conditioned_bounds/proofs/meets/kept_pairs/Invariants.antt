@@ -1,5 +1,5 @@
 use Rattle.std.proofs.Common.{◌≡◌, ◌++◌, drop}
-use Rattle.prefix_lattice.specs.Explaining.{kept_among, kept_pairs}
+use Rattle.prefix_lattice.specs.{kept_among, kept_pairs}
 use Rattle.conditioned_bounds.proofs.meets.kept_pairs.Given as goal
 
 -- those of the first members so far, before those that are still to come

@@ -1,6 +1,6 @@
 use Rattle.std.proofs.Common.{◌≡◌, ◌++◌, take}
 use Rattle.std.specs.List.{filter_map}
-use Rattle.prefix_lattice.specs.Explaining.{kept_meet}
+use Rattle.prefix_lattice.specs.{kept_meet}
 use Rattle.conditioned_bounds.proofs.meets.push_meets.Given as goal
 
 -- the meets with the others so far

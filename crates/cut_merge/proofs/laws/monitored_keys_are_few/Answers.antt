@@ -1,5 +1,5 @@
 use Rattle.cut_merge.proofs.FirstSeenLemmas.{first_seen-distinct}
-use Rattle.cut_merge.proofs.MonitoredKeys.{monitored_keyed, monitored_few, node_keys}
+use Rattle.cut_merge.proofs.MonitoredKeyLemmas.{monitored_keyed, monitored_few, node_keys}
 use Rattle.cut_merge.proofs.laws.monitored_keys_are_few.Goals as goal
 
 pub returns-clause-keyed : goal.returns-clause-keyed

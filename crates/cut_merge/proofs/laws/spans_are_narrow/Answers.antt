@@ -1,4 +1,4 @@
-use Rattle.cut_merge.proofs.Spans.{span_within, span_light}
+use Rattle.cut_merge.proofs.SpanLemmas.{span_within, span_light}
 use Rattle.cut_merge.proofs.laws.spans_are_narrow.Goals as goal
 
 pub returns-clause-within : goal.returns-clause-within

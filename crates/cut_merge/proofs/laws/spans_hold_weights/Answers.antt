@@ -1,4 +1,4 @@
-use Rattle.cut_merge.proofs.Spans.{span_holds}
+use Rattle.cut_merge.proofs.SpanLemmas.{span_holds}
 use Rattle.cut_merge.proofs.laws.spans_hold_weights.Goals as goal
 
 pub returns : goal.returns

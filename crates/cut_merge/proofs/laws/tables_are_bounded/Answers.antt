@@ -1,4 +1,4 @@
-use Rattle.cut_merge.proofs.CutTables.{bounded_at}
+use Rattle.cut_merge.proofs.CutTableLemmas.{bounded_at}
 use Rattle.cut_merge.proofs.laws.tables_are_bounded.Goals as goal
 
 pub returns : goal.returns

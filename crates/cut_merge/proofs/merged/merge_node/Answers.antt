@@ -1,7 +1,7 @@
 use Rattle.std.proofs.Common.{ap, subst, arith}
-use Rattle.space_saving.specs.Table.{TableValue, total_count}
-use Rattle.cut_merge.specs.Merging.{AddsTable}
-use Rattle.cut_merge.proofs.MergingCut.{within_cut, one_more_shard}
+use Rattle.space_saving.specs.{TableValue, total_count}
+use Rattle.cut_merge.specs.Merged.{AddsTable}
+use Rattle.cut_merge.proofs.CutMergeLemmas.{within_cut, one_more_shard}
 use Rattle.cut_merge.proofs.merged.merge_node.Goals as goal
 
 pub add-requires-clause-low : goal.add-requires-clause-low

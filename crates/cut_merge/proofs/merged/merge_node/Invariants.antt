@@ -1,5 +1,5 @@
 use Rattle.std.proofs.Common.{take}
-use Rattle.cut_merge.specs.Merging.{StandsForTables}
+use Rattle.cut_merge.specs.Merged.{StandsForTables}
 use Rattle.cut_merge.specs.Span.{node_tables}
 use Rattle.cut_merge.proofs.merged.merge_node.Given as goal
 

@@ -1,7 +1,7 @@
 use Rattle.std.proofs.Common.{ap, arith}
 use Rattle.std.proofs.lemmas.List.Sums.{sum_by_more}
 use Rattle.std.proofs.lemmas.Option.{get_or_from_slice_get, slice_get_within}
-use Rattle.shard_state.specs.SnapshotValue.{total_of}
+use Rattle.shard_state.specs.{total_of}
 use Rattle.cut_merge.proofs.merged.total_of_shards.Goals as goal
 
 pub loop-place-preserved : goal.loop-place-preserved

@@ -1,5 +1,5 @@
 use Rattle.std.proofs.Common.{◌≡◌, take, sum_by}
-use Rattle.shard_state.specs.SnapshotValue.{total_of}
+use Rattle.shard_state.specs.{total_of}
 use Rattle.cut_merge.proofs.merged.total_of_shards.Given as goal
 
 abbrev pub invariant-loop-place : goal.invariant-loop-place

@@ -1,7 +1,7 @@
 use Rattle.std.proofs.Common.{◌≡◌, IsSome, Some, None, ap, ◌∙◌, sym, subst, refl, eqb, rules, [], ◌∷◌}
 use Rattle.std.proofs.lemmas.List.{map-append}
 use Rattle.std.specs.Map.{keys_of, lookup}
-use Rattle.cut_merge.proofs.Noting.{notes_first, notes_next, seen_before, not_seen_before}
+use Rattle.cut_merge.proofs.GainLemmas.{notes_first, notes_next, seen_before, not_seen_before}
 use Rattle.indexmap.proofs.CallerLemmas.{keys-insert_entry-present, insert_entry-new}
 use Rattle.cut_merge.proofs.node_merge.note.Goals as goal
 

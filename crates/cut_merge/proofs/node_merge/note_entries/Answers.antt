@@ -1,6 +1,6 @@
 use Rattle.std.proofs.Common.{ℕ, ◌-◌, subst}
-use Rattle.cut_merge.proofs.Noting.{Notes}
-use Rattle.cut_merge.proofs.NotingEntries.{notes_more}
+use Rattle.cut_merge.proofs.GainLemmas.{Notes}
+use Rattle.cut_merge.proofs.EntryGainLemmas.{notes_more}
 use Rattle.cut_merge.proofs.node_merge.note_entries.Goals as goal
 
 pub loop-place-preserved : goal.loop-place-preserved

@@ -1,4 +1,4 @@
-use Rattle.cut_merge.proofs.NotingEntries.{NotesEntries}
+use Rattle.cut_merge.proofs.EntryGainLemmas.{NotesEntries}
 use Rattle.cut_merge.proofs.node_merge.note_entries.Given as goal
 
 abbrev pub invariant-loop-place : goal.invariant-loop-place

@@ -1,6 +1,6 @@
 use Rattle.std.proofs.Common.{rules, arith}
-use Rattle.deal_rules.proofs.Parting.{IsDealing-none, IsDealing-more, IsDealing-all, length-dealing}
-use Rattle.deal_rules.proofs.Keeping.{AreShardLists-dealing}
+use Rattle.deal_rules.proofs.ShardListLemmas.{IsDealing-none, IsDealing-more, IsDealing-all, length-dealing}
+use Rattle.deal_rules.proofs.DealingLemmas.{AreShardLists-dealing}
 use Rattle.deal_rules.proofs.dealing.deal.Goals as goal
 
 pub loop-place-init : goal.loop-place-init

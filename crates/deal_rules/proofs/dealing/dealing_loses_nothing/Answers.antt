@@ -1,4 +1,4 @@
-use Rattle.deal_rules.proofs.Keeping.{permuted, summed, counted, weighed, total}
+use Rattle.deal_rules.proofs.DealingLemmas.{permuted, summed, counted, weighed, total}
 use Rattle.deal_rules.proofs.dealing.dealing_loses_nothing.Goals as goal
 
 pub returns-clause-permuted : goal.returns-clause-permuted

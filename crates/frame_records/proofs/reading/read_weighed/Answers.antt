@@ -1,5 +1,5 @@
 use Rattle.std.proofs.Common.{◌≤◌, [], length, sym, subst}
-use Rattle.frame_records.proofs.Keeping.{exact_counts, few_records}
+use Rattle.frame_records.proofs.RecordVisitorLemmas.{exact_counts, few_records}
 use Rattle.frame_records.proofs.reading.read_weighed.Goals as goal
 
 pub returns-in-Ok-clause-records : goal.returns-in-Ok-clause-records

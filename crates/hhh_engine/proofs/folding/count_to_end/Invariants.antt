@@ -1,5 +1,5 @@
 use Rattle.std.proofs.Common.{◌≡◌, ◌-◌, ◌≤◌, length}
-use Rattle.shard_state.specs.SnapshotValue.{empty_snapshot}
+use Rattle.shard_state.specs.{empty_snapshot}
 use Rattle.hhh_engine.proofs.folding.count_to_end.Given as goal
 
 -- the state is that of the list, begun with empty tables, at some position of it

@@ -4,8 +4,8 @@ use Rattle.std.specs.Vec.Iter.{into_iter_items}
 use Rattle.std.proofs.Math.ListN.{replicate}
 use Rattle.std.proofs.lemmas.List.{nil_from_length}
 use Rattle.std.proofs.lemmas.List.Elements.{All-drop, All-nil, All-push}
-use Rattle.shard_state.specs.SnapshotValue.{empty_snapshot}
-use Rattle.hhh_engine.proofs.Ends.{counted, none_counted, shards_after, ShardsStand, all_counted, each_few}
+use Rattle.shard_state.specs.{empty_snapshot}
+use Rattle.hhh_engine.proofs.CutAtEndsLemmas.{counted, none_counted, shards_after, ShardsStand, all_counted, each_few}
 use Rattle.hhh_engine.proofs.folding.cut_at_ends.Goals as goal
 
 pub loop-list-init : goal.loop-list-init

@@ -1,7 +1,7 @@
 use Rattle.std.proofs.Common.{◌≡◌, ◌≤◌, ◌^◌, ◌++◌, length}
 use Rattle.std.specs.List.{All}
 use Rattle.std.specs.Vec.Iter.{into_iter_items}
-use Rattle.hhh_engine.proofs.Ends.{counted}
+use Rattle.hhh_engine.proofs.CutAtEndsLemmas.{counted}
 use Rattle.hhh_engine.proofs.folding.cut_at_ends.Given as goal
 
 -- the shards of the lists so far counted all, and the others nothing

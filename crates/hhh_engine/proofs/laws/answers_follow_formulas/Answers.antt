@@ -1,5 +1,5 @@
-use Rattle.hhh_engine.specs.Reporting.{by_formula}
-use Rattle.hhh_engine.proofs.Widening.{wider_answers, wider_answers_in_part}
+use Rattle.hhh_engine.specs.Session.{by_formula}
+use Rattle.hhh_engine.proofs.WiderRulesLemmas.{wider_answers, wider_answers_in_part}
 use Rattle.hhh_engine.proofs.laws.answers_follow_formulas.Goals as goal
 
 pub returns-clause-whole : goal.returns-clause-whole

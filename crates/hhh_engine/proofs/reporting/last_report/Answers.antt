@@ -1,5 +1,5 @@
 use Rattle.std.proofs.lemmas.Result.{IfOk-weaker}
-use Rattle.hhh_engine.proofs.Ends.{ends_are_positions}
+use Rattle.hhh_engine.proofs.CutAtEndsLemmas.{ends_are_positions}
 use Rattle.hhh_engine.proofs.reporting.last_report.Goals as goal
 
 pub returns-clause-positions : goal.returns-clause-positions

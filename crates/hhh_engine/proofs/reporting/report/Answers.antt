@@ -1,5 +1,5 @@
 use Rattle.std.proofs.Common.{rules, ◌∙◌}
-use Rattle.hhh_engine.proofs.Sessions.{session_of}
+use Rattle.hhh_engine.proofs.SessionLemmas.{session_of}
 use Rattle.hhh_engine.proofs.reporting.report.Goals as goal
 
 pub returns-clause-text : goal.returns-clause-text

@@ -1,8 +1,8 @@
 use Rattle.std.proofs.Common.{ap}
-use Rattle.report_text.specs.Text.{mark_text, report_text}
+use Rattle.report_text.specs.{mark_text, report_text}
 use Rattle.report_text.specs.declared.mark.Mark.TheVariants.{Opened}
-use Rattle.hhh_engine.specs.Reporting.{start_of}
-use Rattle.hhh_engine.proofs.Sessions.{three_parts}
+use Rattle.hhh_engine.specs.Session.{start_of}
+use Rattle.hhh_engine.proofs.SessionLemmas.{three_parts}
 use Rattle.hhh_engine.proofs.reporting.session.Goals as goal
 
 pub returns : goal.returns

@@ -1,7 +1,7 @@
 use Rattle.std.proofs.Common.{◌≡◌, length, sym, subst, arith}
-use Rattle.report_text.specs.Positions.{ArePositions}
-use Rattle.hhh_engine.specs.Reporting.{start_of}
-use Rattle.hhh_engine.proofs.Ends.{start_is, starts_are_positions}
+use Rattle.report_text.specs.{ArePositions}
+use Rattle.hhh_engine.specs.Session.{start_of}
+use Rattle.hhh_engine.proofs.CutAtEndsLemmas.{start_is, starts_are_positions}
 use Rattle.hhh_engine.proofs.reporting.start_of.Goals as goal
 
 is_start : (c : goal.After-loop-shard) → c.loop-shard.start ≡ start_of c.args.dealt.now

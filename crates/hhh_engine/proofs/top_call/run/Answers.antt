@@ -1,8 +1,8 @@
 use Rattle.std.proofs.Common.{subst}
 use Rattle.std.specs.Io.KnownBytes.{Appends}
-use Rattle.outside_io.specs.Pieces.{AppendsBeginning}
-use Rattle.command_words.specs.Words.{texts}
-use Rattle.hhh_engine.proofs.Ending.{refused_for, wants_memory, no_answer, answered, answered_in_part}
+use Rattle.outside_io.specs.{AppendsBeginning}
+use Rattle.command_words.specs.{texts}
+use Rattle.hhh_engine.proofs.StatusLemmas.{refused_for, wants_memory, no_answer, answered, answered_in_part}
 use Rattle.hhh_engine.proofs.top_call.run.Goals as goal
 
 pub returns-in-Err-answer-clause-refuses : goal.returns-in-Err-answer-clause-refuses

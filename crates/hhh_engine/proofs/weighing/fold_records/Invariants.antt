@@ -1,6 +1,6 @@
 use Rattle.std.proofs.Common.{◌≡◌, ◌*◌, ◌^◌, ◌≤◌, take}
-use Rattle.space_saving.specs.Table.{total_count}
-use Rattle.shard_state.specs.Tables.{records_table}
+use Rattle.space_saving.specs.{total_count}
+use Rattle.shard_state.specs.{records_table}
 use Rattle.hhh_engine.proofs.weighing.fold_records.Given as goal
 
 -- the table is that of the records so far, each of which weighs less than 2^32

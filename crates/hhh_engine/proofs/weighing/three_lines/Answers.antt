@@ -1,4 +1,4 @@
-use Rattle.hhh_engine.proofs.Parts.{weigh-parts}
+use Rattle.hhh_engine.proofs.WeightTextLemmas.{weigh-parts}
 use Rattle.hhh_engine.proofs.weighing.three_lines.Goals as goal
 
 pub returns : goal.returns

@@ -1,6 +1,6 @@
 use Rattle.std.proofs.Common.{◌≡◌, sym, subst, ◌∙◌}
 use Rattle.hhh_output.specs.Threshold.{IsThreshold}
-use Rattle.hhh_output.proofs.Uniqueness.{MakesLines, one_list, one_threshold}
+use Rattle.hhh_output.proofs.OneReportLemmas.{MakesLines, one_list, one_threshold}
 use Rattle.hhh_output.proofs.laws.a_cut_has_one_report.Goals as goal
 
 pub returns : goal.returns

@@ -1,4 +1,4 @@
-use Rattle.hhh_output.proofs.Soundness.{CutHolds, report_is_sound}
+use Rattle.hhh_output.proofs.SoundReportLemmas.{CutHolds, report_is_sound}
 use Rattle.hhh_output.proofs.laws.reports_are_sound.Goals as goal
 
 pub returns : goal.returns

@@ -1,4 +1,4 @@
-use Rattle.shard_state.specs.Reads.{lists_of}
+use Rattle.shard_state.specs.{lists_of}
 use Rattle.hhh_output.proofs.laws.reports_of_the_core_are_sound.Goals as goal
 
 pub returns : goal.returns

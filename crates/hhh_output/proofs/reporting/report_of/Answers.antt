@@ -1,5 +1,5 @@
 use Rattle.std.proofs.Common.{◌∙◌}
-use Rattle.hhh_output.proofs.Selected.{candidates_of_cut, lines_of_cut, lines_kept}
+use Rattle.hhh_output.proofs.SelectionLemmas.{candidates_of_cut, lines_of_cut, lines_kept}
 use Rattle.hhh_output.proofs.reporting.report_of.Goals as goal
 
 pub select_lines-requires : goal.select_lines-requires

@@ -1,9 +1,8 @@
 use Rattle.std.proofs.Common.{◌≡◌, ℕ, ◌+◌, ◌≤◌, ◌↔◌, List, length, get_or, AllPairs, ◌≢◌, Some, sym, subst}
 use Rattle.std.proofs.lemmas.List.{get_or_default}
-use Rattle.prefix_lattice.specs.PrefixValue.{PrefixValue}
-use Rattle.prefix_lattice.specs.Key.{HasKey}
-use Rattle.cut_merge.specs.Standing.{candidates_at}
-use Rattle.hhh_output.proofs.Finding.{Judged, judged_more, judged_all}
+use Rattle.prefix_lattice.specs.{PrefixValue, HasKey}
+use Rattle.cut_merge.specs.{candidates_at}
+use Rattle.hhh_output.proofs.NodeLineLemmas.{Judged, judged_more, judged_all}
 use Rattle.hhh_output.proofs.selecting.select_at.Goals as goal
 
 pub loop-key-preserved : goal.loop-key-preserved

@@ -1,4 +1,4 @@
-use Rattle.hhh_output.proofs.Finding.{Judged}
+use Rattle.hhh_output.proofs.NodeLineLemmas.{Judged}
 use Rattle.hhh_output.proofs.selecting.select_at.Given as goal
 
 abbrev pub invariant-loop-key : goal.invariant-loop-key

@@ -1,11 +1,10 @@
 use Rattle.std.proofs.Common.{◌≡◌, IfSome, length, sym, subst, ◌∙◌, rules, arith}
 use Rattle.std.specs.Ordering.{is_lt}
 use Rattle.std.proofs.lemmas.List.Sorted.{ranks_by, answers_always}
-use Rattle.prefix_lattice.specs.NodeValue.{NodeValue, IsNode, index_of, node_at}
-use Rattle.prefix_lattice.specs.Lattice.{report_order}
-use Rattle.cut_merge.specs.Standing.{candidates_at}
+use Rattle.prefix_lattice.specs.{NodeValue, IsNode, index_of, node_at, report_order}
+use Rattle.cut_merge.specs.{candidates_at}
 use Rattle.hhh_output.specs.declared.line.Line.{Line}
-use Rattle.hhh_output.proofs.Levelling.{LooksThrough, ReportOrder, looks_past, looks_at, level_sorted}
+use Rattle.hhh_output.proofs.LevelLemmas.{LooksThrough, ReportOrder, looks_past, looks_at, level_sorted}
 use Rattle.hhh_output.proofs.selecting.select_level.Goals as goal
 
 pub loop-place-preserved-then-level : goal.loop-place-preserved-then-level

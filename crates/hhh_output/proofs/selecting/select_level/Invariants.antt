@@ -1,4 +1,4 @@
-use Rattle.hhh_output.proofs.Levelling.{LooksThrough}
+use Rattle.hhh_output.proofs.LevelLemmas.{LooksThrough}
 use Rattle.hhh_output.proofs.selecting.select_level.Given as goal
 
 abbrev pub invariant-loop-place : goal.invariant-loop-place

@@ -3,7 +3,7 @@ use Rattle.std.proofs.lemmas.List.{map-append}
 use Rattle.hhh_output.specs.declared.line.Line.{Line}
 use Rattle.hhh_output.specs.Lines.{prefixes_of}
 use Rattle.hhh_output.specs.Selecting.{AreOfLevel, AreDownTo}
-use Rattle.hhh_output.proofs.Descending.{down_more}
+use Rattle.hhh_output.proofs.LevelsLemmas.{down_more}
 use Rattle.hhh_output.proofs.selecting.select_lines.Goals as goal
 
 pub loop-levels-preserved : goal.loop-levels-preserved

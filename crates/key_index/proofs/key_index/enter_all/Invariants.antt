@@ -1,5 +1,5 @@
 use Rattle.std.proofs.Common.{◌≡◌, ℕ, ◌<◌, length, get_or}
-use Rattle.key_index.specs.CellsValue.{AreBelow}
+use Rattle.key_index.specs.Cells.{AreBelow}
 use Rattle.key_index.specs.Paths.{IsFound}
 use Rattle.key_index.proofs.key_index.enter_all.Given as goal
 

@@ -2,7 +2,7 @@ use Rattle.std.proofs.Common.{◌≡◌, ◌≢◌, ℕ, ◌<◌, ◌≤◌, len
 use Rattle.std.specs.Bool.{⊤}
 use Rattle.std.proofs.lemmas.Option.{MatchOption-at_some}
 use Rattle.key_index.specs.Paths.{home}
-use Rattle.key_index.proofs.Leading.{LeavesPath-start, LeavesPath-turn, found_in_window, found_at_last}
+use Rattle.key_index.proofs.PathLemmas.{LeavesPath-start, LeavesPath-turn, found_in_window, found_at_last}
 use Rattle.key_index.proofs.searching.free_cell.Goals as goal
 
 pub loop-turn-init : goal.loop-turn-init

@@ -1,5 +1,5 @@
 use Rattle.std.proofs.Common.{◌≤◌}
-use Rattle.key_index.proofs.Leading.{LeavesPath}
+use Rattle.key_index.proofs.PathLemmas.{LeavesPath}
 use Rattle.key_index.proofs.searching.free_cell.Given as goal
 
 -- what is left of the path is reached through filled cells

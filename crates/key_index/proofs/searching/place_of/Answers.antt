@@ -1,6 +1,6 @@
 use Rattle.std.proofs.Common.{◌≡◌, length, refl, sym, ap, ◌∙◌, arith}
 use Rattle.key_index.specs.Paths.{home, path, path_from, leads_to}
-use Rattle.key_index.proofs.Leading.{window_past, window_stops, last_past, last_stops}
+use Rattle.key_index.proofs.PathLemmas.{window_past, window_stops, last_past, last_stops}
 use Rattle.key_index.proofs.searching.place_of.Goals as goal
 
 pub loop-turn-init : goal.loop-turn-init

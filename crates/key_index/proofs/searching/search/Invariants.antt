@@ -1,4 +1,4 @@
-use Rattle.key_index.specs.Searching.{AreOthers}
+use Rattle.key_index.specs.CellSearch.{AreOthers}
 use Rattle.key_index.proofs.searching.search.Given as goal
 
 -- the cells so far hold the places of other keys

@@ -1,5 +1,5 @@
 use Rattle.std.proofs.Common.{arith}
-use Rattle.outside_io.proofs.Sending.{more_sent}
+use Rattle.outside_io.proofs.PieceLemmas.{more_sent}
 use Rattle.outside_io.proofs.writing.write_all.Goals as goal
 
 pub loop-rest-preserved : goal.loop-rest-preserved

@@ -1,5 +1,5 @@
 use Rattle.std.proofs.Common.{◌≡◌, length}
-use Rattle.outside_io.proofs.Sending.{IsSent}
+use Rattle.outside_io.proofs.PieceLemmas.{IsSent}
 use Rattle.outside_io.proofs.writing.write_all.Given as goal
 
 -- what is sent and what is left are the text, and no call failed

@@ -1,6 +1,6 @@
 use Rattle.std.proofs.Common.{◌≡◌, sym, ap, ◌∙◌, arith, take-append-drop}
 use Rattle.pcap_frames.specs.FileOrder.{number_at}
-use Rattle.pcap_frames.proofs.Numbers.{number_at-take}
+use Rattle.pcap_frames.proofs.NumberLemmas.{number_at-take}
 use Rattle.pcap_frames.proofs.framing.whole_at.Goals as goal
 
 pub frame_at-requires-clause-limit : goal.frame_at-requires-clause-limit

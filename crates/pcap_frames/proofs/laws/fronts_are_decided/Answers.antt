@@ -1,4 +1,4 @@
-use Rattle.pcap_frames.proofs.Deciding.{fronts_decided}
+use Rattle.pcap_frames.proofs.CaptureLawLemmas.{fronts_decided}
 use Rattle.pcap_frames.proofs.laws.fronts_are_decided.Goals as goal
 
 pub returns : goal.returns

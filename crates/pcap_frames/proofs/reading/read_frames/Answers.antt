@@ -1,7 +1,7 @@
 use Rattle.std.proofs.Common.{◌≡◌, [], take, sym, ap, subst, arith}
 use Rattle.std.proofs.lemmas.Result.{err_from_is_err_and}
 use Rattle.std.specs.Io.KnownBytes.{Consumes}
-use Rattle.pcap_frames.proofs.SourceReads.{more_read, less_unread, read_some, some_both, read_stopped, read_whole, read_ended}
+use Rattle.pcap_frames.proofs.SourceReadLemmas.{more_read, less_unread, read_some, some_both, read_stopped, read_whole, read_ended}
 use Rattle.pcap_frames.proofs.reading.read_frames.Goals as goal
 
 pub returns-in_err-count-clause-seen : goal.returns-in_err-count-clause-seen

@@ -1,5 +1,5 @@
 use Rattle.std.proofs.Common.{◌≡◌, ◌+◌, ◌-◌, ◌*◌}
-use Rattle.pcap_frames.proofs.SourceReads.{HasRead, extent}
+use Rattle.pcap_frames.proofs.SourceReadLemmas.{HasRead, extent}
 use Rattle.pcap_frames.proofs.reading.read_frames.Given as goal
 
 -- what was read is what the reader stands for, and no call of the source failed

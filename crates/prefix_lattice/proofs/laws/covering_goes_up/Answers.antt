@@ -1,4 +1,4 @@
-use Rattle.prefix_lattice.proofs.Meets.{covers-up}
+use Rattle.prefix_lattice.proofs.MeetLemmas.{covers-up}
 use Rattle.prefix_lattice.proofs.laws.covering_goes_up.Goals as goal
 
 pub returns : goal.returns

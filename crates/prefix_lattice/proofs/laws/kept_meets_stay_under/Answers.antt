@@ -1,4 +1,4 @@
-use Rattle.prefix_lattice.proofs.Closest.{kept-strictly, kept-prefixes}
+use Rattle.prefix_lattice.proofs.ClosestLineLemmas.{kept-strictly, kept-prefixes}
 use Rattle.prefix_lattice.proofs.laws.kept_meets_stay_under.Goals as goal
 
 pub returns-clause-under : goal.returns-clause-under

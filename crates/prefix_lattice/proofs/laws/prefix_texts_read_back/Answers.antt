@@ -1,5 +1,5 @@
-use Rattle.prefix_lattice.proofs.TextLengths.{length-prefix_text}
-use Rattle.prefix_lattice.proofs.WholeText.{text-spells, spelled-text, same_text}
+use Rattle.prefix_lattice.proofs.TextLengthLemmas.{length-prefix_text}
+use Rattle.prefix_lattice.proofs.WholeTextLemmas.{text-spells, spelled-text, same_text}
 use Rattle.prefix_lattice.proofs.laws.prefix_texts_read_back.Goals as goal
 
 pub returns-clause-read : goal.returns-clause-read

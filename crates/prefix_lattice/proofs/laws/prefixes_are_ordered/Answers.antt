@@ -1,4 +1,4 @@
-use Rattle.prefix_lattice.proofs.Meets.{under-refl, under-trans, under-antisym, strictly-trans, strictly-level}
+use Rattle.prefix_lattice.proofs.MeetLemmas.{under-refl, under-trans, under-antisym, strictly-trans, strictly-level}
 use Rattle.prefix_lattice.proofs.laws.prefixes_are_ordered.Goals as goal
 
 pub returns-clause-reflexive : goal.returns-clause-reflexive

@@ -1,4 +1,4 @@
-use Rattle.prefix_lattice.proofs.ReportOrder.{report_order-total, report_order-apart}
+use Rattle.prefix_lattice.proofs.ReportOrderLemmas.{report_order-total, report_order-apart}
 use Rattle.prefix_lattice.proofs.laws.report_order_is_total.Goals as goal
 
 pub returns-clause-total : goal.returns-clause-total

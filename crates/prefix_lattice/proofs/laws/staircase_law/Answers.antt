@@ -1,4 +1,4 @@
-use Rattle.prefix_lattice.proofs.Staircase.{staircase}
+use Rattle.prefix_lattice.proofs.StaircaseLemmas.{staircase}
 use Rattle.prefix_lattice.proofs.laws.staircase_law.Goals as goal
 
 pub returns : goal.returns

@@ -1,5 +1,5 @@
-use Rattle.prefix_lattice.proofs.Keys.{same_key}
-use Rattle.prefix_lattice.proofs.NodeKeys.{IsKeyOf-prefix, HasKey-record, IsKeyOf-record}
+use Rattle.prefix_lattice.proofs.KeyLemmas.{same_key}
+use Rattle.prefix_lattice.proofs.NodeKeyLemmas.{IsKeyOf-prefix, HasKey-record, IsKeyOf-record}
 use Rattle.prefix_lattice.proofs.prefix.keys_are_of_their_node.Goals as goal
 
 pub returns-clause-of_prefix : goal.returns-clause-of_prefix

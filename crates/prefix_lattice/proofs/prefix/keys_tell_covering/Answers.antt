@@ -1,4 +1,4 @@
-use Rattle.prefix_lattice.proofs.Keys.{covers-by_key}
+use Rattle.prefix_lattice.proofs.KeyLemmas.{covers-by_key}
 use Rattle.prefix_lattice.proofs.prefix.keys_tell_covering.Goals as goal
 
 pub returns : goal.returns

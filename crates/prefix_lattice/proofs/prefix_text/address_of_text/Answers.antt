@@ -1,6 +1,6 @@
 use Rattle.std.proofs.Common.{◌/◌, ◌%◌, arith}
-use Rattle.prefix_lattice.proofs.Cuts.{no_next_number}
-use Rattle.prefix_lattice.proofs.AddressText.{behind_first, first_number, second_number, cut_numbers}
+use Rattle.prefix_lattice.proofs.TextCutLemmas.{no_next_number}
+use Rattle.prefix_lattice.proofs.AddressTextLemmas.{behind_first, first_number, second_number, cut_numbers}
 use Rattle.prefix_lattice.proofs.prefix_text.address_of_text.Goals as goal
 
 pub returns-in_default-clause-none : goal.returns-in_default-clause-none

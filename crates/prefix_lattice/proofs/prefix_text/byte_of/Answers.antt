@@ -1,5 +1,5 @@
 use Rattle.std.proofs.Common.{◌≡◌, arith}
-use Rattle.prefix_lattice.proofs.Cuts.{one_number}
+use Rattle.prefix_lattice.proofs.TextCutLemmas.{one_number}
 use Rattle.prefix_lattice.proofs.prefix_text.byte_of.Goals as goal
 
 pub returns-else-number-lt256-clause-none : goal.returns-else-number-lt256-clause-none

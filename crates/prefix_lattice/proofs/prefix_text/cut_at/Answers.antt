@@ -1,5 +1,5 @@
 use Rattle.std.proofs.Common.{◌++◌, ◌∷◌, drop, ap, sym, ◌∙◌}
-use Rattle.prefix_lattice.proofs.Cuts.{cut_joined}
+use Rattle.prefix_lattice.proofs.TextCutLemmas.{cut_joined}
 use Rattle.prefix_lattice.proofs.prefix_text.cut_at.Goals as goal
 
 pub returns-in-Some-clause-joined : goal.returns-in-Some-clause-joined

@@ -1,5 +1,5 @@
 use Rattle.std.proofs.Common.{◌≡◌, ◌*◌, arith}
-use Rattle.prefix_lattice.proofs.Cuts.{one_number}
+use Rattle.prefix_lattice.proofs.TextCutLemmas.{one_number}
 use Rattle.prefix_lattice.proofs.prefix_text.kept_by.Goals as goal
 
 pub returns-then-bits-gt32-clause-none : goal.returns-then-bits-gt32-clause-none

@@ -1,6 +1,6 @@
 use Rattle.std.proofs.Common.{◌++◌, ◌∷◌, refl, ap, sym, ◌∙◌}
 use Rattle.prefix_lattice.specs.PrefixText.{before_slash}
-use Rattle.prefix_lattice.proofs.Cuts.{same_behind}
+use Rattle.prefix_lattice.proofs.TextCutLemmas.{same_behind}
 use Rattle.prefix_lattice.proofs.prefix_text.parse_side.Goals as goal
 
 pub returns-in_default-kept_by-clause-fault : goal.returns-in_default-kept_by-clause-fault

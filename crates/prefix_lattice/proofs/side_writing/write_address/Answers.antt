@@ -1,5 +1,5 @@
 use Rattle.std.proofs.Common.{◌≡◌, ℕ, ◌+◌, ◌/◌, ◌%◌, ◌≤◌, List, ◌∷◌, ◌++◌, length, get_or, decimal, sym, ap, ◌∙◌, arith, subst}
-use Rattle.prefix_lattice.proofs.Writing.{writes-same, writes-numbers}
+use Rattle.prefix_lattice.proofs.WrittenPartLemmas.{writes-same, writes-numbers}
 use Rattle.prefix_lattice.proofs.side_writing.write_address.Goals as goal
 
 pub returns : goal.returns

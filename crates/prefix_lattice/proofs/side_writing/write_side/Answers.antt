@@ -1,8 +1,8 @@
 use Rattle.std.proofs.Common.{◌≡◌, ℕ, ◌*◌, ◌≤◌, ◌∷◌, ◌++◌, length, decimal, ap, ◌∙◌, arith}
-use Rattle.prefix_lattice.specs.Bytes.{address_of}
+use Rattle.prefix_lattice.specs.KeptBytes.{address_of}
 use Rattle.prefix_lattice.specs.PrefixText.{address_text, side_text}
-use Rattle.prefix_lattice.proofs.TextLengths.{length-address_text, length-bits}
-use Rattle.prefix_lattice.proofs.Writing.{writes-then, writes-same}
+use Rattle.prefix_lattice.proofs.TextLengthLemmas.{length-address_text, length-bits}
+use Rattle.prefix_lattice.proofs.WrittenPartLemmas.{writes-then, writes-same}
 use Rattle.prefix_lattice.proofs.side_writing.write_side.Goals as goal
 
 pub write_address-end-requires : goal.write_address-end-requires

@@ -4,7 +4,7 @@ use Rattle.std.proofs.lemmas.Option.{get_or_from_slice_get}
 use Rattle.key_index.specs.{Keys}
 use Rattle.rank_table.specs.declared.slot.Slot.{Slot}
 use Rattle.space_saving.specs.declared.entry.Entry.{Entry}
-use Rattle.rank_table.specs.SlotsValue.{Slots}
+use Rattle.rank_table.specs.Slots.{Slots}
 use Rattle.rank_table.specs.Marks.{numbered}
 use Rattle.rank_table.proofs.LoadLemmas.{length-numbered, numbered-push}
 use Rattle.rank_table.proofs.rank_table.load.Goals as goal

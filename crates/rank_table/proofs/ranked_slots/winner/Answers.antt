@@ -2,7 +2,7 @@ use Rattle.std.proofs.Common.{◌≡◌, ◌≢◌, ◌-◌, ◌*◌, ◌%◌, �
 use Rattle.std.proofs.lemmas.List.{get_or_default}
 use Rattle.rank_table.specs.declared.slot.Slot.{Slot}
 use Rattle.rank_table.specs.Words.{word}
-use Rattle.rank_table.specs.Ranking.{AreLeaves}
+use Rattle.rank_table.specs.Ranks.{AreLeaves}
 use Rattle.rank_table.proofs.LeafLemmas.{AreLeaves-mended, named_place, leaves_rise}
 use Rattle.rank_table.proofs.ranked_slots.winner.Goals as goal
 

@@ -1,5 +1,5 @@
 use Rattle.std.proofs.Common.{◌-◌, ◌*◌, ◌^◌, length, sum}
-use Rattle.rank_table.specs.Ranking.{AreLeaves}
+use Rattle.rank_table.specs.Ranks.{AreLeaves}
 use Rattle.rank_table.proofs.ranked_slots.winner.Given as goal
 
 -- the leaves are lower bounds still

@@ -1,8 +1,8 @@
 use Rattle.std.proofs.Common.{◌^◌, sym, ap, arith}
-use Rattle.space_saving.specs.Table.{TableValue, interval_from}
+use Rattle.space_saving.specs.{TableValue, interval_from}
 use Rattle.rank_table.specs.Marks.{blank}
-use Rattle.rank_table.specs.Order.{entries_of}
-use Rattle.rank_table.proofs.Changes.{entry_of-found, missing_entry}
+use Rattle.rank_table.specs.SlotOrder.{entries_of}
+use Rattle.rank_table.proofs.SlotChangeLemmas.{entry_of-found, missing_entry}
 use Rattle.rank_table.proofs.KeyLemmas.{missing_slot, place_of_slot, key_of_slot}
 use Rattle.rank_table.proofs.TableLemmas.{error-lt-count, high_of_missing_in_room, high_of_missing_when_full}
 use Rattle.rank_table.proofs.scanning.interval_of.Goals as goal

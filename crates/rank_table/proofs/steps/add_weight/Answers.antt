@@ -2,11 +2,11 @@ use Rattle.std.proofs.Common.{◌+◌, get_or, set, refl, sym, ap, subst, ◌∙
 use Rattle.std.proofs.lemmas.List.{map-set}
 use Rattle.key_index.specs.{Keys}
 use Rattle.rank_table.specs.declared.slot.Slot.{Slot}
-use Rattle.rank_table.specs.Order.{AreSlots, entries_of}
-use Rattle.rank_table.specs.SlotsValue.{Slots}
-use Rattle.rank_table.specs.Stepping.{raised, heir}
-use Rattle.rank_table.specs.Together.{AreTogether}
-use Rattle.rank_table.proofs.Changes.{AreSlots-grown, AreSlots-fresh, AreSlots-heir, step-grown, step-fresh, step-heir}
+use Rattle.rank_table.specs.SlotOrder.{AreSlots, entries_of}
+use Rattle.rank_table.specs.Slots.{Slots}
+use Rattle.rank_table.specs.Steps.{raised, heir}
+use Rattle.rank_table.specs.RankTable.{AreTogether}
+use Rattle.rank_table.proofs.SlotChangeLemmas.{AreSlots-grown, AreSlots-fresh, AreSlots-heir, step-grown, step-fresh, step-heir}
 use Rattle.rank_table.proofs.KeyLemmas.{key_at, missing_slot, place_of_slot, key_of_slot, keyed-kept}
 use Rattle.rank_table.proofs.steps.add_weight.Goals as goal
 

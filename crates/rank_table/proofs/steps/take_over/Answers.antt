@@ -1,7 +1,7 @@
 use Rattle.std.proofs.Common.{◌≡◌, ◌<◌, ◌≤◌, List, length, get_or, sym, ap, subst, ◌∙◌, arith}
 use Rattle.std.proofs.lemmas.List.{get_or_default}
 use Rattle.rank_table.specs.declared.slot.Slot.{Slot}
-use Rattle.rank_table.specs.SlotsValue.{Slots}
+use Rattle.rank_table.specs.Slots.{Slots}
 use Rattle.rank_table.proofs.OrderLemmas.{all-at, count-le-total}
 use Rattle.rank_table.proofs.steps.take_over.Goals as goal
 

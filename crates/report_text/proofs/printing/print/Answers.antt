@@ -1,6 +1,6 @@
 use Rattle.std.proofs.Common.{◌++◌, codes, decimal, ap, ◌∙◌}
-use Rattle.report_text.specs.Text.{positions_line, lines_text}
-use Rattle.report_text.proofs.Parts.{report-parts}
+use Rattle.report_text.specs.ReportText.{positions_line, lines_text}
+use Rattle.report_text.proofs.TextPartLemmas.{report-parts}
 use Rattle.report_text.proofs.printing.print.Goals as goal
 
 pub returns-clause-ok : goal.returns-clause-ok

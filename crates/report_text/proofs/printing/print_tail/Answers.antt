@@ -1,5 +1,5 @@
 use Rattle.std.proofs.Common.{◌++◌, codes, decimal, ap, ◌∙◌}
-use Rattle.report_text.proofs.Parts.{tail-parts}
+use Rattle.report_text.proofs.TextPartLemmas.{tail-parts}
 use Rattle.report_text.proofs.printing.print_tail.Goals as goal
 
 pub returns-clause-ok : goal.returns-clause-ok

@@ -1,6 +1,6 @@
 use Rattle.std.proofs.Common.{decimal}
-use Rattle.prefix_lattice.specs.PrefixText.{prefix_text}
-use Rattle.report_text.proofs.Parts.{line-parts}
+use Rattle.prefix_lattice.specs.{prefix_text}
+use Rattle.report_text.proofs.TextPartLemmas.{line-parts}
 use Rattle.report_text.proofs.putting.put_line.Goals as goal
 
 pub returns-clause-text : goal.returns-clause-text

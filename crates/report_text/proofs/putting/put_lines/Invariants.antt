@@ -1,5 +1,5 @@
 use Rattle.std.proofs.Common.{◌≡◌, ◌≤◌, ◌+◌, ◌*◌, ◌++◌, take, vec_len, vec_capacity}
-use Rattle.report_text.specs.Text.{lines_text}
+use Rattle.report_text.specs.ReportText.{lines_text}
 use Rattle.report_text.proofs.putting.put_lines.Given as goal
 
 -- the lines so far, each in 85 bytes at most

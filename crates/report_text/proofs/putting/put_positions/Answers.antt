@@ -1,6 +1,6 @@
 use Rattle.std.proofs.Common.{◌≡◌, ◌++◌, ap, ◌∙◌, take_all}
 use Rattle.std.specs.List.{flat_map}
-use Rattle.report_text.proofs.Parts.{spaced, positions-parts}
+use Rattle.report_text.proofs.TextPartLemmas.{spaced, positions-parts}
 use Rattle.report_text.proofs.putting.put_positions.Goals as goal
 
 pub returns-clause-text : goal.returns-clause-text

@@ -1,6 +1,6 @@
 use Rattle.std.proofs.Common.{◌≡◌, ◌≤◌, ◌+◌, ◌*◌, ◌++◌, take, vec_len, vec_capacity}
 use Rattle.std.specs.List.{flat_map}
-use Rattle.report_text.proofs.Parts.{spaced}
+use Rattle.report_text.proofs.TextPartLemmas.{spaced}
 use Rattle.report_text.proofs.putting.put_positions.Given as goal
 
 -- the positions so far, each in 21 bytes at most

@@ -1,7 +1,7 @@
 use Rattle.std.proofs.Common.{◌≡◌, length, get_or, refl, sym, subst, arith}
 use Rattle.std.proofs.lemmas.Option.{slice_get-get_or, slice_get_read}
-use Rattle.space_saving.specs.Table.{TableValue}
-use Rattle.shard_state.proofs.Shards.{here_of_rest}
+use Rattle.space_saving.specs.{TableValue}
+use Rattle.shard_state.proofs.ShardStateLemmas.{here_of_rest}
 use Rattle.shard_state.proofs.folding.copy_tables.Goals as goal
 
 pub copy_into-requires : goal.copy_into-requires

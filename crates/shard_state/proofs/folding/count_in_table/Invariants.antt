@@ -1,7 +1,7 @@
 use Rattle.std.proofs.Common.{◌≡◌, ◌+◌, take}
-use Rattle.prefix_lattice.specs.Prefix.{total_weight}
-use Rattle.space_saving.specs.Table.{total_count}
-use Rattle.shard_state.specs.Folding.{fold_table}
+use Rattle.prefix_lattice.specs.{total_weight}
+use Rattle.space_saving.specs.{total_count}
+use Rattle.shard_state.specs.Snapshot.{fold_table}
 use Rattle.shard_state.proofs.folding.count_in_table.Given as goal
 
 -- the table counted the records so far

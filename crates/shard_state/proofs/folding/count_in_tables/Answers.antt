@@ -1,7 +1,7 @@
 use Rattle.std.proofs.Common.{◌≡◌, ◌+◌, ◌^◌, ◌<◌, get_or, ap, sym, ◌∙◌, subst, arith}
-use Rattle.prefix_lattice.specs.Prefix.{total_weight}
-use Rattle.space_saving.specs.Table.{TableValue, total_count}
-use Rattle.shard_state.proofs.Shards.{here_of_rest}
+use Rattle.prefix_lattice.specs.{total_weight}
+use Rattle.space_saving.specs.{TableValue, total_count}
+use Rattle.shard_state.proofs.ShardStateLemmas.{here_of_rest}
 use Rattle.shard_state.proofs.folding.count_in_tables.Goals as goal
 
 pub count_in_table-requires : goal.count_in_table-requires

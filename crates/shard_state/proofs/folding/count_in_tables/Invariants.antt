@@ -1,5 +1,5 @@
 use Rattle.std.proofs.Common.{◌≡◌, ◌++◌, take, drop}
-use Rattle.shard_state.specs.Folding.{fold_tables}
+use Rattle.shard_state.specs.Snapshot.{fold_tables}
 use Rattle.shard_state.proofs.folding.count_in_tables.Given as goal
 
 -- the tables so far counted the records, and the others are as they were

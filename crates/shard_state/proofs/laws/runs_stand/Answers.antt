@@ -1,4 +1,4 @@
-use Rattle.shard_state.proofs.Runs.{stands_run}
+use Rattle.shard_state.proofs.EventRunLemmas.{stands_run}
 use Rattle.shard_state.proofs.laws.runs_stand.Goals as goal
 
 pub returns : goal.returns

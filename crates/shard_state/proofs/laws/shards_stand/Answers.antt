@@ -1,4 +1,4 @@
-use Rattle.shard_state.proofs.Stands.{stands-empty, stands-shard}
+use Rattle.shard_state.proofs.RepresentationLemmas.{stands-empty, stands-shard}
 use Rattle.shard_state.proofs.laws.shards_stand.Goals as goal
 
 pub returns-clause-begins : goal.returns-clause-begins

@@ -1,4 +1,4 @@
-use Rattle.shard_state.proofs.Stands.{TablesHold, total_stands, weight_stands, cut_total_stands}
+use Rattle.shard_state.proofs.RepresentationLemmas.{TablesHold, total_stands, weight_stands, cut_total_stands}
 use Rattle.shard_state.proofs.laws.snapshots_hold_weights.Goals as goal
 
 pub returns-clause-weight : goal.returns-clause-weight

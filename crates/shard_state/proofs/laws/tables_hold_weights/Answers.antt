@@ -1,6 +1,6 @@
 use Rattle.std.proofs.Common.{◌∙◌}
-use Rattle.shard_state.specs.Tables.{adds_of}
-use Rattle.shard_state.proofs.Weighing.{IntervalsHold, KeysTell, weight_held, totals}
+use Rattle.shard_state.specs.Snapshot.{adds_of}
+use Rattle.shard_state.proofs.WeightLemmas.{IntervalsHold, KeysTell, weight_held, totals}
 use Rattle.shard_state.proofs.laws.tables_hold_weights.Goals as goal
 
 pub returns-clause-weight : goal.returns-clause-weight

@@ -1,5 +1,5 @@
 use Rattle.std.proofs.Common.{All, take}
-use Rattle.shard_state.specs.ShardValue.{IsShard}
+use Rattle.shard_state.specs.ShardState.{IsShard}
 use Rattle.shard_state.proofs.shard_core.all_are_kept.Given as goal
 
 -- the states so far keep what each keeps

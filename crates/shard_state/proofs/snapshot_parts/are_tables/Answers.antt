@@ -1,9 +1,9 @@
 use Rattle.std.proofs.Common.{◌≡◌, ◌<◌, get_or, subst, length, refl, arith}
 use Rattle.std.proofs.lemmas.Option.{slice_get_within}
-use Rattle.prefix_lattice.specs.NodeValue.{node_at}
-use Rattle.space_saving.specs.TableFacts.{AreEntries}
-use Rattle.shard_state.specs.SnapshotParts.{IsLike}
-use Rattle.shard_state.proofs.Parts.{more_places}
+use Rattle.prefix_lattice.specs.{node_at}
+use Rattle.space_saving.specs.{AreEntries}
+use Rattle.shard_state.specs.Snapshot.{IsLike}
+use Rattle.shard_state.proofs.SnapshotPartLemmas.{more_places}
 use Rattle.shard_state.proofs.snapshot_parts.are_tables.Goals as goal
 
 pub loop-place-preserved : goal.loop-place-preserved

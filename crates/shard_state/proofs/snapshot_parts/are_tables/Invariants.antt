@@ -1,8 +1,7 @@
 use Rattle.std.proofs.Common.{◌≡◌, ℕ, ◌<◌, slice_get, Some}
-use Rattle.prefix_lattice.specs.NodeValue.{node_at}
-use Rattle.space_saving.specs.Table.{TableValue}
-use Rattle.space_saving.specs.TableFacts.{AreEntries}
-use Rattle.shard_state.specs.SnapshotParts.{IsLike}
+use Rattle.prefix_lattice.specs.{node_at}
+use Rattle.space_saving.specs.{TableValue, AreEntries}
+use Rattle.shard_state.specs.Snapshot.{IsLike}
 use Rattle.shard_state.proofs.snapshot_parts.are_tables.Given as goal
 
 -- the tables so far are alike

@@ -2,7 +2,7 @@ use Rattle.std.proofs.Common.{take, refl, sym, subst, ap, ◌∙◌, arith, not}
 use Rattle.std.proofs.lemmas.List.{take_all}
 use Rattle.std.proofs.lemmas.List.Elements.{All-more, All-same}
 use Rattle.std.proofs.lemmas.Option.{get_or_from_slice_get}
-use Rattle.prefix_lattice.specs.Key.{IsKeyOf}
+use Rattle.prefix_lattice.specs.{IsKeyOf}
 use Rattle.space_saving.specs.declared.entry.Entry.{Entry}
 use Rattle.shard_state.proofs.snapshot_parts.has_keys_of.Goals as goal
 

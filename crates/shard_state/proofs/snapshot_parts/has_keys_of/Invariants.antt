@@ -1,5 +1,5 @@
 use Rattle.std.proofs.Common.{All, take}
-use Rattle.prefix_lattice.specs.Key.{IsKeyOf}
+use Rattle.prefix_lattice.specs.{IsKeyOf}
 use Rattle.shard_state.proofs.snapshot_parts.has_keys_of.Given as goal
 
 -- the keys so far are those of the node

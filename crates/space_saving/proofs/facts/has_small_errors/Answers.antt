@@ -1,7 +1,7 @@
 use Rattle.std.proofs.Common.{refl, take, sym, arith}
 use Rattle.std.proofs.lemmas.List.{take_all}
 use Rattle.std.proofs.lemmas.List.Elements.{All-more, All-same}
-use Rattle.space_saving.specs.TableFacts.{HasSmallError}
+use Rattle.space_saving.specs.Table.{HasSmallError}
 use Rattle.space_saving.proofs.facts.has_small_errors.Goals as goal
 
 pub loop-entry-preserved : goal.loop-entry-preserved

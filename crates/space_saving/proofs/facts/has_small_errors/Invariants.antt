@@ -1,5 +1,5 @@
 use Rattle.std.proofs.Common.{All, take}
-use Rattle.space_saving.specs.TableFacts.{HasSmallError}
+use Rattle.space_saving.specs.Table.{HasSmallError}
 use Rattle.space_saving.proofs.facts.has_small_errors.Given as goal
 
 -- the errors so far are small

@@ -1,5 +1,5 @@
 use Rattle.std.proofs.Common.{◌↔◌, drop}
-use Rattle.space_saving.specs.TableFacts.{RisesFrom}
+use Rattle.space_saving.specs.Table.{RisesFrom}
 use Rattle.space_saving.proofs.facts.rises.Given as goal
 
 -- the counts rise exactly where the later ones do

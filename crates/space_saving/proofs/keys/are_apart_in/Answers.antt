@@ -1,4 +1,4 @@
-use Rattle.space_saving.proofs.SortedKeys.{rise_where_apart}
+use Rattle.space_saving.proofs.SortedKeyLemmas.{rise_where_apart}
 use Rattle.space_saving.proofs.keys.are_apart_in.Goals as goal
 
 pub returns : goal.returns

@@ -1,5 +1,5 @@
 use Rattle.std.proofs.Common.{[], ◌∷◌}
-use Rattle.space_saving.proofs.Running.{table_of-append}
+use Rattle.space_saving.proofs.AddsLemmas.{table_of-append}
 use Rattle.space_saving.proofs.laws.adds_go_on.Goals as goal
 
 pub returns-clause-more : goal.returns-clause-more

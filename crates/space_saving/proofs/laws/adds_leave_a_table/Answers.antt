@@ -1,4 +1,4 @@
-use Rattle.space_saving.proofs.Running.{IsTable-table_of, total_count-table_of}
+use Rattle.space_saving.proofs.AddsLemmas.{IsTable-table_of, total_count-table_of}
 use Rattle.space_saving.proofs.laws.adds_leave_a_table.Goals as goal
 
 pub returns-clause-table : goal.returns-clause-table

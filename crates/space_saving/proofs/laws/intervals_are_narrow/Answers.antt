@@ -1,4 +1,4 @@
-use Rattle.space_saving.proofs.Widths.{interval_is_narrow, missing_high-le-high}
+use Rattle.space_saving.proofs.IntervalWidthLemmas.{interval_is_narrow, missing_high-le-high}
 use Rattle.space_saving.proofs.laws.intervals_are_narrow.Goals as goal
 
 pub returns-clause-ordered : goal.returns-clause-ordered

@@ -1,4 +1,4 @@
-use Rattle.space_saving.proofs.Running.{Holds-table_of, width_after}
+use Rattle.space_saving.proofs.AddsLemmas.{Holds-table_of, width_after}
 use Rattle.space_saving.proofs.laws.intervals_hold.Goals as goal
 
 pub returns-clause-low : goal.returns-clause-low

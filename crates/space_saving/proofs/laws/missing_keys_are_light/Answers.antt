@@ -1,4 +1,4 @@
-use Rattle.space_saving.proofs.Running.{weight_of_missing, least_after}
+use Rattle.space_saving.proofs.AddsLemmas.{weight_of_missing, least_after}
 use Rattle.space_saving.proofs.laws.missing_keys_are_light.Goals as goal
 
 pub returns-clause-light : goal.returns-clause-light

@@ -1,4 +1,4 @@
-use Rattle.space_saving.proofs.Stepping.{IsTable-step, total_count-step}
+use Rattle.space_saving.proofs.StepLemmas.{IsTable-step, total_count-step}
 use Rattle.space_saving.proofs.laws.steps_leave_a_table.Goals as goal
 
 pub returns-clause-table : goal.returns-clause-table

@@ -1,5 +1,5 @@
 use Rattle.std.proofs.Common.{arith}
-use Rattle.space_saving.proofs.Placing.{placed}
+use Rattle.space_saving.proofs.PlaceLemmas.{placed}
 use Rattle.space_saving.proofs.places.place_of.Goals as goal
 
 pub returns-then-entry-key : goal.returns-then-entry-key

@@ -1,5 +1,5 @@
 use Rattle.std.proofs.Common.{◌+◌, arith}
-use Rattle.space_saving.proofs.Placing.{put-end, put-greater, settled}
+use Rattle.space_saving.proofs.PlaceLemmas.{put-end, put-greater, settled}
 use Rattle.space_saving.proofs.places.settle.Goals as goal
 use Rattle.space_saving.proofs.places.settle.Goals.{then-loop-place-test+else-entries-place, else-loop-place-test}
 

@@ -3,8 +3,8 @@ use Rattle.std.proofs.lemmas.List.{take_at}
 use Rattle.space_saving.specs.declared.entry.Entry.{Entry}
 use Rattle.space_saving.specs.Table.{put}
 use Rattle.space_saving.specs.Places.{IsPlaceOf}
-use Rattle.space_saving.proofs.Placing.{settled_is_step}
-use Rattle.space_saving.proofs.Stepping.{raised}
+use Rattle.space_saving.proofs.PlaceLemmas.{settled_is_step}
+use Rattle.space_saving.proofs.StepLemmas.{raised}
 use Rattle.space_saving.proofs.steps.add_weight.Goals as goal
 
 pub returns-in-Some-clause-stepped : goal.returns-in-Some-clause-stepped

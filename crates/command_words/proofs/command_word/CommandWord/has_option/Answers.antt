@@ -1,4 +1,4 @@
-use Rattle.command_words.proofs.Elements.{is_among}
+use Rattle.command_words.proofs.ElementLemmas.{is_among}
 use Rattle.command_words.proofs.command_word.CommandWord.has_option.Goals as goal
 
 pub returns : goal.returns

@@ -1,6 +1,6 @@
 use Rattle.std.proofs.Common.{◌<◌, length, arith}
-use Rattle.cut_merge.specs.MergedValue.{MergedValue}
-use Rattle.cut_merge.proofs.MergingCut.{within_merged}
+use Rattle.cut_merge.specs.Merged.{MergedValue}
+use Rattle.cut_merge.proofs.CutMergeLemmas.{within_merged}
 use Rattle.cut_merge.proofs.merged.Merged.merge_of.Goals as goal
 
 pub returns-clause-within : goal.returns-clause-within

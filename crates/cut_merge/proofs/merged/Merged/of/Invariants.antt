@@ -1,4 +1,4 @@
-use Rattle.cut_merge.proofs.MergingCut.{MergesNodes}
+use Rattle.cut_merge.proofs.CutMergeLemmas.{MergesNodes}
 use Rattle.cut_merge.proofs.merged.Merged.of.Given as goal
 
 abbrev pub invariant-loop-place : goal.invariant-loop-place

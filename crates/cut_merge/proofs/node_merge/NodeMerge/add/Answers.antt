@@ -1,7 +1,7 @@
 use Rattle.std.proofs.Common.{ℕ, ◌+◌, ◌<◌, ◌^◌, sym, subst, arith}
-use Rattle.space_saving.specs.Table.{total_count}
-use Rattle.cut_merge.specs.Standing.{interval_for_key}
-use Rattle.cut_merge.specs.NodeMergeValue.{NodeMergeValue}
+use Rattle.space_saving.specs.{total_count}
+use Rattle.cut_merge.specs.Merged.{interval_for_key}
+use Rattle.cut_merge.specs.NodeMerge.{NodeMergeValue}
 use Rattle.cut_merge.proofs.node_merge.NodeMerge.add.Goals as goal
 
 pub overflow_add-self : goal.overflow_add-self

@@ -1,8 +1,8 @@
 use Rattle.std.proofs.Common.{ap, ◌∙◌}
-use Rattle.pcap_frames.specs.Frame.{content_of}
+use Rattle.pcap_frames.specs.{content_of}
 use Rattle.frame_records.specs.FrameRecord.{record_of}
-use Rattle.frame_records.specs.Kept.{after_frame}
-use Rattle.frame_records.proofs.Keeping.{more_kept, on_ok}
+use Rattle.frame_records.specs.RecordVisitor.{after_frame}
+use Rattle.frame_records.proofs.RecordVisitorLemmas.{more_kept, on_ok}
 use Rattle.frame_records.proofs.record_visitor.RecordVisitorFrameVisitor.frame.Goals as goal
 
 pub returns-clause-seen : goal.returns-clause-seen

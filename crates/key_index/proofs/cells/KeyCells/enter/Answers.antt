@@ -1,7 +1,7 @@
 use Rattle.std.proofs.Common.{◌≡◌, ◌+◌, get_or, sym, ap, ◌∙◌}
-use Rattle.key_index.specs.CellsValue.{Cells}
+use Rattle.key_index.specs.Cells.{Cells}
 use Rattle.key_index.specs.Paths.{path, leads_to}
-use Rattle.key_index.proofs.Leading.{leads_to-set}
+use Rattle.key_index.proofs.PathLemmas.{leads_to-set}
 use Rattle.key_index.proofs.cells.KeyCells.enter.Goals as goal
 
 pub returns-clause-kept : goal.returns-clause-kept

@@ -1,6 +1,6 @@
 use Rattle.std.proofs.Common.{◌≡◌, ◌+◌, length, drop, ap, sym, ◌∙◌, arith}
 use Rattle.std.proofs.lemmas.List.{drop-drop}
-use Rattle.outside_io.proofs.Giving.{given_then_left, none_at_end}
+use Rattle.outside_io.proofs.MemorySourceLemmas.{given_then_left, none_at_end}
 use Rattle.outside_io.proofs.memory_source.MemorySourceSource.read.Goals as goal
 
 pub returns-clause-first_bytes : goal.returns-clause-first_bytes

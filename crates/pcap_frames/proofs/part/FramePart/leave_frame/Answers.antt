@@ -1,6 +1,6 @@
 use Rattle.std.proofs.Common.{◌≡◌, None, sym, ap, ◌∙◌, arith}
 use Rattle.pcap_frames.specs.Frames.{needed, frame_fault}
-use Rattle.pcap_frames.proofs.Steps.{faulty_frame, part_of_frame, whole_frame, needed_at_none, needed_bound, right_frame, held_fits}
+use Rattle.pcap_frames.proofs.ReaderStepLemmas.{faulty_frame, part_of_frame, whole_frame, needed_at_none, needed_bound, right_frame, held_fits}
 use Rattle.pcap_frames.proofs.part.FramePart.leave_frame.Goals as goal
 
 pub returns-in-Some-clause-advances : goal.returns-in-Some-clause-advances

@@ -1,7 +1,7 @@
 use Rattle.std.proofs.Common.{◌≡◌, length, sym, ap, ◌∙◌, arith}
 use Rattle.pcap_frames.specs.Header.{header_fault, magic_order}
-use Rattle.pcap_frames.proofs.Headers.{header_has_magic}
-use Rattle.pcap_frames.proofs.Steps.{faulty_header, whole_header, needed_at_none}
+use Rattle.pcap_frames.proofs.FileHeaderLemmas.{header_has_magic}
+use Rattle.pcap_frames.proofs.ReaderStepLemmas.{faulty_header, whole_header, needed_at_none}
 use Rattle.pcap_frames.proofs.part.FramePart.leave_header.Goals as goal
 
 pub returns-in-Some-clause-advances : goal.returns-in-Some-clause-advances

@@ -1,4 +1,4 @@
-use Rattle.pcap_frames.proofs.Feeds.{stopped_takes, stage_has_stopped}
+use Rattle.pcap_frames.proofs.FeedLemmas.{stopped_takes, stage_has_stopped}
 use Rattle.pcap_frames.proofs.part.FramePart.take.Goals as goal
 
 pub returns-in-AtFault-clause-takes : goal.returns-in-AtFault-clause-takes

@@ -1,6 +1,6 @@
 use Rattle.std.proofs.Common.{◌≡◌, ap, ◌∙◌, arith}
 use Rattle.pcap_frames.specs.Frames.{needed}
-use Rattle.pcap_frames.proofs.Steps.{needed_more}
+use Rattle.pcap_frames.proofs.ReaderStepLemmas.{needed_more}
 use Rattle.pcap_frames.proofs.part.FramePart.take_frame.Goals as goal
 
 pub leave_frame-stage-requires-clause-came : goal.leave_frame-stage-requires-clause-came

@@ -1,7 +1,7 @@
 use Rattle.std.proofs.Common.{refl, arith}
 use Rattle.std.proofs.lemmas.List.{nil_from_length}
 use Rattle.pcap_frames.specs.Part.{frame_place}
-use Rattle.pcap_frames.proofs.Steps.{frame_at_front}
+use Rattle.pcap_frames.proofs.ReaderStepLemmas.{frame_at_front}
 use Rattle.pcap_frames.proofs.part.FramePart.whole_frame.Goals as goal
 
 pub returns-clause-takes : goal.returns-clause-takes

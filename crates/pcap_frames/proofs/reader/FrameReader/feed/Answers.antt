@@ -1,4 +1,4 @@
-use Rattle.pcap_frames.proofs.Feeds.{stopped_fed, stopped_exact, fed_exact}
+use Rattle.pcap_frames.proofs.FeedLemmas.{stopped_fed, stopped_exact, fed_exact}
 use Rattle.pcap_frames.proofs.reader.FrameReader.feed.Goals as goal
 
 pub returns-then-has_stopped-clause-fed : goal.returns-then-has_stopped-clause-fed

@@ -1,6 +1,6 @@
 use Rattle.std.proofs.Common.{[], ap, sym, subst}
 use Rattle.pcap_frames.specs.ReaderState.{IsPartHeader}
-use Rattle.pcap_frames.proofs.Steps.{new_stands}
+use Rattle.pcap_frames.proofs.ReaderStepLemmas.{new_stands}
 use Rattle.pcap_frames.proofs.reader.FrameReader.new.Goals as goal
 
 pub returns-clause-stands : goal.returns-clause-stands

@@ -1,5 +1,5 @@
 use Rattle.std.proofs.lemmas.Result.{err_from_is_err_and}
-use Rattle.pcap_frames.proofs.Feeds.{more_fed, begun}
+use Rattle.pcap_frames.proofs.FeedLemmas.{more_fed, begun}
 use Rattle.pcap_frames.proofs.reader.FrameReader.show_all.Goals as goal
 
 pub returns-in_err-rest-clause-err : goal.returns-in_err-rest-clause-err

@@ -1,5 +1,5 @@
 use Rattle.std.proofs.Common.{length}
-use Rattle.pcap_frames.proofs.Feeds.{IsFed}
+use Rattle.pcap_frames.proofs.FeedLemmas.{IsFed}
 use Rattle.pcap_frames.proofs.reader.FrameReader.show_all.Given as goal
 
 -- a front of the piece is fed

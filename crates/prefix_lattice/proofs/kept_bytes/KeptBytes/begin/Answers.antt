@@ -1,6 +1,6 @@
 use Rattle.std.proofs.Common.{eqb, ap, sym, ◌∙◌, arith}
-use Rattle.prefix_lattice.specs.Bytes.{address_bytes, begins_with}
-use Rattle.prefix_lattice.proofs.Addresses.{begins_with-leading}
+use Rattle.prefix_lattice.specs.KeptBytes.{address_bytes, begins_with}
+use Rattle.prefix_lattice.proofs.AddressLemmas.{begins_with-leading}
 use Rattle.prefix_lattice.proofs.kept_bytes.KeptBytes.begin.Goals as goal
 
 pub returns : goal.returns

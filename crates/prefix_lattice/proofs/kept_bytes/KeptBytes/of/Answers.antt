@@ -1,6 +1,6 @@
 use Rattle.std.proofs.Common.{◌≡◌, ℕ, ◌<◌, ◌≤◌, ◌^◌, take, ap, sym, subst, ◌∙◌, arith}
-use Rattle.prefix_lattice.specs.Bytes.{address_bytes, address_of}
-use Rattle.prefix_lattice.proofs.Addresses.{leading-masked, masked_small, address_of-masked}
+use Rattle.prefix_lattice.specs.KeptBytes.{address_bytes, address_of}
+use Rattle.prefix_lattice.proofs.AddressLemmas.{leading-masked, masked_small, address_of-masked}
 use Rattle.prefix_lattice.proofs.kept_bytes.KeptBytes.of.Goals as goal
 
 pub invariant_of-result : goal.invariant_of-result

@@ -1,7 +1,7 @@
 use Rattle.std.proofs.Common.{◌≤◌, ◌<◌, eqb, take, ap, sym, ◌∙◌, arith}
 use Rattle.std.proofs.lemmas.Bool.{lt-leb}
-use Rattle.prefix_lattice.specs.Bytes.{address_bytes, begins_with}
-use Rattle.prefix_lattice.proofs.Addresses.{begins_with-leading, kept-begins_with, kept-begins_with_no_more}
+use Rattle.prefix_lattice.specs.KeptBytes.{address_bytes, begins_with}
+use Rattle.prefix_lattice.proofs.AddressLemmas.{begins_with-leading, kept-begins_with, kept-begins_with_no_more}
 use Rattle.prefix_lattice.proofs.kept_bytes.KeptBytes.under.Goals as goal
 
 pub returns-then-other-self-clause-value : goal.returns-then-other-self-clause-value

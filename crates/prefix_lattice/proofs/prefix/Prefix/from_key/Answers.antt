@@ -1,4 +1,4 @@
-use Rattle.prefix_lattice.proofs.NodeKeys.{accepts_keys, exactly_with_key}
+use Rattle.prefix_lattice.proofs.NodeKeyLemmas.{accepts_keys, exactly_with_key}
 use Rattle.prefix_lattice.proofs.prefix.Prefix.from_key.Goals as goal
 
 pub returns-clause-accepted : goal.returns-clause-accepted

@@ -1,9 +1,8 @@
 use Rattle.std.proofs.Common.{◌≡◌, ◌≤◌, true, take, refl, ap, sym, subst, ◌∙◌}
-use Rattle.prefix_lattice.specs.Bytes.{address_bytes}
-use Rattle.prefix_lattice.specs.RecordValue.{RecordValue}
-use Rattle.prefix_lattice.specs.PrefixValue.{PrefixValue}
-use Rattle.prefix_lattice.specs.Prefix.{covers, prefix_at}
-use Rattle.prefix_lattice.proofs.Keys.{covers-prefix_at, only_prefix_at, made_at}
+use Rattle.prefix_lattice.specs.KeptBytes.{address_bytes}
+use Rattle.prefix_lattice.specs.Record.{RecordValue}
+use Rattle.prefix_lattice.specs.Prefix.{PrefixValue, covers, prefix_at}
+use Rattle.prefix_lattice.proofs.KeyLemmas.{covers-prefix_at, only_prefix_at, made_at}
 use Rattle.prefix_lattice.proofs.prefix.Prefix.of.Goals as goal
 
 -- what is made of the record's first bytes is its prefix at the node

@@ -1,7 +1,7 @@
 use Rattle.std.proofs.Common.{◌<◌, ◌++◌, length, drop, ap, ◌∙◌, arith}
-use Rattle.prefix_lattice.specs.PrefixValue.{PrefixValue}
+use Rattle.prefix_lattice.specs.Prefix.{PrefixValue}
 use Rattle.prefix_lattice.specs.PrefixText.{side_text, prefix_text}
-use Rattle.prefix_lattice.proofs.Writing.{writes-sides}
+use Rattle.prefix_lattice.proofs.WrittenPartLemmas.{writes-sides}
 use Rattle.prefix_lattice.proofs.prefix.Prefix.write_text.Goals as goal
 
 pub returns-clause-text : goal.returns-clause-text

@@ -1,6 +1,6 @@
 use Rattle.std.proofs.Common.{◌≡◌, ◌+◌, ◌^◌, ◌<◌, ◌≤◌, refl, sym, ap, ◌∙◌, subst, arith}
-use Rattle.space_saving.specs.Table.{Add, TableValue, step, total_count}
-use Rattle.rank_table.specs.Order.{entries_of}
+use Rattle.space_saving.specs.{Add, TableValue, step, total_count}
+use Rattle.rank_table.specs.SlotOrder.{entries_of}
 use Rattle.rank_table.proofs.TableLemmas.{IsRankTable-add}
 use Rattle.rank_table.proofs.rank_table.RankTableSummary.add.Goals as goal
 

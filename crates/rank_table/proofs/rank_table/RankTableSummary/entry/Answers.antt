@@ -1,9 +1,9 @@
 use Rattle.std.proofs.Common.{◌^◌, List, slice_get, sym, ap, ◌∙◌, subst, arith}
 use Rattle.std.proofs.lemmas.Option.{slice_get-map}
 use Rattle.std.specs.Option.{option_map}
-use Rattle.space_saving.specs.Table.{TableValue}
+use Rattle.space_saving.specs.{TableValue}
 use Rattle.rank_table.specs.declared.slot.Slot.{Slot}
-use Rattle.rank_table.specs.Order.{in_order, AreSlots}
+use Rattle.rank_table.specs.SlotOrder.{in_order, AreSlots}
 use Rattle.rank_table.proofs.OrderLemmas.{entry_at}
 use Rattle.rank_table.proofs.TableLemmas.{length-seen, small_times}
 use Rattle.rank_table.proofs.rank_table.RankTableSummary.entry.Goals as goal

@@ -1,6 +1,6 @@
 use Rattle.std.proofs.Common.{◌≡◌, length, sym, ap, ◌∙◌}
 use Rattle.std.proofs.lemmas.Bool.{eqb-true, eq-eqb}
-use Rattle.space_saving.specs.Table.{TableValue}
+use Rattle.space_saving.specs.{TableValue}
 use Rattle.rank_table.proofs.TableLemmas.{length-seen}
 use Rattle.rank_table.proofs.rank_table.RankTableSummary.full.Goals as goal
 

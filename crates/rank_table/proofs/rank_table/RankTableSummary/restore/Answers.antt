@@ -1,10 +1,9 @@
 use Rattle.std.proofs.Common.{sym, ap, ◌∙◌, subst}
 use Rattle.key_index.specs.{Keys}
-use Rattle.space_saving.specs.Table.{TableValue}
-use Rattle.space_saving.specs.TableFacts.{AreEntries}
-use Rattle.rank_table.specs.Order.{entries_of}
-use Rattle.rank_table.specs.SlotsValue.{Slots}
-use Rattle.rank_table.specs.Together.{IsRankTable}
+use Rattle.space_saving.specs.{TableValue, AreEntries}
+use Rattle.rank_table.specs.SlotOrder.{entries_of}
+use Rattle.rank_table.specs.Slots.{Slots}
+use Rattle.rank_table.specs.RankTable.{IsRankTable}
 use Rattle.rank_table.proofs.LoadLemmas.{entries_of-numbered}
 use Rattle.rank_table.proofs.TableLemmas.{IsRankTable-loaded}
 use Rattle.rank_table.proofs.rank_table.RankTableSummary.restore.Goals as goal

@@ -1,9 +1,9 @@
 use Rattle.std.proofs.Common.{◌≡◌, ◌<◌, ◌≤◌, ℕ, List, length, get_or, sym, ap, subst, ◌∙◌}
 use Rattle.std.specs.List.{range_with_len}
 use Rattle.rank_table.specs.declared.slot.Slot.{Slot}
-use Rattle.rank_table.specs.SlotsValue.{Slots}
+use Rattle.rank_table.specs.Slots.{Slots}
 use Rattle.rank_table.specs.Words.{word, IsExact}
-use Rattle.rank_table.specs.Ranking.{AreLeaves, AreRanked}
+use Rattle.rank_table.specs.Ranks.{AreLeaves, AreRanked}
 use Rattle.rank_table.proofs.LeafLemmas.{least_from_exact, AreRanked-restarted}
 use Rattle.rank_table.proofs.ranked_slots.RankedSlots.least.Goals as goal
 

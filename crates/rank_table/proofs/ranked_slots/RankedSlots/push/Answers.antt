@@ -1,7 +1,7 @@
 use Rattle.std.proofs.Common.{◌≡◌, ◌<◌, ◌++◌, ◌∷◌, [], List, length, sym, subst, arith}
 use Rattle.rank_table.specs.declared.slot.Slot.{Slot}
-use Rattle.rank_table.specs.SlotsValue.{Slots}
-use Rattle.rank_table.specs.Ranking.{AreRanked}
+use Rattle.rank_table.specs.Slots.{Slots}
+use Rattle.rank_table.specs.Ranks.{AreRanked}
 use Rattle.rank_table.proofs.LeafLemmas.{AreLeaves-pushed}
 use Rattle.rank_table.proofs.ranked_slots.RankedSlots.push.Goals as goal
 

@@ -1,7 +1,7 @@
 use Rattle.std.proofs.Common.{[], ℕ, List, sym, subst, refl, arith}
 use Rattle.std.specs.List.{range_with_len}
 use Rattle.rank_table.specs.declared.slot.Slot.{Slot}
-use Rattle.rank_table.specs.Ranking.{AreRanked}
+use Rattle.rank_table.specs.Ranks.{AreRanked}
 use Rattle.rank_table.proofs.LeafLemmas.{AreLeaves-start}
 use Rattle.rank_table.proofs.ranked_slots.RankedSlots.with_capacity.Goals as goal
 

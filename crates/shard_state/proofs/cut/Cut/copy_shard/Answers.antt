@@ -1,7 +1,7 @@
 use Rattle.std.proofs.Common.{sym, ap, ◌∙◌, subst}
-use Rattle.shard_state.specs.SnapshotValue.{SnapshotValue, IsSnapshot}
-use Rattle.shard_state.specs.CutValue.{CutValue}
-use Rattle.shard_state.proofs.Cuts.{IsCut-set}
+use Rattle.shard_state.specs.Snapshot.{SnapshotValue, IsSnapshot}
+use Rattle.shard_state.specs.Cut.{CutValue}
+use Rattle.shard_state.proofs.CutLemmas.{IsCut-set}
 use Rattle.shard_state.proofs.cut.Cut.copy_shard.Goals as goal
 
 pub invariant_of-self : goal.invariant_of-self

@@ -1,6 +1,6 @@
 use Rattle.std.proofs.Common.{sym, ap, ◌∙◌}
-use Rattle.shard_state.specs.CutValue.{CutValue}
-use Rattle.shard_state.proofs.Cuts.{IsCut-set}
+use Rattle.shard_state.specs.Cut.{CutValue}
+use Rattle.shard_state.proofs.CutLemmas.{IsCut-set}
 use Rattle.shard_state.proofs.cut.Cut.put_shard.Goals as goal
 
 pub invariant_of-self : goal.invariant_of-self

@@ -1,6 +1,6 @@
 use Rattle.std.proofs.Common.{◌<◌, ◌≤◌, ◌^◌, length, subst}
-use Rattle.shard_state.specs.CutValue.{CutValue, total_of_cut}
-use Rattle.shard_state.proofs.Cuts.{total_of_cut-bounded}
+use Rattle.shard_state.specs.Cut.{CutValue, total_of_cut}
+use Rattle.shard_state.proofs.CutLemmas.{total_of_cut-bounded}
 use Rattle.shard_state.proofs.cut.Cut.shards.Goals as goal
 
 pub returns-clause-bounded : goal.returns-clause-bounded

@@ -1,7 +1,7 @@
 use Rattle.std.proofs.Common.{◌≡◌, List, replicate, ap, sym, subst, ◌∙◌, arith}
-use Rattle.shard_state.specs.SnapshotValue.{SnapshotValue, empty_snapshot}
-use Rattle.shard_state.specs.CutValue.{CutValue, IsCut}
-use Rattle.shard_state.proofs.Emptiness.{IsCut-empty}
+use Rattle.shard_state.specs.Snapshot.{SnapshotValue, empty_snapshot}
+use Rattle.shard_state.specs.Cut.{CutValue, IsCut}
+use Rattle.shard_state.proofs.EmptyTableLemmas.{IsCut-empty}
 use Rattle.shard_state.proofs.cut.Cut.with_room.Goals as goal
 
 -- the snapshots are those of the cut of no record

@@ -1,5 +1,5 @@
 use Rattle.std.proofs.Common.{◌≡◌, replicate}
-use Rattle.shard_state.specs.SnapshotValue.{empty_snapshot}
+use Rattle.shard_state.specs.Snapshot.{empty_snapshot}
 use Rattle.shard_state.proofs.cut.Cut.with_room.Given as goal
 
 -- the snapshots so far are empty

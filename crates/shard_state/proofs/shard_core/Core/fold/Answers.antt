@@ -1,7 +1,7 @@
 use Rattle.std.proofs.Common.{length, ap, ◌∙◌, arith}
-use Rattle.shard_state.specs.CoreValue.{changed}
-use Rattle.shard_state.specs.ShardValue.{folded}
-use Rattle.shard_state.proofs.Cores.{fold_is_change, IsCore-fold}
+use Rattle.shard_state.specs.ShardCore.{changed}
+use Rattle.shard_state.specs.ShardState.{folded}
+use Rattle.shard_state.proofs.ShardCoreLemmas.{fold_is_change, IsCore-fold}
 use Rattle.shard_state.proofs.shard_core.Core.fold.Goals as goal
 
 pub invariant_of-self : goal.invariant_of-self

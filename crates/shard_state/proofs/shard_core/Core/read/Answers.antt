@@ -1,6 +1,6 @@
 use Rattle.std.proofs.Common.{length, ap, ◌∙◌, arith, slice_get}
-use Rattle.shard_state.specs.CoreValue.{changed, with_read}
-use Rattle.shard_state.proofs.Cores.{read_is_change}
+use Rattle.shard_state.specs.ShardCore.{changed, with_read}
+use Rattle.shard_state.proofs.ShardCoreLemmas.{read_is_change}
 use Rattle.shard_state.proofs.shard_core.Core.read.Goals as goal
 
 pub returns : goal.returns

@@ -1,7 +1,6 @@
 use Rattle.std.proofs.Common.{◌≡◌, length, slice_get, All, ap, sym, ◌∙◌, subst}
-use Rattle.shard_state.specs.CoreValue.{CoreValue, HasShape, capacity_of}
-use Rattle.shard_state.specs.Reads.{snapshot_in}
-use Rattle.shard_state.proofs.Runs.{latest_after, never_fall, last_read, stands_run, shapes_run, many_run, callers_run, capacity_run, shard_within}
+use Rattle.shard_state.specs.ShardCore.{CoreValue, HasShape, capacity_of, snapshot_in}
+use Rattle.shard_state.proofs.EventRunLemmas.{latest_after, never_fall, last_read, stands_run, shapes_run, many_run, callers_run, capacity_run, shard_within}
 use Rattle.shard_state.proofs.shard_core.Core.run_events.Goals as goal
 
 pub returns-clause-latest : goal.returns-clause-latest

@@ -1,7 +1,7 @@
 use Rattle.std.proofs.Common.{◌≡◌, length, take, get_or, All, ap, sym, ◌∙◌, subst, arith}
-use Rattle.shard_state.specs.CoreValue.{CoreValue, HasShape, IsEventFor, capacity_of}
+use Rattle.shard_state.specs.ShardCore.{CoreValue, HasShape, IsEventFor, capacity_of}
 use Rattle.shard_state.specs.declared.event.Event.TheVariants.{Fold}
-use Rattle.shard_state.proofs.Runs.{shapes_run, many_run, callers_run, capacity_run}
+use Rattle.shard_state.proofs.EventRunLemmas.{shapes_run, many_run, callers_run, capacity_run}
 use Rattle.shard_state.proofs.shard_core.Core.run_in_order.Goals as goal
 
 pub step-requires-clause-event : goal.step-requires-clause-event

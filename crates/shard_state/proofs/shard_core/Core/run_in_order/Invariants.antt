@@ -1,5 +1,5 @@
 use Rattle.std.proofs.Common.{◌≡◌, take}
-use Rattle.shard_state.specs.CoreValue.{run}
+use Rattle.shard_state.specs.ShardCore.{run}
 use Rattle.shard_state.proofs.shard_core.Core.run_in_order.Given as goal
 
 -- shards and cuts are those after the events so far

@@ -1,11 +1,10 @@
 use Rattle.std.proofs.Common.{◌≡◌, refl, ap, sym, ◌∙◌, subst}
 use Rattle.std.proofs.lemmas.List.Elements.{All-same, All-map}
-use Rattle.space_saving.specs.Table.{TableValue}
-use Rattle.shard_state.specs.SnapshotValue.{IsSnapshot, tables_of}
-use Rattle.shard_state.specs.ShardValue.{ShardValue, snapshot_of}
-use Rattle.shard_state.specs.Copying.{copied_from}
-use Rattle.shard_state.proofs.Parts.{with_entries}
-use Rattle.shard_state.proofs.Shards.{copied_is}
+use Rattle.space_saving.specs.{TableValue}
+use Rattle.shard_state.specs.Snapshot.{IsSnapshot, tables_of, copied_from}
+use Rattle.shard_state.specs.ShardState.{ShardValue, snapshot_of}
+use Rattle.shard_state.proofs.SnapshotPartLemmas.{with_entries}
+use Rattle.shard_state.proofs.ShardStateLemmas.{copied_is}
 use Rattle.shard_state.proofs.shard_state.ShardState.copy_into.Goals as goal
 
 -- the snapshot has the capacity of the shard

@@ -2,15 +2,12 @@ use Rattle.std.proofs.Common.{◌≡◌, ◌+◌, ◌-◌, ◌^◌, ◌<◌, ◌
 use Rattle.std.specs.List.{slice_range}
 use Rattle.std.proofs.lemmas.List.{take_at}
 use Rattle.std.proofs.lemmas.List.Elements.{All-same}
-use Rattle.prefix_lattice.specs.RecordValue.{RecordValue}
-use Rattle.prefix_lattice.specs.Prefix.{total_weight}
-use Rattle.space_saving.specs.Table.{TableValue, total_count}
-use Rattle.shard_state.specs.Tables.{fold_from}
-use Rattle.shard_state.specs.Folding.{fold_tables}
-use Rattle.shard_state.specs.ShardValue.{ShardValue, snapshot_of}
-use Rattle.shard_state.specs.SnapshotValue.{tables_of}
-use Rattle.shard_state.proofs.Folds.{StepsKeep}
-use Rattle.shard_state.proofs.Shards.{FoldedOn, folded_on, has_room, tables_on}
+use Rattle.prefix_lattice.specs.{RecordValue, total_weight}
+use Rattle.space_saving.specs.{TableValue, total_count}
+use Rattle.shard_state.specs.Snapshot.{fold_from, fold_tables, tables_of}
+use Rattle.shard_state.specs.ShardState.{ShardValue, snapshot_of}
+use Rattle.shard_state.proofs.TableFoldLemmas.{StepsKeep}
+use Rattle.shard_state.proofs.ShardStateLemmas.{FoldedOn, folded_on, has_room, tables_on}
 use Rattle.shard_state.proofs.shard_state.ShardState.fold_block.Goals as goal
 
 pub count_in_tables-requires-clause-room : goal.count_in_tables-requires-clause-room

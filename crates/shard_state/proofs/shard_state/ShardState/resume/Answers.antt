@@ -1,6 +1,6 @@
 use Rattle.std.proofs.Common.{ap, sym, ◌∙◌}
-use Rattle.shard_state.specs.SnapshotValue.{tables_of}
-use Rattle.shard_state.proofs.Shards.{Begun, begun}
+use Rattle.shard_state.specs.Snapshot.{tables_of}
+use Rattle.shard_state.proofs.ShardStateLemmas.{Begun, begun}
 use Rattle.shard_state.proofs.shard_state.ShardState.resume.Goals as goal
 
 pub invariant_of-result : goal.invariant_of-result

@@ -1,8 +1,8 @@
 use Rattle.std.proofs.Common.{◌≡◌, take, ap, sym, subst}
-use Rattle.prefix_lattice.specs.Prefix.{total_weight}
-use Rattle.space_saving.specs.Table.{total_count}
-use Rattle.shard_state.specs.SnapshotValue.{SnapshotValue, total_of}
-use Rattle.shard_state.proofs.Emptiness.{none_at}
+use Rattle.prefix_lattice.specs.{total_weight}
+use Rattle.space_saving.specs.{total_count}
+use Rattle.shard_state.specs.Snapshot.{SnapshotValue, total_of}
+use Rattle.shard_state.proofs.EmptyTableLemmas.{none_at}
 use Rattle.shard_state.proofs.shard_state.ShardState.start.Goals as goal
 
 pub resume-requires-clause-counted : goal.resume-requires-clause-counted

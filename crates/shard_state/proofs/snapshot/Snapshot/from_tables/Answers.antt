@@ -1,6 +1,6 @@
 use Rattle.std.proofs.Common.{subst, arith}
-use Rattle.shard_state.specs.SnapshotParts.{AreTables}
-use Rattle.shard_state.proofs.Parts.{AreKept, MadeOf, made_of_parts, tables_from_entries}
+use Rattle.shard_state.specs.Snapshot.{AreTables}
+use Rattle.shard_state.proofs.SnapshotPartLemmas.{AreKept, MadeOf, made_of_parts, tables_from_entries}
 use Rattle.shard_state.proofs.snapshot.Snapshot.from_tables.Goals as goal
 
 made : (c : goal.After-capacity) → MadeOf c.capacity.result c.args.position c.args.tables.items

@@ -1,6 +1,6 @@
 use Rattle.std.proofs.Common.{ap, sym, ◌∙◌}
-use Rattle.shard_state.specs.SnapshotValue.{tables_of}
-use Rattle.shard_state.proofs.Parts.{tables_from_entries}
+use Rattle.shard_state.specs.Snapshot.{tables_of}
+use Rattle.shard_state.proofs.SnapshotPartLemmas.{tables_from_entries}
 use Rattle.shard_state.proofs.snapshot.Snapshot.tables.Goals as goal
 
 pub returns-clause-tables : goal.returns-clause-tables

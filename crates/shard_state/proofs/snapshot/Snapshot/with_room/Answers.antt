@@ -1,6 +1,6 @@
 use Rattle.std.proofs.Common.{List, ap}
-use Rattle.shard_state.proofs.Emptiness.{made_empty}
-use Rattle.shard_state.specs.SnapshotValue.{SnapshotValue}
+use Rattle.shard_state.proofs.EmptyTableLemmas.{made_empty}
+use Rattle.shard_state.specs.Snapshot.{SnapshotValue}
 use Rattle.space_saving.specs.declared.entry.Entry.{Entry}
 use Rattle.shard_state.proofs.snapshot.Snapshot.with_room.Goals as goal
 

@@ -1,6 +1,6 @@
 use Rattle.std.proofs.Common.{◌≡◌, ◌+◌, ◌^◌, ◌<◌, ap, sym, subst, ◌∙◌, arith}
 use Rattle.space_saving.specs.Table.{TableValue, total_count}
-use Rattle.space_saving.proofs.Stepping.{IsKept-step, total_count-step}
+use Rattle.space_saving.proofs.StepLemmas.{IsKept-step, total_count-step}
 use Rattle.space_saving.proofs.flat.Flat.add.Goals as goal
 
 pub invariant_of-self : goal.invariant_of-self

@@ -1,8 +1,8 @@
 use Rattle.std.proofs.Common.{◌<◌, length, refl, sym, subst}
 use Rattle.std.proofs.lemmas.Option.{slice_get_read}
 use Rattle.space_saving.specs.Table.{TableValue}
-use Rattle.space_saving.proofs.Holding.{RisesFrom-least}
-use Rattle.space_saving.proofs.EntryFacts.{apart_at, least_at, count_at-le-total}
+use Rattle.space_saving.proofs.IntervalLemmas.{RisesFrom-least}
+use Rattle.space_saving.proofs.EntryLemmas.{apart_at, least_at, count_at-le-total}
 use Rattle.space_saving.proofs.flat.Flat.entry.Goals as goal
 
 pub returns-clause-apart : goal.returns-clause-apart

@@ -1,6 +1,6 @@
 use Rattle.std.proofs.Common.{◌≤◌, ◌-◌, ◌*◌, arith, subst}
 use Rattle.space_saving.specs.Table.{TableValue, total_count}
-use Rattle.space_saving.proofs.Widths.{narrow_of_head}
+use Rattle.space_saving.proofs.IntervalWidthLemmas.{narrow_of_head}
 use Rattle.space_saving.proofs.flat.Flat.interval.Goals as goal
 
 pub returns-in-None-2-clause-narrow : goal.returns-in-None-2-clause-narrow

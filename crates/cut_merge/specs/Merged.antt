@@ -1,0 +1,86 @@
+-- The tables of a cut, merged.
+use Rattle.std.specs.Prelude.{ℕ, List, ◌≡◌, ◌+◌, ◌^◌, ◌<◌, [], length, slice_index_or, ◌==◌, ◌-◌, ◌≤◌, ◌∷◌, ◌++◌, Option, None, Some, fold, if◌then◌else◌}
+use Rattle.cut_merge.specs.NodeMerge.{NodeMergeValue, gain_of, no_gain}
+use Rattle.std.specs.Map.{keys_of}
+use Rattle.prefix_lattice.specs.{NodeValue, IsNode, index_of, PrefixValue, IsPrefix, node_of, key_of}
+use Rattle.space_saving.specs.{Interval, TableValue, entry_of, interval_in, interval_from, total_count}
+use Rattle.shard_state.specs.{CutValue, total_of_cut}
+use Rattle.cut_merge.specs.Span.{span, monitored_at, IsWithinTotal}
+use Rattle.std.specs.List.{list_any}
+use Rattle.space_saving.specs.declared.entry.Entry.{Entry}
+use Rattle.cut_merge.specs.declared.gain.Gain.{Gain}
+use Rattle.cut_merge.specs.Tables.{merged_interval, table_keys, monitored_keys}
+
+-- the capacity of the tables, the weight that they counted together, and the merged tables of each of the 25 nodes,
+-- in the order of the nodes' places
+pub record MergedValue : Type 0 where
+  pub capacity : ℕ
+  pub total : ℕ
+  pub nodes : List NodeMergeValue
+
+-- nothing merged
+abbrev pub nothing_merged : NodeMergeValue
+nothing_merged = record { gains = []; missing = 0 }
+
+-- the merged tables of a node
+abbrev pub merge_at : NodeValue → MergedValue → NodeMergeValue
+merge_at node merged = slice_index_or merged.nodes (index_of node) nothing_merged
+
+-- what the merged tables of a node say of a key
+abbrev pub interval_for_key : NodeMergeValue → ℕ → Interval
+interval_for_key merge key = record { low = (gain_of key merge.gains).low; high = merge.missing + (gain_of key merge.gains).high }
+
+-- what merged tables say of a prefix
+abbrev pub interval_for : MergedValue → PrefixValue → Interval
+interval_for merged prefix = interval_for_key (merge_at (node_of prefix) merged) (key_of prefix)
+
+-- the keys that merged tables know at a node
+abbrev pub candidates_at : MergedValue → NodeValue → List ℕ
+candidates_at merged node = keys_of (merge_at node merged).gains
+
+-- merged tables stand for a cut: their capacity and total, the interval of each prefix and the candidates of each node are the cut's
+pub record StandsForCut (merged : MergedValue) (cut : CutValue) : Type 0 where
+  pub capacity : merged.capacity ≡ cut.capacity
+  pub total : merged.total ≡ total_of_cut cut
+  pub intervals : (prefix : PrefixValue) → IsPrefix prefix → interval_for merged prefix ≡ span cut prefix
+  pub candidates : (node : NodeValue) → IsNode node → candidates_at merged node ≡ monitored_at cut node
+
+-- what merged tables keep: there are 25 nodes, and no interval is above the total, which is below 2^60
+pub record IsMerged (merged : MergedValue) : Type 0 where
+  pub bounded : merged.total < 2 ^ 60
+  pub shape : length merged.nodes ≡ 25
+  pub intervals : (place key : ℕ) → IsWithinTotal merged.total (interval_for_key (slice_index_or merged.nodes place nothing_merged) key)
+
+-- the keys that were seen once one more is: a new one goes behind the others
+abbrev pub seen : List ℕ → ℕ → List ℕ
+seen keys key = if list_any (λ other. key == other) keys then keys else keys ++ key ∷ []
+
+-- the high of a key that is missing in a table
+abbrev pub missing_high : TableValue → ℕ
+missing_high table = (interval_from None table).high
+
+-- an interval of a table has its ends in order and within what the table counted, and its high isn't below that of a missing key
+pub record IsBounded (key : ℕ) (table : TableValue) : Type 0 where
+  pub ordered : (interval_in table key).low ≤ (interval_in table key).high
+  pub within_total : (interval_in table key).high ≤ total_count table.entries
+  pub above_missing : missing_high table ≤ (interval_in table key).high
+
+-- two gains together
+abbrev pub plus : Gain → Gain → Gain
+plus gain more = record { low = gain.low + more.low; high = gain.high + more.high }
+
+-- what a table adds to the gain of a key, by the entry that the key has there
+abbrev pub gain_from : TableValue → Option Entry → Gain
+gain_from table None = no_gain
+gain_from table (Some entry) = record { low = entry.count - entry.error; high = entry.count - missing_high table }
+
+-- a table was merged in
+pub record AddsTable (old : NodeMergeValue) (table : TableValue) (new : NodeMergeValue) : Type 0 where
+  pub gains : (key : ℕ) → gain_of key new.gains ≡ plus (gain_of key old.gains) (gain_from table (entry_of key table.entries))
+  pub missing : new.missing ≡ old.missing + missing_high table
+  pub keys : keys_of new.gains ≡ fold seen (keys_of old.gains) (table_keys table)
+
+-- what is merged says of each key what these tables say together
+pub record StandsForTables (merge : NodeMergeValue) (tables : List TableValue) : Type 0 where
+  pub intervals : (key : ℕ) → interval_for_key merge key ≡ merged_interval tables key
+  pub keys : keys_of merge.gains ≡ monitored_keys tables

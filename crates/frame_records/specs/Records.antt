@@ -1,0 +1,37 @@
+-- What reading the records of a capture came to.
+use Rattle.std.specs.Prelude.{⊤, ℕ, ◌≡◌, ◌≤◌, List, length, Option, IfSome}
+use Rattle.std.specs.Io.KnownBytes.{Consumes}
+use Rattle.pcap_frames.specs.{FrameValue}
+use Rattle.outside_io.specs.{Rose}
+use Rattle.frame_records.specs.CaptureFile.{HasFrames, IsRefusedFor}
+use Rattle.pcap_frames.specs.declared.fault.ReadRefusal.{ReadRefusal}
+use Rattle.pcap_frames.specs.declared.fault.ReadRefusal.TheVariants.{Capture, ReadFault, OutOfMemory}
+use Rattle.frame_records.specs.FrameRecord.{records_of, skipped}
+use Rattle.frame_records.specs.declared.weigh.Weigh.{Weigh}
+use Rattle.frame_records.specs.declared.skip.Skip.TheVariants.{NotIpv4, Short, BadHeader}
+use Rattle.frame_records.specs.declared.records.Records.{Records}
+
+-- the records and the four counts of some frames
+pub record AreRecordsOf (weigh : Weigh) (all : List FrameValue) (records : Records) : Type 0 where
+  pub list : records.list ≡ records_of weigh all
+  pub frames : records.frames ≡ length all
+  pub not_ipv4 : records.not_ipv4 ≡ skipped NotIpv4 all
+  pub short : records.short ≡ skipped Short all
+  pub bad_header : records.bad_header ≡ skipped BadHeader all
+
+-- the records are those of at most 16,777,216 frames, which are the capture that the source told
+pub record HasRecords (weigh : Weigh) (left : Option (List ℕ)) (records : Records) : Type 0 where
+  pub frames : List FrameValue
+  pub few : length frames ≤ 16777216
+  pub told : IfSome left (λ file. HasFrames file frames)
+  pub are : AreRecordsOf weigh frames records
+
+-- each refusal has its cause: the bytes told have that first fault, or the source's count of faults rose
+abbrev pub HasRefused : Option (List ℕ) → ℕ → ℕ → ReadRefusal → Type 0
+HasRefused left before now (Capture fault) = IfSome left (λ file. IsRefusedFor file fault)
+HasRefused left before now ReadFault = Rose before now
+HasRefused left before now OutOfMemory = ⊤
+
+-- of the bytes that the source told, a front was read, and the others are left
+abbrev pub HasReadFront : Option (List ℕ) → Option (List ℕ) → Type 0
+HasReadFront left now = (front : List ℕ) × Consumes left now front

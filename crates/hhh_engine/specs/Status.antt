@@ -1,0 +1,66 @@
+-- The statuses of the program.
+use Rattle.std.specs.Prelude.{ℕ, List, ◌++◌, codes, decimal}
+use Rattle.pcap_frames.specs.declared.fault.ReadRefusal.{ReadRefusal}
+use Rattle.command_words.specs.declared.words_kind.WordsRefusal.{WordsRefusal}
+use Rattle.hhh_engine.specs.declared.status.Status.{Status}
+use Rattle.hhh_engine.specs.declared.status.Status.TheVariants.{Done, BadWords, BadCapture, ReadFault, WriteFault, OutOfMemory}
+use Rattle.pcap_frames.specs.declared.fault.FaultKind.{FaultKind}
+use Rattle.pcap_frames.specs.declared.fault.FaultKind.TheVariants.{ShortHeader, NotCapture, Version, Link, LongFrame, CutFrame, TooManyFrames}
+use Rattle.command_words.specs.declared.words_kind.WordsKind.{WordsKind}
+use Rattle.command_words.specs.declared.words_kind.WordsKind.TheVariants.{NoCommand, UnknownCommand, Refused, BadPrefix, BadNumber, OutOfLimits, BadChoice, Bound}
+use Rattle.pcap_frames.specs.declared.fault.ReadRefusal.TheVariants as refusals
+use Rattle.command_words.specs.declared.words_kind.WordsRefusal.TheVariants as words
+
+-- the exit status that tells how a command ended
+abbrev pub number_of : Status → ℕ
+number_of Done = 0
+number_of (BadWords kind) = 2
+number_of (BadCapture fault) = 3
+number_of ReadFault = 4
+number_of WriteFault = 5
+number_of OutOfMemory = 13
+
+-- how a command ended whose capture was refused
+abbrev pub status_of : ReadRefusal → Status
+status_of (refusals.Capture fault) = BadCapture fault
+status_of refusals.ReadFault = ReadFault
+status_of refusals.OutOfMemory = OutOfMemory
+
+-- how a command ended whose words were refused
+abbrev pub status_of_words : WordsRefusal → Status
+status_of_words (words.Bad kind) = BadWords kind
+status_of_words words.OutOfMemory = OutOfMemory
+
+-- what is wrong with the words, in a word or two
+abbrev pub words_text : WordsKind → List ℕ
+words_text NoCommand = codes "no command"
+words_text UnknownCommand = codes "unknown command"
+words_text Refused = codes "refused"
+words_text (BadPrefix fault) = codes "prefix"
+words_text (BadNumber option) = codes "number"
+words_text (OutOfLimits option) = codes "limits"
+words_text (BadChoice option) = codes "choice"
+words_text Bound = codes "bound"
+
+-- what is wrong with a capture
+abbrev pub fault_text : FaultKind → List ℕ
+fault_text ShortHeader = codes "short header"
+fault_text NotCapture = codes "not a capture"
+fault_text Version = codes "version"
+fault_text Link = codes "link"
+fault_text LongFrame = codes "long frame"
+fault_text CutFrame = codes "cut frame"
+fault_text TooManyFrames = codes "too many frames"
+
+-- how a command ended
+abbrev pub status_text : Status → List ℕ
+status_text Done = codes "done"
+status_text (BadWords kind) = codes "bad words: " ++ words_text kind
+status_text (BadCapture fault) = codes "bad capture: " ++ fault_text fault.kind ++ codes " at " ++ decimal fault.place
+status_text ReadFault = codes "read fault"
+status_text WriteFault = codes "write fault"
+status_text OutOfMemory = codes "out of memory"
+
+-- the line on standard error
+abbrev pub line_of : Status → List ℕ
+line_of status = codes "hhh: " ++ status_text status ++ codes "\n"

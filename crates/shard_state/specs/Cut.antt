@@ -1,0 +1,43 @@
+-- What contracts see of a cut.
+use Rattle.std.specs.Prelude.{ℕ, ◌≡◌, ◌≤◌, List, length, map, sum_by, All, [], ◌∷◌, ◌++◌, take}
+use Rattle.std.proofs.Math.ListN.{replicate}
+use Rattle.shard_state.specs.Snapshot.{SnapshotValue, IsSnapshot, empty_snapshot, total_of, SnapshotStandsFor}
+use Rattle.std.specs.List.{AllZip}
+use Rattle.prefix_lattice.specs.{RecordValue}
+
+-- one snapshot for each shard, all of one capacity
+pub record CutValue : Type 0 where
+  pub capacity : ℕ
+  pub shards : List SnapshotValue
+
+-- the positions of a cut, one for each shard
+abbrev pub positions_of : CutValue → List ℕ
+positions_of cut = map (λ snapshot. snapshot.position) cut.shards
+
+-- the weight that the shards of a cut counted together
+abbrev pub total_of_cut : CutValue → ℕ
+total_of_cut cut = sum_by total_of cut.shards
+
+-- what a cut keeps: 1 to 128 snapshots, each of its capacity
+pub record IsCut (cut : CutValue) : Type 0 where
+  pub least : 2 ≤ cut.capacity
+  pub most : cut.capacity ≤ 4096
+  pub some : 1 ≤ length cut.shards
+  pub few : length cut.shards ≤ 128
+  pub alike : All (λ snapshot. snapshot.capacity ≡ cut.capacity) cut.shards
+  pub kept : All IsSnapshot cut.shards
+
+-- the cut of no record
+abbrev pub empty_cut : ℕ → ℕ → CutValue
+empty_cut shards capacity = record { capacity = capacity; shards = replicate shards (empty_snapshot capacity) }
+
+-- a cut stands for lists of records: each snapshot has the capacity of the cut and stands for the list of its shard
+pub record CutStandsFor (cut : CutValue) (lists : List (List RecordValue)) : Type 0 where
+  pub alike : All (λ snapshot. snapshot.capacity ≡ cut.capacity) cut.shards
+  pub shards : AllZip SnapshotStandsFor cut.shards lists
+
+-- the records before positions: of each list the first so many, one list after the other
+abbrev pub records_before : List (List RecordValue) → List ℕ → List RecordValue
+records_before [] positions = []
+records_before (list ∷ lists) [] = []
+records_before (list ∷ lists) (position ∷ positions) = take position list ++ records_before lists positions

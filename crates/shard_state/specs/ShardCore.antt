@@ -1,0 +1,111 @@
+-- The pure core: what folds and reads of shards leave, and the reads of a run of events.
+use Rattle.std.specs.Prelude.{ℕ, ◌≡◌, ◌<◌, ◌≤◌, zero, suc, List, [], ◌∷◌, length, fold, slice_get, slice_set, Option, None, Some, All, ◌==◌, ◌&&◌, if◌then◌else◌, ⊤, ◌++◌, map}
+use Rattle.shard_state.specs.Cut.{CutValue}
+use Rattle.shard_state.specs.ShardState.{ShardValue, IsShard, folded, snapshot_of}
+use Rattle.shard_state.specs.declared.event.Event.{Event}
+use Rattle.shard_state.specs.declared.event.Event.TheVariants.{Fold, Read}
+use Rattle.prefix_lattice.specs.{RecordValue}
+use Rattle.shard_state.specs.Snapshot.{SnapshotValue, SnapshotStandsFor}
+
+-- what events act on: the states of the shards, and one cut for each caller
+pub record CoreValue : Type 0 where
+  pub shards : List ShardValue
+  pub cuts : List CutValue
+
+-- a list with the element at one place changed
+abbrev pub changed : {X : Type 0} → (X → X) → ℕ → List X → List X
+changed change place [] = []
+changed change zero (x ∷ xs) = change x ∷ xs
+changed change (suc place) (x ∷ xs) = x ∷ changed change place xs
+
+-- a cut with the snapshot of a shard, if there is that shard, in the shard's place
+abbrev pub with_read : ℕ → Option ShardValue → CutValue → CutValue
+with_read shard None cut = cut
+with_read shard (Some state) cut = record cut { shards = slice_set cut.shards shard (snapshot_of state) }
+
+-- what one event leaves: a fold moves its shard's position, a read puts the snapshot of its shard into its caller's cut
+abbrev pub after : CoreValue → Event → CoreValue
+after core (Fold shard block) = record core { shards = changed (folded block) shard core.shards }
+after core (Read caller shard) = record core { cuts = changed (with_read shard (slice_get core.shards shard)) caller core.cuts }
+
+-- what a run of events leaves
+abbrev pub run : CoreValue → List Event → CoreValue
+run core events = fold after core events
+
+-- the capacity of the first shard, which is that of each
+abbrev pub capacity_of : List ShardValue → ℕ
+capacity_of [] = 0
+capacity_of (first ∷ rest) = first.base.capacity
+
+-- 1 to 16 shards of one capacity
+pub record AreShards (shards : List ShardValue) : Type 0 where
+  pub some : 1 ≤ length shards
+  pub few : length shards ≤ 16
+  pub alike : All (λ shard. shard.base.capacity ≡ capacity_of shards) shards
+
+-- what the core keeps
+pub record IsCore (shards : List ShardValue) : Type 0 where
+  pub are_shards : AreShards shards
+  pub kept : All IsShard shards
+
+-- a cut of so many shards and of this capacity
+pub record HasShape (shards capacity : ℕ) (cut : CutValue) : Type 0 where
+  pub as_many : length cut.shards ≡ shards
+  pub alike : cut.capacity ≡ capacity
+
+-- an event for so many shards and so many callers
+abbrev pub IsEventFor : ℕ → ℕ → Event → Type 0
+IsEventFor shards callers (Fold shard block) = (shard < shards) × (1 ≤ block)
+IsEventFor shards callers (Read caller shard) = (caller < callers) × (shard < shards)
+
+-- the position of a shard, if there is that shard
+abbrev pub position_in : Option ShardValue → List ℕ
+position_in None = []
+position_in (Some state) = state.position ∷ []
+
+-- the position that an event meets, if it is a read of this shard by this caller
+abbrev pub met : ℕ → ℕ → List ShardValue → Event → List ℕ
+met caller shard shards (Fold at block) = []
+met caller shard shards (Read by at) = if by == caller && at == shard then position_in (slice_get shards shard) else []
+
+-- the positions that a caller's reads of a shard meet in a run of events, in order
+abbrev pub reads_of : ℕ → ℕ → CoreValue → List Event → List ℕ
+reads_of caller shard core [] = []
+reads_of caller shard core (event ∷ rest) = met caller shard core.shards event ++ reads_of caller shard (after core event) rest
+
+-- the last of some positions
+abbrev pub last_of : List ℕ → Option ℕ
+last_of [] = None
+last_of (position ∷ []) = Some position
+last_of (position ∷ next ∷ later) = last_of (next ∷ later)
+
+-- the positions are at least this one and never fall
+abbrev pub NeverFall : ℕ → List ℕ → Type 0
+NeverFall least [] = ⊤
+NeverFall least (position ∷ later) = (least ≤ position) × NeverFall position later
+
+-- what a cut has of a shard after reads that met these positions: the snapshot at the last of them, or what it had before
+abbrev pub latest : ShardValue → SnapshotValue → List ℕ → SnapshotValue
+latest state before [] = before
+latest state before (position ∷ later) = latest state (snapshot_of (record state { position = position })) later
+
+-- the snapshot of a shard in a cut, if there is that cut and that shard
+abbrev pub shard_in : ℕ → Option CutValue → Option SnapshotValue
+shard_in shard None = None
+shard_in shard (Some cut) = slice_get cut.shards shard
+
+-- the snapshot of a shard in a caller's cut
+abbrev pub snapshot_in : ℕ → ℕ → List CutValue → Option SnapshotValue
+snapshot_in caller shard cuts = shard_in shard (slice_get cuts caller)
+
+-- the lists of shards
+abbrev pub lists_of : List ShardValue → List (List RecordValue)
+lists_of shards = map (λ shard. shard.list) shards
+
+-- each shard's base stands for its list
+abbrev pub BasesStand : List ShardValue → Type 0
+BasesStand shards = All (λ shard. SnapshotStandsFor shard.base shard.list) shards
+
+-- in a run of events a caller reads each of these shards at least once
+abbrev pub ReadsEach : ℕ → CoreValue → List Event → Type 0
+ReadsEach caller core events = (shard : ℕ) → shard < length core.shards → 1 ≤ length (reads_of caller shard core events)

@@ -1,0 +1,33 @@
+-- What contracts see of the state of a shard.
+use Rattle.std.specs.Prelude.{ℕ, ◌≡◌, ◌+◌, ◌^◌, ◌<◌, ◌≤◌, List, length, take, min, All}
+use Rattle.std.specs.List.{slice_range}
+use Rattle.prefix_lattice.specs.{RecordValue, total_weight}
+use Rattle.shard_state.specs.Snapshot.{fold_from, SnapshotValue, IsSnapshot, total_of}
+
+-- the state of a shard: its records, the snapshot that it began with, and how many of its records it counted
+pub record ShardValue : Type 0 where
+  pub list : List RecordValue
+  pub base : SnapshotValue
+  pub position : ℕ
+
+-- the tables of a shard: those of its base, after the records from the base's position up to the shard's
+abbrev pub snapshot_of : ShardValue → SnapshotValue
+snapshot_of shard = record {
+  capacity = shard.base.capacity;
+  position = shard.position;
+  tables = fold_from 0 shard.base.capacity shard.base.tables (slice_range shard.list shard.base.position shard.position);
+}
+
+-- a shard after a block of so many more records, or as many as it has left
+abbrev pub folded : ℕ → ShardValue → ShardValue
+folded block shard = record shard { position = min (length shard.list) (shard.position + block) }
+
+-- what the state of a shard keeps: its limits, and that each of its tables counted the weight before its position
+pub record IsShard (shard : ShardValue) : Type 0 where
+  pub few : length shard.list ≤ 2 ^ 24
+  pub begun : shard.base.position ≤ shard.position
+  pub within : shard.position ≤ length shard.list
+  pub weighed : All (λ rec. 1 ≤ rec.weight) shard.list
+  pub bounded : All (λ rec. rec.weight < 2 ^ 32) shard.list
+  pub counted : total_of (snapshot_of shard) ≡ total_weight (take shard.position shard.list)
+  pub tables : IsSnapshot (snapshot_of shard)

@@ -1,0 +1,109 @@
+-- The tables of a shard at a position: 25 of them, one for each node of the lattice.
+use Rattle.std.specs.Prelude.{ℕ, ◌≡◌, ◌+◌, List, [], ◌∷◌, map, fold, All, ◌^◌, ◌≤◌, length, slice_index_or, slice_get, Some, take}
+use Rattle.prefix_lattice.specs.{RecordValue, NodeValue, node_at, IsNode, index_of, prefix_at, key_of, IsKeyOf}
+use Rattle.space_saving.specs.declared.entry.Entry.{Entry}
+use Rattle.space_saving.specs.{Add, step, table_of, total_count, TableValue, AreEntries}
+use Rattle.std.proofs.Math.ListN.{replicate}
+
+-- what records add to a table at a node: each its weight, for the key of its prefix there
+abbrev pub adds_of : NodeValue → List RecordValue → List Add
+adds_of node records = map (λ rec. record { key = key_of (prefix_at node rec); weight = rec.weight }) records
+
+-- the entries of the table of records at a node, begun with none
+abbrev pub records_table : ℕ → NodeValue → List RecordValue → List Entry
+records_table capacity node records = table_of capacity (adds_of node records)
+
+-- the entries of a table at a node after more records
+abbrev pub fold_at : ℕ → NodeValue → List Entry → List RecordValue → List Entry
+fold_at capacity node entries records = fold (step capacity) entries (adds_of node records)
+
+-- a row of tables after more records, the first table being that of the node at this place
+abbrev pub fold_from : ℕ → ℕ → List (List Entry) → List RecordValue → List (List Entry)
+fold_from place capacity [] records = []
+fold_from place capacity (entries ∷ rest) records = fold_at capacity (node_at place) entries records ∷ fold_from (place + 1) capacity rest records
+
+-- each entry has a key of the node
+abbrev pub HasKeysOf : NodeValue → List Entry → Type 0
+HasKeysOf node entries = All (λ entry. IsKeyOf node entry.key) entries
+
+-- the entries of a table of a node, whose counts add up to this total
+pub record IsTableAt (capacity total : ℕ) (node : NodeValue) (entries : List Entry) : Type 0 where
+  pub are_entries : AreEntries capacity entries
+  pub counted : total_count entries ≡ total
+  pub keyed : HasKeysOf node entries
+
+-- the tables of a shard at a position: one capacity, how many records they count, and the entries of each of the
+-- 25 tables, in the order of the nodes' places
+pub record SnapshotValue : Type 0 where
+  pub capacity : ℕ
+  pub position : ℕ
+  pub tables : List (List Entry)
+
+-- the entries of the table at a node
+abbrev pub entries_at : NodeValue → SnapshotValue → List Entry
+entries_at node snapshot = slice_index_or snapshot.tables (index_of node) []
+
+-- the table at a node
+abbrev pub table_at : NodeValue → SnapshotValue → TableValue
+table_at node snapshot = record { capacity = snapshot.capacity; entries = entries_at node snapshot }
+
+-- all tables of a snapshot, in the order of the nodes' places
+abbrev pub tables_of : SnapshotValue → List TableValue
+tables_of snapshot = map (λ entries. record { capacity = snapshot.capacity; entries = entries }) snapshot.tables
+
+-- the weight that each table of a snapshot counted
+abbrev pub total_of : SnapshotValue → ℕ
+total_of snapshot = total_count (slice_index_or snapshot.tables 0 [])
+
+-- what a snapshot keeps: 25 tables of one allowed capacity and one total, each with keys of its node
+pub record IsSnapshot (snapshot : SnapshotValue) : Type 0 where
+  pub least : 2 ≤ snapshot.capacity
+  pub most : snapshot.capacity ≤ 4096
+  pub placed : snapshot.position ≤ 2 ^ 24
+  pub shape : length snapshot.tables ≡ 25
+  pub tables : (node : NodeValue) → IsNode node → IsTableAt snapshot.capacity (total_of snapshot) node (entries_at node snapshot)
+
+-- 25 tables with no entry
+unfoldable pub no_entries : List (List Entry)
+no_entries = replicate 25 []
+
+-- the snapshot of no record
+abbrev pub empty_snapshot : ℕ → SnapshotValue
+empty_snapshot capacity = record { capacity = capacity; position = 0; tables = no_entries }
+
+-- a table of this capacity and total, whose keys are those of the node
+pub record IsLike (capacity total : ℕ) (node : NodeValue) (table : TableValue) : Type 0 where
+  pub same_capacity : table.capacity ≡ capacity
+  pub same_total : total_count table.entries ≡ total
+  pub keyed : HasKeysOf node table.entries
+
+-- 25 tables of one capacity and one total, each with keys of the node at its place
+pub record AreTables (tables : List TableValue) : Type 0 where
+  pub capacity : ℕ
+  pub total : ℕ
+  pub shape : length tables ≡ 25
+  pub alike : (place : ℕ) (table : TableValue) → slice_get tables place ≡ Some table → IsLike capacity total (node_at place) table
+
+-- the parts of a snapshot: a position of at most 2^24, and such tables
+pub record AreParts (position : ℕ) (tables : List TableValue) : Type 0 where
+  pub placed : position ≤ 2 ^ 24
+  pub are_tables : AreTables tables
+
+-- a table of a node after more records
+abbrev pub fold_table : NodeValue → List RecordValue → TableValue → TableValue
+fold_table node records table = record table { entries = fold_at table.capacity node table.entries records }
+
+-- a row of tables after more records, the first table being that of the node at this place
+abbrev pub fold_tables : ℕ → List TableValue → List RecordValue → List TableValue
+fold_tables place [] records = []
+fold_tables place (table ∷ rest) records = fold_table (node_at place) records table ∷ fold_tables (place + 1) rest records
+
+-- the snapshot of this capacity, at this position, with the entries of these tables
+abbrev pub copied_from : ℕ → ℕ → List TableValue → SnapshotValue
+copied_from capacity position tables = record { capacity = capacity; position = position; tables = map (λ table. table.entries) tables }
+
+-- a snapshot stands for a list of records: each of its 25 tables is that of the first so many records, as its position says
+pub record SnapshotStandsFor (snapshot : SnapshotValue) (list : List RecordValue) : Type 0 where
+  pub within : snapshot.position ≤ length list
+  pub shape : length snapshot.tables ≡ 25
+  pub tables : (node : NodeValue) → IsNode node → entries_at node snapshot ≡ records_table snapshot.capacity node (take snapshot.position list)
