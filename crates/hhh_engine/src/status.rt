@@ -1,5 +1,9 @@
 //! How the program ended.
 
+mod line;
+
+pub use line::fault_line;
+
 ghost use Rattle.std.specs.Prelude.{◌≡◌};
 ghost use Rattle.hhh_engine.specs.Status.{status_of, status_of_words, number_of};
 

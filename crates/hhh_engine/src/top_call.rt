@@ -13,8 +13,8 @@ ghost use Rattle.hhh_engine.specs.NoText.{HasNoText};
 ghost use Rattle.hhh_engine.specs.declared.status.Status.TheVariants.{Done, BadWords, BadCapture, ReadFault, WriteFault, OutOfMemory};
 
 use crate::Status;
-use crate::reporting::report;
-use crate::weighing::weigh;
+use crate::commands::report::report;
+use crate::commands::weigh::weigh;
 use command_words::{Command, read_words};
 use deal_rules::{Dealer, Dealers, Deals};
 use frame_records::files_are_read_or_refused;

@@ -3,9 +3,9 @@ use Rattle.std.proofs.Common.{inl, ℕ, ◌≡◌, ◌≤◌, List, [], ◌∷�
 use Rattle.pcap_frames.specs.declared.fault.FaultKind.TheVariants.{NotCapture, CutFrame}
 use Rattle.pcap_frames.specs.declared.fault.FeedFault.TheVariants.{Refused, OutOfMemory}
 use Rattle.pcap_frames.specs.declared.file_order.FileOrder.TheVariants.{Little}
-use Rattle.pcap_frames.specs.declared.held.HeldFrame.{HeldFrame}
-use Rattle.pcap_frames.specs.declared.part.FramePart.{FramePart}
-use Rattle.pcap_frames.specs.declared.part.Stage.TheVariants as stage
+use Rattle.pcap_frames.specs.declared.reader.held.HeldFrame.{HeldFrame}
+use Rattle.pcap_frames.specs.declared.reader.part.FramePart.{FramePart}
+use Rattle.pcap_frames.specs.declared.reader.part.Stage.TheVariants as stage
 use Rattle.pcap_frames.specs.FileOrder.{number_at}
 use Rattle.pcap_frames.specs.Frame.{FrameValue}
 use Rattle.pcap_frames.specs.Header.{magic_order, header_fault, fault_at}

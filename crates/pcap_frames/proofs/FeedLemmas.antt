@@ -3,8 +3,8 @@ use Rattle.std.proofs.Common.{ℕ, ◌≡◌, ◌<◌, List, [], ◌∷◌, ◌+
 use Rattle.std.proofs.lemmas.List.{append_cancel_left}
 use Rattle.pcap_frames.specs.declared.fault.CaptureFault.{CaptureFault}
 use Rattle.pcap_frames.specs.declared.fault.FeedFault.{FeedFault}
-use Rattle.pcap_frames.specs.declared.part.FramePart.{FramePart}
-use Rattle.pcap_frames.specs.declared.part.Stage.{Stage}
+use Rattle.pcap_frames.specs.declared.reader.part.FramePart.{FramePart}
+use Rattle.pcap_frames.specs.declared.reader.part.Stage.{Stage}
 use Rattle.pcap_frames.specs.Part.{state_of}
 use Rattle.pcap_frames.specs.Frame.{FrameValue}
 use Rattle.pcap_frames.specs.Frames.{AreFrames}
@@ -14,7 +14,7 @@ use Rattle.pcap_frames.specs.Visitor.{Sees, IsAlike}
 use Rattle.pcap_frames.specs.Feeding.{Feeds, SeesBeginning, IfMemory, IsAnswerOf, IsAnswerTo}
 use Rattle.pcap_frames.proofs.ReaderStepLemmas.{Advances-nil, Advances-trans, stays_at_fault, stays_without_memory}
 use Rattle.pcap_frames.proofs.FirstFaultLemmas.{stands_ends, ends_begin, answer_exact}
-use Rattle.pcap_frames.specs.declared.part.Stage.TheVariants as stage
+use Rattle.pcap_frames.specs.declared.reader.part.Stage.TheVariants as stage
 
 -- frames and more frames
 pub AreFrames-append : (frames more : List FrameValue) → AreFrames frames → AreFrames more → AreFrames (frames ++ more)

@@ -1,8 +1,8 @@
 -- How the parts of a reader make its state.
 use Rattle.std.specs.Prelude.{⊤, ◌+◌, ◌*◌, ◌≤◌, ◌<◌}
-use Rattle.pcap_frames.specs.declared.part.FramePart.{FramePart}
-use Rattle.pcap_frames.specs.declared.part.Stage.{Stage}
-use Rattle.pcap_frames.specs.declared.part.Stage.TheVariants.{Header, Frames, AtFault, LacksMemory}
+use Rattle.pcap_frames.specs.declared.reader.part.FramePart.{FramePart}
+use Rattle.pcap_frames.specs.declared.reader.part.Stage.{Stage}
+use Rattle.pcap_frames.specs.declared.reader.part.Stage.TheVariants.{Header, Frames, AtFault, LacksMemory}
 use Rattle.pcap_frames.specs.Frames.{needed}
 use Rattle.pcap_frames.specs.ReaderState as state
 

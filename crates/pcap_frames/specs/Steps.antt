@@ -1,7 +1,7 @@
 -- What one step of a reader does, which no public contract cites.
 use Rattle.std.specs.Prelude.{ℕ, ◌≡◌, ◌+◌, ◌<◌, ◌≤◌, Option, None, Some, List, [], ◌∷◌, ◌++◌, length}
 use Rattle.pcap_frames.specs.declared.file_order.FileOrder.{FileOrder}
-use Rattle.pcap_frames.specs.declared.held.HeldFrame.{HeldFrame}
+use Rattle.pcap_frames.specs.declared.reader.held.HeldFrame.{HeldFrame}
 use Rattle.pcap_frames.specs.FileOrder.{number_at}
 use Rattle.pcap_frames.specs.Frame.{FrameValue}
 use Rattle.pcap_frames.specs.Frames.{frame_at, AreFrames}

@@ -5,12 +5,8 @@
 mod fault;
 mod file_order;
 mod frame;
-mod framing;
-mod front;
 mod header;
-mod held;
 mod laws;
-mod part;
 mod reader;
 mod reading;
 mod visitor;

@@ -1,4 +1,9 @@
-//! Reading a capture in pieces of any size.
+//! Reading a capture in pieces of any size. What is kept between two pieces stands in the modules below.
+
+mod framing;
+mod front;
+mod held;
+mod part;
 
 ghost use Rattle.std.specs.Prelude.{◌≡◌, ℕ, ◌<◌, List, [], ◌∷◌, ◌++◌, length, IfOk, OnOk, OnErr, IfSome, IfNone, IsTrue, ◌↔◌};
 ghost use Rattle.pcap_frames.specs.Frame.{FrameValue};
@@ -7,8 +12,8 @@ ghost use Rattle.pcap_frames.specs.ReaderState.{InHeader, ReaderStandsFor, HasSt
 ghost use Rattle.pcap_frames.specs.Feeding.{IsAnswerOf, IfMemory, Feeds, SeesBeginning, IsAnswerTo, IsEndOf};
 
 use crate::header::fault_at;
-use crate::held::HeldFrame;
-use crate::part::{FramePart, Stage, Taken};
+use held::HeldFrame;
+use part::{FramePart, Stage, Taken};
 use crate::{FaultKind, FeedFault, Frame, FrameVisitor};
 use std::alloc::AllocError;
 use std::marker::Model;

@@ -1,0 +1,32 @@
+//! A whole frame that came in more than one piece.
+
+ghost use Rattle.std.specs.Prelude.{◌≡◌, ◌+◌, ◌≤◌, length, min};
+ghost use Rattle.pcap_frames.specs.FileOrder.{number_at};
+
+use crate::Frame;
+use crate::file_order::FileOrder;
+use crate::reader::framing::frame_at;
+use crate::reader::front::FrontBytes;
+
+/// The header and head of a whole frame, as the reader kept them.
+#[derive(Drop)]
+pub(crate) struct HeldFrame {
+    pub(crate) order: FileOrder,
+    pub(crate) kept: FrontBytes,
+    pub ghost header: { 16 ≤ length kept.first },
+    pub ghost limit: { number_at order 4 8 kept.first ≤ 262144 },
+    pub ghost head: { 16 + min 42 (number_at order 4 8 kept.first) ≤ length kept.first },
+}
+
+impl HeldFrame {
+    ghost use Rattle.pcap_frames.specs.Frame.{content_of};
+    ghost use Rattle.pcap_frames.specs.Frames.{frame_at, IsFrame};
+
+    /// The frame.
+    pub(crate) fn frame(&self) -> Frame<'_>
+        ensures content { content_of result ≡ frame_at self.now.order self.now.kept.first }
+        ensures is_frame { IsFrame (content_of result) }
+    {
+        frame_at(self.order, self.kept.first())
+    }
+}

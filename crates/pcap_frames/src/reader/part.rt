@@ -1,0 +1,194 @@
+//! Where a reader is in a file, and its steps from one header or frame to the next.
+
+ghost use Rattle.std.specs.Prelude.{◌≡◌, ℕ, ◌+◌, ◌*◌, ◌<◌, ◌≤◌, List, [], ◌∷◌, ◌++◌, length, take, IfSome, IfNone};
+ghost use Rattle.pcap_frames.specs.Frame.{content_of};
+ghost use Rattle.pcap_frames.specs.Frames.{IsFrame, needed};
+ghost use Rattle.pcap_frames.specs.ReaderState.{Advances};
+ghost use Rattle.pcap_frames.specs.Steps.{Takes, held_frames};
+ghost use Rattle.pcap_frames.specs.ReaderState as state;
+ghost use Rattle.pcap_frames.specs.Part.{state_of, IsInStage, IsWithin, frame_place};
+
+use crate::file_order::FileOrder;
+use crate::reader::framing::{MOST_FRAMES, frame_fault, needed, whole_at};
+use crate::reader::front::FrontBytes;
+use crate::header::{header_fault, magic_order};
+use crate::reader::held::HeldFrame;
+use crate::{CaptureFault, Frame};
+use std::mem;
+
+/// What comes next.
+#[derive(Clone, Copy)]
+pub(crate) enum Stage {
+    /// The file header.
+    Header,
+    /// A frame, or the end.
+    Frames,
+    /// Nothing: the file has this fault.
+    AtFault(CaptureFault),
+    /// Nothing: the visitor ran out of memory.
+    LacksMemory,
+}
+
+/// What is kept of the file header, or of the frame behind `count` frames, which begins at `place`.
+#[derive(Drop)]
+pub(crate) struct FramePart {
+    pub(crate) order: FileOrder,
+    pub(crate) count: u32,
+    pub(crate) place: u64,
+    pub(crate) kept: FrontBytes,
+}
+
+/// What a step left of a piece, and the frame that it completed.
+#[derive(Drop)]
+pub(crate) struct Taken<'a> {
+    pub(crate) stage: Stage,
+    pub(crate) held: Option<HeldFrame>,
+    pub(crate) rest: &'a [u8],
+}
+
+impl FramePart {
+    /// Nothing is kept.
+    pub(crate) fn new() -> FramePart
+        ensures { result.kept ≡ record { first = []; came = 0 } }
+    {
+        FramePart {
+            order: FileOrder::Big,
+            count: 0,
+            place: 24,
+            kept: FrontBytes::new(),
+        }
+    }
+
+    /// Takes the next bytes of what this stage waits for.
+    pub(crate) fn take<'a>(&mut self, stage: Stage, piece: &'a [u8]) -> Taken<'a>
+        requires has_bytes { 0 < length piece.now }
+        requires sound { IsInStage stage self.old }
+        ensures sound { IsInStage result.stage self.new }
+        ensures takes { Takes (state_of stage self.old) (state_of result.stage self.new) piece.now result.rest.now (held_frames result.held) }
+    {
+        match stage {
+            Stage::Header => self.take_header(piece),
+            Stage::Frames => self.take_frame(piece),
+            Stage::AtFault(_) | Stage::LacksMemory => pass_over(stage, piece),
+        }
+    }
+
+    /// Takes the next bytes of the file header.
+    fn take_header<'a>(&mut self, piece: &'a [u8]) -> Taken<'a>
+        requires has_bytes { 0 < length piece.now }
+        requires sound { self.old.kept.came < 24 }
+        ensures sound { IsInStage result.stage self.new }
+        ensures takes { Takes (state.InHeader self.old.kept.first) (state_of result.stage self.new) piece.now result.rest.now [] }
+        ensures no_frame { held_frames result.held ≡ [] }
+    {
+        let count = (24 - self.kept.came() as usize).min(piece.len());
+        let (front, rest) = piece.split_at(count);
+        self.kept.add(front);
+        let stage = self.leave_header();
+        Taken {
+            stage,
+            held: None,
+            rest,
+        }
+    }
+
+    /// The stage that the bytes of the file header lead to.
+    fn leave_header(&mut self) -> Stage
+        requires { self.old.kept.came ≤ 24 }
+        ensures sound { IsInStage result self.new }
+        ensures advances { (kept front : List ℕ) → self.old.kept.first ≡ take 58 (kept ++ front)
+            → length kept + length front ≡ self.old.kept.came
+            → Advances (state.InHeader kept) (state_of result self.new) front [] }
+    {
+        let header = self.kept.first();
+        if let Some(fault) = header_fault(header) {
+            return Stage::AtFault(fault);
+        }
+        if header.len() < 24 {
+            return Stage::Header;
+        }
+        let Some(order) = magic_order(header) else {
+            unreachable!()
+        };
+        self.order = order;
+        self.count = 0;
+        self.place = 24;
+        self.kept = FrontBytes::new();
+        Stage::Frames
+    }
+
+    /// Takes the frame at the front of the piece, if it stands there whole.
+    pub(crate) fn whole_frame<'a>(&mut self, piece: &'a [u8]) -> Option<(Frame<'a>, &'a [u8])>
+        requires { IsWithin self.old }
+        ensures sound { IsWithin self.new }
+        ensures takes { IfSome result (λ found. Takes (state.InFrames (frame_place self.old)) (state.InFrames (frame_place self.new))
+            piece.now found.1.now (content_of found.0 ∷ [])) }
+        ensures is_frame { IfSome result (λ found. IsFrame (content_of found.0)) }
+        ensures none { IfNone result (self.new ≡ self.old) }
+    {
+        if self.kept.came() != 0 || self.count == MOST_FRAMES {
+            return None;
+        }
+        let (frame, rest) = whole_at(self.order, piece)?;
+        self.count += 1;
+        self.place += (piece.len() - rest.len()) as u64;
+        Some((frame, rest))
+    }
+
+    /// Takes the next bytes of a frame, and the whole frame with the last of them.
+    fn take_frame<'a>(&mut self, piece: &'a [u8]) -> Taken<'a>
+        requires has_bytes { 0 < length piece.now }
+        requires sound { IsWithin self.old }
+        ensures sound { IsInStage result.stage self.new }
+        ensures takes { Takes (state.InFrames (frame_place self.old)) (state_of result.stage self.new) piece.now result.rest.now (held_frames result.held) }
+    {
+        let left = needed(self.order, self.kept.first()) - self.kept.came() as u64;
+        let count = (left as usize).min(piece.len());
+        let (front, rest) = piece.split_at(count);
+        self.kept.add(front);
+        let (stage, held) = self.leave_frame();
+        Taken { stage, held, rest }
+    }
+
+    /// The stage that the bytes of a frame lead to, and the frame once it is whole.
+    fn leave_frame(&mut self) -> (Stage, Option<HeldFrame>)
+        requires count { self.old.count ≤ 16777216 }
+        requires place { self.old.place ≤ 24 + 262160 * self.old.count }
+        requires came { self.old.kept.came ≤ needed self.old.order self.old.kept.first }
+        ensures sound { IsInStage result.0 self.new }
+        ensures advances { (kept front : List ℕ) (came : ℕ) → self.old.kept.first ≡ take 58 (kept ++ front)
+            → self.old.kept.came ≡ came + length front
+            → Advances (state.InFrames (record (frame_place self.old) { kept = kept; came = came })) (state_of result.0 self.new) front (held_frames result.1) }
+    {
+        let bytes = self.kept.first();
+        if let Some(fault) = frame_fault(self.order, self.count, self.place, bytes) {
+            return (Stage::AtFault(fault), None);
+        }
+        let size = needed(self.order, bytes);
+        if (self.kept.came() as u64) < size {
+            return (Stage::Frames, None);
+        }
+        self.count += 1;
+        self.place += size;
+        let kept = mem::replace(&mut self.kept, FrontBytes::new());
+        let held = HeldFrame {
+            order: self.order,
+            kept,
+        };
+        (Stage::Frames, Some(held))
+    }
+}
+
+/// Takes all the bytes, in a stage that no bytes leave.
+fn pass_over(stage: Stage, piece: &[u8]) -> Taken<'_>
+    ensures stage { result.stage ≡ stage }
+    ensures nothing { held_frames result.held ≡ [] }
+    ensures rest { result.rest.now ≡ [] }
+{
+    let (_, rest) = piece.split_at(piece.len());
+    Taken {
+        stage,
+        held: None,
+        rest,
+    }
+}
