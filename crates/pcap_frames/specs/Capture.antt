@@ -1,6 +1,7 @@
 -- A capture of libpcap's file format 2.4, and the first fault of a file that is none. Faults are tested in this order: NotCapture,
 -- Version, Link, else ShortHeader; then behind each frame TooManyFrames, LongFrame, else CutFrame.
 use Rattle.std.specs.Prelude.{⊤, ℕ, ◌≡◌, ◌-◌, ◌≤◌, ◌<◌, ◌⊎◌, Some, None, List, [], length, drop}
+use Rattle.pcap_frames.specs.FileFormat.{file_header_length, most_frames}
 use Rattle.pcap_frames.specs.declared.file_order.FileOrder.{FileOrder}
 use Rattle.pcap_frames.specs.declared.fault.CaptureFault.{CaptureFault}
 use Rattle.pcap_frames.specs.declared.fault.FaultKind.{FaultKind}
@@ -12,8 +13,8 @@ use Rattle.pcap_frames.specs.Frames.{BeginsFrames, frame_fault, needed}
 -- the bytes are a file header, these frames, at most 16,777,216, and a rest
 pub record Splits (bytes : List ℕ) (order : FileOrder) (frames : List FrameValue) (rest : List ℕ) : Type 0 where
   pub header : IsHeader order bytes
-  pub begins : BeginsFrames order (drop 24 bytes) frames rest
-  pub limit : length frames ≤ 16777216
+  pub begins : BeginsFrames order (drop file_header_length bytes) frames rest
+  pub limit : length frames ≤ most_frames
 
 -- the file is a capture of these frames: a file header and the frames up to the end
 abbrev pub IsCapture : List ℕ → List FrameValue → Type 0
@@ -39,7 +40,7 @@ ShowsFault bytes frames fault = ShowsInHeader bytes frames fault ⊎ ShowsInFram
 -- the file ends inside its header, which shows nothing wrong: ShortHeader at the file's length
 pub record EndsInHeader (file : List ℕ) (frames : List FrameValue) (fault : CaptureFault) : Type 0 where
   pub none_shown : header_fault file ≡ None
-  pub short : length file < 24
+  pub short : length file < file_header_length
   pub none_before : frames ≡ []
   pub is_fault : fault ≡ fault_at ShortHeader (length file)
 

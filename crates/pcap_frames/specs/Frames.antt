@@ -1,6 +1,7 @@
 -- The frames behind the file header: a frame header of ts_sec, ts_sub, incl_len and orig_len, four bytes each, and then
 -- incl_len captured bytes (pcap-savefile).
 use Rattle.std.specs.Prelude.{ℕ, ◌≡◌, ◌+◌, ◌≤◌, ◌<◌, ◌^◌, ◌==◌, nat_lt, if◌then◌else◌, min, Option, Some, None, List, [], ◌∷◌, length, take, drop, slice_index}
+use Rattle.pcap_frames.specs.FileFormat.{frame_header_length, most_captured, most_frames, head_length}
 use Rattle.std.specs.List.{AllByRecursion}
 use Rattle.pcap_frames.specs.declared.file_order.FileOrder.{FileOrder}
 use Rattle.pcap_frames.specs.declared.fault.CaptureFault.{CaptureFault}
@@ -12,42 +13,42 @@ use Rattle.pcap_frames.specs.Header.{fault_at}
 -- what the bytes say that a frame at their front is: incl_len, orig_len, and the first 42 of its captured bytes
 abbrev pub frame_at : FileOrder → List ℕ → FrameValue
 frame_at order bytes = record {
-  head = take 42 (take (number_at order 4 8 bytes) (drop 16 bytes));
+  head = take head_length (take (number_at order 4 8 bytes) (drop frame_header_length bytes));
   captured = number_at order 4 8 bytes;
   original = number_at order 4 12 bytes;
 }
 
 -- a frame stands whole at the front of the bytes
 pub record BeginsFrame (order : FileOrder) (bytes : List ℕ) (frame : FrameValue) : Type 0 where
-  pub header : 16 ≤ length bytes
+  pub header : frame_header_length ≤ length bytes
   pub is_frame : frame ≡ frame_at order bytes
-  pub limit : frame.captured ≤ 262144
-  pub room : 16 + frame.captured ≤ length bytes
+  pub limit : frame.captured ≤ most_captured
+  pub room : frame_header_length + frame.captured ≤ length bytes
 
 -- the bytes are these frames in order, and then a rest
 abbrev pub BeginsFrames : FileOrder → List ℕ → List FrameValue → List ℕ → Type 0
 BeginsFrames order bytes [] rest = rest ≡ bytes
 BeginsFrames order bytes (frame ∷ frames) rest =
-    BeginsFrame order bytes frame × BeginsFrames order (drop (16 + frame.captured) bytes) frames rest
+    BeginsFrame order bytes frame × BeginsFrames order (drop (frame_header_length + frame.captured) bytes) frames rest
 
 -- how many bytes the frame at the front takes at least, as far as its header is there
 unfoldable pub needed : FileOrder → List ℕ → ℕ
-needed order bytes = if nat_lt (length bytes) 16 then 16 else 16 + number_at order 4 8 bytes
+needed order bytes = if nat_lt (length bytes) frame_header_length then frame_header_length else frame_header_length + number_at order 4 8 bytes
 
 -- the first fault that a rest shows behind this many frames, however the file goes on; the place is that of the rest
 unfoldable pub frame_fault : FileOrder → ℕ → ℕ → List ℕ → Option CaptureFault
 frame_fault order count place rest =
     if nat_lt 0 (length rest)
-    then (if count == 16777216 then Some (fault_at TooManyFrames place)
-    else (if nat_lt (length rest) 16 then None
-    else (if nat_lt 262144 (number_at order 4 8 rest) then Some (fault_at LongFrame place) else None)))
+    then (if count == most_frames then Some (fault_at TooManyFrames place)
+    else (if nat_lt (length rest) frame_header_length then None
+    else (if nat_lt most_captured (number_at order 4 8 rest) then Some (fault_at LongFrame place) else None)))
     else None
 
 -- what holds of every frame of a capture
 pub record IsFrame (frame : FrameValue) : Type 0 where
-  pub captured : frame.captured ≤ 262144
+  pub captured : frame.captured ≤ most_captured
   pub original : frame.original < 2 ^ 32
-  pub head : length frame.head ≡ min 42 frame.captured
+  pub head : length frame.head ≡ min head_length frame.captured
   pub head_bytes : (place : ℕ) → slice_index frame.head place < 256
 
 -- each of them is a frame

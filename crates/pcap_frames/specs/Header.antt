@@ -1,5 +1,6 @@
 -- The file header of libpcap's file format 2.4 (pcap-savefile): magic, version, three ignored fields, link type.
 use Rattle.std.specs.Prelude.{ℕ, ◌≡◌, ◌≤◌, Bool, ◌==◌, ◌||◌, nat_lt, if◌then◌else◌, Option, Some, None, List, length}
+use Rattle.pcap_frames.specs.FileFormat.{file_header_length}
 use Rattle.pcap_frames.specs.declared.file_order.FileOrder.{FileOrder}
 use Rattle.pcap_frames.specs.declared.file_order.FileOrder.TheVariants.{Big, Little}
 use Rattle.pcap_frames.specs.declared.fault.CaptureFault.{CaptureFault}
@@ -23,7 +24,7 @@ fault_at kind place = record { kind = kind; place = place }
 
 -- a whole file header: version 2.4, link type Ethernet, the numbers in the magic's byte order
 pub record IsHeader (order : FileOrder) (bytes : List ℕ) : Type 0 where
-  pub whole : 24 ≤ length bytes
+  pub whole : file_header_length ≤ length bytes
   pub magic : magic_order bytes ≡ Some order
   pub major : number_at order 2 4 bytes ≡ 2
   pub minor : number_at order 2 6 bytes ≡ 4
@@ -36,7 +37,7 @@ fields_fault (Some order) bytes =
     if nat_lt (length bytes) 8 then None
     else (if number_at order 2 4 bytes == 2
     then (if number_at order 2 6 bytes == 4
-    then (if nat_lt (length bytes) 24 then None
+    then (if nat_lt (length bytes) file_header_length then None
     else (if number_at order 4 20 bytes == 1 then None else Some (fault_at Link 20)))
     else Some (fault_at Version 4))
     else Some (fault_at Version 4))

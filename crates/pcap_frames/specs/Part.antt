@@ -1,5 +1,6 @@
 -- How the parts of a reader make its state.
 use Rattle.std.specs.Prelude.{⊤, ◌+◌, ◌*◌, ◌≤◌, ◌<◌}
+use Rattle.pcap_frames.specs.FileFormat.{file_header_length, frame_header_length, most_captured, most_frames}
 use Rattle.pcap_frames.specs.declared.reader.part.FramePart.{FramePart}
 use Rattle.pcap_frames.specs.declared.reader.part.Stage.{Stage}
 use Rattle.pcap_frames.specs.declared.reader.part.Stage.TheVariants.{Header, Frames, AtFault, LacksMemory}
@@ -19,14 +20,14 @@ state_of LacksMemory part = state.LacksMemory
 
 -- the counts of a part behind some frames stay small, and its frame isn't whole
 pub record IsWithin (part : FramePart) : Type 0 where
-  pub count : part.count ≤ 16777216
-  pub place : part.place ≤ 24 + 262160 * part.count
+  pub count : part.count ≤ most_frames
+  pub place : part.place ≤ file_header_length + (frame_header_length + most_captured) * part.count
   pub cut : part.kept.came < needed part.order part.kept.first
   pub bound : needed part.order part.kept.first ≤ 262160
 
 -- what the part keeps true in each stage
 abbrev pub IsInStage : Stage → FramePart → Type 0
-IsInStage Header part = part.kept.came < 24
+IsInStage Header part = part.kept.came < file_header_length
 IsInStage Frames part = IsWithin part
 IsInStage (AtFault fault) part = ⊤
 IsInStage LacksMemory part = ⊤

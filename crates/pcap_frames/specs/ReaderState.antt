@@ -1,5 +1,6 @@
 -- What a reader keeps between two pieces of a file.
 use Rattle.std.specs.Prelude.{⊤, ℕ, ◌≡◌, ◌+◌, ◌<◌, None, List, [], length, take, ◌++◌}
+use Rattle.pcap_frames.specs.FileFormat.{file_header_length, kept_length}
 use Rattle.pcap_frames.specs.declared.file_order.FileOrder.{FileOrder}
 use Rattle.pcap_frames.specs.declared.fault.CaptureFault.{CaptureFault}
 use Rattle.pcap_frames.specs.Frame.{FrameValue}
@@ -26,7 +27,7 @@ pub data ReaderState : Type 0 where
 -- the bytes are less than a file header, and show nothing wrong
 pub record IsPartHeader (kept : List ℕ) (bytes : List ℕ) (frames : List FrameValue) : Type 0 where
   pub kept_is : kept ≡ bytes
-  pub short : length bytes < 24
+  pub short : length bytes < file_header_length
   pub none_shown : header_fault bytes ≡ None
   pub no_frame : frames ≡ []
 
@@ -38,7 +39,7 @@ pub record IsBehind (at : FramePlace) (bytes : List ℕ) (frames : List FrameVal
   pub cut : length rest < needed at.order rest
   pub count_is : at.count ≡ length frames
   pub place_is : at.place + length rest ≡ length bytes
-  pub kept_is : at.kept ≡ take 58 rest
+  pub kept_is : at.kept ≡ take kept_length rest
   pub came_is : at.came ≡ length rest
 
 -- a reader in this state stands for these bytes at the front of a file, which hold these whole frames

@@ -1,5 +1,6 @@
 -- What reading a whole source answers.
 use Rattle.std.specs.Prelude.{⊤, ℕ, ◌≡◌, ◌≤◌, List, length, Option, IfSome, Result, Ok, Err}
+use Rattle.pcap_frames.specs.FileFormat.{most_frames}
 use Rattle.std.specs.Io.KnownBytes.{Consumes, IsAtEnd}
 use Rattle.pcap_frames.specs.declared.fault.FeedFault.{FeedFault}
 use Rattle.pcap_frames.specs.declared.fault.FeedFault.TheVariants as feed
@@ -22,7 +23,7 @@ refusal_of feed.OutOfMemory = OutOfMemory
 pub record SeesCapture {V : Type 0} (stands_for : V → List FrameValue → Type 0) (seen saw : V) (left now : Option (List ℕ)) (count : ℕ) : Type 0 where
   pub frames : List FrameValue
   pub counted : length frames ≡ count
-  pub limit : count ≤ 16777216
+  pub limit : count ≤ most_frames
   pub are_frames : AreFrames frames
   pub sees : Sees stands_for seen saw frames
   pub capture : IfSome left (λ file. IsCapture file frames)
@@ -35,7 +36,7 @@ pub record SeesBeforeFault {V : Type 0} (stands_for : V → List FrameValue → 
   pub frames : List FrameValue
   pub consumed : Consumes left now front
   pub fault_of_front : HasFaultAfter front frames fault
-  pub limit : length frames ≤ 16777216
+  pub limit : length frames ≤ most_frames
   pub are_frames : AreFrames frames
   pub sees : Sees stands_for seen saw frames
   pub first : IfSome left (λ file. HasFaultAfter file frames fault)

@@ -1,5 +1,6 @@
 -- What one step of a reader does, which no public contract cites.
 use Rattle.std.specs.Prelude.{ℕ, ◌≡◌, ◌+◌, ◌<◌, ◌≤◌, Option, None, Some, List, [], ◌∷◌, ◌++◌, length}
+use Rattle.pcap_frames.specs.FileFormat.{frame_header_length, most_captured}
 use Rattle.pcap_frames.specs.declared.file_order.FileOrder.{FileOrder}
 use Rattle.pcap_frames.specs.declared.reader.held.HeldFrame.{HeldFrame}
 use Rattle.pcap_frames.specs.FileOrder.{number_at}
@@ -12,9 +13,9 @@ use Rattle.pcap_frames.specs.Visitor.{Sees, IsAlike}
 pub record SplitsFrame (order : FileOrder) (bytes rest : List ℕ) (frame : FrameValue) : Type 0 where
   pub front : List ℕ
   pub joined : bytes ≡ front ++ rest
-  pub header : 16 ≤ length front
-  pub limit : number_at order 4 8 front ≤ 262144
-  pub whole : length front ≡ 16 + number_at order 4 8 front
+  pub header : frame_header_length ≤ length front
+  pub limit : number_at order 4 8 front ≤ most_captured
+  pub whole : length front ≡ frame_header_length + number_at order 4 8 front
   pub frame_is : frame ≡ frame_at order front
 
 -- the reader took a front of the piece, of one byte at least, which completes these frames; this rest is left

@@ -1,6 +1,10 @@
 -- An IPv4 address and its leading bytes.
 use Rattle.std.specs.Prelude.{ℕ, ◌+◌, ◌-◌, ◌*◌, ◌/◌, ◌%◌, ◌^◌, ◌<◌, ◌≤◌, ◌==◌, ◌&&◌, Bool, true, false, zero, suc, List, [], ◌∷◌, ◌++◌, length, slice_index}
 
+-- the bytes of an IPv4 address (RFC 791)
+abbrev pub address_length : ℕ
+address_length = 4
+
 -- the lowest digits of a number, that many of them, the most significant first
 abbrev pub digits : ℕ → ℕ → ℕ → List ℕ
 digits base zero number = []
@@ -13,11 +17,11 @@ number_from base high (digit ∷ rest) = number_from base (high * base + digit) 
 
 -- the four bytes of an address, in the order of the network (RFC 791)
 abbrev pub address_bytes : ℕ → List ℕ
-address_bytes address = digits 256 4 address
+address_bytes address = digits 256 address_length address
 
 -- the address that begins with these bytes and has zeros after them
 abbrev pub address_of : List ℕ → ℕ
-address_of bytes = number_from 256 0 bytes * 256 ^ (4 - length bytes)
+address_of bytes = number_from 256 0 bytes * 256 ^ (address_length - length bytes)
 
 -- whether a list of bytes begins with another
 abbrev pub begins_with : List ℕ → List ℕ → Bool
@@ -27,5 +31,5 @@ begins_with (byte ∷ bytes) (first ∷ front) = byte == first && begins_with by
 
 -- leading bytes of an address: at most four numbers below 256
 pub record AreLeadingBytes (front : List ℕ) : Type 0 where
-  pub few : length front ≤ 4
+  pub few : length front ≤ address_length
   pub bytes : (place : ℕ) → slice_index front place < 256

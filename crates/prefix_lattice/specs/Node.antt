@@ -1,5 +1,10 @@
 -- What contracts see of a node of the lattice.
 use Rattle.std.specs.Prelude.{ℕ, ◌+◌, ◌*◌, ◌/◌, ◌%◌, ◌≤◌}
+use Rattle.prefix_lattice.specs.KeptBytes.{address_length}
+
+-- the nodes of the lattice: 0 to 4 bytes of each of two addresses
+abbrev pub node_count : ℕ
+node_count = 25
 
 -- how many leading bytes are kept of the source and of the destination, 0 to 4 each
 pub record NodeValue : Type 0 where
@@ -8,8 +13,8 @@ pub record NodeValue : Type 0 where
 
 -- a node keeps at most the four bytes of each address
 pub record IsNode (node : NodeValue) : Type 0 where
-  pub source : node.source_bytes ≤ 4
-  pub dest : node.dest_bytes ≤ 4
+  pub source : node.source_bytes ≤ address_length
+  pub dest : node.dest_bytes ≤ address_length
 
 -- the place of a node among the 25, from 0: five for each source byte, and one for each destination byte
 abbrev pub index_of : NodeValue → ℕ

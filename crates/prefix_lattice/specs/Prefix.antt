@@ -1,6 +1,6 @@
 -- Prefixes of records, their weights and their keys.
 use Rattle.std.specs.Prelude.{ℕ, List, ◌+◌, ◌*◌, ◌^◌, ◌&&◌, Bool, length, take, sum_by, filter, ◌≡◌, ◌-◌, ◌/◌, ◌%◌}
-use Rattle.prefix_lattice.specs.KeptBytes.{AreLeadingBytes, address_bytes, address_of, begins_with}
+use Rattle.prefix_lattice.specs.KeptBytes.{AreLeadingBytes, address_bytes, address_of, begins_with, address_length}
 use Rattle.prefix_lattice.specs.Record.{RecordValue}
 use Rattle.prefix_lattice.specs.Node.{NodeValue}
 
@@ -43,8 +43,8 @@ key_of prefix = address_of prefix.source * 2 ^ 32 + address_of prefix.dest
 
 -- a key of a node: in neither address a bit is set past the bytes that the node keeps
 pub record IsKeyOf (node : NodeValue) (key : ℕ) : Type 0 where
-  pub source : key / 2 ^ 32 % 256 ^ (4 - node.source_bytes) ≡ 0
-  pub dest : key % 2 ^ 32 % 256 ^ (4 - node.dest_bytes) ≡ 0
+  pub source : key / 2 ^ 32 % 256 ^ (address_length - node.source_bytes) ≡ 0
+  pub dest : key % 2 ^ 32 % 256 ^ (address_length - node.dest_bytes) ≡ 0
 
 -- a prefix of this node that has this key
 pub record HasKey (node : NodeValue) (key : ℕ) (prefix : PrefixValue) : Type 0 where

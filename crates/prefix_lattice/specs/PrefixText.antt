@@ -1,7 +1,7 @@
 -- The text of a prefix: how it is spelled, and what is wrong with a text that spells none.
 use Rattle.std.specs.Prelude.{ℕ, ◌≡◌, ◌≢◌, ◌-◌, ◌*◌, ◌^◌, ◌%◌, ◌<◌, ◌≤◌, ◌⊎◌, ◌==◌, List, ◌∷◌, ◌++◌, length, map, decimal, ◌+◌, take, drop}
 use Rattle.std.specs.List.{join_with_byte, before_first, after_first}
-use Rattle.prefix_lattice.specs.KeptBytes.{address_bytes, address_of, AreLeadingBytes}
+use Rattle.prefix_lattice.specs.KeptBytes.{address_bytes, address_of, AreLeadingBytes, address_length}
 use Rattle.prefix_lattice.specs.Prefix.{PrefixValue}
 use Rattle.prefix_lattice.specs.declared.prefix_fault.Side.{Side}
 use Rattle.prefix_lattice.specs.declared.prefix_fault.Side.TheVariants.{Source, Dest}
@@ -59,16 +59,16 @@ before_slash text = before_first (λ byte. byte == slash) text
 
 -- after its first slash the text has one of the five lengths
 abbrev pub HasLength : List ℕ → Type 0
-HasLength text = (bytes : ℕ) × (bytes ≤ 4) × (text ≡ before_slash text ++ slash ∷ decimal (8 * bytes))
+HasLength text = (bytes : ℕ) × (bytes ≤ address_length) × (text ≡ before_slash text ++ slash ∷ decimal (8 * bytes))
 
 -- the text is an address and a length, and a bit past the length is set
 pub record HasLooseBits (text : List ℕ) : Type 0 where
   pub address : ℕ
   pub bytes : ℕ
   pub is_address : address < 2 ^ 32
-  pub is_length : bytes ≤ 4
+  pub is_length : bytes ≤ address_length
   pub spelled : text ≡ side_text_of address bytes
-  pub loose : address % 256 ^ (4 - bytes) ≢ 0
+  pub loose : address % 256 ^ (address_length - bytes) ≢ 0
 
 -- what is wrong with the text of one side
 abbrev pub HasSideFault : Side → List ℕ → PrefixFault → Type 0

@@ -1,6 +1,6 @@
 -- The tables of a shard at a position: 25 of them, one for each node of the lattice.
 use Rattle.std.specs.Prelude.{ℕ, ◌≡◌, ◌+◌, List, [], ◌∷◌, map, fold, All, ◌^◌, ◌≤◌, length, slice_index_or, slice_get, Some, take}
-use Rattle.prefix_lattice.specs.{RecordValue, NodeValue, node_at, IsNode, index_of, prefix_at, key_of, IsKeyOf}
+use Rattle.prefix_lattice.specs.{RecordValue, NodeValue, node_at, IsNode, index_of, prefix_at, key_of, IsKeyOf, node_count}
 use Rattle.space_saving.specs.declared.entry.Entry.{Entry}
 use Rattle.space_saving.specs.{Add, step, table_of, total_count, TableValue, AreEntries}
 use Rattle.std.proofs.Math.ListN.{replicate}
@@ -60,12 +60,12 @@ pub record IsSnapshot (snapshot : SnapshotValue) : Type 0 where
   pub least : 2 ≤ snapshot.capacity
   pub most : snapshot.capacity ≤ 4096
   pub placed : snapshot.position ≤ 2 ^ 24
-  pub shape : length snapshot.tables ≡ 25
+  pub shape : length snapshot.tables ≡ node_count
   pub tables : (node : NodeValue) → IsNode node → IsTableAt snapshot.capacity (total_of snapshot) node (entries_at node snapshot)
 
 -- 25 tables with no entry
 unfoldable pub no_entries : List (List Entry)
-no_entries = replicate 25 []
+no_entries = replicate node_count []
 
 -- the snapshot of no record
 abbrev pub empty_snapshot : ℕ → SnapshotValue
@@ -81,7 +81,7 @@ pub record IsLike (capacity total : ℕ) (node : NodeValue) (table : TableValue)
 pub record AreTables (tables : List TableValue) : Type 0 where
   pub capacity : ℕ
   pub total : ℕ
-  pub shape : length tables ≡ 25
+  pub shape : length tables ≡ node_count
   pub alike : (place : ℕ) (table : TableValue) → slice_get tables place ≡ Some table → IsLike capacity total (node_at place) table
 
 -- the parts of a snapshot: a position of at most 2^24, and such tables
@@ -105,5 +105,5 @@ copied_from capacity position tables = record { capacity = capacity; position = 
 -- a snapshot stands for a list of records: each of its 25 tables is that of the first so many records, as its position says
 pub record SnapshotStandsFor (snapshot : SnapshotValue) (list : List RecordValue) : Type 0 where
   pub within : snapshot.position ≤ length list
-  pub shape : length snapshot.tables ≡ 25
+  pub shape : length snapshot.tables ≡ node_count
   pub tables : (node : NodeValue) → IsNode node → entries_at node snapshot ≡ records_table snapshot.capacity node (take snapshot.position list)

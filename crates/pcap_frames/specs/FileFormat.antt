@@ -1,0 +1,27 @@
+-- The sizes of libpcap's file format 2.4, and the limits of a capture.
+use Rattle.std.specs.Prelude.{ℕ, ◌+◌}
+
+-- the bytes of the file header: magic, two versions, time zone, accuracy, snapshot length, link type
+abbrev pub file_header_length : ℕ
+file_header_length = 24
+
+-- the bytes of a frame's header: two of its time stamp, captured length, length on the wire, of four bytes each
+abbrev pub frame_header_length : ℕ
+frame_header_length = 16
+
+-- the most captured bytes of a frame, which is libpcap's own limit
+abbrev pub most_captured : ℕ
+most_captured = 262144
+
+-- the most frames of a capture, 2^24
+abbrev pub most_frames : ℕ
+most_frames = 16777216
+
+-- the bytes of a frame that its record is read from: two hardware addresses of 6, two VLAN tags of 4, the type of 2, and an IPv4
+-- header of 20
+abbrev pub head_length : ℕ
+head_length = 42
+
+-- the bytes that are kept of a frame which a cut parts: its header and its head
+abbrev pub kept_length : ℕ
+kept_length = frame_header_length + head_length
