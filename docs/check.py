@@ -1,10 +1,14 @@
 #!/usr/bin/env python3
-"""Tells which names in the documents no longer stand in the code.
+"""Reports which names in the documents no longer fit the code, and which imports pass a crate's face by.
 
-Looks at the tables of GUARANTEES.md and at the README's table of crates: each definition stands in the file that is
-named beside it, each clause on the function that is named before it, each wrong body in must-fail/ of its crate, and
-each wrong body in must-fail/ in the documents. What the README says is proved of a crate is a sentence of GUARANTEES.md.
-Prints a line for each name or sentence that doesn't stand, and ends with 1 then.
+usage: check.py            prints a line for each fault, and ends with 1 where there is one
+       check.py --write    first writes the rows of definitions of GUARANTEES.md anew
+
+In the promises of GUARANTEES.md and the README's table of crates each clause is on the function that is named before it,
+each wrong body in must-fail/ of its crate, and each wrong body in must-fail/ in the documents. The rows of definitions
+are the comments of specs/: of what a crate's face passes on, and of what the promises cite. What the README says is
+proved of a crate is a sentence of GUARANTEES.md. No line of GUARANTEES.md is longer than 300 characters. A file takes
+definitions of another crate from its face alone, `Rattle.NAME.specs.{..}`, and its lemmas from two files.
 """
 
 import re
@@ -12,13 +16,35 @@ import sys
 from pathlib import Path
 
 top = Path(__file__).resolve().parent.parent
+crates = sorted(path.name for path in (top / "crates").iterdir())
 faults = []
+
+# The longest line that is read in one go.
+LONGEST_LINE = 300
+
+# Lemmas on lists and on places of nodes, which the standard library lacks.
+SHARED_LEMMAS = {("prefix_lattice", "ListLemmas"), ("prefix_lattice", "NodePlaceLemmas")}
+
+HEAD = re.compile(r"(?:unfoldable |abbrev )?(?:pub )?(?:record |data )?(?:pub )?([^\s:({]+)")
 
 
 def definitions(crate):
-    """The names that each file of a crate's specs/ defines."""
-    heads = re.compile(r"(?m)^(?:abbrev|unfoldable|pub record|pub data) (?:pub )?([^\s:({]+)")
-    return {f"specs/{path.stem}": set(heads.findall(path.read_text())) for path in (top / "crates" / crate / "specs").glob("*.antt")}
+    """Each definition of a crate's specs/: the file of it, and the comment above it, in the order of the files."""
+    found = {}
+    for path in sorted((top / "crates" / crate / "specs").glob("*.antt")):
+        for block in re.split(r"\n\n+", path.read_text()):
+            lines = block.split("\n")
+            comment = [line[3:] for line in lines if line.startswith("-- ")]
+            code = [line for line in lines if not line.startswith("--")]
+            if comment and code and re.match(r"(?:abbrev|unfoldable|pub record|pub data) ", code[0]):
+                found[HEAD.match(code[0])[1]] = (path.stem, " ".join(comment))
+    return found
+
+
+def face(crate):
+    """What a crate's face passes on."""
+    lines = re.findall(r"(?m)^(?:unfoldable )?pub use Rattle\.%s\.specs\.\w+\.\{(.*)\}" % crate, (top / "crates" / crate / "specs" / "Lib.antt").read_text())
+    return {name.strip() for line in lines for name in line.split(",")}
 
 
 def clauses(crate):
@@ -47,10 +73,10 @@ def names(cell):
     return re.findall(r"`([^`]+)`", cell)
 
 
-def tables(path):
+def tables(text):
     """Each row of a document's tables as the crate of its section and its cells by the heads of their columns."""
     crate, heads = "", []
-    for line in path.read_text().split("\n"):
+    for line in text.split("\n"):
         if section := re.match(r"#+ (?:`(\w+)`)?", line):
             crate = section[1] or ""
         if not line.startswith("|"):
@@ -63,15 +89,32 @@ def tables(path):
             yield crate, dict(zip(heads, cells))
 
 
+def promises(text):
+    """Each promise of GUARANTEES.md as the crate of its section and its parts by their names."""
+    crate, items = "", []
+    for line in text.split("\n"):
+        if section := re.match(r"#+ (?:`(\w+)`)?", line):
+            crate = section[1] or ""
+        if part := re.match(r"  - (Clauses|Definitions|Wrong bodies): (.*)", line):
+            name = part[1]
+            items[-1][1][name] = part[2]
+        elif line.startswith("- "):
+            name = "Promise"
+            items.append((crate, {name: line[2:]}))
+        elif line.startswith("  ") and items:
+            items[-1][1][name] += " " + line.strip()
+    return [(crate, parts) for crate, parts in items if "Clauses" in parts]
+
+
 def check(holds, text):
     if not holds:
         faults.append(text)
 
 
-def check_clauses(crate, cell):
-    """A cell as `f`, `g`: `a`, `b`; `h`, where `a` and `b` are clauses of `f` or of `g`."""
+def check_clauses(crate, text):
+    """A text as `f`, `g`: `a`, `b`; `h`, where `a` and `b` are clauses of `f` or of `g`."""
     known = clauses(crate)
-    for part in cell.split(";"):
+    for part in text.split(";"):
         before, _, after = part.partition("`: ")
         functions = re.findall(r"`([\w:]+)", before)
         for function in functions:
@@ -80,34 +123,82 @@ def check_clauses(crate, cell):
             check(any(clause in known.get(function, ()) for function in functions), f"{crate} has no clause {clause} on {functions}")
 
 
-def check_row(crate, row):
-    if "Name" in row and "Place" in row:
-        known = definitions(crate)
-        for place in names(row["Place"]):
-            for name in names(row["Name"]):
-                check("src" in place or name in known.get(place, ()), f"{crate}/{place} doesn't define {name}")
-    if "Clause" in row:
-        check_clauses(crate, row["Clause"])
-    for name in names(row.get("Definitions", "")):
-        check(name in all_definitions, f"{crate}: no crate defines {name}")
-    for name in names(row.get("Wrong bodies", "")):
+def check_promise(crate, parts):
+    check_clauses(crate, parts["Clauses"])
+    for name in names(parts.get("Definitions", "")):
+        check(home(crate, name), f"{crate}: no crate defines {name}")
+    for name in names(parts.get("Wrong bodies", "")):
         check(name in wrong_bodies(crate), f"{crate} has no wrong body {name}")
 
 
-all_definitions = {name for path in (top / "crates").iterdir() for names in definitions(path.name).values() for name in names}
-told = {}
-for crate, row in tables(top / "docs" / "GUARANTEES.md"):
-    if crate:
-        check_row(crate, row)
-        told.setdefault(crate, set()).update(names(row.get("Wrong bodies", "")))
-guarantees = (top / "docs" / "GUARANTEES.md").read_text()
-for _, row in tables(top / "README.md"):
+all_definitions = {crate: definitions(crate) for crate in crates}
+
+
+def home(crate, name):
+    """The crate that defines a name which a promise of this crate cites."""
+    return next((one for one in [crate, *crates] if name in all_definitions[one]), None)
+
+
+def definition_rows(text):
+    """The rows of definitions of each crate: of what its face passes on, and of what the promises of any crate cite."""
+    wanted = {crate: face(crate) & set(all_definitions[crate]) for crate in crates}
+    for crate, parts in promises(text):
+        for name in names(parts.get("Definitions", "")):
+            if one := home(crate, name):
+                wanted[one].add(name)
+    return {
+        crate: [f"| {comment} | `{name}` | `specs/{file}` |" for name, (file, comment) in known.items() if name in wanted[crate]]
+        for crate, known in all_definitions.items()
+    }
+
+
+def with_rows(text):
+    """GUARANTEES.md with these rows in the place of those that it has. Rows of what stands in src/ are written by hand."""
+    rows, lines, crate, is_inside = definition_rows(text), [], "", False
+    for line in text.split("\n"):
+        if section := re.match(r"#+ (?:`(\w+)`)?", line):
+            crate = section[1] or ""
+        if is_inside and not line.startswith("|"):
+            lines += rows[crate]
+            is_inside = False
+        if line.startswith("| In plain words | Name | Place |"):
+            is_inside = True
+        if not is_inside or not line.endswith("` |") or "`specs/" not in line:
+            lines.append(line)
+    return "\n".join(lines)
+
+
+def check_imports(crate):
+    """A crate takes definitions of others from their faces, and no lemmas but the shared ones."""
+    for path in sorted((top / "crates" / crate).glob("*/**/*")):
+        if path.suffix not in (".rt", ".antt") or "out" in path.parts:
+            continue
+        for other, folder, module in re.findall(r"use Rattle\.(\w+)\.(specs|proofs)\.(\w+)\.", path.read_text()):
+            if other in crates and other != crate and module != "declared" and (other, module) not in SHARED_LEMMAS:
+                faults.append(f"{path.relative_to(top)} names the inner file {folder}/{module} of {other}")
+
+
+document = top / "docs" / "GUARANTEES.md"
+guarantees = document.read_text()
+fresh = with_rows(guarantees)
+if "--write" in sys.argv:
+    document.write_text(fresh)
+    guarantees = fresh
+check(fresh == guarantees, "rows of definitions of GUARANTEES.md are stale: docs/check.py --write writes them")
+for line in guarantees.split("\n"):
+    check(len(line) <= LONGEST_LINE, f"a line of GUARANTEES.md has {len(line)} characters: {line[:60]}..")
+named = {}
+for crate, parts in promises(guarantees):
+    check_promise(crate, parts)
+    named.setdefault(crate, set()).update(names(parts.get("Wrong bodies", "")))
+for _, row in tables((top / "README.md").read_text()):
     if "Crate" in row and "Clause" in row:
         crate, claim = names(row["Crate"])[0], row["What is proved"]
         check_clauses(crate, row["Clause"])
-        check(claim[0].upper() + claim[1:] + "." in guarantees, f"GUARANTEES.md doesn't say what the README says of {crate}")
-for path in sorted((top / "crates").iterdir()):
-    for name in sorted(wrong_bodies(path.name) - told.get(path.name, set())):
-        faults.append(f"no document names the wrong body {name} of {path.name}")
-print("\n".join(faults) if faults else "each name stands")
+        check(claim[0].upper() + claim[1:] + "." in " ".join(guarantees.split()), f"GUARANTEES.md doesn't say what the README says of {crate}")
+for crate in crates:
+    check_imports(crate)
+    for name in sorted(wrong_bodies(crate) - named.get(crate, set())):
+        faults.append(f"no document names the wrong body {name} of {crate}")
+print("\n".join(faults) if faults else "each name fits")
 sys.exit(1 if faults else 0)

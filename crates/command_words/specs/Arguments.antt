@@ -1,12 +1,12 @@
--- The words behind a command's word: positionals and options, in any order. The grammar is this program's own.
+-- The words after a command's name, read as positionals and options in any order. The grammar is this program's own.
 use Rattle.std.specs.Prelude.{ℕ, ◌≡◌, ◌≢◌, ◌⊎◌, ◌++◌, List, [], ◌∷◌, length, All, AllPairs, Contains, Option, Some, None, if◌then◌else◌}
 use Rattle.std.specs.Str.{bytes_eq}
 
--- a word, or a part of one, as its bytes
+-- a word, which is one string of the command line, or a part of a word, as its bytes
 abbrev pub Text : Type 0
 Text = List ℕ
 
--- what stands behind a command's word: a positional, or an option with its value
+-- an argument after a command's name: a positional, or an option with its value
 pub data Argument : Type 0 where
   positional : Text → Argument
   option : Text → Text → Argument
@@ -19,31 +19,32 @@ hyphen = 45
 abbrev pub equals_sign : ℕ
 equals_sign = 61
 
--- a text that can be a positional or a value: it has a first byte, which is no hyphen
+-- a text that can be a positional or a value: it is not empty, and its first byte is not a hyphen
 abbrev pub IsValue : Text → Type 0
 IsValue [] = ⊥
 IsValue (first ∷ rest) = first ≢ hyphen
 
--- a text that can be the name of an option: it has no `=`, so what stands after the first `=` of a word is the value
+-- a text that can be the name of an option: it has no `=`, so what follows the first `=` of a word is the value
 abbrev pub IsName : Text → Type 0
 IsName name = All (λ byte. byte ≢ equals_sign) name
 
--- the word that names an option
+-- the word `--name`, which names an option
 abbrev pub long : Text → Text
 long name = hyphen ∷ hyphen ∷ name
 
--- the words spell the argument: a positional is a word of its own, an option is `--name` and its value behind it, or the one word `--name=value`
+-- the words spell the argument: a positional is one word; an option is `--name` followed by its value,
+-- or the one word `--name=value`
 abbrev pub Spells : List Text → Argument → Type 0
 Spells words (positional text) = IsValue text × (words ≡ text ∷ [])
 Spells words (option name value) = IsName name × IsValue value × ((words ≡ long name ∷ value ∷ []) ⊎ (words ≡ (long name ++ equals_sign ∷ value) ∷ []))
 
--- the argument stands at the front of the words, with the others behind it
+-- the first words spell this argument, and the others follow
 pub record Begins (words : List Text) (argument : Argument) (others : List Text) : Type 0 where
   pub front : List Text
   pub parted : words ≡ front ++ others
   pub spelled : Spells front argument
 
--- the words spell the arguments, one behind the other
+-- the words spell the arguments, one after the other
 abbrev pub SpellsAll : List Text → List Argument → Type 0
 SpellsAll words [] = words ≡ []
 SpellsAll words (argument ∷ arguments) = (others : List Text) × Begins words argument others × SpellsAll others arguments
@@ -60,13 +61,13 @@ names_in [] = []
 names_in (positional text ∷ arguments) = names_in arguments
 names_in (option name value ∷ arguments) = name ∷ names_in arguments
 
--- the value of the first option of a name
+-- the value of the first option of this name
 abbrev pub value_of : Text → List Argument → Option Text
 value_of name [] = None
 value_of name (positional text ∷ arguments) = value_of name arguments
 value_of name (option other value ∷ arguments) = if bytes_eq other name then Some value else value_of name arguments
 
--- what a command takes: what its positionals are for, and the names of its options
+-- what a command takes: the names of its positionals and the names of its options
 pub record Form : Type 0 where
   pub positionals : List Text
   pub options : List Text

@@ -4,12 +4,12 @@ use Rattle.command_words.specs.Arguments.{Text, Argument, Form, AreWellFormed}
 use Rattle.command_words.specs.declared.command_word.CommandWord.{CommandWord}
 use Rattle.command_words.specs.declared.command_word.CommandWord.TheVariants.{Weigh, Report}
 
--- the word of a command, which is the first of the command line
+-- the name of a command, which is the first word of the command line
 abbrev pub word_of : CommandWord → Text
 word_of Weigh = codes "weigh"
 word_of Report = codes "report"
 
--- what each command takes
+-- the positionals and options that each command takes
 abbrev pub form_of : CommandWord → Form
 form_of Weigh = record {
   positionals = codes "SRC" ∷ codes "DST" ∷ [];
@@ -20,7 +20,7 @@ form_of Report = record {
   options = codes "capture" ∷ codes "weigh" ∷ codes "shards" ∷ codes "capacity" ∷ codes "phi" ∷ codes "deal" ∷ [];
 }
 
--- the words are a command's word and, behind it, well-formed words that spell these arguments
+-- the words are a command's name followed by well-formed words that spell these arguments
 pub record AreWordsOf (words : List Text) (command : CommandWord) (arguments : List Argument) : Type 0 where
   pub behind : List Text
   pub begun : words ≡ word_of command ∷ behind

@@ -6,14 +6,14 @@ use Rattle.command_words.specs.declared.opt.Opt.{Opt}
 use Rattle.command_words.specs.declared.words_kind.WordsKind.{WordsKind}
 use Rattle.command_words.specs.declared.words_kind.WordsKind.TheVariants.{BadNumber, OutOfLimits, BadChoice}
 
--- the fault that a number can have: it is none, or one that the option can't have
+-- the fault of a value that should be a number: it is not a number, or it is outside the limits of the option
 abbrev pub IsBadNumber : Opt → Option Text → WordsKind → Type 0
 IsBadNumber opt None kind = ⊥
 IsBadNumber opt (Some text) (BadNumber at) = (at ≡ opt) × IsNoNumber (kind_of opt) text
 IsBadNumber opt (Some text) (OutOfLimits at) = (at ≡ opt) × IsOutside (kind_of opt) text
 IsBadNumber opt (Some text) _ = ⊥
 
--- the fault that a choice can have: it is none of the words of the option
+-- the fault of a value that should be one of some choices: it is none of the option's choices
 abbrev pub IsBadChoice : Opt → Option Text → WordsKind → Type 0
 IsBadChoice opt None kind = ⊥
 IsBadChoice opt (Some text) (BadChoice at) = (at ≡ opt) × IsNoChoice (kind_of opt) text

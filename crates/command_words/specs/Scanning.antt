@@ -1,18 +1,18 @@
--- What the scan of words tells, which no public contract cites.
+-- What the scan of words reports, which no public contract cites.
 use Rattle.std.specs.Prelude.{ℕ, ◌≡◌, ◌≢◌, List, length, All, AllPairs, Contains, Option, Some, None, option_map}
 use Rattle.std.specs.Borrow.{Bor}
 use Rattle.command_words.specs.Arguments.{Text, Argument, positional, option, SpellsAll, positionals_in, names_in, Form}
 
--- the name of the option that an argument is, if it is one
+-- the name of the option that an argument gives, if the argument is an option
 abbrev pub option_name : Argument → Option Text
 option_name (positional text) = None
 option_name (option name value) = Some name
 
--- the text behind a reference, if there is one
+-- the text that a reference points to, if there is a reference
 abbrev pub text_at : Option (Bor Text) → Option Text
 text_at word = option_map (λ text. text.now) word
 
--- the words spell so many positionals, and options of a form, none of them twice
+-- the words spell exactly this many positionals, and options of a form, none of them twice
 pub record FitsRest (form : Form) (positionals : ℕ) (words : List Text) (arguments : List Argument) : Type 0 where
   pub spelled : SpellsAll words arguments
   pub as_many : length (positionals_in arguments) ≡ positionals

@@ -1,4 +1,4 @@
--- What the options of a command line set.
+-- The settings that the options of a command line give.
 use Rattle.std.specs.Prelude.{ℕ, ◌≡◌, ◌*◌, ◌≤◌, false, List, codes, Option, Some, None}
 use Rattle.frame_records.specs.declared.weigh.Weigh.{Weigh}
 use Rattle.frame_records.specs.declared.weigh.Weigh.TheVariants as weighing
@@ -10,41 +10,41 @@ use Rattle.command_words.specs.declared.opt.Opt.{Opt}
 use Rattle.command_words.specs.declared.opt.Opt.TheVariants.{Weigh as ByWeigh, Shards, Capacity, Phi, Deal}
 use Rattle.command_words.specs.declared.settings.Settings.{Settings}
 
--- the values that options have, where they stand
+-- the value of each option that is present
 abbrev pub Values : Type 0
 Values = Opt → Option Text
 
--- the values that arguments give
+-- the value that arguments give each option
 abbrev pub values_in : List Argument → Values
 values_in arguments = λ opt. value_of (name_of opt) arguments
 
--- the number that an option sets: the default where it doesn't stand, else what it says, within its limits
+-- the number that an option sets: the default if the option is missing, else its value, within its limits
 abbrev pub SetsNumber : Opt → ℕ → Option Text → ℕ → Type 0
 SetsNumber opt default None value = value ≡ default
 SetsNumber opt default (Some text) value = IsNumber text value × IsAllowed (kind_of opt) value
 
--- the words for how traffic is weighed
+-- the value of `--weigh` for each way to weigh traffic
 abbrev pub weigh_word : Weigh → Text
 weigh_word weighing.Bytes = codes "bytes"
 weigh_word weighing.Packets = codes "packets"
 
--- the words for how records are dealt
+-- the value of `--deal` for each kind of dealing
 abbrev pub deal_word : DealKind → Text
 deal_word dealing.RoundRobin = codes "round"
 deal_word dealing.BySource = codes "source"
 deal_word dealing.Free = codes "free"
 
--- how traffic is weighed: by bytes where nothing is said
+-- how traffic is weighed: by bytes if the option is missing
 abbrev pub SetsWeigh : Option Text → Weigh → Type 0
 SetsWeigh None weigh = weigh ≡ weighing.Bytes
 SetsWeigh (Some text) weigh = text ≡ weigh_word weigh
 
--- how records are dealt: in turn where nothing is said
+-- how records are dealt: in turn if the option is missing
 abbrev pub SetsDeal : Option Text → DealKind → Type 0
 SetsDeal None deal = deal ≡ dealing.RoundRobin
 SetsDeal (Some text) deal = text ≡ deal_word deal
 
--- what values set, with the defaults of all that no option says
+-- the settings that the values of options give, with defaults filled in
 pub record SetsSettings (values : Values) (settings : Settings) : Type 0 where
   pub weigh : SetsWeigh (values ByWeigh) settings.weigh
   pub shards : SetsNumber Shards 4 (values Shards) settings.shards

@@ -1,4 +1,4 @@
--- What the words of a command line ask, or the first thing that is wrong with them.
+-- The command that the arguments of a command line ask for, or the first fault of the arguments.
 use Rattle.std.specs.Prelude.{⊤, ◌≡◌, ◌≢◌, ◌<◌, List, [], ◌∷◌, map, Some}
 use Rattle.std.specs.Borrow.{Bor}
 use Rattle.prefix_lattice.specs.{PrefixValue, SpellsPrefix, HasPrefixFault}
@@ -16,15 +16,15 @@ use Rattle.command_words.specs.declared.settings.Settings.{Settings}
 use Rattle.command_words.specs.declared.words_kind.WordsKind.{WordsKind}
 use Rattle.command_words.specs.declared.words_kind.WordsKind.TheVariants.{NoCommand, UnknownCommand, Refused, BadPrefix, BadNumber, OutOfLimits, BadChoice, Bound}
 
--- the texts of the words
+-- the texts of the arguments
 abbrev pub texts : List (Bor Text) → List Text
 texts words = map (λ word. word.now) words
 
--- the positionals SRC and DST, in this order
+-- the positionals are SRC and DST, in this order
 abbrev pub HasSides : List Argument → Text → Text → Type 0
 HasSides arguments source dest = positionals_in arguments ≡ source ∷ dest ∷ []
 
--- the words ask for the weight of a prefix
+-- the command line asks for the weight of a prefix
 pub record AskToWeigh (words : List Text) (prefix : PrefixValue) (settings : Settings) : Type 0 where
   pub arguments : List Argument
   pub are_words : AreWordsOf words Weigh arguments
@@ -34,19 +34,19 @@ pub record AskToWeigh (words : List Text) (prefix : PrefixValue) (settings : Set
   pub spelled : SpellsPrefix source dest prefix
   pub set : SetsSettings (values_in arguments) settings
 
--- the words ask for a report
+-- the command line asks for a report
 pub record AskToReport (words : List Text) (settings : Settings) : Type 0 where
   pub arguments : List Argument
   pub are_words : AreWordsOf words Report arguments
   pub set : SetsSettings (values_in arguments) settings
   pub wide : IsWide settings
 
--- what the words ask for
+-- which command the arguments of a command line ask for
 abbrev pub AskFor : List Text → Command → Type 0
 AskFor words (command.Weigh prefix settings) = AskToWeigh words prefix settings
 AskFor words (command.Report settings) = AskToReport words settings
 
--- the settings of the command are within their limits, and those of a report are wide enough
+-- the settings of the command are within their limits, and the tables of a report are large enough for its share
 abbrev pub IsLimited : Command → Type 0
 IsLimited (command.Weigh prefix settings) = AreLimited settings
 IsLimited (command.Report settings) = AreLimited settings × IsWide settings
@@ -65,21 +65,21 @@ pub record HasBadPrefix (words : List Text) (fault : PrefixFault) : Type 0 where
   pub sides : HasSides arguments source dest
   pub has_fault : HasPrefixFault source dest fault
 
--- the option has a bad value, and each option before it a good one
+-- this option has a bad value, and each option before it has a good value or is missing
 pub record IsFirstBad (IsBad : Kind → Text → Type 0) (values : Values) (opt : Opt) : Type 0 where
   pub before : (other : Opt) → place_of other < place_of opt → IsGood other (values other)
   pub text : Text
   pub value : values opt ≡ Some text
   pub is_bad : IsBad (kind_of opt) text
 
--- the first thing that is wrong with values
+-- the first fault of the values of options
 abbrev pub HasValueFault : Values → WordsKind → Type 0
 HasValueFault values (BadNumber opt) = IsFirstBad IsNoNumber values opt
 HasValueFault values (OutOfLimits opt) = IsFirstBad IsOutside values opt
 HasValueFault values (BadChoice opt) = IsFirstBad IsNoChoice values opt
 HasValueFault values _ = ⊥
 
--- the words are well formed and their positionals good, and their values have this fault
+-- the arguments are well formed, their positionals are good, and this is the first fault of their values
 pub record HasBadValue (words : List Text) (kind : WordsKind) : Type 0 where
   pub command : CommandWord
   pub arguments : List Argument
@@ -95,8 +95,8 @@ pub record IsTooNarrow (words : List Text) : Type 0 where
   pub set : SetsSettings (values_in arguments) settings
   pub narrow : IsWide settings → ⊥
 
--- the first thing that is wrong with the words: the command, then their form, then the prefix, then the values in the order of the
--- options, then the bound
+-- the first fault of the arguments: the command, then their form, then the prefix, then the values in the order
+-- of the options, then the bound on phi times the capacity
 abbrev pub HasWordsFault : List Text → WordsKind → Type 0
 HasWordsFault words NoCommand = words ≡ []
 HasWordsFault words UnknownCommand = (first : Text) × (behind : List Text) × (words ≡ first ∷ behind) × ((command : CommandWord) → first ≢ word_of command)

@@ -3,7 +3,7 @@
 use crate::Settings;
 use prefix_lattice::Prefix;
 
-/// A command with all that its words say.
+/// A command with its settings, defaults filled in.
 #[derive(Clone, Copy, Debug, PartialEq, Eq)]
 pub enum Command {
     /// `weigh SRC DST`: the weight of one prefix.

@@ -1,10 +1,10 @@
-//! The words that name commands, and what each command takes.
+//! The names of commands, and the positionals and options that each command takes.
 
 ghost use Rattle.std.specs.Prelude.{◌≡◌, ◌≢◌, ◌↔◌, map, Contains, IfSome, IfNone, IsTrue};
 ghost use Rattle.command_words.specs.Forms.{word_of, form_of};
 ghost use Rattle.command_words.specs.declared.command_word.CommandWord.{CommandWord};
 
-/// The first word of a command line.
+/// The name of a command, which is the first argument of a command line.
 #[derive(Clone, Copy, Debug, PartialEq, Eq)]
 pub enum CommandWord {
     Weigh,
@@ -20,7 +20,7 @@ static REPORT_POSITIONALS: [&str; 0] = [];
 static REPORT_OPTIONS: [&str; 6] = ["capture", "weigh", "shards", "capacity", "phi", "deal"];
 
 impl CommandWord {
-    /// The command that a word names, if it names one.
+    /// The command of this name, if there is one.
     pub fn of(word: &str) -> Option<CommandWord>
         ensures some { IfSome result (λ command. word.now ≡ word_of command) }
         ensures none { IfNone result ((command : CommandWord) → word.now ≢ word_of command) }
@@ -32,7 +32,7 @@ impl CommandWord {
         }
     }
 
-    /// The word.
+    /// The name as it is written on the command line.
     pub fn word<'a>(self) -> &'a str
         ensures { result.now ≡ word_of self }
     {
@@ -42,7 +42,7 @@ impl CommandWord {
         }
     }
 
-    /// What the positionals of the command are for, in their order.
+    /// The names of the command's positionals, in their order.
     pub fn positionals<'a>(self) -> &'a [&'a str]
         ensures { map (λ name. name.now) result.now ≡ (form_of self).positionals }
     {

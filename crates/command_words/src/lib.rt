@@ -1,4 +1,4 @@
-//! The words of a command line: what they ask, or the first thing that is wrong with them.
+//! The arguments of a command line: the command that they ask for, or their first fault.
 #![tactic(auto)]
 
 mod command;

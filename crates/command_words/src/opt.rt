@@ -1,20 +1,20 @@
-//! The options whose value is looked at.
+//! The options whose values are checked.
 
 ghost use Rattle.std.specs.Prelude.{◌≡◌};
 ghost use Rattle.command_words.specs.Options.{name_of};
 
 use std::fmt::{Display, Error, Formatter, Write};
 
-/// An option whose value is looked at, in the order in which values are.
+/// An option whose value is checked. Values are checked in this order.
 #[derive(Clone, Copy, Debug, PartialEq, Eq)]
 pub enum Opt {
     /// How traffic is weighed: `bytes` or `packets`.
     Weigh,
     /// How many shards there are, 1 to 16.
     Shards,
-    /// How many prefixes each table can tell apart, 2 to 4096.
+    /// How many prefixes each table can monitor, 2 to 4096.
     Capacity,
-    /// From how many parts per million of the weight on a prefix is heavy, 1 to 1,000,000.
+    /// The least share, in parts per million of the total, at which a prefix is heavy, 1 to 1,000,000.
     Phi,
     /// How records are dealt to shards: `round`, `source` or `free`.
     Deal,

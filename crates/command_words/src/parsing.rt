@@ -13,7 +13,7 @@ use clap::error::ErrorKind;
 use clap::{Arg, ArgMatches, Command};
 use std::alloc::{AllocError, Global};
 
-/// Reads the well-formed words behind a command's word.
+/// Reads the well-formed words after the command's name.
 pub(crate) fn parse<'a>(
     alloc: Global,
     command: CommandWord,
@@ -30,7 +30,7 @@ pub(crate) fn parse<'a>(
     }
 }
 
-// What reads the words of a command: it has the command's positionals and options, and no other word has a meaning.
+// The parser of a command: it knows the command's positionals and options, and gives no other word a meaning.
 fn parser_of<'a>(alloc: Global, command: CommandWord) -> Result<Command<'a>, AllocError>
     ensures { IfOk result (λ parser. app_of parser ≡ parser_for (word_of command) (form_of command)) }
 {
@@ -41,7 +41,7 @@ fn parser_of<'a>(alloc: Global, command: CommandWord) -> Result<Command<'a>, All
     take_options(alloc, parser, command.options())
 }
 
-// The parser, with positionals of these names.
+// The parser with positionals of these names added.
 fn take_positionals<'a>(
     alloc: Global,
     mut parser: Command<'a>,
@@ -55,7 +55,7 @@ fn take_positionals<'a>(
     Ok(parser)
 }
 
-// The parser, with options of these names.
+// The parser with options of these names added.
 fn take_options<'a>(
     alloc: Global,
     mut parser: Command<'a>,

@@ -16,11 +16,11 @@ use std::alloc::Global;
 /// The paths that options name.
 #[derive(Debug, Drop)]
 pub struct PathTexts {
-    /// Where the capture is: a file, or `-` for standard input, which is the default.
+    /// The path of the capture: a file, or `-` for standard input, which is the default.
     pub capture: PathText,
 }
 
-/// The paths that the words name. Words that ask for nothing are refused as `read_words` refuses them.
+/// The paths that the arguments name. Arguments that ask for no command are refused as `read_words` refuses them.
 pub fn paths(alloc: Global, words: &[&str]) -> Result<PathTexts, WordsRefusal>
     ensures ok { IfOk result (NamesPaths (texts words.now)) }
     ensures asked { IfOk result (λ paths. (command : Command) × AskFor (texts words.now) command) }
@@ -32,7 +32,7 @@ pub fn paths(alloc: Global, words: &[&str]) -> Result<PathTexts, WordsRefusal>
     paths_in(alloc, words)
 }
 
-// The paths that the words name, or what is wrong with them.
+// The paths that the arguments name, or what is wrong with the arguments.
 fn paths_in(alloc: Global, words: &[&str]) -> Result<PathTexts, WordsRefusal>
     ensures ok { IfOk result (NamesPaths (texts words.now)) }
     ensures asked { IfOk result (λ _. (command : Command) × AskFor (texts words.now) command) }

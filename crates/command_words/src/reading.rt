@@ -1,4 +1,4 @@
-//! Reading the words of a command line.
+//! Reading the arguments of a command line.
 
 ghost use Rattle.std.specs.Prelude.{◌≡◌, ◌⊎◌, List, Ok, Err, IfOk, IfErr};
 ghost use Rattle.command_words.specs.Arguments.{Text};
@@ -19,20 +19,20 @@ use clap::ArgMatches;
 use prefix_lattice::{Prefix, prefix_texts_have_one_reading};
 use std::alloc::Global;
 
-/// A command line: what it asks for, and what `clap` found in it.
+/// A command line: the command that it asks for, and what `clap` found in it.
 #[derive(Drop)]
 pub(crate) struct CommandLine<'a> {
     pub(crate) command: Command,
     pub(crate) matches: ArgMatches<'a>,
 }
 
-/// What the words ask for: a command's word, and behind it the command's positionals and options in any
-/// order. An option is `--name` and its value, or `--name=value`. Options that don't stand have their
+/// The command that the arguments `words` ask for. They are the name of a command, followed by its positionals
+/// and options in any order. An option is `--name` and its value, or `--name=value`. Missing options have their
 /// defaults.
 ///
-/// Words that ask for nothing are refused for the first thing that is wrong with them: the command, then the
-/// form of the words, then the prefix, then the values in the order of `Opt`, each as a number before its
-/// limits, then the bound on `phi` times the capacity.
+/// Arguments that ask for no command are refused for their first fault: the command, then the form of the
+/// arguments, then the prefix, then the values in the order of `Opt`, each as a number before its limits, then
+/// the bound on `phi` times the capacity.
 pub fn read_words(alloc: Global, words: &[&str]) -> Result<Command, WordsRefusal>
     ensures ok { IfOk result (AskFor (texts words.now)) }
     ensures limited { IfOk result IsLimited }
@@ -44,7 +44,7 @@ pub fn read_words(alloc: Global, words: &[&str]) -> Result<Command, WordsRefusal
     command_in(alloc, words)
 }
 
-// What the words ask for, or what is wrong with them.
+// The command that the arguments ask for, or what is wrong with them.
 fn command_in(alloc: Global, words: &[&str]) -> Result<Command, WordsRefusal>
     ensures ok { IfOk result (AskFor (texts words.now)) }
     ensures bad { (kind : WordsKind) → result ≡ Err (Bad kind) → HasWordsFault (texts words.now) kind }
@@ -52,7 +52,7 @@ fn command_in(alloc: Global, words: &[&str]) -> Result<Command, WordsRefusal>
     Ok(read_line(alloc, words)?.command)
 }
 
-/// Reads the words.
+/// Reads the arguments.
 pub(crate) fn read_line<'a>(
     alloc: Global,
     words: &'a [&'a str],
@@ -77,7 +77,7 @@ pub(crate) fn read_line<'a>(
     })
 }
 
-// What words that begin with a command's word ask for.
+// The command asked for by arguments that begin with the name of this command.
 fn command_of(word: CommandWord, matches: &ArgMatches<'_>) -> Result<Command, WordsKind>
     requires { (words : List Text) × TellsWords words word matches.now }
     ensures ok { (words : List Text) → TellsWords words word matches.now → IfOk result (AskFor words) }
@@ -89,7 +89,7 @@ fn command_of(word: CommandWord, matches: &ArgMatches<'_>) -> Result<Command, Wo
     }
 }
 
-// What words that begin with `weigh` ask for.
+// The command asked for by arguments that begin with `weigh`.
 fn weigh_command(matches: &ArgMatches<'_>) -> Result<Command, WordsKind>
     requires { (words : List Text) × TellsWords words Weigh matches.now }
     ensures ok { (words : List Text) → TellsWords words Weigh matches.now → IfOk result (AskFor words) }
@@ -105,7 +105,7 @@ fn weigh_command(matches: &ArgMatches<'_>) -> Result<Command, WordsKind>
     Ok(Command::Weigh { prefix, settings })
 }
 
-// What words that begin with `report` ask for.
+// The command asked for by arguments that begin with `report`.
 fn report_command(matches: &ArgMatches<'_>) -> Result<Command, WordsKind>
     ensures ok { (words : List Text) → TellsWords words Report matches.now → IfOk result (AskFor words) }
     ensures err { (words : List Text) → TellsWords words Report matches.now → IfErr result (HasWordsFault words) }

@@ -1,4 +1,4 @@
-//! Whether words are well formed.
+//! The scan that decides whether words are well formed.
 
 ghost use Rattle.std.specs.Prelude.{◌≡◌, ◌↔◌, ◌<◌, ◌≤◌, List, drop, length, Contains, Some, IfSome, IfNone, IsTrue};
 ghost use Rattle.command_words.specs.Arguments.{Argument, AreWellFormed, Begins, IsValue, SpellsAll, Text, names_in};
@@ -8,16 +8,16 @@ ghost use Rattle.command_words.specs.Words.{texts};
 
 use crate::command_word::CommandWord;
 
-/// Whether the words behind a command's word are well formed: they are its positionals, each once, and
-/// options of its own, each at most once, in any order.
+/// Whether the words after the command's name are well formed: they are its positionals, each once, and options
+/// of its own, each at most once, in any order.
 pub(crate) fn are_well_formed(command: CommandWord, behind: &[&str]) -> bool
     ensures { IsTrue result ↔ ((arguments : List Argument) × AreWellFormed (form_of command) (texts behind.now) arguments) }
 {
     fit(command, behind, command.positionals().len())
 }
 
-// Whether the words spell so many positionals, and options of the command, none of them twice. An argument that
-// doesn't fit ends it, so it calls itself at most once for each positional and each option of the command.
+// Whether the words spell exactly this many positionals, and options of the command, none of them twice. An
+// argument that doesn't fit ends the scan, so it calls itself at most once for each positional and each option.
 fn fit(command: CommandWord, words: &[&str], positionals: usize) -> bool
     ensures { IsTrue result ↔ ((arguments : List Argument) × FitsRest (form_of command) positionals (texts words.now) arguments) }
 {
@@ -37,7 +37,7 @@ fn fit(command: CommandWord, words: &[&str], positionals: usize) -> bool
     fit(command, others, positionals)
 }
 
-// Whether an option of this name stands among the arguments that the words spell.
+// Whether an option of this name is present among the arguments that the words spell.
 fn stands(words: &[&str], name: &str) -> bool
     ensures { (arguments : List Argument) → SpellsAll (texts words.now) arguments → IsTrue result ↔ Contains (names_in arguments) name.now }
 {
@@ -51,17 +51,17 @@ fn stands(words: &[&str], name: &str) -> bool
     false
 }
 
-// The argument at the front of some words.
+// The argument that the first of some words spell.
 #[derive(Clone, Copy)]
 struct Front<'a> {
-    // How many words spell it.
+    // How many words spell the argument.
     words: usize,
     // The name of its option, or `None` for a positional.
     option: Option<&'a str>,
 }
 
 impl Front<'_> {
-    // Whether it is an option of this name.
+    // Whether the argument is an option of this name.
     fn names(&self, name: &str) -> bool
         ensures { IsTrue result ↔ (text_at self.now.option ≡ Some name.now) }
     {
@@ -72,7 +72,7 @@ impl Front<'_> {
     }
 }
 
-// The argument that stands at the front of the words, if one does.
+// The argument that the first of the words spell, if they spell one.
 fn front_of<'a>(words: &[&'a str]) -> Option<Front<'a>>
     ensures fits { IfSome result (λ front. (0 < front.words) × (front.words ≤ length words.now)) }
     ensures some { IfSome result (λ front. (argument : Argument) × Begins (texts words.now) argument (texts (drop front.words words.now))

@@ -17,7 +17,7 @@ const DEFAULTS: Settings = Settings {
     store: false,
 };
 
-// Words with a space between each two, and what is wrong with them.
+// Arguments joined by single spaces, and what is wrong with them.
 const BAD_WORDS: [(&str, WordsKind); 38] = [
     ("", WordsKind::NoCommand),
     ("way", WordsKind::UnknownCommand),
@@ -79,7 +79,7 @@ const BAD_WORDS: [(&str, WordsKind); 38] = [
     ("report --shards 17", WordsKind::OutOfLimits(Opt::Shards)),
     ("report --capacity 1", WordsKind::OutOfLimits(Opt::Capacity)),
     ("report --deal hash", WordsKind::BadChoice(Opt::Deal)),
-    // the first of several
+    // the first of several faults
     (
         "report --deal hash --shards 0",
         WordsKind::OutOfLimits(Opt::Shards),
@@ -132,7 +132,7 @@ fn reads_words(rt: HostRuntime) -> Result<(), Fail> {
         deal: DealKind::Free,
         ..DEFAULTS
     };
-    // The words, what they set, and the capture that they name.
+    // The arguments, what they set, and the capture that they name.
     let cases = [
         ("report", DEFAULTS, "-"),
         ("report --capture=a=b", DEFAULTS, "a=b"),

@@ -1,4 +1,4 @@
-//! What the values of options set.
+//! The settings that the values of options give.
 
 ghost use Rattle.std.specs.Prelude.{◌≡◌, ◌↔◌, IfOk, IfErr, IsTrue};
 ghost use Rattle.command_words.specs.Scanning.{text_at};
@@ -45,10 +45,10 @@ const PHI: Numeric = Numeric {
     default: 10_000,
 };
 
-// What `phi` times the capacity must be, so that no table hides a heavy prefix.
+// The least product of `phi` and the capacity at which no table hides a heavy prefix.
 const LEAST_WIDTH: u64 = 2_000_000;
 
-/// What the options set, or the first of their values that is wrong.
+/// The settings that the options give, or the fault of the first wrong value.
 pub(crate) fn settings_of(matches: &ArgMatches<'_>) -> Result<Settings, WordsKind>
     ensures ok { IfOk result (SetsSettings (values_told matches.now)) }
     ensures err { IfErr result (HasValueFault (values_told matches.now)) }
@@ -72,14 +72,14 @@ pub(crate) fn settings_of(matches: &ArgMatches<'_>) -> Result<Settings, WordsKin
     })
 }
 
-/// Whether tables of the capacity are large enough for the share.
+/// Whether tables of this capacity are large enough for the share `phi`.
 pub(crate) fn is_wide(settings: &Settings) -> bool
     ensures { IsTrue result ↔ IsWide settings.now }
 {
     u64::from(settings.phi) * u64::from(settings.capacity) >= LEAST_WIDTH
 }
 
-// The text of an option, if it stands.
+// The value of an option, if it is present.
 fn text_of<'a>(matches: &ArgMatches<'a>, opt: Opt) -> Option<&'a str>
     ensures { text_at result ≡ values_told matches.now opt }
 {
@@ -87,7 +87,7 @@ fn text_of<'a>(matches: &ArgMatches<'a>, opt: Opt) -> Option<&'a str>
 }
 
 impl Numeric {
-    // The number that the option sets, by its text if it stands.
+    // The number that the option sets: its value if it is present, else the default.
     fn read(&self, text: Option<&str>) -> Result<u32, WordsKind>
         requires { kind_of self.now.opt ≡ number self.now.least self.now.greatest }
         ensures ok { IfOk result (SetsNumber self.now.opt self.now.default (text_at text.entry)) }

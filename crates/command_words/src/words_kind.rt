@@ -1,4 +1,4 @@
-//! What is wrong with the words of a command line.
+//! What is wrong with the arguments of a command line.
 
 ghost use Rattle.std.specs.Prelude.{◌≡◌};
 
@@ -7,40 +7,40 @@ use prefix_lattice::PrefixFault;
 use std::alloc::AllocError;
 use thiserror::Error;
 
-/// What is wrong with the words. The first that holds is told.
+/// What is wrong with the arguments. The first fault is reported.
 #[derive(Clone, Copy, Debug, PartialEq, Eq, Error)]
 pub enum WordsKind {
-    /// There is no word.
+    /// There are no arguments.
     #[error("no command")]
     NoCommand,
-    /// The first word is no command.
+    /// The first argument is not the name of a command.
     #[error("unknown command")]
     UnknownCommand,
-    /// The words behind the command are not its positionals, each once, and options of its own, each at
+    /// The arguments after the command are not its positionals, each once, and options of its own, each at
     /// most once.
     #[error("refused")]
     Refused,
     /// The texts of the prefix have this fault.
     #[error("prefix: {0}")]
     BadPrefix(PrefixFault),
-    /// The value of the option is no number.
+    /// The value of the option is not a number.
     #[error("{0}: no number")]
     BadNumber(Opt),
-    /// The value of the option is a number that it can't have.
+    /// The value of the option is a number outside its limits.
     #[error("{0}: outside its limits")]
     OutOfLimits(Opt),
-    /// The value of the option is none of its words.
+    /// The value of the option is none of its choices.
     #[error("{0}: no such choice")]
     BadChoice(Opt),
-    /// The tables are too small for the share that is asked for: `phi` times `capacity` is below 2,000,000.
+    /// The tables are too small for the share `phi`: `phi` times `capacity` is below 2,000,000.
     #[error("phi times capacity is below 2000000")]
     Bound,
 }
 
-/// Why words were not read.
+/// Why arguments were not read.
 #[derive(Clone, Copy, Debug, PartialEq, Eq, Error)]
 pub enum WordsRefusal {
-    /// This is wrong with them.
+    /// The arguments have this fault.
     #[error("{0}")]
     Bad(WordsKind),
     /// Memory ran out.

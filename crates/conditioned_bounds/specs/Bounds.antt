@@ -2,21 +2,22 @@
 use Rattle.std.specs.Prelude.{ℕ, ◌≡◌, ◌+◌, ◌-◌, ◌*◌, ◌≤◌, List, ◌∷◌, ◌++◌, All, sum_by, ℤ, pos, ◌-ℤ◌}
 use Rattle.prefix_lattice.specs.{RecordValue, PrefixValue, weight_of, closest, kept_pairs}
 
--- the bound of a prefix over some lines: its high and the highs of the meets of its closest lines' kept pairs, less the lows of those lines
+-- the bound of a prefix over some lines: its high and the highs of the meets of its closest lines' kept pairs,
+-- less the lows of those lines
 abbrev pub bound_of : (PrefixValue → ℕ) → (PrefixValue → ℕ) → PrefixValue → List PrefixValue → ℤ
 bound_of low high prefix lines =
     pos (high prefix + sum_by high (kept_pairs (closest prefix lines))) -ℤ pos (sum_by low (closest prefix lines))
 
--- the prefixes whose intervals a bound is made of: the prefix itself, its closest lines, and the meets of their kept pairs
+-- the prefixes whose intervals make a bound: the prefix itself, its closest lines, and the meets of their kept pairs
 abbrev pub asked_of : PrefixValue → List PrefixValue → List PrefixValue
 asked_of prefix lines = prefix ∷ (closest prefix lines ++ kept_pairs (closest prefix lines))
 
--- the weight of each of these prefixes over some records is from its low to its high
+-- the weight of each of these prefixes over some records is between its low and its high
 abbrev pub HoldWeights : (PrefixValue → ℕ) → (PrefixValue → ℕ) → List RecordValue → List PrefixValue → Type 0
 HoldWeights low high records asked =
     All (λ prefix. (low prefix ≤ weight_of prefix records) × (weight_of prefix records ≤ high prefix)) asked
 
--- for each of these prefixes, what lies between its low and its high, taken so many times, is at most the whole
+-- for each of these prefixes, the width of its interval times this number is at most this whole
 abbrev pub AreNarrow : (PrefixValue → ℕ) → (PrefixValue → ℕ) → ℕ → ℕ → List PrefixValue → Type 0
 AreNarrow low high times whole asked = All (λ prefix. (high prefix - low prefix) * times ≤ whole) asked
 

@@ -9,20 +9,20 @@ use crate::{Intervals, bounds_hold, closest, kept_pairs};
 use prefix_lattice::{Prefix, Prefixes};
 use std::alloc::{AllocError, Global};
 
-/// A bound on the conditioned weight of a prefix, and of how many intervals it is made.
+/// A bound on the conditioned weight of a prefix, and the numbers of intervals that it is made of.
 #[derive(Clone, Copy, Debug, PartialEq, Eq)]
 pub struct BoundParts {
-    /// The bound, in bytes or packets. It is below 0 where the lows of the lines are more than the highs.
+    /// The bound, in bytes or packets. It is negative where the lows of the lines add up to more than the highs.
     pub value: i128,
     /// How many closest lines the prefix has.
     pub closest: u64,
-    /// How many pairs of them are kept.
+    /// How many pairs of these lines are kept.
     pub pairs: u64,
 }
 
 /// The bound of a prefix over the reported lines (Mitzenmacher, Steinke, Thaler 2012): its high and the highs
-/// of the meets of its closest lines' kept pairs, less the lows of those lines. A record that some of the lines
-/// cover is covered by one meet fewer, so it is taken away once. Want of memory is the only error.
+/// of the meets of its closest lines' kept pairs, less the lows of those lines. A record that n of the lines
+/// cover is covered by n - 1 of the meets, so it is subtracted exactly once. The only error is that memory runs out.
 pub fn bound<I: Intervals>(
     alloc: Global,
     prefix: &Prefix,

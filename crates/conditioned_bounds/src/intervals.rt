@@ -1,11 +1,11 @@
-//! Where the intervals of prefixes come from.
+//! The source of the intervals of prefixes.
 
 ghost use Rattle.std.specs.Prelude.{◌≡◌, ◌^◌, ◌<◌, ◌≤◌, ℕ};
 ghost use Rattle.prefix_lattice.specs.{PrefixValue};
 
 use prefix_lattice::Prefix;
 
-/// Intervals for the weights of prefixes, as a summary of some traffic knows them.
+/// Intervals that hold the weights of prefixes, as a summary of some traffic gives them.
 pub trait Intervals {
     /// The least weight that each prefix can have.
     ghost low: { Self → PrefixValue → ℕ };

@@ -1,4 +1,4 @@
-//! Laws of bounds. A caller that runs one has it at hand.
+//! Laws of bounds. A caller that calls one has its contract available.
 
 ghost use Rattle.std.specs.Prelude.{◌≡◌, ◌≢◌, ℕ, ◌+◌, ◌*◌, ◌≤◌, List, length, All, AllPairs, sum_by, pos, ◌*ℤ◌, ◌≤ℤ◌};
 ghost use Rattle.prefix_lattice.specs.{RecordValue, PrefixValue, IsPrefix, weight_of, closest, kept_pairs, conditioned_weight};
@@ -9,8 +9,8 @@ use prefix_lattice::{
     staircase_law,
 };
 
-/// A law of weights: a prefix and the meets of its closest lines' kept pairs weigh together what those lines
-/// and the conditioned weight do.
+/// A law of weights: the weight of a prefix plus the weights of the meets of its closest lines' kept pairs equals
+/// its conditioned weight plus the weights of those lines.
 pub fn weights_balance()
     ensures { (prefix : PrefixValue) (lines : List PrefixValue) (records : List RecordValue)
         → AllPairs (λ line other. line ≢ other) lines
@@ -23,10 +23,10 @@ pub fn weights_balance()
     staircase_law();
 }
 
-/// A law of bounds over distinct lines, whatever the intervals. Where they hold the weights over some records,
-/// the bound is at least the conditioned weight, as is each number that it reaches. Where no interval is wider than
-/// a limit, it is above that weight by at most the limit times the number of intervals. Where they are the weights,
-/// it is the conditioned weight.
+/// A law of bounds over distinct lines, for any intervals that hold the weights over some records. The bound is at
+/// least the conditioned weight. If no interval is wider than a limit, then the bound, and each number that is at
+/// most the bound, exceeds that weight by at most the limit times the number of intervals. If the intervals are
+/// exactly the weights, the bound is the conditioned weight.
 pub fn bounds_hold()
     ensures at_least { (low high : PrefixValue → ℕ) (prefix : PrefixValue) (lines : List PrefixValue) (records : List RecordValue)
         → AllPairs (λ line other. line ≢ other) lines → HoldWeights low high records (asked_of prefix lines)
@@ -48,7 +48,7 @@ pub fn bounds_hold()
     weights_balance();
 }
 
-/// A law of what a bound asks: the intervals of prefixes alone.
+/// A law of the intervals that a bound is made of: for a prefix and lines that are prefixes, all are of prefixes.
 pub fn only_prefixes_are_asked()
     ensures { (prefix : PrefixValue) (lines : List PrefixValue) → IsPrefix prefix → All IsPrefix lines → All IsPrefix (asked_of prefix lines) }
 {

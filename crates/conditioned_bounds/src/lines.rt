@@ -7,8 +7,8 @@ ghost use Rattle.prefix_lattice.specs.{strictly_under, lines_under, greatest, cl
 use prefix_lattice::{Prefix, Prefixes};
 use std::alloc::{AllocError, Global};
 
-/// The closest lines of a prefix: those of the reported prefixes that are strictly under it, and strictly
-/// under no other such line. They are in the order of `reported`. Want of memory is the only error.
+/// The closest lines of a prefix: the reported prefixes that are strictly under it, and strictly under no other
+/// such line. They are in the order of `reported`. The only error is that memory runs out.
 pub fn closest(alloc: Global, prefix: &Prefix, reported: &Prefixes) -> Result<Prefixes, AllocError>
     ensures { IfOk result (λ lines. lines ≡ closest prefix.now reported.now) }
 {

@@ -1,4 +1,4 @@
-//! What two of some prefixes share that no third one covers.
+//! The meets of pairs of prefixes that are under no third prefix.
 
 ghost use Rattle.std.specs.Prelude.{◌≡◌, ◌++◌, IfOk, OnOk};
 ghost use Rattle.std.specs.List.{filter_map};
@@ -7,8 +7,8 @@ ghost use Rattle.prefix_lattice.specs.{same_prefix, under_third, kept_meet, kept
 use prefix_lattice::{Prefix, Prefixes};
 use std::alloc::{AllocError, Global};
 
-/// The meets of the kept pairs of some members: of each pair whose meet exists and is under no third
-/// member. They are in the order of the first, then of the second member. Want of memory is the only error.
+/// The meets of the kept pairs of some members: of each pair whose meet exists and is under no third member. They
+/// are in the order of the first member, then of the second. The only error is that memory runs out.
 pub fn kept_pairs(alloc: Global, members: &Prefixes) -> Result<Prefixes, AllocError>
     ensures { IfOk result (λ meets. meets ≡ kept_pairs members.now) }
 {
@@ -56,7 +56,7 @@ fn is_under_third(members: &[Prefix], first: &Prefix, second: &Prefix, meet: &Pr
         && !(is_same(third, first) || is_same(third, second)))
 }
 
-/// Two prefixes are the same where each is under the other.
+/// Whether two prefixes are the same: each is under the other.
 fn is_same(prefix: &Prefix, other: &Prefix) -> bool
     ensures { result ≡ same_prefix prefix.now other.now }
 {

@@ -6,7 +6,7 @@ use prefix_lattice::{Prefix, Prefixes, Record};
 use std::alloc::Global;
 use std::test::Fail;
 
-/// What is known of the traffic of one packet: its weight is from `low` to `high`.
+/// The traffic of one packet, whose weight is known to be from `low` to `high`.
 #[derive(Drop)]
 struct OnePacket {
     packet: Record,
@@ -34,7 +34,7 @@ type Texts = (&'static str, &'static str);
 
 const ROOT: Texts = ("0.0.0.0/0", "0.0.0.0/0");
 
-/// None of them is under another, and the meet of the outer two is under the middle one.
+/// No member is under another, and the meet of the outer two is under the middle one.
 const STAIRS: [Texts; 3] = [
     ("10.0.0.0/8", "20.1.1.0/24"),
     ("10.1.0.0/16", "20.1.0.0/16"),

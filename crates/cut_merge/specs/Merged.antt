@@ -12,13 +12,13 @@ use Rattle.cut_merge.specs.declared.gain.Gain.{Gain}
 use Rattle.cut_merge.specs.Tables.{merged_interval, table_keys, monitored_keys}
 
 -- the capacity of the tables, the weight that they counted together, and the merged tables of each of the 25 nodes,
--- in the order of the nodes' places
+-- in the order of the nodes' indexes
 pub record MergedValue : Type 0 where
   pub capacity : ℕ
   pub total : ℕ
   pub nodes : List NodeMergeValue
 
--- nothing merged
+-- the merge of no tables
 abbrev pub nothing_merged : NodeMergeValue
 nothing_merged = record { gains = []; missing = 0 }
 
@@ -26,32 +26,33 @@ nothing_merged = record { gains = []; missing = 0 }
 abbrev pub merge_at : NodeValue → MergedValue → NodeMergeValue
 merge_at node merged = slice_index_or merged.nodes (index_of node) nothing_merged
 
--- what the merged tables of a node say of a key
+-- the interval of a key in the merged tables of a node
 abbrev pub interval_for_key : NodeMergeValue → ℕ → Interval
 interval_for_key merge key = record { low = (gain_of key merge.gains).low; high = merge.missing + (gain_of key merge.gains).high }
 
--- what merged tables say of a prefix
+-- the interval of a prefix in merged tables
 abbrev pub interval_for : MergedValue → PrefixValue → Interval
 interval_for merged prefix = interval_for_key (merge_at (node_of prefix) merged) (key_of prefix)
 
--- the keys that merged tables know at a node
+-- the keys of a node that merged tables hold
 abbrev pub candidates_at : MergedValue → NodeValue → List ℕ
 candidates_at merged node = keys_of (merge_at node merged).gains
 
--- merged tables stand for a cut: their capacity and total, the interval of each prefix and the candidates of each node are the cut's
+-- merged tables represent a cut: their capacity and total, the interval of each prefix and the candidates
+-- of each node are those of the cut
 pub record StandsForCut (merged : MergedValue) (cut : CutValue) : Type 0 where
   pub capacity : merged.capacity ≡ cut.capacity
   pub total : merged.total ≡ total_of_cut cut
   pub intervals : (prefix : PrefixValue) → IsPrefix prefix → interval_for merged prefix ≡ span cut prefix
   pub candidates : (node : NodeValue) → IsNode node → candidates_at merged node ≡ monitored_at cut node
 
--- what merged tables keep: there are 25 nodes, and no interval is above the total, which is below 2^60
+-- what always holds of merged tables: there are 25 nodes, and no interval is above the total, which is below 2^60
 pub record IsMerged (merged : MergedValue) : Type 0 where
   pub bounded : merged.total < 2 ^ 60
   pub shape : length merged.nodes ≡ node_count
   pub intervals : (place key : ℕ) → IsWithinTotal merged.total (interval_for_key (slice_index_or merged.nodes place nothing_merged) key)
 
--- the keys that were seen once one more is: a new one goes behind the others
+-- the keys seen so far after one more key: a new key is appended
 abbrev pub seen : List ℕ → ℕ → List ℕ
 seen keys key = if list_any (λ other. key == other) keys then keys else keys ++ key ∷ []
 
@@ -59,28 +60,29 @@ seen keys key = if list_any (λ other. key == other) keys then keys else keys ++
 abbrev pub missing_high : TableValue → ℕ
 missing_high table = (interval_from None table).high
 
--- an interval of a table has its ends in order and within what the table counted, and its high isn't below that of a missing key
+-- an interval of a table has its ends in order and within the table's total, and its high is not below
+-- that of a missing key
 pub record IsBounded (key : ℕ) (table : TableValue) : Type 0 where
   pub ordered : (interval_in table key).low ≤ (interval_in table key).high
   pub within_total : (interval_in table key).high ≤ total_count table.entries
   pub above_missing : missing_high table ≤ (interval_in table key).high
 
--- two gains together
+-- the sum of two excesses
 abbrev pub plus : Gain → Gain → Gain
 plus gain more = record { low = gain.low + more.low; high = gain.high + more.high }
 
--- what a table adds to the gain of a key, by the entry that the key has there
+-- what a table adds to the excess of a key, by the entry that the key has there
 abbrev pub gain_from : TableValue → Option Entry → Gain
 gain_from table None = no_gain
 gain_from table (Some entry) = record { low = entry.count - entry.error; high = entry.count - missing_high table }
 
--- a table was merged in
+-- one more table was merged in
 pub record AddsTable (old : NodeMergeValue) (table : TableValue) (new : NodeMergeValue) : Type 0 where
   pub gains : (key : ℕ) → gain_of key new.gains ≡ plus (gain_of key old.gains) (gain_from table (entry_of key table.entries))
   pub missing : new.missing ≡ old.missing + missing_high table
   pub keys : keys_of new.gains ≡ fold seen (keys_of old.gains) (table_keys table)
 
--- what is merged says of each key what these tables say together
+-- the merge represents these tables: it gives each key their merged interval, and has the keys that they monitor
 pub record StandsForTables (merge : NodeMergeValue) (tables : List TableValue) : Type 0 where
   pub intervals : (key : ℕ) → interval_for_key merge key ≡ merged_interval tables key
   pub keys : keys_of merge.gains ≡ monitored_keys tables

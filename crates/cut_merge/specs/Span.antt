@@ -10,7 +10,7 @@ use Rattle.cut_merge.specs.Tables.{merged_interval, monitored_keys}
 abbrev pub node_tables : NodeValue → CutValue → List TableValue
 node_tables node cut = map (table_at node) cut.shards
 
--- the span of a prefix in a cut: the intervals of its key over the shards, lows and highs each added up
+-- the merged interval of a prefix in a cut: the lows and the highs of its key over the shards, each added up
 abbrev pub span : CutValue → PrefixValue → Interval
 span cut prefix = merged_interval (node_tables (node_of prefix) cut) (key_of prefix)
 
@@ -18,7 +18,7 @@ span cut prefix = merged_interval (node_tables (node_of prefix) cut) (key_of pre
 abbrev pub monitored_at : CutValue → NodeValue → List ℕ
 monitored_at cut node = monitored_keys (node_tables node cut)
 
--- an interval has its ends in order, and within a total
+-- the low of an interval is at most its high, and its high at most a total
 pub record IsWithinTotal (total : ℕ) (interval : Interval) : Type 0 where
   pub ordered : interval.low ≤ interval.high
   pub within_total : interval.high ≤ total

@@ -8,7 +8,7 @@ abbrev pub first_seen : List ℕ → List ℕ
 first_seen [] = []
 first_seen (key ∷ keys) = key ∷ filter (λ other. not (key == other)) (first_seen keys)
 
--- the interval of a key over some tables: their lows and highs, each added up
+-- the merged interval of a key over some tables: their lows and highs, each added up
 abbrev pub merged_interval : List TableValue → ℕ → Interval
 merged_interval tables key = record {
   low = sum_by (λ table. (interval_in table key).low) tables;
@@ -19,6 +19,6 @@ merged_interval tables key = record {
 abbrev pub table_keys : TableValue → List ℕ
 table_keys table = map (λ entry. entry.key) table.entries
 
--- the keys that some table monitors, each once, in the order in which they are first seen over tables and places
+-- the keys that some table monitors, each once, in the order in which they are first seen over tables and entries
 abbrev pub monitored_keys : List TableValue → List ℕ
 monitored_keys tables = first_seen (flat_map table_keys tables)

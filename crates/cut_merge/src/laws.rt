@@ -1,4 +1,4 @@
-//! What the spans of a cut say of weights, each law the contract of a function that does nothing.
+//! What the merged intervals of a cut say of weights, each law the contract of a function that does nothing.
 
 ghost use Rattle.std.specs.Prelude.{◌≡◌, ◌≢◌, ℕ, ◌*◌, ◌^◌, ◌<◌, ◌≤◌, List, length, All, AllPairs, Contains};
 ghost use Rattle.prefix_lattice.specs.{RecordValue, NodeValue, IsNode, PrefixValue, IsPrefix, node_of, key_of, weight_of, total_weight, IsKeyOf};
@@ -9,7 +9,7 @@ ghost use Rattle.cut_merge.specs.Merged.{IsBounded};
 use shard_state::snapshots_hold_weights;
 use space_saving::intervals_are_narrow;
 
-/// Where a cut stands for lists of records, the span of each prefix holds its exact weight over the records
+/// If a cut represents lists of records, the merged interval of each prefix holds its exact weight over the records
 /// before the positions, and is no wider than the total divided by the capacity.
 pub fn spans_hold_weights()
     ensures { (cut : CutValue) (lists : List (List RecordValue)) (prefix : PrefixValue) → IsCut cut → CutStandsFor cut lists
@@ -19,8 +19,8 @@ pub fn spans_hold_weights()
     snapshots_hold_weights();
 }
 
-/// In every cut a span has its ends in order and within the total, and a prefix that no shard monitors has a
-/// high of at most the total divided by the capacity.
+/// In every cut a merged interval has its ends in order and within the total, and the high of a prefix that no
+/// shard monitors is at most the total divided by the capacity.
 pub fn spans_are_narrow()
     ensures within { (cut : CutValue) (prefix : PrefixValue) → IsCut cut → IsPrefix prefix → IsWithinTotal (total_of_cut cut) (span cut prefix) }
     ensures light { (cut : CutValue) (prefix : PrefixValue) → IsCut cut → IsPrefix prefix
@@ -30,8 +30,8 @@ pub fn spans_are_narrow()
     intervals_are_narrow();
 }
 
-/// The keys that a cut monitors at a node are keys of the node, each stands once, and there are at most as many
-/// as the shards' tables have entries.
+/// The keys that a cut monitors at a node are distinct keys of the node, and at most as many as the shards' tables
+/// can have entries.
 pub fn monitored_keys_are_few()
     ensures keyed { (cut : CutValue) (node : NodeValue) → IsCut cut → IsNode node → All (IsKeyOf node) (monitored_at cut node) }
     ensures distinct { (cut : CutValue) (node : NodeValue) → AllPairs (λ key other. key ≢ other) (monitored_at cut node) }
@@ -39,8 +39,8 @@ pub fn monitored_keys_are_few()
         → length (monitored_at cut node) ≤ length cut.shards * cut.capacity }
 {}
 
-/// In the tables of a cut each interval has its ends in order and within what its table counted, and no high
-/// is below that of a key that the table misses. So sums of them don't wrap.
+/// In the tables of a cut each interval has its ends in order and within the total of its table, and no high is
+/// below that of a key that is missing in the table. So sums of intervals don't wrap.
 pub(crate) fn tables_are_bounded()
     ensures { (cut : CutValue) (node : NodeValue) (key : ℕ) → IsCut cut → IsNode node → All (IsBounded key) (node_tables node cut) }
 {

@@ -13,8 +13,8 @@ use shard_state::Cut;
 use std::alloc::{AllocError, Global};
 use std::marker::Model;
 
-/// The tables of all shards of a cut, read as one: each node's keys in the order in which they are first
-/// seen, each with its interval. It is made by one pass over the entries of the cut.
+/// The tables of all shards of a cut, read as one: the keys of each node in the order in which they are first
+/// seen, each with its interval. It is made in one pass over the entries of the cut.
 #[derive(Debug, Drop)]
 pub struct Merged {
     capacity: u32,
@@ -33,8 +33,8 @@ impl Model for Merged {
 }
 
 impl Merged {
-    /// Merges the tables of a cut, which counted less than 2^60 together. A cut of at most 16 shards always did.
-    /// Want of memory is the only error.
+    /// Merges the tables of a cut, which counted less than 2^60 together; those of at most 16 shards always did.
+    /// The only error is that memory runs out.
     pub fn of(alloc: Global, cut: &Cut) -> Result<Merged, AllocError>
         requires { total_of_cut cut.now < 2 ^ 60 }
         ensures { IfOk result (λ merged. StandsForCut merged cut.now) }
@@ -59,7 +59,7 @@ impl Merged {
         self.total
     }
 
-    /// How many entries each table can have.
+    /// The most entries of each table.
     pub fn capacity(&self) -> u32
         ensures { result ≡ self.now.capacity }
     {
@@ -79,8 +79,8 @@ impl Merged {
         self.merge_of(prefix.node()).interval(prefix.key())
     }
 
-    /// The keys that some shard monitors at the node, each once, in the order in which they are first seen
-    /// over shards and places.
+    /// The keys that some shard monitors at the node, each once, in the order in which they are first seen: shard
+    /// by shard, in the order of each table's entries.
     pub fn candidates(&self, node: Node) -> &[u64]
         ensures known { result.now ≡ candidates_at self.now node }
         ensures of_cut { (cut : CutValue) → StandsForCut self.now cut → result.now ≡ monitored_at cut node }

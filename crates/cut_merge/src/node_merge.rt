@@ -13,8 +13,8 @@ use space_saving::Flat;
 use std::alloc::{AllocError, Global};
 use std::marker::Model;
 
-/// The tables of one node, merged: what each key gains where it is monitored, and the high of a key that
-/// no table monitors. A key that some tables lack has their highs by the second number.
+/// The tables of one node, merged: the excess of each monitored key, and the high of a key that no table monitors.
+/// The high of a key is the second number plus its excess, so tables that lack the key count by the second number.
 #[derive(Debug, Drop)]
 pub(crate) struct NodeMerge {
     gains: IndexMap<u64, Gain>,
@@ -30,7 +30,7 @@ impl Model for NodeMerge {
 }
 
 impl NodeMerge {
-    /// No table is merged yet. It takes no memory.
+    /// No table is merged yet. It allocates no memory.
     pub(crate) fn new(alloc: Global) -> NodeMerge
         ensures { result ≡ record { gains = []; missing = 0 } }
     {
@@ -40,7 +40,7 @@ impl NodeMerge {
         }
     }
 
-    /// Merges one more table in. After an `Err` it may be merged in part.
+    /// Merges one more table in. After an `Err` the table may be merged in part.
     pub(crate) fn add(&mut self, table: &Flat) -> Result<(), AllocError>
         requires low { (key : ℕ) → (interval_for_key self.old key).low + total_count table.now.entries < 2 ^ 64 }
         requires high { (key : ℕ) → (interval_for_key self.old key).high + total_count table.now.entries < 2 ^ 64 }
@@ -69,7 +69,7 @@ impl NodeMerge {
     }
 }
 
-// What is noted for a key.
+// The excess noted for a key.
 fn gain_in(gains: &IndexMap<u64, Gain>, key: u64) -> Gain
     ensures { result ≡ gain_of key gains.now.entries }
 {
@@ -91,7 +91,7 @@ fn missing_in(table: &Flat) -> u64
     }
 }
 
-// Notes what each entry of a table gains, beyond what a missing key has there.
+// Notes the excess of each entry of a table over a key that is missing there.
 fn note_entries(
     gains: &mut IndexMap<u64, Gain>,
     table: &Flat,
@@ -115,7 +115,7 @@ fn note_entries(
     Ok(())
 }
 
-// Notes what a key gains more. A new key goes behind the others.
+// Adds to the excess of a key. A new key is appended.
 fn note(gains: &mut IndexMap<u64, Gain>, key: u64, more: Gain) -> Result<(), AllocError>
     requires low { (gain_of key gains.old.entries).low + more.low < 2 ^ 64 }
     requires high { (gain_of key gains.old.entries).high + more.high < 2 ^ 64 }

@@ -49,7 +49,7 @@ const FIRST: [Record; 6] = [X, X, X, X, X, U];
 
 const SECOND: [Record; 5] = [X, Y, Z, W, V];
 
-// The state of a shard of these packets, all counted in tables of capacity 4.
+// The state of a shard with these packets, all counted in tables of capacity 4.
 fn folded(rt: &impl Abort, alloc: Global, records: &[Record]) -> Result<ShardState, AllocError>
     ensures { IfOk result (λ shard. shard.base.capacity ≡ 4) }
 {

@@ -4,7 +4,7 @@ use Rattle.prefix_lattice.specs.{RecordValue}
 use Rattle.deal_rules.specs.declared.deal_kind.DealKind.{DealKind}
 use Rattle.deal_rules.specs.declared.deal_kind.DealKind.TheVariants.{RoundRobin, BySource}
 
--- what a rule is asked for: a place below 16,777,216, a record, and a number of shards from 1 to 16
+-- what a rule may be asked: an index below 16,777,216, a record of weight 1 or more, and a number of shards, 1 to 16
 pub record IsAsked (place : ℕ) (rec : RecordValue) (shards : ℕ) : Type 0 where
   pub early : place < 2 ^ 24
   pub source : rec.src < 2 ^ 32
@@ -14,12 +14,12 @@ pub record IsAsked (place : ℕ) (rec : RecordValue) (shards : ℕ) : Type 0 whe
   pub some : 1 ≤ shards
   pub few : shards ≤ 16
 
--- a number of the kind: the place, or the source address, modulo the number of shards; Free takes any
+-- a number of the kind: the index, or the source address, modulo the number of shards; Free allows any number
 pub record IsOfKind (kind : DealKind) (place : ℕ) (rec : RecordValue) (shards number : ℕ) : Type 0 where
   pub round : kind ≡ RoundRobin → number ≡ place % shards
   pub source : kind ≡ BySource → number ≡ rec.src % shards
 
--- a number that a dealing may give a record: a shard of the kind, which the stored function may answer
+-- a shard that a dealing may give a record: it follows the formula of the kind, and the stored function may return it
 pub record MayBeDealt (kind : DealKind) (may_answer : ℕ → RecordValue → ℕ → ℕ → Type 0) (place : ℕ) (rec : RecordValue) (shards number : ℕ) : Type 0 where
   pub below : number < shards
   pub of_kind : IsOfKind kind place rec shards number

@@ -3,10 +3,10 @@
 /// How records are dealt to shards.
 #[derive(Clone, Copy, Debug, PartialEq, Eq)]
 pub enum DealKind {
-    /// The place of the record, from 0, modulo the number of shards.
+    /// The index of the record, from 0, modulo the number of shards.
     RoundRobin,
     /// The source address of the record modulo the number of shards.
     BySource,
-    /// Whatever the stored function answers.
+    /// Whatever the stored function returns.
     Free,
 }

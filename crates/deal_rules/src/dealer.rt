@@ -8,8 +8,8 @@ ghost use Rattle.deal_rules.specs.Rule.{IsAsked, IsOfKind, MayBeDealt};
 use crate::DealKind;
 use prefix_lattice::Record;
 
-/// The stored function of a dealer: from the place of a record, counted from 0, the record and the number
-/// of shards to the number of the record's shard.
+/// The stored function of a dealer. It maps the index of a record, counted from 0, the record and the number of
+/// shards to the shard of the record.
 pub type DealRule = Box<dyn Fn(u64, Record, u32) -> u32>;
 
 /// What contracts say of a dealer.
@@ -17,12 +17,12 @@ pub trait Deals {
     /// How it deals.
     ghost kind_of: { Self → DealKind };
 
-    /// What it may answer for a place, a record and a number of shards.
+    /// What it may answer for an index, a record and a number of shards.
     ghost may_answer: { Self → ℕ → RecordValue → ℕ → ℕ → Type 0 };
 }
 
-/// A rule of dealing. Its function may be called for each place below 16,777,216, each record and 1 to 16
-/// shards, and it answers a number below the number of shards, by the formula of its kind.
+/// A rule of dealing. Its function may be called for each index below 16,777,216, each record and 1 to 16
+/// shards, and returns a number below the number of shards, by the formula of its kind.
 #[derive(Drop)]
 pub struct Dealer {
     kind: DealKind,
@@ -43,8 +43,8 @@ impl Deals for Dealer {
 }
 
 impl Dealer {
-    /// A dealer that deals by the rule, which must be of this kind: for each place below 16,777,216, each record
-    /// and 1 to 16 shards it may be called, and answers a number below the number of shards, by the kind's formula.
+    /// A dealer that deals by the rule, which must be of this kind: for each index below 16,777,216, each record
+    /// and 1 to 16 shards it may be called, and it returns a number below the number of shards, by the kind's formula.
     pub fn new(kind: DealKind, rule: DealRule) -> Dealer
         requires callable { (place : ℕ) (rec : RecordValue) (shards : ℕ)
             → IsAsked place rec shards → pre rule place rec shards }
@@ -67,8 +67,8 @@ impl Dealer {
         self.kind
     }
 
-    /// The shard of the record at this place, from 0 to 16,777,215, among 1 to 16 shards, as the stored function
-    /// answers.
+    /// The shard of the record at this index, from 0 to 16,777,215, among 1 to 16 shards, as returned by the stored
+    /// function.
     pub fn shard(&self, place: u64, rec: &Record, shards: u32) -> u32
         requires early { place < 16777216 }
         requires some { 1 ≤ shards }
@@ -76,13 +76,13 @@ impl Dealer {
         ensures { MayBeDealt (⟦<Dealer as Deals>⟧.kind_of self.now) (⟦<Dealer as Deals>⟧.may_answer self.now)
             place rec.now shards result }
     {
-        // That the record weighs something is known once its weight is read.
+        // Reading the weight makes it known that the weight is at least 1.
         let _weight = rec.weight;
         ask(&self.rule, place, *rec, shards)
     }
 }
 
-// Calls a rule that may be called.
+// Calls a rule, for arguments that it accepts.
 fn ask(rule: &DealRule, place: u64, rec: Record, shards: u32) -> u32
     requires { pre rule.now place rec shards }
     ensures { post rule.now place rec shards result }

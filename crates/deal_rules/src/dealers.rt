@@ -8,9 +8,9 @@ use crate::Dealer;
 /// One dealer of each kind.
 #[derive(Drop)]
 pub struct Dealers {
-    /// Deals by the place of a record.
+    /// Deals in turn, by the index of a record.
     pub round: Dealer,
-    /// Deals by the source of a record.
+    /// Deals by the source address of a record.
     pub source: Dealer,
     /// Deals by any function.
     pub free: Dealer,

@@ -10,9 +10,9 @@ use crate::{Dealer, Deals, Dealt};
 use prefix_lattice::RecordList;
 use std::alloc::{AllocError, Global};
 
-/// Deals the records, at most 16,777,216, to 1 to 16 shards: each record goes to the shard that the
-/// dealer answers for its place, counted from 0, and keeps its order there. Want of memory drops what was
-/// dealt.
+/// Deals the records, at most 16,777,216, to 1 to 16 shards. Each record goes to the shard that the dealer returns
+/// for its index, counted from 0, and keeps its order there. On an error, which means that memory ran out, the dealt
+/// lists are dropped.
 pub fn deal(
     alloc: Global,
     list: &RecordList,
@@ -34,7 +34,7 @@ pub fn deal(
     Ok(Dealt::of(lists))
 }
 
-// A list with no record for each shard.
+// An empty list for each shard.
 fn empty_lists(alloc: Global, shards: u32) -> Result<Vec<RecordList>, AllocError>
     ensures { IfOk result (λ lists. lists.items ≡ dealt_lists shards [] []) }
 {
@@ -45,8 +45,8 @@ fn empty_lists(alloc: Global, shards: u32) -> Result<Vec<RecordList>, AllocError
     Ok(lists)
 }
 
-/// The lists of a dealing hold its records, none lost and none doubled, so they keep every sum over the
-/// records: their number, the weight of each prefix, and the whole weight.
+/// The lists of a dealing hold its records, none lost and none duplicated, so every sum over the records stays the
+/// same: their number, the weight of each prefix, and the total weight.
 pub fn dealing_loses_nothing()
     ensures permuted { (shards : ℕ) (records : List RecordValue) (numbers : List ℕ) (lists : List (List RecordValue))
         → AreDealt shards records numbers lists → IsPermutation records (flat_map (λ list. list) lists) }

@@ -26,7 +26,7 @@ impl Model for Dealt {
 }
 
 impl Dealt {
-    /// The lists of all shards, from shard 0 on.
+    /// Takes the lists of all shards, from shard 0 on.
     pub(crate) fn of(lists: Vec<RecordList>) -> Dealt
         requires { AreShardLists lists.items }
         ensures { result ≡ lists.items }
@@ -42,7 +42,7 @@ impl Dealt {
         self.lists.len() as u32
     }
 
-    /// The records of a shard below the number of shards, in their order.
+    /// The records of a shard, in their order. The shard's index is below the number of shards.
     pub fn list(&self, shard: u32) -> &RecordList
         requires { shard < length self.now }
         ensures value { slice_get self.now shard ≡ Some result.now }
@@ -59,7 +59,7 @@ impl Dealt {
         self.lists
     }
 
-    /// An equal one.
+    /// An equal copy. The only error is that memory runs out.
     pub fn copy(&self, alloc: Global) -> Result<Dealt, AllocError>
         ensures { IfOk result (λ dealt. dealt ≡ self.now) }
     {

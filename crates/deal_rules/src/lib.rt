@@ -1,4 +1,4 @@
-//! Dealing records to shards, by a rule that the caller hands in.
+//! Dealing records to shards, by a rule that the caller provides.
 #![tactic(auto)]
 
 mod choosing;

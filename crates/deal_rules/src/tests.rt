@@ -10,7 +10,7 @@ use std::test::Fail;
 // The source, the destination and the weight of each record.
 const RECORDS: [(u32, u32, u32); 5] = [(7, 1, 1), (4, 4, 2), (7, 2, 3), (16, 255, 4), (33, 0, 5)];
 
-// A number of shards, and the shard of each record.
+// A number of shards, and the expected shard of each record.
 type Row = (u32, [u32; 5]);
 
 // Deals the records to each number of shards of a table.
@@ -25,7 +25,7 @@ fn check_rows(rt: &impl Abort, alloc: Global, dealer: &Dealer, rows: [Row; 4]) -
     Ok(())
 }
 
-// Deals the records, and compares the list of each shard, also in a copy that became lists.
+// Deals the records, and compares the list of each shard, also in a copy turned into lists.
 fn check_row(
     rt: &impl Abort,
     alloc: Global,
@@ -92,7 +92,7 @@ fn by_both(place: u64, rec: Record, shards: u32) -> u32
     (rec.src ^ rec.dst) % shards
 }
 
-// A rule that knows one shard.
+// A rule that uses only the first shard.
 fn to_the_first(place: u64, rec: Record, shards: u32) -> u32
     requires { IsAsked place rec shards }
     ensures { result ≡ 0 }

@@ -1,5 +1,5 @@
--- The record of a frame: what an Ethernet frame carries from one IPv4 address to another (RFC 791), behind up to
--- two VLAN tags (802.1Q, 802.1ad).
+-- The record of a frame: the addresses in the IPv4 header (RFC 791) that an Ethernet frame carries, after up to
+-- two VLAN tags (802.1Q, 802.1ad), and a weight.
 use Rattle.std.specs.Prelude.{ℕ, ◌+◌, ◌-◌, ◌/◌, ◌%◌, ◌==◌, ◌&&◌, ◌||◌, not, nat_lt, nat_le, max, Bool, true, false, if◌then◌else◌, List, slice_index, count_by, Option, None, Some, Result, Ok, Err}
 use Rattle.std.specs.List.{filter_map}
 use Rattle.std.specs.Result.{result_ok}
@@ -11,23 +11,23 @@ use Rattle.frame_records.specs.declared.weigh.Weigh.TheVariants.{Bytes, Packets}
 use Rattle.frame_records.specs.declared.skip.Skip.{Skip}
 use Rattle.frame_records.specs.declared.skip.Skip.TheVariants.{NotIpv4, Short, BadHeader}
 
--- whether the type of a VLAN tag stands at this place of the captured bytes
+-- whether the captured bytes have the type of a VLAN tag at this offset
 abbrev pub has_tag_at : ℕ → FrameValue → Bool
 has_tag_at place frame = nat_le (place + 2) frame.captured && (big_from place 2 frame.head == 0x8100 || big_from place 2 frame.head == 0x88a8)
 
--- how many bytes of tags stand before the type of the frame: a third tag counts as its type
+-- how many bytes of tags precede the type of the frame: a third tag counts as its type
 abbrev pub tag_bytes : FrameValue → ℕ
 tag_bytes frame = if not (has_tag_at 12 frame) then 0 else (if not (has_tag_at 16 frame) then 4 else 8)
 
--- where the header of the network layer begins, behind the addresses, the tags and the type
+-- the offset of the network-layer header: after the addresses, the tags and the type
 abbrev pub network_place : FrameValue → ℕ
 network_place frame = 14 + tag_bytes frame
 
--- whether a byte begins an IPv4 header: version 4, and at least five words of header
+-- whether a byte begins an IPv4 header: version 4, and a header length of at least five 32-bit words
 abbrev pub begins_ipv4 : ℕ → Bool
 begins_ipv4 byte = byte / 16 == 4 && nat_le 5 (byte % 16)
 
--- why a frame whose network layer begins at this place has no record
+-- why a frame whose network layer begins at this offset has no record
 abbrev pub skip_at : ℕ → FrameValue → Option Skip
 skip_at place frame =
     if nat_lt frame.captured place then Some Short
@@ -40,12 +40,12 @@ skip_at place frame =
 abbrev pub skip_of : FrameValue → Option Skip
 skip_of frame = skip_at (network_place frame) frame
 
--- what a frame weighs: the greater of its two lengths, or one packet
+-- the weight of a frame: the greater of its two lengths, or one packet
 abbrev pub weight_of_frame : Weigh → FrameValue → ℕ
 weight_of_frame Bytes frame = max frame.captured frame.original
 weight_of_frame Packets frame = 1
 
--- the record of a frame whose network layer begins at this place
+-- the record of a frame whose network layer begins at this offset
 abbrev pub record_at : ℕ → Weigh → FrameValue → RecordValue
 record_at place weigh frame = record {
   src = big_from (place + 12) 4 frame.head;

@@ -1,4 +1,4 @@
--- What a visitor keeps of the frames that it saw, which no public contract cites: their records, and counts that stay at the greatest u64.
+-- What a visitor keeps of the frames that it is shown, which no public contract cites: their records and capped counts.
 use Rattle.std.specs.Prelude.{ℕ, ◌≡◌, ◌+◌, ◌-◌, ◌^◌, min, Bool, true, false, List, [], ◌∷◌, ◌++◌, length, Result, Ok, Err}
 use Rattle.prefix_lattice.specs.{RecordValue}
 use Rattle.pcap_frames.specs.{FrameValue}
@@ -9,7 +9,7 @@ use Rattle.frame_records.specs.declared.skip.Skip.{Skip}
 use Rattle.frame_records.specs.declared.skip.Skip.TheVariants.{NotIpv4, Short, BadHeader}
 use Rattle.frame_records.specs.declared.records.Records.{Records}
 
--- the weighing that a visitor's type says
+-- how the visitor weighs traffic, as its type says: by packets or by bytes
 abbrev pub weigh_by : Bool → Weigh
 weigh_by true = Packets
 weigh_by false = Bytes

@@ -1,4 +1,4 @@
--- What reading the records of a capture came to.
+-- The result of reading the records of a capture.
 use Rattle.std.specs.Prelude.{⊤, ℕ, ◌≡◌, ◌≤◌, List, length, Option, IfSome}
 use Rattle.std.specs.Io.KnownBytes.{Consumes}
 use Rattle.pcap_frames.specs.{FrameValue}
@@ -19,19 +19,19 @@ pub record AreRecordsOf (weigh : Weigh) (all : List FrameValue) (records : Recor
   pub short : records.short ≡ skipped Short all
   pub bad_header : records.bad_header ≡ skipped BadHeader all
 
--- the records are those of at most 16,777,216 frames, which are the capture that the source told
+-- the records are those of at most 16,777,216 frames, which are the frames of the source's bytes where these are known
 pub record HasRecords (weigh : Weigh) (left : Option (List ℕ)) (records : Records) : Type 0 where
   pub frames : List FrameValue
   pub few : length frames ≤ 16777216
   pub told : IfSome left (λ file. HasFrames file frames)
   pub are : AreRecordsOf weigh frames records
 
--- each refusal has its cause: the bytes told have that first fault, or the source's count of faults rose
+-- each refusal has its cause: the known bytes have this first fault, or the source's count of faults rose
 abbrev pub HasRefused : Option (List ℕ) → ℕ → ℕ → ReadRefusal → Type 0
 HasRefused left before now (Capture fault) = IfSome left (λ file. IsRefusedFor file fault)
 HasRefused left before now ReadFault = Rose before now
 HasRefused left before now OutOfMemory = ⊤
 
--- of the bytes that the source told, a front was read, and the others are left
+-- a front of the known bytes of the source was read, and the others remain
 abbrev pub HasReadFront : Option (List ℕ) → Option (List ℕ) → Type 0
 HasReadFront left now = (front : List ℕ) × Consumes left now front

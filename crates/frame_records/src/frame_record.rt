@@ -10,19 +10,19 @@ use byteorder::{BigEndian, ByteOrder};
 use pcap_frames::Frame;
 use prefix_lattice::Record;
 
-// The types of an Ethernet frame that are told apart.
+// The Ethernet types that are distinguished.
 const VLAN_TAG: u16 = 0x8100;
 
 const SERVICE_TAG: u16 = 0x88a8;
 
 const IPV4: u16 = 0x0800;
 
-/// The record of a frame: the addresses of its IPv4 header (RFC 791), behind up to two VLAN tags (802.1Q,
+/// The record of a frame: the addresses of its IPv4 header (RFC 791), after up to two VLAN tags (802.1Q,
 /// 802.1ad), and its weight, which is at least 1.
 ///
-/// The tests go from the front of the frame on, and the first that fails gives the `Skip`: `Short` for
-/// the way to the type, `NotIpv4`, `Short` for the 20 bytes behind it, `BadHeader`. Options, the header's
-/// other lengths, fragments and the checksum are not looked at.
+/// The tests go through the frame from its front, and the first that fails gives the `Skip`: `Short` for the bytes
+/// up to and including the type, `NotIpv4` for the type, `Short` for the 20 bytes after it, `BadHeader` for the first
+/// of these. IPv4 options, the other lengths in the header, fragments and the checksum are ignored.
 pub fn record_of(frame: &Frame<'_>, weigh: Weigh) -> Result<Record, Skip>
     ensures { result ≡ record_of weigh (content_of frame.now) }
 {
@@ -47,7 +47,7 @@ pub fn record_of(frame: &Frame<'_>, weigh: Weigh) -> Result<Record, Skip>
     })
 }
 
-// How many bytes of VLAN tags stand before the type: two tags at most.
+// How many bytes of VLAN tags precede the type: two tags at most.
 fn tag_bytes(frame: &Frame<'_>) -> usize
     ensures tags { result ≡ tag_bytes (content_of frame.now) }
     ensures few { result ≤ 8 }
@@ -72,7 +72,7 @@ fn has_tag_at(frame: &Frame<'_>, place: usize) -> bool
     kind == VLAN_TAG || kind == SERVICE_TAG
 }
 
-// The type of a frame that stands at a place, in the order of the network.
+// The Ethernet type at this offset, in network byte order.
 fn type_at(head: &[u8], place: usize) -> u16
     requires { place + 2 ≤ length head.now }
     ensures { result ≡ big_from place 2 head.now }
@@ -80,7 +80,7 @@ fn type_at(head: &[u8], place: usize) -> u16
     BigEndian::read_u16(&head[place..])
 }
 
-// The address that stands at a place, in the order of the network.
+// The address at this offset, in network byte order.
 fn address_at(head: &[u8], place: usize) -> u32
     requires { place + 4 ≤ length head.now }
     ensures { result ≡ big_from place 4 head.now }
@@ -88,7 +88,7 @@ fn address_at(head: &[u8], place: usize) -> u32
     BigEndian::read_u32(&head[place..])
 }
 
-// Whether a byte begins an IPv4 header: version 4, and at least five words of header.
+// Whether a byte begins an IPv4 header: version 4, and a header length of at least five 32-bit words.
 fn begins_ipv4(byte: u8) -> bool
     ensures { result ≡ begins_ipv4 byte }
 {

@@ -1,4 +1,4 @@
-//! What holds of files as crates above see them, each law the contract of a function that does nothing.
+//! Laws of files, as crates above see them, each the contract of a function that does nothing.
 
 ghost use Rattle.std.specs.Prelude.{◌≡◌, ◌⊎◌, ℕ, List};
 ghost use Rattle.pcap_frames.specs.{FrameValue};
@@ -7,7 +7,7 @@ ghost use Rattle.frame_records.specs.CaptureFile.{HasFrames, IsRefusedFor};
 
 use pcap_frames::files_are_decided;
 
-/// Each file has one list of frames or is refused for one fault, and never both.
+/// Each file either has one list of frames or is refused for its first fault, and never both.
 pub fn files_are_read_or_refused()
     ensures either { (file : List ℕ) → ((frames : List FrameValue) × HasFrames file frames) ⊎ ((fault : CaptureFault) × IsRefusedFor file fault) }
     ensures never_both { (file : List ℕ) (frames : List FrameValue) (fault : CaptureFault) → HasFrames file frames → IsRefusedFor file fault → ⊥ }

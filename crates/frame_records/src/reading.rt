@@ -11,12 +11,11 @@ use outside_io::Source;
 use pcap_frames::{ReadRefusal, read_frames};
 use std::alloc::{AllocError, Global};
 
-/// Reads a capture to its end by way of a buffer of 65,536 bytes, and answers the records of its
-/// frames in their order, weighed so, with the numbers of all frames and of those skipped. No frame
-/// is kept.
+/// Reads a capture to its end through a buffer of 65,536 bytes. Returns the records of its frames in their order,
+/// weighed as `weigh` says, with the numbers of all frames and of those skipped. The frames themselves are not kept.
 ///
-/// Each refusal is that of reading the frames, and `OutOfMemory` may also come for the buffer or a
-/// record. After a refusal the source was read in part, or to its end, and nothing is kept.
+/// The refusals are those of reading the frames; `OutOfMemory` may also come from the buffer or a record. After a
+/// refusal the source has been read in part, or to its end, and nothing is kept.
 pub fn read_records<S: Source>(
     alloc: Global,
     source: &mut S,

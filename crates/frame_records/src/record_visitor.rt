@@ -1,4 +1,4 @@
-//! A visitor that keeps the records of the frames that it saw.
+//! A visitor that keeps the records of the frames that it is shown.
 
 ghost use Rattle.std.specs.Prelude.{◌≡◌, [], ◌∷◌, OnOk, OnErr};
 ghost use Rattle.pcap_frames.specs.{content_of, Sees};
@@ -16,7 +16,7 @@ pub(crate) struct RecordVisitor<const PACKETS: bool> {
 }
 
 impl<const PACKETS: bool> RecordVisitor<PACKETS> {
-    /// A visitor that saw no frame.
+    /// A visitor that has seen no frame.
     pub(crate) fn new(alloc: Global) -> Self
         ensures { KeepsRecordsOf (weigh_by PACKETS) [] result.records }
     {

@@ -1,4 +1,4 @@
-//! The records of a capture, and how many frames had none.
+//! The records of a capture, and how many frames have none.
 
 use crate::Skip;
 use prefix_lattice::{Record, RecordList};
@@ -7,9 +7,9 @@ use std::alloc::AllocError;
 /// The records of a capture in their order, and the numbers of all frames and of those skipped.
 #[derive(Debug, Drop)]
 pub struct Records {
-    /// The records of the frames that weren't skipped.
+    /// The records of the frames that were not skipped.
     pub list: RecordList,
-    /// How many frames there are, with those skipped.
+    /// The number of all frames, including those skipped.
     pub frames: u64,
     /// How many were skipped as `Skip::NotIpv4`.
     pub not_ipv4: u64,
@@ -23,7 +23,7 @@ impl Records {
     ghost use Rattle.std.specs.Prelude.{◌≡◌, OnOk, OnErr};
     ghost use Rattle.frame_records.specs.RecordVisitor.{after_frame, with_skip};
 
-    /// Takes the record of the next frame, or why it has none. After an `Err` all is as before.
+    /// Takes the record of the next frame, or the reason why it has none. After an `Err` all is unchanged.
     pub(crate) fn take(&mut self, outcome: Result<Record, Skip>) -> Result<(), AllocError>
         ensures taken { OnOk result (self.new ≡ after_frame outcome self.old) }
         ensures err { OnErr result (self.new ≡ self.old) }

@@ -32,7 +32,7 @@ const ARP: [u8; 2] = [8, 6];
 
 const IPV6: [u8; 2] = [0x86, 0xdd];
 
-// What stands in a frame: its tags, its type, the first byte behind the type, and its two lengths.
+// The parts of a frame: its tags, its type, the first byte after the type, and its two lengths.
 #[derive(Clone, Copy, Debug)]
 struct FrameLayout<'a> {
     tags: &'a [u8],
@@ -53,7 +53,7 @@ fn layout(tags: &[u8], kind: [u8; 2], first: u8, captured: u32) -> FrameLayout<'
     }
 }
 
-// The captured bytes. Behind the IPv4 header come zeros.
+// The captured bytes. Zeros follow the IPv4 header.
 fn captured_bytes(alloc: Global, frame: &FrameLayout<'_>) -> Result<Vec<u8>, AllocError> {
     let mut bytes = Vec::from_slice(alloc, &ADDRESSES)?;
     bytes.extend_from_slice(frame.tags)?;
@@ -79,8 +79,8 @@ fn capture_of(alloc: Global, frames: &[FrameLayout<'_>]) -> Result<Vec<u8>, Allo
     Ok(bytes)
 }
 
-// What reading a capture came to: its first record, the numbers of records and of frames skipped as not
-// IPv4, as short and for a bad header, and the number of frames.
+// The result of reading a capture: its first record, the numbers of records and of frames skipped as not IPv4, as
+// short and for a bad header, and the number of frames.
 #[derive(Drop)]
 struct Counted {
     first: Option<Record>,
@@ -140,7 +140,7 @@ fn tells_a_record_or_why_there_is_none(rt: HostRuntime) -> Result<(), Fail> {
         (layout(SERVICE_VLAN, IPV4, 0x45, 42), counts),
         (layout(VLAN_VLAN, IPV4, 0x45, 42), counts),
         (layout(VLAN_SERVICE, IPV4, 0x45, 42), counts),
-        // A third is a type of its own.
+        // A third tag counts as a type of its own.
         (layout(THREE_TAGS, IPV4, 0x45, 22), not_ipv4),
         (layout(THREE_TAGS, IPV4, 0x45, 46), not_ipv4),
         // Version and header length.

@@ -16,7 +16,7 @@ pub enum Weigh {
 }
 
 impl Weigh {
-    /// What a frame weighs, in bytes or packets. A frame with captured bytes weighs at least 1.
+    /// The weight of a frame, in bytes or packets. A frame with captured bytes weighs at least 1.
     pub fn of(self, frame: &Frame<'_>) -> u32
         ensures { result ≡ weight_of_frame self (content_of frame.now) }
     {

@@ -1,4 +1,4 @@
-//! Where the capture comes from.
+//! The source of the capture's bytes.
 
 ghost use Rattle.std.specs.Prelude.{◌≡◌};
 
@@ -9,11 +9,11 @@ use std::io::{Read, Result as IoResult, Stdin};
 /// The bytes of a capture: those of standard input or of a file.
 #[derive(Drop)]
 pub enum Input<'a> {
-    /// No bytes, where no words ask for any.
+    /// No bytes, for arguments that ask for no command.
     Nothing,
-    /// What stands in the standard input.
+    /// The contents of standard input.
     Standard(Stdin),
-    /// What stands in a file.
+    /// The contents of a file.
     File(LateFile<'a>),
 }
 
@@ -27,7 +27,7 @@ impl Read for Input<'_> {
     }
 }
 
-/// A file that is opened by the first read, so that no file is looked at before the words are.
+/// A file that is opened by the first read, so that no file is touched before the arguments are accepted.
 #[derive(Drop)]
 pub struct LateFile<'a> {
     rt: &'a HostRuntime,
@@ -36,7 +36,7 @@ pub struct LateFile<'a> {
 }
 
 impl<'a> LateFile<'a> {
-    /// The file of this name.
+    /// The file at this path, not yet opened.
     pub fn new(rt: &'a HostRuntime, path: PathText) -> Self
         ensures { result.path ≡ path }
     {
@@ -49,7 +49,7 @@ impl<'a> LateFile<'a> {
 }
 
 impl Read for LateFile<'_> {
-    // A file that can't be opened is tried again by the next read.
+    // If the file can't be opened, the next read tries again.
     fn read(&mut self, into: &mut [u8]) -> IoResult<usize> {
         let mut file = match self.opened.take() {
             Some(file) => file,

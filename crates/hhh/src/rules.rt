@@ -7,7 +7,7 @@ ghost use Rattle.hhh.specs.Rules.{shard_by};
 
 use prefix_lattice::Record;
 
-/// Deals in turn.
+/// Deals in turn: the index of the record, modulo the number of shards.
 pub fn by_place(place: u64, rec: Record, shards: u32) -> u32
     requires { IsAsked place rec shards }
     ensures { result ≡ shard_by RoundRobin place rec shards }
@@ -15,7 +15,7 @@ pub fn by_place(place: u64, rec: Record, shards: u32) -> u32
     (place % u64::from(shards)) as u32
 }
 
-/// Keeps what one host sends together.
+/// Deals by the source address, so that all packets of one sender go to one shard.
 pub fn by_source(place: u64, rec: Record, shards: u32) -> u32
     requires { IsAsked place rec shards }
     ensures { result ≡ shard_by BySource place rec shards }
@@ -23,7 +23,7 @@ pub fn by_source(place: u64, rec: Record, shards: u32) -> u32
     rec.src % shards
 }
 
-/// Takes both addresses, so that the traffic of one busy host is spread over the shards.
+/// Deals by both addresses, so that the traffic of one busy host is spread over the shards.
 pub fn by_both(place: u64, rec: Record, shards: u32) -> u32
     requires { IsAsked place rec shards }
     ensures { result ≡ shard_by Free place rec shards }

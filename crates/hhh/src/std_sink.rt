@@ -7,7 +7,7 @@ ghost use Rattle.outside_io.specs.{FailsByFault};
 use outside_io::{Failed, Sink};
 use std::io::{ErrorKind, Write};
 
-/// Writes to a stream of the system, and flushes it within each call. What the stream took is not told.
+/// Writes to a stream of the system, and flushes it within each call. The bytes that the stream took are not known.
 #[derive(Drop)]
 pub struct StdSink<W: Write + Drop> {
     writer: W,
@@ -15,7 +15,7 @@ pub struct StdSink<W: Write + Drop> {
 }
 
 impl<W: Write + Drop> StdSink<W> {
-    /// A sink that writes behind what the stream holds.
+    /// A sink that appends to the contents of the stream.
     pub fn new(writer: W) -> Self
         ensures { (result.writer ≡ writer) × (result.faults ≡ 0) }
     {
@@ -34,7 +34,7 @@ impl<W: Write + Drop> Sink for StdSink<W> {
         ensures appended { WriteAppends None None result bytes.now }
         ensures cause { FailsByFault self.old.faults self.new.faults result }
 
-        // Where the stream tells what it holds, these bytes stand behind it.
+        // Where the contents of the stream are known, these bytes are appended to them.
         ensures of_stream { IfOk result (λ count. Appends (W.contents self.old.writer) (W.contents self.new.writer) (take count bytes.now)) }
     {
         let count = written(&mut self.writer, bytes);
@@ -45,7 +45,7 @@ impl<W: Write + Drop> Sink for StdSink<W> {
     }
 }
 
-// How many of the bytes the writer took and flushed: at least one where there is one.
+// The number of bytes that the writer took and flushed: at least one, unless there are none.
 fn written<W: Write>(writer: &mut W, bytes: &[u8]) -> Result<usize, Failed>
     ensures fits { IfOk result (λ count. count ≤ length bytes.now) }
     ensures takes_some { IfOk result (λ count. 0 < length bytes.now → 0 < count) }
@@ -58,7 +58,7 @@ fn written<W: Write>(writer: &mut W, bytes: &[u8]) -> Result<usize, Failed>
     }
 }
 
-// How many of the bytes the writer took. A call that a signal broke off is made again.
+// The number of bytes that the writer took. A call interrupted by a signal is made again.
 fn taken<W: Write>(writer: &mut W, bytes: &[u8]) -> Result<usize, Failed>
     ensures fits { IfOk result (λ count. count ≤ length bytes.now) }
     ensures takes_some { IfOk result (λ count. 0 < length bytes.now → 0 < count) }

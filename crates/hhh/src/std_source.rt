@@ -8,10 +8,10 @@ use outside_io::{Failed, Source};
 use std::alloc::{AllocError, Global};
 use std::io::{ErrorKind, Read};
 
-// How many bytes one call of the system is asked for.
+// How many bytes one system call asks for at most.
 const ROOM: usize = 65_536;
 
-/// Reads from a stream of the system. What the stream has left is not told.
+/// Reads from a stream of the system. The remaining bytes of the stream are not known.
 #[derive(Drop)]
 pub struct StdSource<R: Read + Drop> {
     reader: R,
@@ -21,7 +21,7 @@ pub struct StdSource<R: Read + Drop> {
 }
 
 impl<R: Read + Drop> StdSource<R> {
-    /// A source of all that the stream has.
+    /// A source of the remaining bytes of the stream.
     pub fn new(alloc: Global, reader: R) -> Result<Self, AllocError>
         ensures { IfOk result (λ source. (source.reader ≡ reader) × (source.faults ≡ 0)) }
     {
@@ -44,7 +44,7 @@ impl<R: Read + Drop> Source for StdSource<R> {
         ensures first_bytes { ReadConsumes None None result into.new }
         ensures cause { FailsByFault self.old.faults self.new.faults result }
 
-        // Where the stream tells what it has left, these are its next bytes.
+        // Where the remaining bytes of the stream are known, these are the next of them.
         ensures of_stream { ReadConsumes (R.remaining self.old.reader) (R.remaining self.new.reader) result into.new }
     {
         let count = read_by(&mut self.reader, &mut self.buffer, into);
@@ -55,7 +55,7 @@ impl<R: Read + Drop> Source for StdSource<R> {
     }
 }
 
-// Reads once by way of a buffer, so that the places behind the bytes read stay as they were.
+// Reads once through a buffer, so that `into` is unchanged after the bytes read.
 fn read_by<R: Read>(reader: &mut R, buffer: &mut [u8], into: &mut [u8]) -> Result<usize, Failed>
     requires { 0 < length buffer.old }
     ensures same_room { length buffer.new ≡ length buffer.old }
@@ -70,7 +70,7 @@ fn read_by<R: Read>(reader: &mut R, buffer: &mut [u8], into: &mut [u8]) -> Resul
     Ok(count)
 }
 
-// Reads once. A call that a signal broke off is made again.
+// Reads once. A call interrupted by a signal is made again.
 fn fill<R: Read>(reader: &mut R, into: &mut [u8]) -> Result<usize, Failed>
     ensures fits { IfOk result (λ count. count ≤ length into.old) }
     ensures bytes { ReadConsumes (R.remaining reader.old) (R.remaining reader.new) result into.new }

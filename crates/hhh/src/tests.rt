@@ -3,7 +3,7 @@ use outside_io::{Failed, PathText, Sink, Source};
 use std::io::{Error, ErrorKind, Result as IoResult, Write};
 use std::test::Fail;
 
-// Takes all bytes, and can't be flushed.
+// A writer that takes all bytes, and can't be flushed.
 #[derive(Drop)]
 struct Stuck;
 
@@ -29,7 +29,7 @@ fn reads_a_stream_to_its_end(rt: HostRuntime) -> Result<(), Fail> {
     Ok(())
 }
 
-// A file that begins with these words on each system of this kind.
+// A file that begins with these words on every Linux system.
 #[test]
 fn reads_on_in_a_file(rt: HostRuntime) -> Result<(), Fail> {
     let alloc = rt.alloc();
@@ -43,7 +43,7 @@ fn reads_on_in_a_file(rt: HostRuntime) -> Result<(), Fail> {
     Ok(())
 }
 
-// Two files that each system of this kind has, and one that none has.
+// Two files that every Linux system has, and one that none has.
 #[test]
 fn opens_a_file_at_the_first_read(rt: HostRuntime) -> Result<(), Fail> {
     let alloc = rt.alloc();

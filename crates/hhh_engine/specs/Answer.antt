@@ -1,4 +1,4 @@
--- What commands write, and when they end well.
+-- What commands write, and what their arguments and sources have to be.
 use Rattle.std.specs.Prelude.{ℕ, ◌≡◌, List, Option, Some}
 use Rattle.pcap_frames.specs.{FrameValue}
 use Rattle.frame_records.specs.{HasFrames}
@@ -10,24 +10,24 @@ use Rattle.command_words.specs.declared.command.Command.TheVariants.{Weigh, Repo
 use Rattle.hhh_engine.specs.WeightText.{IsWeightText}
 use Rattle.hhh_engine.specs.Session.{Rules, IsSession}
 
--- the words ask for something
+-- the arguments ask for some command
 pub record AskSomething (words : List (List ℕ)) : Type 0 where
   pub command : Command
   pub asked : AskFor words command
 
--- a source tells its bytes, and they are a capture of some frames
+-- the bytes of a source are known, and they are a capture of some frames
 pub record TellsCapture (left : Option (List ℕ)) : Type 0 where
   pub file : List ℕ
   pub told : left ≡ Some file
   pub frames : List FrameValue
   pub capture : HasFrames file frames
 
--- the text that a command writes over a capture
+-- the text that a command writes for a capture
 abbrev pub IsAnswer : Rules → Command → List ℕ → List ℕ → Type 0
 IsAnswer rules (Weigh prefix settings) file text = IsWeightText prefix settings.weigh file text
 IsAnswer rules (Report settings) file text = IsSession settings rules file text
 
--- the text of the command that the words ask for was written over this capture
+-- the text of the command that the arguments ask for was written, for the capture in this file
 pub record Answers (rules : Rules) (words : List (List ℕ)) (old new : Option (List ℕ)) (file : List ℕ) : Type 0 where
   pub command : Command
   pub asked : AskFor words command
@@ -35,7 +35,7 @@ pub record Answers (rules : Rules) (words : List (List ℕ)) (old new : Option (
   pub is_answer : IsAnswer rules command file text
   pub written : Appends old new text
 
--- a beginning of that text was written
+-- a strict prefix of the text of the command that the arguments ask for was written
 pub record AnswersInPart (rules : Rules) (words : List (List ℕ)) (old new : Option (List ℕ)) (file : List ℕ) : Type 0 where
   pub command : Command
   pub asked : AskFor words command

@@ -13,21 +13,21 @@ use Rattle.report_text.specs.{mark_text, report_text, tail_text}
 use Rattle.report_text.specs.declared.mark.Mark.TheVariants.{Opened}
 use Rattle.command_words.specs.declared.settings.Settings.{Settings}
 
--- what the function of each kind of dealing may answer for the place of a record, the record and the number of shards
+-- what the function of each kind of dealing may answer for the index of a record, the record and the number of shards
 abbrev pub Rules : Type 1
 Rules = DealKind → ℕ → RecordValue → ℕ → ℕ → Type 0
 
--- the rules by a formula for each kind of dealing, which give a record one number
+-- the rules that follow a formula for each kind of dealing, which gives each record one shard number
 abbrev pub by_formula : (DealKind → ℕ → RecordValue → ℕ → ℕ) → Rules
 by_formula formula kind place rec shards number = number ≡ formula kind place rec shards
 
--- the cut at the ends of lists: each shard counted all its records, and its tables are those of its list
+-- the cut at the ends of the lists: each shard has counted all its records, and its tables are those of its list
 pub record IsCutAtEnds (capacity : ℕ) (lists : List (List RecordValue)) (cut : CutValue) : Type 0 where
   pub same_capacity : cut.capacity ≡ capacity
   pub at_ends : positions_of cut ≡ map (λ list. length list) lists
   pub stands : CutStandsFor cut lists
 
--- the positions at which shards with nothing saved start: 0 for each
+-- the positions at which shards with no saved state start: 0 for each
 abbrev pub start_of : List (List RecordValue) → List ℕ
 start_of lists = map (λ list. 0) lists
 
@@ -42,7 +42,8 @@ pub record IsReportAtEnds (settings : Settings) (lists : List (List RecordValue)
   pub is_report : IsReportOf cut settings.phi report
   pub is_sound : IsSound report lists settings.capacity settings.phi
 
--- the session over a capture: its records, dealt to the shards, are counted to their ends, and the report is that of the cut there
+-- the session over a capture: its records are dealt to the shards and counted to the end of each list,
+-- and the report is that of the cut there
 pub record IsSession (settings : Settings) (rules : Rules) (file text : List ℕ) : Type 0 where
   pub frames : List FrameValue
   pub capture : HasFrames file frames

@@ -11,7 +11,7 @@ use Rattle.command_words.specs.declared.words_kind.WordsKind.TheVariants.{NoComm
 use Rattle.pcap_frames.specs.declared.fault.ReadRefusal.TheVariants as refusals
 use Rattle.command_words.specs.declared.words_kind.WordsRefusal.TheVariants as words
 
--- the exit status that tells how a command ended
+-- the exit status for how a command ended
 abbrev pub number_of : Status → ℕ
 number_of Done = 0
 number_of (BadWords kind) = 2
@@ -20,18 +20,18 @@ number_of ReadFault = 4
 number_of WriteFault = 5
 number_of OutOfMemory = 13
 
--- how a command ended whose capture was refused
+-- the status of a command whose capture was refused
 abbrev pub status_of : ReadRefusal → Status
 status_of (refusals.Capture fault) = BadCapture fault
 status_of refusals.ReadFault = ReadFault
 status_of refusals.OutOfMemory = OutOfMemory
 
--- how a command ended whose words were refused
+-- the status of a command whose arguments were refused
 abbrev pub status_of_words : WordsRefusal → Status
 status_of_words (words.Bad kind) = BadWords kind
 status_of_words words.OutOfMemory = OutOfMemory
 
--- what is wrong with the words, in a word or two
+-- what is wrong with the arguments, in a word or two
 abbrev pub words_text : WordsKind → List ℕ
 words_text NoCommand = codes "no command"
 words_text UnknownCommand = codes "unknown command"
@@ -42,7 +42,7 @@ words_text (OutOfLimits option) = codes "limits"
 words_text (BadChoice option) = codes "choice"
 words_text Bound = codes "bound"
 
--- what is wrong with a capture
+-- what is wrong with a capture, in a few words
 abbrev pub fault_text : FaultKind → List ℕ
 fault_text ShortHeader = codes "short header"
 fault_text NotCapture = codes "not a capture"
@@ -52,7 +52,7 @@ fault_text LongFrame = codes "long frame"
 fault_text CutFrame = codes "cut frame"
 fault_text TooManyFrames = codes "too many frames"
 
--- how a command ended
+-- how a command ended, as text
 abbrev pub status_text : Status → List ℕ
 status_text Done = codes "done"
 status_text (BadWords kind) = codes "bad words: " ++ words_text kind
@@ -61,6 +61,6 @@ status_text ReadFault = codes "read fault"
 status_text WriteFault = codes "write fault"
 status_text OutOfMemory = codes "out of memory"
 
--- the line on standard error
+-- the line that reports on standard error how a command ended
 abbrev pub line_of : Status → List ℕ
 line_of status = codes "hhh: " ++ status_text status ++ codes "\n"

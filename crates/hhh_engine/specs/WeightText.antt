@@ -1,4 +1,4 @@
--- The weight of a prefix as the program tells it.
+-- The weight of a prefix as the program reports it.
 use Rattle.std.specs.Prelude.{ℕ, ◌≡◌, List, ◌++◌, codes, decimal}
 use Rattle.prefix_lattice.specs.{RecordValue, PrefixValue, total_weight}
 use Rattle.shard_state.specs.{HoldsWeightOver, interval_over}
@@ -20,7 +20,7 @@ text_for prefix records =
     let interval = interval_over weigh_capacity prefix records in
     weigh_text interval.low interval.high (total_weight records)
 
--- the text that tells the weight of a prefix over the records of a capture, which holds the weight
+-- the text that reports the weight of a prefix over the records of a capture; the interval holds the exact weight
 pub record IsWeightText (prefix : PrefixValue) (weigh : Weigh) (file text : List ℕ) : Type 0 where
   pub frames : List FrameValue
   pub capture : HasFrames file frames

@@ -1,6 +1,5 @@
-//! What each command makes of its inputs, a file a command.
-
-pub(crate) mod report;
-pub(crate) mod weigh;
+//! What each command makes of its inputs, one file for each command.
 
 mod folding;
+pub(crate) mod report;
+pub(crate) mod weigh;

@@ -1,11 +1,11 @@
-//! Numbers in texts that are written.
+//! Decimal numbers in output text.
 
 ghost use Rattle.std.specs.Prelude.{◌≡◌, ◌++◌, decimal, OnOk};
 
 use itoa::Buffer;
 use std::alloc::AllocError;
 
-/// Appends some bytes and a number in decimal.
+/// Appends the bytes `before` and a number in decimal.
 pub fn push_number(text: &mut Vec<u8>, before: &[u8], number: u64) -> Result<(), AllocError>
     ensures { OnOk result (text.new.items ≡ text.old.items ++ before.now ++ decimal number) }
 {

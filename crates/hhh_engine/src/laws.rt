@@ -9,8 +9,8 @@ ghost use Rattle.hhh_engine.specs.Session.{by_formula};
 
 use deal_rules::{Dealer, Dealers, Deals};
 
-/// Where the functions of dealers answer by formulas, one for each kind of dealing, an answer under what they may
-/// answer is one under the formulas: the records are dealt by them.
+/// If each dealer answers by a formula, one for each kind of dealing, then an answer under what the dealers may
+/// answer is also an answer under the formulas: the records are dealt by them.
 pub fn answers_follow_formulas(dealers: &Dealers)
     ensures whole { (formula : DealKind → ℕ → RecordValue → ℕ → ℕ) (words : List (List ℕ)) (old new : Option (List ℕ)) (file : List ℕ)
         → ((kind : DealKind) (place : ℕ) (rec : RecordValue) (shards number : ℕ)

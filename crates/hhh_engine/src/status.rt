@@ -1,35 +1,34 @@
-//! How the program ended.
+//! How a command ended.
 
 mod line;
-
-pub use line::fault_line;
 
 ghost use Rattle.std.specs.Prelude.{◌≡◌};
 ghost use Rattle.hhh_engine.specs.Status.{status_of, status_of_words, number_of};
 
 use command_words::{WordsKind, WordsRefusal};
+pub use line::fault_line;
 use pcap_frames::{CaptureFault, ReadRefusal};
 use std::alloc::AllocError;
 
 /// How a command ended.
 #[derive(Clone, Copy, Debug, PartialEq, Eq)]
 pub enum Status {
-    /// The command's text was written whole.
+    /// The text of the command was written in full.
     Done,
-    /// The words of the command line ask for nothing. Nothing was read or written.
+    /// The arguments ask for no command. Nothing was read or written.
     BadWords(WordsKind),
-    /// The source is no capture. Nothing was written.
+    /// The source is not a valid capture. Nothing was written.
     BadCapture(CaptureFault),
     /// The source failed. Nothing was written.
     ReadFault,
-    /// The sink failed. A beginning of the text was written.
+    /// The sink failed. A strict prefix of the text was written.
     WriteFault,
     /// Memory ran out. Nothing was written.
     OutOfMemory,
 }
 
 impl Status {
-    /// The exit status of the program: 0 where all went well.
+    /// The exit status of the program: 0 for `Done`.
     pub fn number(&self) -> u8
         ensures { result ≡ number_of self.now }
     {

@@ -33,7 +33,7 @@ pub(crate) const SOUND: Outside = Outside {
     room: 4096,
 };
 
-// Runs over these bytes, in pieces of at most 7.
+// Runs over these bytes, read in pieces of at most 7.
 pub(crate) fn run_over(
     alloc: Global,
     dealers: &Dealers,
@@ -70,7 +70,7 @@ fn by_both(place: u64, rec: Record, shards: u32) -> u32
     (rec.src ^ rec.dst) % shards
 }
 
-// A rule that knows one shard.
+// A rule that uses only the first shard.
 fn to_the_first(place: u64, rec: Record, shards: u32) -> u32
     requires { IsAsked place rec shards }
     ensures { result ≡ 0 }

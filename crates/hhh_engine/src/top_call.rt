@@ -1,4 +1,4 @@
-//! The top call: from words and a capture to a text and a status.
+//! The top call: from arguments and a capture to an output text and a status.
 
 ghost use Rattle.std.specs.Prelude.{◌≡◌, ◌⊎◌, ℕ, List, Some, IfSome, IfOk, IfErr, OnOk, IsErrOf};
 ghost use Rattle.std.specs.Io.KnownBytes.{IsAtEnd};
@@ -21,13 +21,13 @@ use frame_records::files_are_read_or_refused;
 use outside_io::{Sink, Source, write_all};
 use std::alloc::Global;
 
-/// Runs the command that the words ask for.
+/// Runs the command that the arguments `words` ask for.
 ///
 /// `weigh SRC DST` reads a capture to its end, weighs its records, and writes three lines: the least and the
-/// greatest weight of the prefix, as its table of Space-Saving tells them, and the weight of all records.
+/// greatest weight of the prefix, as given by its Space-Saving table, and the weight of all records.
 ///
-/// `report` reads a capture to its end, deals its records to shards, counts them in the tables of each, and
-/// writes a session with one report: the prefixes that carry heavy load which no more specific reported
+/// `report` reads a capture to its end, deals its records to shards, counts them in the tables of each shard,
+/// and writes a session with one report: the prefixes that carry heavy load which no more specific reported
 /// prefix explains.
 pub fn run<S: Source, K: Sink>(
     alloc: Global,
@@ -36,18 +36,18 @@ pub fn run<S: Source, K: Sink>(
     sink: &mut K,
     dealers: &Dealers,
 ) -> Status
-    // The text of the command was written over the records of the capture, which was read to its end. What it
-    // tells of weights holds for the records themselves.
+    // The text of the command was written for the records of the capture, which was read to its end. What the
+    // text says of weights holds for the records themselves.
     ensures done { result ≡ Done → IfSome (S.left capture.old) (Answers (λ kind. ⟦<Dealer as Deals>⟧.may_answer (dealer_of kind dealers.now))
         (texts words.now) (K.taken sink.old) (K.taken sink.new)) }
     ensures done_at_end { result ≡ Done → IsAtEnd (S.left capture.new) }
 
-    // The words are looked at first, before anything is read.
+    // The arguments are checked first, before anything is read.
     ensures bad_words { (kind : WordsKind) → result ≡ BadWords kind → HasWordsFault (texts words.now) kind }
     ensures bad_words_untouched { (kind : WordsKind) → result ≡ BadWords kind → (capture.new ≡ capture.old) × (sink.new ≡ sink.old) }
     ensures refuses_words { (kind : WordsKind) → HasWordsFault (texts words.now) kind → (result ≡ BadWords kind) ⊎ (result ≡ OutOfMemory) }
 
-    // The capture is refused for its fault alone, and then nothing is written.
+    // The capture is refused only for its first fault, and then nothing is written.
     ensures bad_capture { (fault : CaptureFault) → result ≡ BadCapture fault → IfSome (S.left capture.old) (λ file. IsRefusedFor file fault) }
     ensures bad_capture_unwritten { (fault : CaptureFault) → result ≡ BadCapture fault → sink.new ≡ sink.old }
 
@@ -55,7 +55,7 @@ pub fn run<S: Source, K: Sink>(
     ensures refuses { (file : List ℕ) (fault : CaptureFault) → AskSomething (texts words.now) → S.left capture.old ≡ Some file → IsRefusedFor file fault
         → (result ≡ BadCapture fault) ⊎ ((result ≡ ReadFault) ⊎ (result ≡ OutOfMemory)) }
 
-    // A fault is told only where the source or the sink had one in this call.
+    // A read or write fault is reported only where the source or the sink had one in this call.
     ensures read_fault { result ≡ ReadFault → Rose (S.faults capture.old) (S.faults capture.new) }
     ensures read_fault_unwritten { result ≡ ReadFault → sink.new ≡ sink.old }
     ensures write_fault { result ≡ WriteFault → Rose (K.faults sink.old) (K.faults sink.new) }
@@ -63,14 +63,15 @@ pub fn run<S: Source, K: Sink>(
     ensures write_fault_in_part { result ≡ WriteFault → IfSome (S.left capture.old) (AnswersInPart (λ kind. ⟦<Dealer as Deals>⟧.may_answer (dealer_of kind dealers.now))
         (texts words.now) (K.taken sink.old) (K.taken sink.new)) }
 
-    // A fault of the source or of the sink is never passed over or told as anything else.
+    // A fault of the source or of the sink is never ignored, nor reported as anything else.
     ensures read_fault_told { (result ≡ ReadFault → ⊥) → S.faults capture.new ≡ S.faults capture.old }
     ensures write_fault_told { (result ≡ WriteFault → ⊥) → K.faults sink.new ≡ K.faults sink.old }
 
-    // Want of memory may come at any time before the text is written.
+    // Memory may run out at any time before the text is written.
     ensures out_of_memory_unwritten { result ≡ OutOfMemory → sink.new ≡ sink.old }
 
-    // Words that ask, a capture and no fault of source or sink end well, but for want of memory.
+    // With arguments that ask for a command, a valid capture and no fault of source or sink, the run ends in
+    // Done unless memory runs out.
     ensures complete { AskSomething (texts words.now) → TellsCapture (S.left capture.old)
         → (Rose (S.faults capture.old) (S.faults capture.new) → ⊥) → (Rose (K.faults sink.old) (K.faults sink.new) → ⊥)
         → (result ≡ Done) ⊎ (result ≡ OutOfMemory) }
@@ -90,7 +91,7 @@ pub fn run<S: Source, K: Sink>(
     }
 }
 
-// Reads the capture to its end, and makes the text of the command.
+// Reads the capture to its end, and returns the text of the command.
 fn answer<S: Source>(
     alloc: Global,
     command: &Command,

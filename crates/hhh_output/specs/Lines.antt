@@ -8,8 +8,8 @@ use Rattle.hhh_output.specs.declared.line.Line.{Line}
 abbrev pub prefixes_of : List Line → List PrefixValue
 prefixes_of lines = map (λ line. line.prefix) lines
 
--- what the lines of every report keep: they are few, each has its low at most at its high, and they are in the strict
--- order of a report, so no two have one prefix
+-- what holds of the lines of every report: fewer than 2^24, each with its low at most its high, in the strict order
+-- of a report, so no two have the same prefix
 pub record AreLines (lines : List Line) : Type 0 where
   pub few : length lines < 2 ^ 24
   pub ordered : All (λ line. line.lo ≤ line.hi) lines

@@ -25,8 +25,8 @@ high_in cut prefix = (span cut prefix).high
 abbrev pub IsUnexplained : CutValue → ℕ → List PrefixValue → PrefixValue → Type 0
 IsUnexplained cut threshold lines prefix = pos threshold ≤ℤ bound_of (low_in cut) (high_in cut) prefix lines
 
--- the line of a prefix over these lines: it shows the span of the prefix, which some shard monitors, which is heavy, and which
--- the lines leave unexplained
+-- the line of a prefix over these lines: it shows the merged interval of the prefix, which some shard monitors,
+-- which is heavy, and which the lines leave unexplained
 pub record IsLineOf (cut : CutValue) (threshold : ℕ) (lines : List PrefixValue) (line : Line) : Type 0 where
   pub is_prefix : IsPrefix line.prefix
   pub low : line.lo ≡ low_in cut line.prefix
@@ -35,14 +35,15 @@ pub record IsLineOf (cut : CutValue) (threshold : ℕ) (lines : List PrefixValue
   pub heavy : threshold ≤ line.hi
   pub unexplained : IsUnexplained cut threshold lines line.prefix
 
--- the report of a cut: its positions and total, the threshold, and a line for just the prefixes that the lines themselves ask for
+-- the report of a cut: its positions, its total, the threshold, and a line for exactly the prefixes
+-- that are heavy, monitored, and not explained by the lines themselves
 pub record IsReportOf (cut : CutValue) (phi : ℕ) (report : Report) : Type 0 where
   pub positions : report.positions ≡ positions_of cut
   pub total : report.total ≡ total_of_cut cut
   pub threshold : IsThreshold phi report.total report.threshold
   pub lines : (line : Line) → Contains report.lines line ↔ IsLineOf cut report.threshold (prefixes_of report.lines) line
 
--- two reports show the same
+-- two reports show the same positions, total, threshold and lines
 pub record AreSame (report other : Report) : Type 0 where
   pub positions : report.positions ≡ other.positions
   pub total : report.total ≡ other.total

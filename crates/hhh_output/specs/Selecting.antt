@@ -1,4 +1,4 @@
--- How the lines of a report are found among the candidates of merged tables, level by level, which no public contract cites.
+-- How the lines of a report are selected among the candidates of merged tables, which no public contract cites.
 use Rattle.std.specs.Prelude.{ℕ, ◌≡◌, ◌≢◌, ◌+◌, ◌-◌, ◌*◌, ◌<◌, ◌≤◌, ◌==◌, ◌↔◌, zero, suc, List, length, if◌then◌else◌, All, AllPairs, Contains, pos, ◌≤ℤ◌}
 use Rattle.std.specs.declared.cmp.Ordering.TheVariants.{Less}
 use Rattle.prefix_lattice.specs.{NodeValue, IsNode, node_at, level_of, PrefixValue, IsPrefix, node_of, key_of, IsKeyOf, report_order}
@@ -15,50 +15,50 @@ merged_low merged prefix = (interval_for merged prefix).low
 abbrev pub merged_high : MergedValue → PrefixValue → ℕ
 merged_high merged prefix = (interval_for merged prefix).high
 
--- a line that merged tables ask for over other lines: it shows the interval of its prefix, which is heavy and unexplained
+-- a line that merged tables give over other lines: it shows the interval of its prefix, which is heavy and unexplained
 pub record IsMergedLine (merged : MergedValue) (threshold : ℕ) (lines : List PrefixValue) (line : Line) : Type 0 where
   pub low : line.lo ≡ merged_low merged line.prefix
   pub high : line.hi ≡ merged_high merged line.prefix
   pub heavy : threshold ≤ line.hi
   pub unexplained : pos threshold ≤ℤ bound_of (merged_low merged) (merged_high merged) line.prefix lines
 
--- such a line for a candidate
+-- such a line, whose prefix is a candidate
 pub record IsSelected (merged : MergedValue) (threshold : ℕ) (lines : List PrefixValue) (line : Line) : Type 0 where
   pub is_prefix : IsPrefix line.prefix
   pub candidate : Contains (candidates_at merged (node_of line.prefix)) (key_of line.prefix)
   pub asked : IsMergedLine merged threshold lines line
 
--- the most candidates of a node: 128 shards, each with tables of at most 4096 entries
+-- the most candidates of a node: 128 shards, each with a table of at most 4096 entries
 abbrev pub most_candidates : ℕ
 most_candidates = 524288
 
--- the candidates of each node are keys of the node, each stands once, and they are few
+-- the candidates of each node are distinct keys of the node, at most 524,288 of them
 pub record AreCandidates (merged : MergedValue) : Type 0 where
   pub keyed : (node : NodeValue) → IsNode node → All (IsKeyOf node) (candidates_at merged node)
   pub distinct : (node : NodeValue) → IsNode node → AllPairs (λ key other. key ≢ other) (candidates_at merged node)
   pub few : (node : NodeValue) → IsNode node → length (candidates_at merged node) ≤ most_candidates
 
--- how many of the nodes before a place have this level
+-- how many of the nodes before an index have this level
 abbrev pub nodes_before : ℕ → ℕ → ℕ
 nodes_before level zero = 0
 nodes_before level (suc place) = nodes_before level place + (if level_of (node_at place) == level then 1 else 0)
 
--- how many nodes the first so many levels have, from level 8 down
+-- how many nodes this many levels have, from level 8 down
 abbrev pub nodes_down : ℕ → ℕ
 nodes_down zero = 0
 nodes_down (suc levels) = nodes_down levels + nodes_before (8 - levels) 25
 
--- no two of these lines have one prefix
+-- no two of these lines have the same prefix
 abbrev pub AreDistinct : List Line → Type 0
 AreDistinct lines = AllPairs (λ line other. line.prefix ≢ other.prefix) lines
 
--- these lines are just those of a level that merged tables ask for, in the order of a report
+-- these lines are exactly those of a level that merged tables give over the reported lines, in the order of a report
 pub record AreOfLevel (merged : MergedValue) (threshold : ℕ) (reported : List PrefixValue) (level : ℕ) (found : List Line) : Type 0 where
   pub members : (line : Line) → Contains found line ↔ ((level_of (node_of line.prefix) ≡ level) × IsSelected merged threshold reported line)
   pub rising : AllPairs (λ line later. report_order line.prefix later.prefix ≡ Less) found
   pub few : length found ≤ nodes_before level 25 * most_candidates
 
--- these lines are just those of the first so many levels, from level 8 down, that merged tables ask for over them
+-- these lines are exactly those of this many levels, from level 8 down, that merged tables give over them
 pub record AreDownTo (merged : MergedValue) (threshold levels : ℕ) (lines : List Line) : Type 0 where
   pub above : (line : Line) → Contains lines line → 8 < level_of (node_of line.prefix) + levels
   pub members : (line : Line) → 8 < level_of (node_of line.prefix) + levels → Contains lines line ↔ IsSelected merged threshold (prefixes_of lines) line

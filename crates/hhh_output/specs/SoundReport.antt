@@ -1,4 +1,4 @@
--- What a report says of the records themselves: eight tests over the plain lists, in which there is no table and no bound.
+-- What a report says of the records themselves: eight tests over the plain lists, without tables or bounds.
 use Rattle.std.specs.Prelude.{ℕ, ◌≡◌, ◌+◌, ◌-◌, ◌*◌, ◌<◌, ◌≤◌, List, length, All, Contains}
 use Rattle.std.specs.List.{AllZip}
 use Rattle.prefix_lattice.specs.{RecordValue, PrefixValue, IsPrefix, weight_of, total_weight, conditioned_weight, closest, kept_pairs}
@@ -8,7 +8,7 @@ use Rattle.hhh_output.specs.declared.report.Report.{Report}
 use Rattle.hhh_output.specs.Lines.{prefixes_of}
 use Rattle.hhh_output.specs.Threshold.{IsThreshold}
 
--- the interval of a line holds the weight of its prefix over some records
+-- the interval of a line holds the exact weight of its prefix over some records
 pub record HoldsWeight (records : List RecordValue) (line : Line) : Type 0 where
   pub low : line.lo ≤ weight_of line.prefix records
   pub high : weight_of line.prefix records ≤ line.hi
@@ -17,14 +17,14 @@ pub record HoldsWeight (records : List RecordValue) (line : Line) : Type 0 where
 abbrev pub IsNarrow : ℕ → ℕ → Line → Type 0
 IsNarrow capacity total line = (line.hi - line.lo) * capacity ≤ total
 
--- the conditioned weight of a line is at least the threshold, but for the widths of the intervals that it was judged by:
--- its own, those of its closest lines and those of the meets of their kept pairs, each at most the total over the capacity
+-- the conditioned weight of a line is at least the threshold less the widths of the intervals that it was judged by:
+-- its own, those of its closest lines and of the meets of their kept pairs, each at most the total over the capacity
 abbrev pub IsJustified : ℕ → ℕ → List PrefixValue → List RecordValue → Line → Type 0
 IsJustified capacity threshold lines records line =
     capacity * threshold ≤ capacity * conditioned_weight line.prefix lines records
     + (1 + length (closest line.prefix lines) + length (kept_pairs (closest line.prefix lines))) * total_weight records
 
--- a report is sound over lists of records, for tables of this capacity
+-- a report is sound over lists of records, for tables of this capacity: eight tests hold
 pub record IsSound (report : Report) (lists : List (List RecordValue)) (capacity phi : ℕ) : Type 0 where
   pub positions : AllZip (λ position list. position ≤ length list) report.positions lists
   pub total : report.total ≡ total_weight (records_before lists report.positions)

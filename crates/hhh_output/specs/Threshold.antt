@@ -1,7 +1,7 @@
 -- The threshold of a report.
 use Rattle.std.specs.Prelude.{ℕ, ◌*◌, ◌≤◌}
 
--- a weight that is heavy: at least 1, and at least so many parts per million of the total
+-- a weight that is heavy: at least 1, and at least `phi` parts per million of the total
 pub record IsHeavy (phi total weight : ℕ) : Type 0 where
   pub some : 1 ≤ weight
   pub share : phi * total ≤ weight * 1000000

@@ -14,7 +14,7 @@ use cut_merge::{spans_are_narrow, spans_hold_weights};
 use prefix_lattice::{prefixes_are_ordered, report_order_is_total};
 use shard_state::{runs_stand, snapshots_hold_weights, standing_cuts_are_equal};
 
-/// A cut has one report: two that meet the definition show the same.
+/// A cut has one report: two reports that meet the definition show the same.
 pub fn a_cut_has_one_report()
     ensures { (cut : CutValue) (phi : ℕ) (report other : Report) → AreLines report.lines → AreLines other.lines
         → IsReportOf cut phi report → IsReportOf cut phi other → AreSame report other }
@@ -23,8 +23,8 @@ pub fn a_cut_has_one_report()
     report_order_is_total();
 }
 
-/// Two cuts of one capacity, at the same positions, that stand for the same lists have one report: however the
-/// records were folded, what is reported at these positions is the same.
+/// Two cuts of one capacity, at the same positions, that represent the same lists have one report: the report at
+/// these positions is the same, however the records were folded.
 pub fn standing_cuts_have_one_report()
     ensures { (cut other_cut : CutValue) (lists : List (List RecordValue)) (phi : ℕ) (report other : Report) → cut.capacity ≡ other_cut.capacity
         → positions_of cut ≡ positions_of other_cut → CutStandsFor cut lists → CutStandsFor other_cut lists → AreLines report.lines → AreLines other.lines
@@ -34,7 +34,7 @@ pub fn standing_cuts_have_one_report()
     a_cut_has_one_report();
 }
 
-/// The report of a cut that stands for lists of records is sound over them.
+/// The report of a cut that represents lists of records is sound over them.
 pub fn reports_are_sound()
     ensures { (cut : CutValue) (lists : List (List RecordValue)) (phi : ℕ) (report : Report) → IsCut cut → CutStandsFor cut lists
         → All (λ list. All (λ rec. 1 ≤ rec.weight) list) lists → 2000000 ≤ phi * cut.capacity → AreLines report.lines
@@ -48,8 +48,8 @@ pub fn reports_are_sound()
     bounds_hold();
 }
 
-/// Whatever events the core acts on, the report of each cut in which a caller read every shard is sound over
-/// the shards' lists, where their bases stand for them.
+/// After any events on the core, the report of each cut in which a caller read every shard is sound over the
+/// shards' lists, if the base of each shard represents its list.
 pub fn reports_of_the_core_are_sound()
     ensures { (core : CoreValue) (events : List Event) (caller : ℕ) (cut : CutValue) (phi : ℕ) (report : Report) → IsCore core.shards
         → All (HasShape (length core.shards) (capacity_of core.shards)) core.cuts → BasesStand core.shards

@@ -2,8 +2,7 @@
 
 use prefix_lattice::Prefix;
 
-/// A prefix that a report names, with the least and the greatest weight that it can have, in bytes or
-/// packets.
+/// A line of a report: a prefix, with the least and the greatest weight that it can have, in bytes or packets.
 #[derive(Clone, Copy, Debug, PartialEq, Eq)]
 pub struct Line {
     pub prefix: Prefix,

@@ -22,7 +22,7 @@ impl Model for Lines {
 }
 
 impl Lines {
-    /// An empty list. It takes no memory.
+    /// An empty list. It allocates no memory.
     pub fn new(alloc: Global) -> Lines
         ensures { result ≡ [] }
     {
@@ -53,7 +53,7 @@ impl Lines {
         self.lines.is_empty()
     }
 
-    /// The line at a place below the length.
+    /// The line at an index below the length.
     pub fn at(&self, place: usize) -> &Line
         requires { place < length self.now }
         ensures { slice_get self.now place ≡ Some result.now }

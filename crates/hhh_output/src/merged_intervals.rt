@@ -1,4 +1,4 @@
-//! The intervals of merged tables, as bounds ask them.
+//! The intervals of merged tables, as input for bounds.
 
 use conditioned_bounds::Intervals;
 use cut_merge::Merged;

@@ -8,11 +8,11 @@ use shard_state::Positions;
 /// What is reported of the records before some positions.
 #[derive(Debug, Drop)]
 pub struct Report {
-    /// How many records of each shard are counted.
+    /// How many records of each shard are counted, in the order of the shards.
     pub positions: Positions,
-    /// What these records weigh together.
+    /// The weight of all these records together, in bytes or packets.
     pub total: u64,
-    /// The weight from which on a prefix is heavy, at least 1.
+    /// The least weight at which a prefix is heavy, at least 1.
     pub threshold: u64,
     /// The lines, in the order of a report: the level falls, then the source address rises, then its kept
     /// bytes, then the destination address.

@@ -14,16 +14,15 @@ use shard_state::Cut;
 use std::alloc::{AllocError, Global};
 
 /// The report of a cut (Mitzenmacher, Steinke, Thaler 2012): the prefixes that some shard monitors, that can
-/// weigh at least `phi` parts per million of the total, and that can still do so once the lines of more
-/// specific prefixes are accounted for. Each candidate is judged once, level by level from the most specific
-/// prefixes up.
+/// weigh at least `phi` parts per million of the total, and that still can once the lines of more specific
+/// prefixes are accounted for. Each candidate is judged once, level by level from the most specific prefixes up.
 ///
-/// Where the cut stands for lists of records, the report is sound over them: each interval holds the exact
-/// weight of its prefix and is no wider than the total divided by the capacity, and each prefix without a
-/// line has a conditioned weight below the threshold.
+/// If the cut represents lists of records, the report is sound over them: each interval holds the exact weight
+/// of its prefix and is no wider than the total divided by the capacity, and each prefix without a line has a
+/// conditioned weight below the threshold.
 ///
-/// `phi` is from 1 to 1,000,000, `phi` times the capacity of the tables at least 2,000,000, and what the tables
-/// counted together below 2^60. Want of memory is the only error.
+/// `phi` is 1 to 1,000,000, `phi` times the capacity of the tables is at least 2,000,000, and the total that the
+/// tables counted is below 2^60. The only error is that memory runs out.
 pub fn report_of(alloc: Global, cut: &Cut, phi: u32) -> Result<Report, AllocError>
     requires some { 1 ≤ phi }
     requires most { phi ≤ 1000000 }

@@ -1,5 +1,5 @@
-//! Finding the lines of a report: level by level, from the most specific prefixes up, each candidate is
-//! judged by the lines of greater level.
+//! Selects the lines of a report: level by level, from the most specific prefixes up. Each candidate is judged
+//! over the lines of greater level.
 
 ghost use Rattle.std.specs.Prelude.{◌≡◌, ◌≢◌, ◌+◌, ◌≤◌, ◌<◌, ◌^◌, ◌↔◌, ◌⊎◌, [], ◌++◌, length, All, AllPairs, Contains, IfOk, OnOk, Some};
 ghost use Rattle.std.specs.Option.{option_to_list};
@@ -16,7 +16,7 @@ use cut_merge::Merged;
 use prefix_lattice::{Node, Prefix, Prefixes, prefixes_are_ordered, report_order_is_total};
 use std::alloc::{AllocError, Global};
 
-/// The lines that merged tables ask for, in the order of a report.
+/// The lines that merged tables give, in the order of a report.
 pub(crate) fn select_lines(
     alloc: Global,
     merged: &Merged,
@@ -47,7 +47,7 @@ fn append(lines: &mut Lines, reported: &mut Prefixes, found: &[Line]) -> Result<
     Ok(())
 }
 
-// The lines of a level that merged tables ask for over these lines, in the order of a report.
+// The lines of a level that merged tables give over these lines, in the order of a report.
 fn select_level(
     alloc: Global,
     merged: &Merged,
@@ -72,7 +72,7 @@ fn select_level(
     Ok(found)
 }
 
-// Adds the lines of a node that merged tables ask for over these lines.
+// Adds the lines of a node that merged tables give over these lines.
 fn select_at(
     alloc: Global,
     merged: &Merged,
@@ -108,7 +108,7 @@ fn push_found(found: &mut Vec<Line>, line: Option<Line>) -> Result<(), AllocErro
     Ok(())
 }
 
-// The line of a prefix, if merged tables ask for it over these lines.
+// The line of a prefix, if merged tables give it a line over these lines.
 fn line_for(
     alloc: Global,
     merged: &Merged,

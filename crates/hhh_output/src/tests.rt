@@ -34,7 +34,7 @@ const NETWORK: [&[Packet]; 1] = [&[
     (0x0a00_0004, 0x1400_0001),
 ]];
 
-// Three packets from 10.0.0.0/8 and three to 20.0.0.0/8, one of which is both, and three of neither.
+// Three packets from 10.0.0.0/8 and three to 20.0.0.0/8, one of which is both, and three that are neither.
 const CROSSING: [&[Packet]; 1] = [&[
     (0x0a01_0001, 0x1f00_0001),
     (0x0a02_0001, 0x2000_0001),
@@ -128,7 +128,7 @@ const CASES: [Case; 6] = [
         threshold: 2,
         lines: &[("10.0.0.0/24", "20.0.0.1/32", 4, 4)],
     },
-    // What both lines cover is taken from the root once.
+    // What both lines cover is subtracted from the root once.
     Case {
         lists: &CROSSING,
         positions: &[8],

@@ -1,15 +1,15 @@
--- The count of faults of a thing outside.
+-- The count of faults of a source or a sink.
 use Rattle.std.specs.Prelude.{ℕ, ◌≡◌, ◌+◌, ◌-◌, ◌^◌, ◌≤◌, min, Result, OnOk, OnErr}
 
 -- the next number of a count that stays at the greatest u64
 abbrev pub counted : ℕ → ℕ
 counted n = min (n + 1) (2 ^ 64 - 1)
 
--- the count of faults is greater than before, or stands at the greatest u64, where it stays
+-- the count of faults is greater than before, or is the greatest u64, where it stays
 abbrev pub Rose : ℕ → ℕ → Type 0
 Rose before now = counted before ≤ now
 
--- the count of faults never falls, the call failed only where it rose, and it stays where the call didn't fail
+-- the count of faults never falls, the call failed only where it rose, and it is unchanged where the call succeeded
 pub record FailsByFault {T E : Type 0} (before now : ℕ) (result : Result T E) : Type 0 where
   pub later : before ≤ now
   pub failed : OnErr result (Rose before now)

@@ -1,9 +1,9 @@
--- What a test sees of a sink in memory.
+-- The state of a sink in memory, as tests see it.
 use Rattle.std.specs.Prelude.{ℕ, List, ◌-◌, Bool, ◌==◌, ◌||◌, ◌&&◌, nat_lt, min, ◌++◌, length, take}
 use Rattle.std.specs.List.{list_any}
 use Rattle.outside_io.specs.Faults.{counted}
 
--- the bytes taken, the most it takes in all, the numbers of the calls that fail, the calls so far and those that failed
+-- the bytes taken, the most bytes taken in all, the numbers of the calls that fail, the counts of calls and of faults
 pub record MemorySinkState : Type 0 where
   pub taken : List ℕ
   pub room : ℕ

@@ -1,9 +1,9 @@
--- What a test sees of a source in memory.
+-- The state of a source in memory, as tests see it.
 use Rattle.std.specs.Prelude.{ℕ, List, Bool, ◌==◌, min, length, drop}
 use Rattle.std.specs.List.{list_any}
 use Rattle.outside_io.specs.Faults.{counted}
 
--- the bytes left, the numbers of the calls that fail, the most bytes a call gives, the calls so far and those that failed
+-- the remaining bytes, the numbers of the calls that fail, the most bytes of a call, the counts of calls and of faults
 pub record MemorySourceState : Type 0 where
   pub left : List ℕ
   pub fails : List ℕ

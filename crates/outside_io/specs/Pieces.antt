@@ -1,12 +1,12 @@
--- Beginnings of lists, and a text of which a sink took one.
+-- Fronts of lists, and the strict prefix of a text that a sink took.
 use Rattle.std.specs.Prelude.{ℕ, ◌≡◌, ◌<◌, List, ◌++◌, length, Option}
 use Rattle.std.specs.Io.KnownBytes.{Appends}
 
--- front is a beginning of the list: all of it, nothing, or a part
+-- the front begins the whole list: it is empty, a part of the list, or all of it
 abbrev pub IsBeginning : {X : Type 0} → List X → List X → Type 0
 IsBeginning {X} front whole = (rest : List X) × (whole ≡ front ++ rest)
 
--- the known bytes grew by a beginning of the text, and not by all of it
+-- the known bytes grew by a strict prefix of the text
 pub record AppendsBeginning (old new : Option (List ℕ)) (text : List ℕ) : Type 0 where
   pub front : List ℕ
   pub is_beginning : IsBeginning front text

@@ -1,5 +1,5 @@
-//! The outside of the product: bytes read from a source, bytes written to a sink, and the count of
-//! faults of each. Two fakes in memory stand for them in tests.
+//! The outside of the program: bytes read from a source, bytes written to a sink, and the count of faults of
+//! each. Two fakes in memory replace them in tests.
 #![tactic(auto)]
 
 mod failed;

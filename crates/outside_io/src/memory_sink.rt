@@ -1,4 +1,4 @@
-//! A sink in memory whose calls fail where a test says so.
+//! A sink in memory whose calls fail where a test chooses.
 
 ghost use Rattle.std.specs.Prelude.{◌≡◌, ◌≤◌, ◌<◌, [], length, is_err, IfOk, OnErr, Some};
 ghost use Rattle.std.specs.Io.KnownBytes.{WriteAppends};
@@ -9,9 +9,9 @@ use crate::{Failed, Sink};
 use std::alloc::{AllocError, Global};
 use std::marker::Model;
 
-/// A room of bytes in memory. Call number k, from 0, fails exactly where k is one of the numbers that
-/// fail, or a piece with bytes meets a full room. Any other call takes what fits. The numbers of calls and of
-/// faults stay at the greatest `u64`.
+/// A sink in memory with room for a number of bytes. Call number k, from 0, fails exactly where k is one of the
+/// numbers that fail, or where the piece has bytes and no room remains. Any other call takes the bytes that fit. The
+/// counts of calls and of faults stay at the greatest `u64`.
 #[derive(Debug, Drop)]
 pub struct MemorySink {
     taken: Vec<u8>,
@@ -39,7 +39,7 @@ impl Model for MemorySink {
 }
 
 impl MemorySink {
-    /// An empty sink that takes at most `room` bytes. Its memory is taken here: after an `Err` there is no sink.
+    /// An empty sink that takes at most `room` bytes. All memory is reserved here: after an `Err` there is no sink.
     pub fn with_room(alloc: Global, room: usize, fails: Vec<u64>) -> Result<MemorySink, AllocError>
         ensures { IfOk result (λ sink. sink ≡ record { taken = []; room = room; fails = fails.items; calls = 0; faults = 0 }) }
     {

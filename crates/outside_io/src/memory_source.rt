@@ -1,4 +1,4 @@
-//! A source in memory whose calls fail where a test says so.
+//! A source in memory whose calls fail where a test chooses.
 
 ghost use Rattle.std.specs.Prelude.{◌≡◌, ◌≤◌, ◌++◌, [], length, take, drop, is_err, IfOk, OnErr, None, Some};
 ghost use Rattle.std.specs.Io.KnownBytes.{ReadConsumes};
@@ -8,9 +8,9 @@ ghost use Rattle.outside_io.specs.MemorySource.{read_fails, given, source_after_
 use crate::{Failed, Source};
 use std::marker::Model;
 
-/// Bytes in memory. Call number k, from 0, fails exactly where k is one of the numbers that fail, and leaves
-/// the room asked as it was. Any other call gives the least of the step, the room asked and the bytes left.
-/// The numbers of calls and of faults stay at the greatest `u64`.
+/// A source of bytes in memory. Call number k, from 0, fails exactly where k is one of the numbers that fail, and
+/// leaves the buffer unchanged. Any other call gives the least of the step, the room in the buffer and the number of
+/// remaining bytes. The counts of calls and of faults stay at the greatest `u64`.
 #[derive(Debug, Drop)]
 pub struct MemorySource {
     bytes: Vec<u8>,
@@ -39,7 +39,7 @@ impl Model for MemorySource {
 }
 
 impl MemorySource {
-    /// A source of these bytes that no call has read. `step` is the most bytes that one call gives, at least 1.
+    /// A source of these bytes, none of which is read yet. `step`, at least 1, is the most bytes that one call gives.
     pub fn new(bytes: Vec<u8>, fails: Vec<u64>, step: usize) -> MemorySource
         requires { 1 ≤ step }
         ensures { result ≡ record { left = bytes.items; fails = fails.items; step = step; calls = 0; faults = 0 } }

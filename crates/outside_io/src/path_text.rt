@@ -1,11 +1,11 @@
-//! The name of a file, as the command line gave it.
+//! The path of a file, as given on the command line.
 
 ghost use Rattle.std.specs.Prelude.{◌≡◌, IfOk};
 
 use std::alloc::{AllocError, Global};
 use std::marker::Model;
 
-/// The text of a path. Contracts see the list of its bytes.
+/// The text of a path. Contracts see it as the list of its bytes.
 #[derive(Debug, Drop)]
 pub struct PathText {
     text: String,

@@ -8,7 +8,7 @@ fn reads_in_steps_and_fails_where_told(rt: HostRuntime) -> Result<(), Fail> {
     let alloc = rt.alloc();
     let mut source = MemorySource::new(BYTES.to_vec(alloc)?, [1].to_vec(alloc)?, 2);
     let mut buffer = [0; 3];
-    // What each call answers, and what then stands in the buffer.
+    // What each call returns, and the contents of the buffer after it.
     for (want, bytes) in [
         (Ok(2), [1, 2, 0]),
         (Err(Failed), [1, 2, 0]),

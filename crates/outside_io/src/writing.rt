@@ -1,4 +1,4 @@
-//! Writing a whole text to a sink that takes a piece at a time.
+//! Writing a whole text to a sink, which takes one piece at a time.
 
 ghost use Rattle.std.specs.Prelude.{OnOk, OnErr};
 ghost use Rattle.std.specs.Io.KnownBytes.{Appends};
@@ -7,8 +7,8 @@ ghost use Rattle.outside_io.specs.Pieces.{AppendsBeginning};
 
 use crate::{Failed, Sink};
 
-/// Writes all the bytes. `Failed` comes just where a call of the sink failed. It then took a beginning of
-/// them, and not all.
+/// Writes all the bytes. `Failed` is returned exactly where a call of the sink failed. The sink then took a strict
+/// prefix of the bytes.
 pub fn write_all<K: Sink>(sink: &mut K, bytes: &[u8]) -> Result<(), Failed>
     ensures whole { OnOk result (Appends (K.taken sink.old) (K.taken sink.new) bytes.now) }
     ensures beginning { OnErr result (AppendsBeginning (K.taken sink.old) (K.taken sink.new) bytes.now) }

@@ -1,5 +1,5 @@
--- A capture of libpcap's file format 2.4, and the first fault of a file that is none. Faults are tested in this order: NotCapture,
--- Version, Link, else ShortHeader; then behind each frame TooManyFrames, LongFrame, else CutFrame.
+-- A capture in libpcap's file format 2.4, and the first fault of a file that is none. Faults are tested in this order:
+-- NotCapture, Version, Link, else ShortHeader; then after each frame TooManyFrames, LongFrame, else CutFrame.
 use Rattle.std.specs.Prelude.{⊤, ℕ, ◌≡◌, ◌-◌, ◌≤◌, ◌<◌, ◌⊎◌, Some, None, List, [], length, drop}
 use Rattle.pcap_frames.specs.FileFormat.{file_header_length, most_frames}
 use Rattle.pcap_frames.specs.declared.file_order.FileOrder.{FileOrder}
@@ -10,13 +10,13 @@ use Rattle.pcap_frames.specs.Frame.{FrameValue}
 use Rattle.pcap_frames.specs.Header.{IsHeader, header_fault, fault_at}
 use Rattle.pcap_frames.specs.Frames.{BeginsFrames, frame_fault, needed}
 
--- the bytes are a file header, these frames, at most 16,777,216, and a rest
+-- the bytes are a file header, these frames, at most 16,777,216 of them, and a rest
 pub record Splits (bytes : List ℕ) (order : FileOrder) (frames : List FrameValue) (rest : List ℕ) : Type 0 where
   pub header : IsHeader order bytes
   pub begins : BeginsFrames order (drop file_header_length bytes) frames rest
   pub limit : length frames ≤ most_frames
 
--- the file is a capture of these frames: a file header and the frames up to the end
+-- the file is a capture of these frames: a file header, and the frames up to the end of the file
 abbrev pub IsCapture : List ℕ → List FrameValue → Type 0
 IsCapture file frames = (order : FileOrder) × Splits file order frames []
 
@@ -25,26 +25,26 @@ pub record ShowsInHeader (bytes : List ℕ) (frames : List FrameValue) (fault : 
   pub shown : header_fault bytes ≡ Some fault
   pub none_before : frames ≡ []
 
--- the bytes at the front of a file show this fault behind these frames
+-- the bytes at the front of a file show this fault after these frames
 pub record ShowsInFrames (bytes : List ℕ) (frames : List FrameValue) (fault : CaptureFault) : Type 0 where
   pub order : FileOrder
   pub rest : List ℕ
   pub splits : Splits bytes order frames rest
   pub shown : frame_fault order (length frames) (length bytes - length rest) rest ≡ Some fault
 
--- the bytes at the front of a file show this fault, however the file goes on, and these frames stand before it:
+-- the bytes at the front of a file show this fault, however the file continues, after these frames:
 -- NotCapture, Version, Link, TooManyFrames or LongFrame
 abbrev pub ShowsFault : List ℕ → List FrameValue → CaptureFault → Type 0
 ShowsFault bytes frames fault = ShowsInHeader bytes frames fault ⊎ ShowsInFrames bytes frames fault
 
--- the file ends inside its header, which shows nothing wrong: ShortHeader at the file's length
+-- the file ends inside its header, which shows no fault: ShortHeader at the file's length
 pub record EndsInHeader (file : List ℕ) (frames : List FrameValue) (fault : CaptureFault) : Type 0 where
   pub none_shown : header_fault file ≡ None
   pub short : length file < file_header_length
   pub none_before : frames ≡ []
   pub is_fault : fault ≡ fault_at ShortHeader (length file)
 
--- the file ends inside the frame behind these, which shows nothing wrong: CutFrame at that frame's first byte
+-- the file ends inside the frame after these, which shows no fault: CutFrame at that frame's first byte
 pub record EndsInFrame (file : List ℕ) (frames : List FrameValue) (fault : CaptureFault) : Type 0 where
   pub order : FileOrder
   pub rest : List ℕ
@@ -54,11 +54,11 @@ pub record EndsInFrame (file : List ℕ) (frames : List FrameValue) (fault : Cap
   pub cut : length rest < needed order rest
   pub is_fault : fault ≡ fault_at CutFrame (length file - length rest)
 
--- the end of the file makes this fault, and these frames stand before it
+-- the end of the file makes this fault, after these frames
 abbrev pub EndsInside : List ℕ → List FrameValue → CaptureFault → Type 0
 EndsInside file frames fault = EndsInHeader file frames fault ⊎ EndsInFrame file frames fault
 
--- a fault that the end of a file makes, and no byte before it
+-- a fault that only the end of a file makes: ShortHeader or CutFrame
 abbrev pub IsOfTheEnd : FaultKind → Type 0
 IsOfTheEnd ShortHeader = ⊤
 IsOfTheEnd CutFrame = ⊤

@@ -1,4 +1,4 @@
--- What holds of the definitions of a capture and of its first fault.
+-- Laws of the definitions of a capture and of its first fault.
 use Rattle.std.specs.Prelude.{ℕ, ◌≡◌, ◌<◌, ◌⊎◌, List, ◌++◌, slice_index}
 use Rattle.pcap_frames.specs.declared.fault.CaptureFault.{CaptureFault}
 use Rattle.pcap_frames.specs.Frame.{FrameValue}
@@ -7,7 +7,7 @@ use Rattle.pcap_frames.specs.Capture.{IsCapture, ShowsFault, HasFaultAfter, HasF
 use Rattle.pcap_frames.specs.ReaderState.{Completes}
 use Rattle.outside_io.specs.{IsBeginning}
 
--- each file is a capture or has a fault, never both; it has one list of frames, or one first fault behind one list of frames
+-- each file is a capture of one list of frames, or has one first fault after one list of frames, and never both
 pub record FilesAreDecided : Type 0 where
   pub either : (file : List ℕ) → ((frames : List FrameValue) × IsCapture file frames) ⊎ ((fault : CaptureFault) × HasFault file fault)
   pub never_both : (file : List ℕ) (frames : List FrameValue) (fault : CaptureFault) → IsCapture file frames → HasFault file fault → ⊥
@@ -16,7 +16,8 @@ pub record FilesAreDecided : Type 0 where
   pub one_before : (file : List ℕ) (frames others : List FrameValue) (fault other : CaptureFault) → HasFaultAfter file frames fault → HasFaultAfter file others other → others ≡ frames
   pub are_frames : (file : List ℕ) (frames : List FrameValue) → ((place : ℕ) → slice_index file place < 256) → IsCapture file frames → AreFrames frames
 
--- each front of a file completes one list of frames, a beginning of those of any longer front and of the whole file; a fault that a front shows is the file's
+-- the bytes at the front of a file complete one list of frames, which begins that of any longer front and of the file;
+-- a fault that they show is the file's first
 pub record FrontsAreDecided : Type 0 where
   pub some : (front : List ℕ) → (frames : List FrameValue) × Completes front frames
   pub one : (front : List ℕ) (frames others : List FrameValue) → Completes front frames → Completes front others → others ≡ frames

@@ -1,4 +1,4 @@
--- What a reader answers, and what its visitor saw.
+-- What a reader returns, and what its visitor saw.
 use Rattle.std.specs.Prelude.{⊤, ℕ, ◌≡◌, IsOk, List, ◌++◌, length, Result, Ok, Err}
 use Rattle.outside_io.specs.{IsBeginning}
 use Rattle.pcap_frames.specs.declared.fault.FeedFault.{FeedFault}
@@ -10,14 +10,14 @@ use Rattle.pcap_frames.specs.Capture.{IsCapture, ShowsFault, HasFaultAfter}
 use Rattle.pcap_frames.specs.ReaderState.{ReaderState, InHeader, InFrames, AtFault, LacksMemory, ReaderStandsFor, Completes, Advances}
 use Rattle.pcap_frames.specs.Visitor.{Sees}
 
--- what a reader in this state answers
+-- what a reader in this state returns
 abbrev pub IsAnswerOf : {T : Type 0} → ReaderState → Result T FeedFault → Type 0
 IsAnswerOf (InHeader kept) result = IsOk result
 IsAnswerOf (InFrames at) result = IsOk result
 IsAnswerOf (AtFault fault) result = result ≡ Err (Refused fault)
 IsAnswerOf LacksMemory result = result ≡ Err OutOfMemory
 
--- one fact where memory sufficed, the other where it ran out
+-- the first fact if memory sufficed, the second if it ran out
 abbrev pub IfMemory : {T : Type 0} → Result T FeedFault → Type 0 → Type 0 → Type 0
 IfMemory (Ok x) P Q = P
 IfMemory (Err (Refused fault)) P Q = P
@@ -30,7 +30,7 @@ pub record Feeds {V : Type 0} (stands_for : V → List FrameValue → Type 0) (s
   pub are_frames : AreFrames given
   pub sees : Sees stands_for seen saw given
 
--- the visitor saw a beginning of the frames that these bytes complete
+-- the visitor saw the first of the frames that these bytes complete: none, some or all
 pub record SeesBeginning {V : Type 0} (stands_for : V → List FrameValue → Type 0) (seen saw : V) (old : ReaderState) (bytes : List ℕ) : Type 0 where
   pub given : List FrameValue
   pub are_frames : AreFrames given
@@ -43,7 +43,7 @@ IsAnswerTo bytes (Ok x) = (frames : List FrameValue) (fault : CaptureFault) → 
 IsAnswerTo bytes (Err (Refused fault)) = (frames : List FrameValue) × ShowsFault bytes frames fault
 IsAnswerTo bytes (Err OutOfMemory) = ⊤
 
--- the file ends here: it is a capture of these frames and their number is answered, or it has this first fault behind them
+-- the file ends here: it is a capture of these frames, whose number is returned, or it has this first fault after them
 abbrev pub IsEndOf : List ℕ → List FrameValue → Result ℕ FeedFault → Type 0
 IsEndOf file frames (Ok count) = IsCapture file frames × (count ≡ length frames)
 IsEndOf file frames (Err (Refused fault)) = HasFaultAfter file frames fault

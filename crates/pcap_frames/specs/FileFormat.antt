@@ -5,7 +5,7 @@ use Rattle.std.specs.Prelude.{ℕ, ◌+◌}
 abbrev pub file_header_length : ℕ
 file_header_length = 24
 
--- the bytes of a frame's header: two of its time stamp, captured length, length on the wire, of four bytes each
+-- the bytes of a frame header: two time stamp fields, captured length and length on the wire, four bytes each
 abbrev pub frame_header_length : ℕ
 frame_header_length = 16
 
@@ -17,11 +17,11 @@ most_captured = 262144
 abbrev pub most_frames : ℕ
 most_frames = 16777216
 
--- the bytes of a frame that its record is read from: two hardware addresses of 6, two VLAN tags of 4, the type of 2, and an IPv4
--- header of 20
+-- the bytes of a frame that its record is read from: two hardware addresses of 6 bytes, two VLAN tags of 4,
+-- the type of 2, and an IPv4 header of 20
 abbrev pub head_length : ℕ
 head_length = 42
 
--- the bytes that are kept of a frame which a cut parts: its header and its head
+-- the bytes that are kept of a frame split between pieces: its header and its head
 abbrev pub kept_length : ℕ
 kept_length = frame_header_length + head_length

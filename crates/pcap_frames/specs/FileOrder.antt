@@ -4,7 +4,7 @@ use Rattle.byteorder.specs.Endian.{big_from, little_from}
 use Rattle.pcap_frames.specs.declared.file_order.FileOrder.{FileOrder}
 use Rattle.pcap_frames.specs.declared.file_order.FileOrder.TheVariants.{Big, Little}
 
--- the number in this many bytes from the place on, in the file's byte order
+-- the number in this many bytes from this offset on, in the file's byte order
 unfoldable pub number_at : FileOrder → ℕ → ℕ → List ℕ → ℕ
 number_at Big count place bytes = big_from place count bytes
 number_at Little count place bytes = little_from place count bytes

@@ -1,4 +1,4 @@
--- The frames behind the file header: a frame header of ts_sec, ts_sub, incl_len and orig_len, four bytes each, and then
+-- The frames after the file header: a frame header of ts_sec, ts_sub, incl_len and orig_len, four bytes each, and then
 -- incl_len captured bytes (pcap-savefile).
 use Rattle.std.specs.Prelude.{ℕ, ◌≡◌, ◌+◌, ◌≤◌, ◌<◌, ◌^◌, ◌==◌, nat_lt, if◌then◌else◌, min, Option, Some, None, List, [], ◌∷◌, length, take, drop, slice_index}
 use Rattle.pcap_frames.specs.FileFormat.{frame_header_length, most_captured, most_frames, head_length}
@@ -10,7 +10,7 @@ use Rattle.pcap_frames.specs.FileOrder.{number_at}
 use Rattle.pcap_frames.specs.Frame.{FrameValue}
 use Rattle.pcap_frames.specs.Header.{fault_at}
 
--- what the bytes say that a frame at their front is: incl_len, orig_len, and the first 42 of its captured bytes
+-- the frame at the front of the bytes, as its header states it: incl_len, orig_len, and the first 42 captured bytes
 abbrev pub frame_at : FileOrder → List ℕ → FrameValue
 frame_at order bytes = record {
   head = take head_length (take (number_at order 4 8 bytes) (drop frame_header_length bytes));
@@ -18,7 +18,7 @@ frame_at order bytes = record {
   original = number_at order 4 12 bytes;
 }
 
--- a frame stands whole at the front of the bytes
+-- this whole frame is at the front of the bytes
 pub record BeginsFrame (order : FileOrder) (bytes : List ℕ) (frame : FrameValue) : Type 0 where
   pub header : frame_header_length ≤ length bytes
   pub is_frame : frame ≡ frame_at order bytes
@@ -31,11 +31,11 @@ BeginsFrames order bytes [] rest = rest ≡ bytes
 BeginsFrames order bytes (frame ∷ frames) rest =
     BeginsFrame order bytes frame × BeginsFrames order (drop (frame_header_length + frame.captured) bytes) frames rest
 
--- how many bytes the frame at the front takes at least, as far as its header is there
+-- the least number of bytes that the frame at the front takes, as far as its header is known
 unfoldable pub needed : FileOrder → List ℕ → ℕ
 needed order bytes = if nat_lt (length bytes) frame_header_length then frame_header_length else frame_header_length + number_at order 4 8 bytes
 
--- the first fault that a rest shows behind this many frames, however the file goes on; the place is that of the rest
+-- the first fault that a rest shows after this many frames, however the file continues; its offset is that of the rest
 unfoldable pub frame_fault : FileOrder → ℕ → ℕ → List ℕ → Option CaptureFault
 frame_fault order count place rest =
     if nat_lt 0 (length rest)
@@ -44,13 +44,13 @@ frame_fault order count place rest =
     else (if nat_lt most_captured (number_at order 4 8 rest) then Some (fault_at LongFrame place) else None)))
     else None
 
--- what holds of every frame of a capture
+-- what always holds of a frame of a capture
 pub record IsFrame (frame : FrameValue) : Type 0 where
   pub captured : frame.captured ≤ most_captured
   pub original : frame.original < 2 ^ 32
   pub head : length frame.head ≡ min head_length frame.captured
   pub head_bytes : (place : ℕ) → slice_index frame.head place < 256
 
--- each of them is a frame
+-- each of these is a frame
 abbrev pub AreFrames : List FrameValue → Type 0
 AreFrames frames = AllByRecursion IsFrame frames

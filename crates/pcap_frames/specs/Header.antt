@@ -18,7 +18,7 @@ magic_order bytes =
     if is_magic (number_at Big 4 0 bytes) then Some Big
     else (if is_magic (number_at Little 4 0 bytes) then Some Little else None)
 
--- a fault of this kind at this byte of the file
+-- a fault of this kind at this offset in the file
 abbrev pub fault_at : FaultKind → ℕ → CaptureFault
 fault_at kind place = record { kind = kind; place = place }
 
@@ -30,7 +30,7 @@ pub record IsHeader (order : FileOrder) (bytes : List ℕ) : Type 0 where
   pub minor : number_at order 2 6 bytes ≡ 4
   pub link : number_at order 4 20 bytes ≡ 1
 
--- what is wrong with the fields behind the magic, as far as they are there
+-- what is wrong with the magic, or with the fields after it as far as they are present
 abbrev pub fields_fault : Option FileOrder → List ℕ → Option CaptureFault
 fields_fault None bytes = Some (fault_at NotCapture 0)
 fields_fault (Some order) bytes =
@@ -42,6 +42,6 @@ fields_fault (Some order) bytes =
     else Some (fault_at Version 4))
     else Some (fault_at Version 4))
 
--- the first fault that the front of a file shows, however the file goes on: magic, then version, then link type
+-- the first fault that the front of a file shows, however the file continues: magic, then version, then link type
 unfoldable pub header_fault : List ℕ → Option CaptureFault
 header_fault bytes = if nat_lt (length bytes) 4 then None else fields_fault (magic_order bytes) bytes

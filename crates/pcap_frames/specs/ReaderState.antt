@@ -8,8 +8,8 @@ use Rattle.pcap_frames.specs.Header.{header_fault}
 use Rattle.pcap_frames.specs.Frames.{frame_fault, needed}
 use Rattle.pcap_frames.specs.Capture.{Splits, ShowsFault}
 
--- behind some frames: the byte order, how many frames, where the next one begins, its first 58 bytes as far as they came,
--- and how many of its bytes came
+-- after some frames: the byte order, the number of frames, the offset of the next frame, as much of its first 58 bytes
+-- as arrived, and how many of its bytes arrived
 pub record FramePlace : Type 0 where
   pub order : FileOrder
   pub count : ℕ
@@ -17,21 +17,21 @@ pub record FramePlace : Type 0 where
   pub kept : List ℕ
   pub came : ℕ
 
--- inside the file header with its bytes so far, behind some frames, at a fault, or out of memory
+-- inside the file header with its bytes so far, after some frames, at a fault, or out of memory
 pub data ReaderState : Type 0 where
   InHeader : List ℕ → ReaderState
   InFrames : FramePlace → ReaderState
   AtFault : CaptureFault → ReaderState
   LacksMemory : ReaderState
 
--- the bytes are less than a file header, and show nothing wrong
+-- the bytes are fewer than a file header, and show no fault
 pub record IsPartHeader (kept : List ℕ) (bytes : List ℕ) (frames : List FrameValue) : Type 0 where
   pub kept_is : kept ≡ bytes
   pub short : length bytes < file_header_length
   pub none_shown : header_fault bytes ≡ None
   pub no_frame : frames ≡ []
 
--- the bytes are a file header, these frames, and less than a whole frame that shows nothing wrong
+-- the bytes are a file header, these frames, and less than a whole frame, which shows no fault
 pub record IsBehind (at : FramePlace) (bytes : List ℕ) (frames : List FrameValue) : Type 0 where
   pub rest : List ℕ
   pub splits : Splits bytes at.order frames rest
@@ -42,14 +42,14 @@ pub record IsBehind (at : FramePlace) (bytes : List ℕ) (frames : List FrameVal
   pub kept_is : at.kept ≡ take kept_length rest
   pub came_is : at.came ≡ length rest
 
--- a reader in this state stands for these bytes at the front of a file, which hold these whole frames
+-- a reader in this state represents these bytes at the front of a file, which contain these whole frames
 abbrev pub ReaderStandsFor : ReaderState → List ℕ → List FrameValue → Type 0
 ReaderStandsFor (InHeader kept) bytes frames = IsPartHeader kept bytes frames
 ReaderStandsFor (InFrames at) bytes frames = IsBehind at bytes frames
 ReaderStandsFor (AtFault fault) bytes frames = ShowsFault bytes frames fault
 ReaderStandsFor LacksMemory bytes frames = ⊥
 
--- the bytes at the front of a file hold these whole frames and no more
+-- the bytes at the front of a file contain exactly these whole frames
 abbrev pub Completes : List ℕ → List FrameValue → Type 0
 Completes bytes frames = (state : ReaderState) × ReaderStandsFor state bytes frames
 
@@ -60,6 +60,6 @@ HasStopped (InFrames at) = ⊥
 HasStopped (AtFault fault) = ⊤
 HasStopped LacksMemory = ⊤
 
--- whatever the reader stood for, it now stands for that followed by these bytes, which complete these frames
+-- whatever bytes the reader represented, it now represents them followed by these bytes, which complete these frames
 pub record Advances (old new : ReaderState) (bytes : List ℕ) (given : List FrameValue) : Type 0 where
   pub reads : (before : List ℕ) (frames : List FrameValue) → ReaderStandsFor old before frames → ReaderStandsFor new (before ++ bytes) (frames ++ given)

@@ -1,4 +1,4 @@
--- What reading a whole source answers.
+-- What reading a whole source returns.
 use Rattle.std.specs.Prelude.{⊤, ℕ, ◌≡◌, ◌≤◌, List, length, Option, IfSome, Result, Ok, Err}
 use Rattle.pcap_frames.specs.FileFormat.{most_frames}
 use Rattle.std.specs.Io.KnownBytes.{Consumes, IsAtEnd}
@@ -14,12 +14,12 @@ use Rattle.pcap_frames.specs.ReaderState.{Completes}
 use Rattle.pcap_frames.specs.Visitor.{Sees}
 use Rattle.outside_io.specs.{IsBeginning}
 
--- a reader's answer as that of reading a source
+-- the fault of a reader as the refusal of reading a source
 abbrev pub refusal_of : FeedFault → ReadRefusal
 refusal_of (feed.Refused fault) = Capture fault
 refusal_of feed.OutOfMemory = OutOfMemory
 
--- the visitor saw this many frames, the whole capture where the source tells its bytes, and the source is at its end
+-- the visitor saw this many frames, the whole capture where the source's bytes are known, and the source is at its end
 pub record SeesCapture {V : Type 0} (stands_for : V → List FrameValue → Type 0) (seen saw : V) (left now : Option (List ℕ)) (count : ℕ) : Type 0 where
   pub frames : List FrameValue
   pub counted : length frames ≡ count
@@ -29,8 +29,8 @@ pub record SeesCapture {V : Type 0} (stands_for : V → List FrameValue → Type
   pub capture : IfSome left (λ file. IsCapture file frames)
   pub at_end : IsAtEnd now
 
--- a front of the source was read, which has this first fault behind the frames that the visitor saw; it is the file's where the source
--- tells its bytes, and where the end of a file makes it the source was read to its end
+-- a front of the source was read, with this first fault after the frames that the visitor saw; it is the file's first
+-- where the source's bytes are known; if the end of the file makes the fault, the source was read to its end
 pub record SeesBeforeFault {V : Type 0} (stands_for : V → List FrameValue → Type 0) (seen saw : V) (left now : Option (List ℕ)) (fault : CaptureFault) : Type 0 where
   pub front : List ℕ
   pub frames : List FrameValue
@@ -51,7 +51,7 @@ pub record SeesFront {V : Type 0} (stands_for : V → List FrameValue → Type 0
   pub are_frames : AreFrames frames
   pub sees : Sees stands_for seen saw frames
 
--- a front of the source was read, and the visitor saw a beginning of the frames that it completes
+-- a front of the source was read, and the visitor saw the first of the frames that it completes: none, some or all
 pub record SeesPart {V : Type 0} (stands_for : V → List FrameValue → Type 0) (seen saw : V) (left now : Option (List ℕ)) : Type 0 where
   pub front : List ℕ
   pub all : List FrameValue
@@ -62,14 +62,14 @@ pub record SeesPart {V : Type 0} (stands_for : V → List FrameValue → Type 0)
   pub are_frames : AreFrames frames
   pub sees : Sees stands_for seen saw frames
 
--- what the visitor saw, by the answer
+-- what the visitor saw, for each result
 abbrev pub IsSeen : {V : Type 0} → (V → List FrameValue → Type 0) → V → V → Option (List ℕ) → Option (List ℕ) → Result ℕ ReadRefusal → Type 0
 IsSeen stands_for seen saw left now (Ok count) = SeesCapture stands_for seen saw left now count
 IsSeen stands_for seen saw left now (Err (Capture fault)) = SeesBeforeFault stands_for seen saw left now fault
 IsSeen stands_for seen saw left now (Err ReadFault) = SeesFront stands_for seen saw left now
 IsSeen stands_for seen saw left now (Err OutOfMemory) = SeesPart stands_for seen saw left now
 
--- a capture is read and a file with a fault is refused with it, unless a read failed or memory ran out
+-- a capture is read, and a file with a fault is refused for it, unless a read failed or memory ran out
 abbrev pub IsReadOf : List ℕ → Result ℕ ReadRefusal → Type 0
 IsReadOf file (Ok count) =
     ((frames : List FrameValue) × IsCapture file frames × (length frames ≡ count)) × ((fault : CaptureFault) → HasFault file fault → ⊥)

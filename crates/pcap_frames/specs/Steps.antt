@@ -9,7 +9,7 @@ use Rattle.pcap_frames.specs.Frames.{frame_at, AreFrames}
 use Rattle.pcap_frames.specs.ReaderState.{ReaderState, Advances}
 use Rattle.pcap_frames.specs.Visitor.{Sees, IsAlike}
 
--- the bytes are a whole frame, this one, and then a rest
+-- the bytes are this whole frame and then a rest
 pub record SplitsFrame (order : FileOrder) (bytes rest : List ℕ) (frame : FrameValue) : Type 0 where
   pub front : List ℕ
   pub joined : bytes ≡ front ++ rest
@@ -18,7 +18,7 @@ pub record SplitsFrame (order : FileOrder) (bytes rest : List ℕ) (frame : Fram
   pub whole : length front ≡ frame_header_length + number_at order 4 8 front
   pub frame_is : frame ≡ frame_at order front
 
--- the reader took a front of the piece, of one byte at least, which completes these frames; this rest is left
+-- the reader took a front of the piece, at least one byte, which completes these frames; this rest remains
 pub record Takes (old new : ReaderState) (piece rest : List ℕ) (given : List FrameValue) : Type 0 where
   pub front : List ℕ
   pub joined : piece ≡ front ++ rest
@@ -32,7 +32,7 @@ pub record ShowsFront {V : Type 0} (stands_for : V → List FrameValue → Type 
   pub are_frames : AreFrames given
   pub sees : Sees stands_for seen saw given
 
--- the visitor had no memory for the frame that a front of the piece completes
+-- the visitor ran out of memory for the frame that a front of the piece completes
 pub record LacksRoom {V : Type 0} (stands_for : V → List FrameValue → Type 0) (seen saw : V) (old : ReaderState) (piece : List ℕ) : Type 0 where
   pub after : ReaderState
   pub rest : List ℕ

@@ -1,4 +1,4 @@
-//! Why bytes are no capture, and why a reader gave up.
+//! Why bytes are not a capture, and why a reader stopped.
 
 ghost use Rattle.std.specs.Prelude.{◌≡◌};
 ghost use Rattle.pcap_frames.specs.declared.fault.ReadRefusal.TheVariants.{ReadFault};
@@ -16,10 +16,10 @@ pub enum FaultKind {
     /// The first four bytes are none of the four spellings of the magic.
     #[error("not a capture")]
     NotCapture,
-    /// The version isn't 2.4.
+    /// The version is not 2.4.
     #[error("version")]
     Version,
-    /// The link type isn't 1, Ethernet.
+    /// The link type is not 1, Ethernet.
     #[error("link")]
     Link,
     /// A frame has more than 262,144 captured bytes.
@@ -39,12 +39,12 @@ pub enum FaultKind {
 pub struct CaptureFault {
     /// What is wrong.
     pub kind: FaultKind,
-    /// The byte place in the file, counted from 0: of the wrong field, of the first byte of the frame or
-    /// behind the last one, or, for a short header, the file's length.
+    /// The offset in the file, in bytes from 0: of the wrong field, of the first byte of the frame or of the byte
+    /// after the last frame, or, for a short header, the file's length.
     pub place: u64,
 }
 
-/// Why a reader takes no more bytes. It gives the same answer from then on.
+/// Why a reader takes no more bytes. The reader returns the same from then on.
 #[derive(Clone, Copy, Debug, PartialEq, Eq, Error)]
 pub enum FeedFault {
     /// The bytes so far show this fault, or the file ends with it.
@@ -55,10 +55,10 @@ pub enum FeedFault {
     OutOfMemory,
 }
 
-/// Why a capture was not read whole.
+/// Why a capture was not read in full.
 #[derive(Clone, Copy, Debug, PartialEq, Eq, Error)]
 pub enum ReadRefusal {
-    /// The bytes are no capture.
+    /// The bytes are not a capture.
     #[error(transparent)]
     Capture(CaptureFault),
     /// A call of the source failed.

@@ -5,7 +5,7 @@ ghost use Rattle.pcap_frames.specs.FileOrder.{number_at};
 
 use byteorder::{BigEndian, ByteOrder, LittleEndian};
 
-/// The byte order of every number of a file, which its magic shows.
+/// The byte order of all numbers in a file, as its magic shows.
 #[derive(Clone, Copy, Debug, PartialEq, Eq)]
 pub(crate) enum FileOrder {
     Big,
@@ -13,7 +13,7 @@ pub(crate) enum FileOrder {
 }
 
 impl FileOrder {
-    /// The number in the two bytes from the place on.
+    /// The number in the two bytes from this offset on.
     #[tactic(auto, unfolding(crate::specs::FileOrder::number_at))]
     pub(crate) fn u16_at(self, bytes: &[u8], place: usize) -> u16
         requires { place + 2 ≤ length bytes.now }
@@ -25,7 +25,7 @@ impl FileOrder {
         }
     }
 
-    /// The number in the four bytes from the place on.
+    /// The number in the four bytes from this offset on.
     #[tactic(auto, unfolding(crate::specs::FileOrder::number_at))]
     pub(crate) fn u32_at(self, bytes: &[u8], place: usize) -> u32
         requires { place + 4 ≤ length bytes.now }

@@ -1,11 +1,11 @@
-//! One frame of a capture, as a visitor is shown it.
+//! One frame of a capture, as it is shown to a visitor.
 
 ghost use Rattle.std.specs.Prelude.{◌≡◌, ◌≤◌, length, min};
 
 /// A frame: what was captured of one packet, and how long the packet was on the wire.
 #[derive(Clone, Copy)]
 pub struct Frame<'a> {
-    /// The first 42 captured bytes, or all where fewer were captured.
+    /// The first 42 captured bytes, or all of them if fewer were captured.
     pub head: &'a [u8],
     /// The number of captured bytes, at most 262,144.
     pub captured: u32,

@@ -1,4 +1,4 @@
-//! The 24 bytes at the front of a capture.
+//! The file header: the first 24 bytes of a capture.
 
 ghost use Rattle.std.specs.Prelude.{◌≡◌, ◌≤◌, length};
 ghost use Rattle.pcap_frames.specs.Header.{magic_order, header_fault};
@@ -10,7 +10,7 @@ const MICROSECONDS: u32 = 0xa1b2_c3d4;
 
 const NANOSECONDS: u32 = 0xa1b2_3c4d;
 
-/// The byte order in which the first four bytes are one of the two magics.
+/// The byte order in which the first four bytes are one of the two magics, if there is one.
 #[tactic(auto, unfolding(crate::specs::Header::magic_order))]
 pub(crate) fn magic_order(bytes: &[u8]) -> Option<FileOrder>
     requires { 4 ≤ length bytes.now }
@@ -27,7 +27,7 @@ pub(crate) fn magic_order(bytes: &[u8]) -> Option<FileOrder>
     None
 }
 
-/// The first fault that the bytes at the front of a file show, however the file goes on.
+/// The first fault that the bytes at the front of a file show, however the file continues.
 #[tactic(auto, unfolding(crate::specs::Header::header_fault))]
 pub(crate) fn header_fault(bytes: &[u8]) -> Option<CaptureFault>
     ensures { result ≡ header_fault bytes.now }
@@ -56,7 +56,7 @@ pub(crate) fn header_fault(bytes: &[u8]) -> Option<CaptureFault>
     None
 }
 
-/// A fault of this kind at this place.
+/// A fault of this kind at this offset.
 pub(crate) fn fault_at(kind: FaultKind, place: u64) -> CaptureFault
     ensures { result ≡ record { kind = kind; place = place } }
 {

@@ -1,4 +1,4 @@
-//! What holds of the definitions of a capture and of its first fault.
+//! Laws of the definitions of a capture and of its first fault.
 
 ghost use Rattle.pcap_frames.specs.Decided.{FilesAreDecided, FrontsAreDecided};
 
@@ -7,8 +7,8 @@ pub fn files_are_decided()
     ensures { FilesAreDecided }
 {}
 
-/// Each front of a file completes one list of frames, which any longer front only goes on, and a fault
-/// that it shows is the file's first.
+/// The bytes at the front of a file complete one list of frames, which more bytes only extend, and a fault that they
+/// show is the file's first.
 pub fn fronts_are_decided()
     ensures { FrontsAreDecided }
 {}

@@ -1,4 +1,4 @@
-//! Reading a capture in pieces of any size. What is kept between two pieces stands in the modules below.
+//! Reading a capture in pieces of any size. The modules below hold what is kept between two pieces.
 
 mod framing;
 mod front;
@@ -12,9 +12,9 @@ ghost use Rattle.pcap_frames.specs.ReaderState.{InHeader, ReaderStandsFor, HasSt
 ghost use Rattle.pcap_frames.specs.Feeding.{IsAnswerOf, IfMemory, Feeds, SeesBeginning, IsAnswerTo, IsEndOf};
 
 use crate::header::fault_at;
+use crate::{FaultKind, FeedFault, Frame, FrameVisitor};
 use held::HeldFrame;
 use part::{FramePart, Stage, Taken};
-use crate::{FaultKind, FeedFault, Frame, FrameVisitor};
 use std::alloc::AllocError;
 use std::marker::Model;
 
@@ -42,7 +42,7 @@ impl FrameReader {
     ghost use Rattle.pcap_frames.specs.Frames.{IsFrame};
     ghost use Rattle.pcap_frames.specs.Steps.{Takes, ShowsFront, LacksRoom};
 
-    /// A reader that was fed nothing.
+    /// A reader that was fed no bytes.
     pub fn new() -> FrameReader
         ensures empty { result ≡ InHeader [] }
         ensures stands { ReaderStandsFor result [] [] }
@@ -53,8 +53,8 @@ impl FrameReader {
         }
     }
 
-    /// The frame at the front of the piece and what is behind it, if the reader is between two frames
-    /// and the next one stands there whole.
+    /// The frame at the front of the piece and the bytes after it, if the reader is between two frames and the whole
+    /// next frame is there.
     fn whole_frame<'a>(&mut self, piece: &'a [u8]) -> Option<(Frame<'a>, &'a [u8])>
         ensures takes { IfSome result (λ found. Takes self.old self.new piece.now found.1.now (content_of found.0 ∷ [])) }
         ensures is_frame { IfSome result (λ found. IsFrame (content_of found.0)) }
@@ -66,7 +66,7 @@ impl FrameReader {
         }
     }
 
-    /// The next bytes of a header or a frame, the frame if they complete it, and what is behind them.
+    /// Takes the next bytes of a header or a frame. Gives the frame if they complete it, and the bytes after them.
     fn take<'a>(&mut self, piece: &'a [u8]) -> (Option<HeldFrame>, &'a [u8])
         requires { 0 < length piece.now }
         ensures { Takes self.old self.new piece.now result.1.now (held_frames result.0) }
@@ -76,7 +76,7 @@ impl FrameReader {
         (held, rest)
     }
 
-    /// Takes a front of the piece, and shows the visitor the frame that it completes. What is behind it.
+    /// Takes a front of the piece, and shows the visitor the frame that it completes. Returns the bytes after it.
     fn show_front<'a, V: FrameVisitor>(
         &mut self,
         piece: &'a [u8],
@@ -116,7 +116,7 @@ impl FrameReader {
         matches!(self.stage, Stage::AtFault(_) | Stage::LacksMemory)
     }
 
-    /// What the reader answers.
+    /// The result that the reader gives in its present state.
     fn answer(&self) -> Result<(), FeedFault>
         ensures { IsAnswerOf self.now result }
     {
@@ -129,21 +129,21 @@ impl FrameReader {
 
     /// Feeds the next piece of the file, and shows the visitor the frames that the bytes so far complete.
     ///
-    /// `Refused` comes as soon as the bytes so far show a fault, however the file goes on, and then at
-    /// each later call. `OutOfMemory` comes where the visitor has no memory for a frame, and then at
-    /// each later call. A reader that has answered either takes no more bytes.
+    /// `Refused` is returned as soon as the bytes so far show a fault, however the file continues, and then by each
+    /// later call. `OutOfMemory` is returned where the visitor has no memory for a frame, and then by each later
+    /// call. A reader that has returned either takes no more bytes.
     pub fn feed<V: FrameVisitor>(&mut self, piece: &[u8], visitor: &mut V) -> Result<(), FeedFault>
-        // What the reader stands for, and what the visitor saw.
+        // What the reader represents, and what the visitor saw.
         ensures fed { IfMemory result
             (Feeds V.stands_for visitor.old visitor.new self.old self.new piece.now)
             (SeesBeginning V.stands_for visitor.old visitor.new self.old piece.now) }
 
-        // When each answer comes.
+        // When each result is returned.
         ensures answer { IsAnswerOf self.new result }
         ensures exact { (before : List ℕ) (frames : List FrameValue) → ReaderStandsFor self.old before frames
             → IsAnswerTo (before ++ piece.now) result }
 
-        // After a fault or want of memory nothing changes.
+        // After a fault, or after memory ran out, nothing changes.
         ensures stays { HasStopped self.old → (self.new ≡ self.old) × (visitor.new ≡ visitor.old) }
     {
         if self.has_stopped() {
@@ -158,10 +158,10 @@ impl FrameReader {
         }
     }
 
-    /// Ends the file, and answers the number of frames.
+    /// Ends the file, and returns the number of frames.
     ///
-    /// `ShortHeader` and `CutFrame` come here. A reader that has refused or lacked memory answers that
-    /// again.
+    /// `ShortHeader` and `CutFrame` are returned here. A reader that has refused the file or run out of memory
+    /// returns that again.
     pub fn finish(self) -> Result<u64, FeedFault>
         ensures stopped { HasStopped self → IsAnswerOf self result }
         ensures end { (file : List ℕ) (frames : List FrameValue) → ReaderStandsFor self file frames → IsEndOf file frames result }

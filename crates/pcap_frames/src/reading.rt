@@ -7,13 +7,14 @@ ghost use Rattle.pcap_frames.specs.Reading.{IsSeen, IsReadOf};
 use crate::{FrameReader, FrameVisitor, ReadRefusal};
 use outside_io::Source;
 
-/// Reads a capture to the end of the source, by way of the buffer, and shows the visitor its frames.
-/// The number of frames. The buffer has room for a byte at least, and may hold any bytes afterwards.
+/// Reads a capture to the end of the source through the buffer, and shows the visitor its frames. Returns the number
+/// of frames. The buffer has room for at least one byte, and may hold any bytes afterwards.
 ///
-/// `Capture` comes where the bytes are no capture, with the first fault. The visitor saw the frames
-/// before it. The source may have been read past it, and was read to its end where that is what makes the
-/// fault, as a cut frame. `ReadFault` comes just where a call of the source failed. After it, and after `OutOfMemory`, which may come at each frame, the source was read
-/// in part, and the visitor saw the frames of that part, or after `OutOfMemory` the first of them.
+/// `Capture` is returned where the bytes are not a capture, with the first fault. The visitor saw the frames before
+/// it. The source may have been read past the fault, and was read to its end if the end makes the fault, as for a cut
+/// frame. `ReadFault` is returned exactly where a call of the source failed, and `OutOfMemory` may be returned at each
+/// frame. After either, the source was read in part, and the visitor saw the frames of that part, or after
+/// `OutOfMemory` the first of them.
 pub fn read_frames<S: Source, V: FrameVisitor>(
     source: &mut S,
     visitor: &mut V,
@@ -24,7 +25,7 @@ pub fn read_frames<S: Source, V: FrameVisitor>(
     // What the visitor saw: the frames of the capture, those before the fault, or some of them.
     ensures seen { IsSeen V.stands_for visitor.old visitor.new (S.left source.old) (S.left source.new) result }
 
-    // When each answer comes.
+    // When each result is returned.
     ensures exact { IfSome (S.left source.old) (λ file. IsReadOf file result) }
     ensures later { S.faults source.old ≤ S.faults source.new }
     ensures fault { IsErrOf result ReadRefusal.ReadFault → Rose (S.faults source.old) (S.faults source.new) }

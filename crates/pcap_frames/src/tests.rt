@@ -62,7 +62,7 @@ const TAGGED_AND_ARP: [u8; 130] = [
     0, 1, 8, 0, 6, 4, 0, 1, 2, 0, 0, 0, 0, 1, // the front of the ARP request
 ];
 
-/// What a visitor saw of a frame: its head, filled up with zeros, and its lengths.
+/// What a visitor saw of a frame: its head, padded with zeros, and its lengths.
 #[derive(Clone, Copy, Debug, PartialEq, Eq)]
 struct SeenFrame {
     head: [u8; 42],
@@ -70,7 +70,7 @@ struct SeenFrame {
     original: u32,
 }
 
-/// Keeps what it is shown, up to a number of frames.
+/// A visitor that keeps the frames that it is shown, up to a number of them.
 #[derive(Drop)]
 struct Album {
     frames: Vec<SeenFrame>,
@@ -110,7 +110,7 @@ fn refused(kind: FaultKind, place: u64) -> Result<u64, ReadRefusal> {
     Err(ReadRefusal::Capture(CaptureFault { kind, place }))
 }
 
-/// The front of a file with one byte of it changed.
+/// The bytes at the front of a file, with one byte changed.
 fn changed(alloc: Global, file: &[u8], place: usize, byte: u8) -> Result<Vec<u8>, AllocError> {
     let mut bytes = file.to_vec(alloc)?;
     if place < bytes.len() {
@@ -122,7 +122,7 @@ fn changed(alloc: Global, file: &[u8], place: usize, byte: u8) -> Result<Vec<u8>
 #[test]
 fn reads_one_frame_or_its_first_fault(rt: HostRuntime) -> Result<(), Fail> {
     let alloc = rt.alloc();
-    // How many bytes of the capture, which of them is changed to what, and the answer.
+    // The number of bytes of the capture, which of them is changed to what, and the result.
     let cases: [(usize, usize, u8, Result<u64, ReadRefusal>); 10] = [
         (0, 0, 0xd4, refused(FaultKind::ShortHeader, 0)),
         (23, 0, 0xd4, refused(FaultKind::ShortHeader, 23)),
@@ -253,7 +253,7 @@ fn stops_at_a_fault_and_without_memory(rt: HostRuntime) -> Result<(), Fail> {
     assert_eq!(rt; reader.finish(), Err(FeedFault::OutOfMemory));
     assert_eq!(rt; album.frames.len(), 1);
 
-    // A fault stays, and what follows it is passed over.
+    // A fault persists, and the bytes after it are ignored.
     let fault = CaptureFault {
         kind: FaultKind::NotCapture,
         place: 0,

@@ -1,4 +1,4 @@
-//! Who is shown the frames of a capture.
+//! The visitor that is shown the frames of a capture.
 
 ghost use Rattle.std.specs.Prelude.{List, [], ◌∷◌, OnOk, OnErr};
 ghost use Rattle.pcap_frames.specs.Frame.{FrameValue, content_of};
@@ -9,11 +9,11 @@ use std::alloc::AllocError;
 
 /// Takes the frames of a capture one by one, in the order of the file.
 pub trait FrameVisitor {
-    /// What the visitor holds now is what these frames leave.
+    /// The visitor's state represents these frames.
     ghost stands_for: { Self → List FrameValue → Type 0 };
 
-    /// Takes the next frame. After an error, which says that memory ran out, the visitor stands for the
-    /// same frames as before.
+    /// Takes the next frame. After an error, which means that memory ran out, the visitor represents the same frames
+    /// as before.
     fn frame(&mut self, frame: &Frame<'_>) -> Result<(), AllocError>
         ensures seen { OnOk result (Sees stands_for self.old self.new (content_of frame.now ∷ [])) }
         ensures unchanged { OnErr result (IsAlike stands_for self.old self.new) };

@@ -1,4 +1,4 @@
--- What reported prefixes explain of the weight of another (Mitzenmacher, Steinke, Thaler 2012).
+-- What reported prefixes explain of the weight of another prefix (Mitzenmacher, Steinke, Thaler 2012).
 use Rattle.std.specs.Prelude.{ℕ, ◌≡◌, ◌≢◌, ◌+◌, ◌≤◌, ◌&&◌, ◌||◌, not, Bool, false, List, [], ◌∷◌, ◌++◌, Option, None, Some, filter, sum_by, count_by, AllPairs, if◌then◌else◌}
 use Rattle.std.specs.List.{list_any, filter_map}
 use Rattle.prefix_lattice.specs.Record.{RecordValue}
@@ -9,11 +9,11 @@ use Rattle.prefix_lattice.specs.Lattice.{under, same_prefix, strictly_under, mee
 abbrev pub lines_under : PrefixValue → List PrefixValue → List PrefixValue
 lines_under prefix lines = filter (λ line. strictly_under line prefix) lines
 
--- some of these prefixes covers the record
+-- at least one of these prefixes covers the record
 abbrev pub one_covers : List PrefixValue → RecordValue → Bool
 one_covers lines rec = list_any (λ line. covers line rec) lines
 
--- the conditioned weight of a prefix: what the records weigh that it covers and no line strictly under it does
+-- the conditioned weight of a prefix: the weight of the records that it covers and no line strictly under it covers
 abbrev pub conditioned_weight : PrefixValue → List PrefixValue → List RecordValue → ℕ
 conditioned_weight prefix lines records =
     sum_by (λ rec. rec.weight) (filter (λ rec. covers prefix rec && not (one_covers (lines_under prefix lines) rec)) records)
@@ -26,11 +26,11 @@ greatest members = filter (λ member. not (list_any (λ other. strictly_under me
 abbrev pub closest : PrefixValue → List PrefixValue → List PrefixValue
 closest prefix lines = greatest (lines_under prefix lines)
 
--- a prefix is under some member that is neither of these two
+-- a prefix is under some member other than these two
 abbrev pub under_third : List PrefixValue → PrefixValue → PrefixValue → PrefixValue → Bool
 under_third members first second prefix = list_any (λ third. under prefix third && not (same_prefix third first || same_prefix third second)) members
 
--- a prefix that is under no third member
+-- the prefix, unless it is under a third member
 abbrev pub unless_under_third : List PrefixValue → PrefixValue → PrefixValue → Option PrefixValue → Option PrefixValue
 unless_under_third members first second None = None
 unless_under_third members first second (Some prefix) = if under_third members first second prefix then None else Some prefix
@@ -39,7 +39,7 @@ unless_under_third members first second (Some prefix) = if under_third members f
 abbrev pub kept_meet : List PrefixValue → PrefixValue → PrefixValue → Option PrefixValue
 kept_meet members first second = unless_under_third members first second (meet first second)
 
--- the meets of the kept pairs whose first member is one of these, and whose second stands behind it
+-- the meets of the kept pairs whose first member is in this list, and whose second member follows it there
 abbrev pub kept_among : List PrefixValue → List PrefixValue → List PrefixValue
 kept_among members [] = []
 kept_among members (first ∷ rest) = filter_map (kept_meet members first) rest ++ kept_among members rest
@@ -57,6 +57,7 @@ pub record AreIncomparable (members : List PrefixValue) : Type 0 where
 abbrev pub covering_count : RecordValue → List PrefixValue → ℕ
 covering_count rec prefixes = count_by (λ prefix. covers prefix rec) prefixes
 
--- where some of these prefixes cover a record, just one kept pair fewer has a meet that covers it
+-- the staircase law: if n of these prefixes cover a record and n is at least 1, exactly n - 1 of their kept pairs
+-- have a meet that covers it
 abbrev pub ObeysStaircase : List PrefixValue → RecordValue → Type 0
 ObeysStaircase members rec = 1 ≤ covering_count rec members → covering_count rec (kept_pairs members) + 1 ≡ covering_count rec members

@@ -5,17 +5,17 @@ use Rattle.std.specs.Prelude.{ℕ, ◌+◌, ◌-◌, ◌*◌, ◌/◌, ◌%◌, 
 abbrev pub address_length : ℕ
 address_length = 4
 
--- the lowest digits of a number, that many of them, the most significant first
+-- this many of the lowest digits of a number, the most significant first
 abbrev pub digits : ℕ → ℕ → ℕ → List ℕ
 digits base zero number = []
 digits base (suc count) number = digits base count (number / base) ++ number % base ∷ []
 
--- the number that begins with the number `high` and goes on with these digits
+-- the number whose digits are those of `high` followed by these
 abbrev pub number_from : ℕ → ℕ → List ℕ → ℕ
 number_from base high [] = high
 number_from base high (digit ∷ rest) = number_from base (high * base + digit) rest
 
--- the four bytes of an address, in the order of the network (RFC 791)
+-- the four bytes of an address, in network byte order (RFC 791)
 abbrev pub address_bytes : ℕ → List ℕ
 address_bytes address = digits 256 address_length address
 

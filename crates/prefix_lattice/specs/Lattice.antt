@@ -15,21 +15,21 @@ under lower upper = begins_with lower.source upper.source && begins_with lower.d
 abbrev pub same_prefix : PrefixValue → PrefixValue → Bool
 same_prefix prefix other = under prefix other && under other prefix
 
--- under another, and not the same
+-- a prefix is under another, and not the same
 abbrev pub strictly_under : PrefixValue → PrefixValue → Bool
 strictly_under lower upper = under lower upper && not (same_prefix lower upper)
 
--- the longer of two lists of kept bytes, if the other one begins it
+-- the longer of two lists of kept bytes, if it begins with the other
 abbrev pub longer_side : List ℕ → List ℕ → Option (List ℕ)
 longer_side front other = if begins_with front other then Some front else (if begins_with other front then Some other else None)
 
--- a prefix of two sides, if both are there
+-- the prefix with these two sides, if both are present
 abbrev pub prefix_of_sides : Option (List ℕ) → Option (List ℕ) → Option PrefixValue
 prefix_of_sides (Some source) (Some dest) = Some (record { source = source; dest = dest })
 prefix_of_sides (Some source) None = None
 prefix_of_sides None dest = None
 
--- the greatest prefix under two others: on each side the longer list, where the other one begins it
+-- the greatest prefix under two others: on each side the longer list, if it begins with the other
 abbrev pub meet : PrefixValue → PrefixValue → Option PrefixValue
 meet prefix other = prefix_of_sides (longer_side prefix.source other.source) (longer_side prefix.dest other.dest)
 
@@ -41,7 +41,8 @@ pub record ShareAddresses (prefix other : PrefixValue) : Type 0 where
   pub covered : covers prefix pair ≡ true
   pub covered_by_other : covers other pair ≡ true
 
--- the order of a report: the level falls, then the source address rises, then its kept bytes, then the destination address
+-- the order of a report: the level falls, then the source address rises, then its kept bytes, then the destination
+-- address
 abbrev pub report_order : PrefixValue → PrefixValue → Ordering
 report_order prefix other =
     ordering_then (nat_cmp (level_of (node_of other)) (level_of (node_of prefix)))

@@ -1,8 +1,8 @@
--- What contracts see of a node of the lattice.
+-- A node of the lattice, as contracts see it.
 use Rattle.std.specs.Prelude.{ℕ, ◌+◌, ◌*◌, ◌/◌, ◌%◌, ◌≤◌}
 use Rattle.prefix_lattice.specs.KeptBytes.{address_length}
 
--- the nodes of the lattice: 0 to 4 bytes of each of two addresses
+-- the number of nodes of the lattice: a node keeps 0 to 4 bytes of each of two addresses
 abbrev pub node_count : ℕ
 node_count = 25
 
@@ -16,11 +16,11 @@ pub record IsNode (node : NodeValue) : Type 0 where
   pub source : node.source_bytes ≤ address_length
   pub dest : node.dest_bytes ≤ address_length
 
--- the place of a node among the 25, from 0: five for each source byte, and one for each destination byte
+-- the index of a node among the 25, from 0: five times its source bytes plus its destination bytes
 abbrev pub index_of : NodeValue → ℕ
 index_of node = 5 * node.source_bytes + node.dest_bytes
 
--- the node at such a place
+-- the node at this index
 abbrev pub node_at : ℕ → NodeValue
 node_at index = record { source_bytes = index / 5; dest_bytes = index % 5 }
 

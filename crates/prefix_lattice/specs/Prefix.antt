@@ -18,11 +18,11 @@ pub record IsPrefix (prefix : PrefixValue) : Type 0 where
 abbrev pub covers : PrefixValue → RecordValue → Bool
 covers prefix rec = begins_with (address_bytes rec.src) prefix.source && begins_with (address_bytes rec.dst) prefix.dest
 
--- the weight of a prefix over some records: what the records weigh that it covers
+-- the weight of a prefix over some records: the sum of the weights of the records that it covers
 abbrev pub weight_of : PrefixValue → List RecordValue → ℕ
 weight_of prefix records = sum_by (λ rec. rec.weight) (filter (covers prefix) records)
 
--- what some records weigh together
+-- the total weight of some records
 abbrev pub total_weight : List RecordValue → ℕ
 total_weight records = sum_by (λ rec. rec.weight) records
 
@@ -41,7 +41,7 @@ prefix_at node rec = record {
 abbrev pub key_of : PrefixValue → ℕ
 key_of prefix = address_of prefix.source * 2 ^ 32 + address_of prefix.dest
 
--- a key of a node: in neither address a bit is set past the bytes that the node keeps
+-- a key of a node: neither address has a bit set past the bytes that the node keeps
 pub record IsKeyOf (node : NodeValue) (key : ℕ) : Type 0 where
   pub source : key / 2 ^ 32 % 256 ^ (address_length - node.source_bytes) ≡ 0
   pub dest : key % 2 ^ 32 % 256 ^ (address_length - node.dest_bytes) ≡ 0

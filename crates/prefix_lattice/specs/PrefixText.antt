@@ -1,4 +1,4 @@
--- The text of a prefix: how it is spelled, and what is wrong with a text that spells none.
+-- The text of a prefix: how it is spelled, and what is wrong with a text that spells no prefix.
 use Rattle.std.specs.Prelude.{ℕ, ◌≡◌, ◌≢◌, ◌-◌, ◌*◌, ◌^◌, ◌%◌, ◌<◌, ◌≤◌, ◌⊎◌, ◌==◌, List, ◌∷◌, ◌++◌, length, map, decimal, ◌+◌, take, drop}
 use Rattle.std.specs.List.{join_with_byte, before_first, after_first}
 use Rattle.prefix_lattice.specs.KeptBytes.{address_bytes, address_of, AreLeadingBytes, address_length}
@@ -12,7 +12,7 @@ use Rattle.prefix_lattice.specs.declared.prefix_fault.PrefixFault.TheVariants.{B
 abbrev pub dot : ℕ
 dot = 46
 
--- the byte `/`, which stands between an address and a length
+-- the byte `/`, which separates an address and a length
 abbrev pub slash : ℕ
 slash = 47
 
@@ -24,11 +24,11 @@ address_text address = join_with_byte dot (map decimal (address_bytes address))
 abbrev pub side_text_of : ℕ → ℕ → List ℕ
 side_text_of address bytes = address_text address ++ slash ∷ decimal (8 * bytes)
 
--- how one side of a prefix is spelled: zeros stand for what is not kept
+-- how one side of a prefix is spelled: bytes that are not kept are written as zeros
 abbrev pub side_text : List ℕ → List ℕ
 side_text front = side_text_of (address_of front) (length front)
 
--- a space, which stands between the two sides of a prefix
+-- the space that separates the two sides of a prefix
 abbrev pub space : ℕ
 space = 32
 
@@ -36,11 +36,11 @@ space = 32
 abbrev pub prefix_text : PrefixValue → List ℕ
 prefix_text prefix = side_text prefix.source ++ space ∷ side_text prefix.dest
 
--- what stands before the first space of a text
+-- the part of a text before its first space
 abbrev pub source_part : List ℕ → List ℕ
 source_part text = before_first (λ byte. byte == space) text
 
--- what stands after the first space of a text
+-- the part of a text after its first space
 abbrev pub dest_part : List ℕ → List ℕ
 dest_part text = after_first (λ byte. byte == space) text
 
@@ -53,11 +53,11 @@ pub record SpellsSide (text front : List ℕ) : Type 0 where
 abbrev pub IsAddressText : List ℕ → Type 0
 IsAddressText text = (address : ℕ) × (address < 2 ^ 32) × (text ≡ address_text address)
 
--- what stands before the first slash of a text, or all of it where there is none
+-- the part of a text before its first slash, or all of it if there is no slash
 abbrev pub before_slash : List ℕ → List ℕ
 before_slash text = before_first (λ byte. byte == slash) text
 
--- after its first slash the text has one of the five lengths
+-- the text after its first slash is one of the five lengths
 abbrev pub HasLength : List ℕ → Type 0
 HasLength text = (bytes : ℕ) × (bytes ≤ address_length) × (text ≡ before_slash text ++ slash ∷ decimal (8 * bytes))
 
@@ -81,11 +81,11 @@ pub record SpellsPrefix (source_text dest_text : List ℕ) (prefix : PrefixValue
   pub source : SpellsSide source_text prefix.source
   pub dest : SpellsSide dest_text prefix.dest
 
--- what is wrong with the two texts: the source is looked at wholly before the destination
+-- what is wrong with the two texts: the source is checked completely before the destination
 abbrev pub HasPrefixFault : List ℕ → List ℕ → PrefixFault → Type 0
 HasPrefixFault source dest fault = HasSideFault Source source fault ⊎ (((front : List ℕ) × SpellsSide source front) × HasSideFault Dest dest fault)
 
--- this part was written from a place on, and other bytes stay
+-- this part was written from this offset on, and other bytes are unchanged
 pub record WritesPart (old new : List ℕ) (start end : ℕ) (part : List ℕ) : Type 0 where
   pub ends : end ≡ start + length part
   pub written : new ≡ take start old ++ part ++ drop end old

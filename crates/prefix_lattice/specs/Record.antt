@@ -1,4 +1,4 @@
--- What contracts see of a record.
+-- A record, as contracts see it.
 use Rattle.std.specs.Prelude.{ℕ}
 
 -- what one packet carried: the addresses of its source and destination, and its weight

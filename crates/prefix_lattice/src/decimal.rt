@@ -25,8 +25,8 @@ pub fn number_of(text: &[u8]) -> Option<u64>
     }
 }
 
-/// Writes a number in decimal at a place of a text, where there is room for it, and answers the place behind it.
-/// Other bytes stay.
+/// Writes a number in decimal at an offset of a text that has room for it, and returns the offset after it. Other
+/// bytes are unchanged.
 pub fn write_number(text: &mut [u8], at: usize, number: u8) -> usize
     requires { at + length (decimal number) ≤ length text.old }
     ensures { WritesPart text.old text.new at result (decimal number) }

@@ -6,7 +6,7 @@ ghost use Rattle.prefix_lattice.specs.Lattice.{longer_side};
 
 use std::marker::Model;
 
-/// The first bytes of an address, 0 to 4 of them. Contracts see their list.
+/// The leading bytes of an address, 0 to 4 of them. Contracts see them as a list.
 #[derive(Clone, Copy, Debug, PartialEq, Eq)]
 pub struct KeptBytes {
     address: u32,
@@ -29,7 +29,7 @@ impl Model for KeptBytes {
 }
 
 impl KeptBytes {
-    /// The first bytes of this address.
+    /// The first `bytes` bytes of this address.
     pub fn of(address: u32, bytes: u8) -> KeptBytes
         requires { bytes ≤ 4 }
         ensures { result ≡ take bytes (address_bytes address) }
@@ -40,7 +40,7 @@ impl KeptBytes {
         }
     }
 
-    /// The first bytes of this address, if all that follows them is zero.
+    /// The first `bytes` bytes of this address, if all bytes after them are zero.
     pub fn exact(address: u32, bytes: u8) -> Option<KeptBytes>
         requires { bytes ≤ 4 }
         ensures some { IfSome result (λ kept. (kept ≡ take bytes (address_bytes address)) × (address_of kept ≡ address)) }
@@ -77,7 +77,7 @@ impl KeptBytes {
         masked(address, self.bytes) == self.address
     }
 
-    /// Whether these bytes begin with those of another.
+    /// Whether these bytes begin with those of the other.
     pub fn under(&self, other: &KeptBytes) -> bool
         ensures value { result ≡ begins_with self.now other.now }
         ensures leading { AreLeadingBytes self.now }
@@ -86,7 +86,7 @@ impl KeptBytes {
         other.bytes <= self.bytes && masked(self.address, other.bytes) == other.address
     }
 
-    /// The longer of two, if it begins with the bytes of the other one.
+    /// The longer of the two, if it begins with the bytes of the other.
     pub fn longer(self, other: KeptBytes) -> Option<KeptBytes>
         ensures value { result ≡ longer_side self other }
         ensures leading { AreLeadingBytes self }
@@ -102,7 +102,7 @@ impl KeptBytes {
     }
 }
 
-// The address with all but its first bytes set to zero.
+// The address with all bytes after the first `bytes` set to zero.
 fn masked(address: u32, bytes: u8) -> u32
     requires { bytes ≤ 4 }
     ensures { result ≡ address / 256 ^ (4 - bytes) * 256 ^ (4 - bytes) }

@@ -1,4 +1,4 @@
-//! Laws of the lattice. A caller that runs one has it at hand.
+//! Laws of the lattice. A caller that calls one has its contract available.
 
 ghost use Rattle.std.specs.Prelude.{◌≡◌, ◌≢◌, ◌<◌, ◌≤◌, ◌↔◌, ℕ, List, ◌∷◌, ◌++◌, length, All, AllPairs, IsSomeAnd, true};
 ghost use Rattle.std.specs.Cmp.{IsTotalOrder};
@@ -11,7 +11,7 @@ ghost use Rattle.prefix_lattice.specs.ClosestLines.{lines_under, one_covers, clo
 
 use std::cmp::Ordering;
 
-/// A law of the lattice: prefixes are partly ordered by which is under which, and going up strictly the level falls.
+/// A law of the lattice: `under` is a partial order, and a prefix strictly under another has the greater level.
 pub fn prefixes_are_ordered()
     ensures reflexive { (prefix : PrefixValue) → under prefix prefix ≡ true }
     ensures transitive { (lower middle upper : PrefixValue) → under lower middle ≡ true → under middle upper ≡ true → under lower upper ≡ true }
@@ -20,19 +20,19 @@ pub fn prefixes_are_ordered()
     ensures level { (lower upper : PrefixValue) → strictly_under lower upper ≡ true → level_of (node_of upper) < level_of (node_of lower) }
 {}
 
-/// A law of covering: a record that a prefix covers is covered by each prefix that it is under.
+/// A law of covering: a record that a prefix covers is also covered by each prefix that this one is under.
 pub fn covering_goes_up()
     ensures { (lower upper : PrefixValue) (rec : RecordValue) → under lower upper ≡ true → covers lower rec ≡ true → covers upper rec ≡ true }
 {}
 
-/// A law of reports: their order is total, and tells any two prefixes apart.
+/// A law of reports: their order is total, and only equal prefixes compare as equal.
 pub fn report_order_is_total()
     ensures total { IsTotalOrder report_order }
     ensures apart { (prefix other : PrefixValue) → IsPrefix prefix → IsPrefix other → (report_order prefix other ≡ Ordering.Equal) ↔ (prefix ≡ other) }
 {}
 
-/// A law of texts: the text of a prefix is read back as that prefix, side by side, and what was read is written as it
-/// was. It is at most 37 bytes long.
+/// A law of texts: the text of a prefix is read back as that prefix, side by side, and a text that was read is written
+/// back unchanged. It is at most 37 bytes long, and distinct prefixes have distinct texts.
 pub fn prefix_texts_read_back()
     ensures read { (prefix : PrefixValue) → IsPrefix prefix → SpellsPrefix (source_part (prefix_text prefix)) (dest_part (prefix_text prefix)) prefix }
     ensures written { (source dest : List ℕ) (prefix : PrefixValue) → SpellsPrefix source dest prefix → prefix_text prefix ≡ source ++ space ∷ dest }
@@ -40,8 +40,8 @@ pub fn prefix_texts_read_back()
     ensures short { (prefix : PrefixValue) → IsPrefix prefix → length (prefix_text prefix) ≤ 37 }
 {}
 
-/// A law of lines: those closest to a prefix explain what all lines under it do, and of distinct lines they are
-/// incomparable.
+/// A law of lines: the lines closest to a prefix cover the same records as all lines under it, and the closest of
+/// distinct lines are incomparable.
 pub fn closest_lines_explain()
     ensures explain { (prefix : PrefixValue) (lines : List PrefixValue) (rec : RecordValue)
         → one_covers (lines_under prefix lines) rec ≡ one_covers (closest prefix lines) rec }
@@ -50,22 +50,23 @@ pub fn closest_lines_explain()
     ensures under { (prefix : PrefixValue) (lines : List PrefixValue) → All (λ line. strictly_under line prefix ≡ true) (closest prefix lines) }
 {}
 
-/// A law of meets: the meet of two prefixes is under both, and what is under both is under it.
+/// A law of meets: the meet of two prefixes is under both, and each prefix under both is under it.
 pub fn meets_are_greatest()
     ensures under_both { (prefix other lowest : PrefixValue) → meet prefix other ≡ Some lowest → (under lowest prefix ≡ true) × (under lowest other ≡ true) }
     ensures greatest { (prefix other lower : PrefixValue) → under lower prefix ≡ true → under lower other ≡ true
         → IsSomeAnd (meet prefix other) (λ lowest. under lower lowest ≡ true) }
 {}
 
-/// A law of kept pairs: their meets are strictly under what all members are strictly under, and they are prefixes.
+/// A law of kept pairs: their meets are strictly under each prefix that all members are strictly under, and they are
+/// prefixes if the members are.
 pub fn kept_meets_stay_under()
     ensures under { (prefix : PrefixValue) (members : List PrefixValue)
         → All (λ member. strictly_under member prefix ≡ true) members → All (λ lowest. strictly_under lowest prefix ≡ true) (kept_pairs members) }
     ensures prefixes { (members : List PrefixValue) → All IsPrefix members → All IsPrefix (kept_pairs members) }
 {}
 
-/// The staircase law: where some of distinct prefixes, none of which is strictly under another, cover a record, just
-/// one kept pair fewer has a meet that covers it.
+/// The staircase law: if n of some distinct prefixes, none of which is strictly under another, cover a record, and n is
+/// at least 1, then exactly n - 1 kept pairs have a meet that covers it.
 pub fn staircase_law()
     ensures { (members : List PrefixValue) (rec : RecordValue) → AreIncomparable members → ObeysStaircase members rec }
 {}

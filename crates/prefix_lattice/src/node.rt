@@ -26,7 +26,7 @@ impl Model for Node {
 }
 
 impl Node {
-    /// The node that keeps so many leading bytes of the source and of the destination. `None` exactly where one of
+    /// The node that keeps this many leading bytes of the source and of the destination. `None` exactly where one of
     /// the numbers is above 4.
     pub fn new(source_bytes: u8, dest_bytes: u8) -> Option<Node>
         ensures none { IsNone result ↔ ((4 < source_bytes) ⊎ (4 < dest_bytes)) }
@@ -41,7 +41,7 @@ impl Node {
         })
     }
 
-    /// The node at this place among the 25. `None` exactly where the place is above 24.
+    /// The node at this index among the 25. `None` exactly where the index is above 24.
     pub fn from_index(index: u8) -> Option<Node>
         ensures none { IsNone result ↔ (24 < index) }
         ensures some { IfSome result (λ node. node ≡ node_at index) }
@@ -51,7 +51,7 @@ impl Node {
         Node::new(index / 5, index % 5)
     }
 
-    /// The place of the node among the 25, from 0: five times the source bytes, and the destination bytes.
+    /// The index of the node among the 25, from 0: five times the source bytes plus the destination bytes.
     pub fn index(self) -> u8
         ensures value { result ≡ index_of self }
         ensures few { result < 25 }

@@ -34,9 +34,9 @@ impl Model for Prefix {
 }
 
 impl Prefix {
-    /// Reads the texts of the source and of the destination, as `10.0.0.0/8` and `20.1.0.0/16`: an
-    /// address without leading zeros, a slash, and 0, 8, 16, 24 or 32. The source is looked at wholly
-    /// before the destination.
+    /// Reads the texts of the source and of the destination, such as `10.0.0.0/8` and `20.1.0.0/16`: an address
+    /// without leading zeros, a slash, and 0, 8, 16, 24 or 32. The source is checked completely before the
+    /// destination.
     pub fn parse(source: &[u8], dest: &[u8]) -> Result<Prefix, PrefixFault>
         ensures ok { (prefix : PrefixValue) → (result ≡ Ok prefix) ↔ SpellsPrefix source.now dest.now prefix }
         ensures fault { (fault : PrefixFault) → (result ≡ Err fault) ↔ HasPrefixFault source.now dest.now fault }
@@ -44,7 +44,7 @@ impl Prefix {
         parse_sides(source, dest)
     }
 
-    /// The one prefix of the node that covers the record.
+    /// The only prefix of the node that covers the record.
     pub fn of(rec: &Record, node: Node) -> Prefix
         ensures value { result ≡ prefix_at node rec.now }
         ensures node { node_of result ≡ node }
@@ -64,8 +64,8 @@ impl Prefix {
         Node::new(self.source.len(), self.dest.len()).unwrap()
     }
 
-    /// Both addresses, with zeros for what is not kept, as one number: the source in the high half.
-    /// Two prefixes of one node have different keys, by `keys_are_of_their_node`.
+    /// Both addresses, with zeros for the bytes that are not kept, as one number: the source in the high half.
+    /// Distinct prefixes of one node have distinct keys, by `keys_are_of_their_node`.
     pub fn key(&self) -> u64
         ensures value { result ≡ key_of self.now }
         ensures prefix { IsPrefix self.now }
@@ -73,8 +73,7 @@ impl Prefix {
         u64::from(self.source.address()) << 32 | u64::from(self.dest.address())
     }
 
-    /// The prefix of this node that has this key. `None` exactly where a bit of the key is set that the
-    /// node doesn't keep.
+    /// The prefix of this node with this key. `None` exactly where the key has a bit set that the node doesn't keep.
     pub fn from_key(key: u64, node: Node) -> Option<Prefix>
         ensures accepted { IsSome result ↔ IsKeyOf node key }
         ensures prefix { (prefix : PrefixValue) → (result ≡ Some prefix) ↔ HasKey node key prefix }
@@ -82,14 +81,14 @@ impl Prefix {
         prefix_of_key(key, node)
     }
 
-    /// The source address, with zeros for what is not kept.
+    /// The source address, with zeros for the bytes that are not kept.
     pub fn source(&self) -> u32
         ensures { result ≡ address_of self.now.source }
     {
         self.source.address()
     }
 
-    /// The destination address, with zeros for what is not kept.
+    /// The destination address, with zeros for the bytes that are not kept.
     pub fn dest(&self) -> u32
         ensures { result ≡ address_of self.now.dest }
     {
@@ -122,7 +121,7 @@ fn parse_sides(source: &[u8], dest: &[u8]) -> Result<Prefix, PrefixFault>
     Ok(Prefix { source, dest })
 }
 
-// Both halves of the key, if all that the node doesn't keep is zero.
+// The prefix with both halves of the key, if all bytes that the node doesn't keep are zero.
 fn prefix_of_key(key: u64, node: Node) -> Option<Prefix>
     ensures some { IfSome result (HasKey node key) }
     ensures none { IfNone result (IsKeyOf node key → ⊥) }
@@ -138,8 +137,8 @@ pub fn keys_tell_covering()
         → covers prefix rec ≡ (key_of (prefix_at (node_of prefix) rec) == key_of prefix) }
 {}
 
-/// A law of keys: the key of a prefix sets no bit that the prefix doesn't keep, each record's prefix at
-/// a node has a key of that node, and two prefixes of one node have different keys.
+/// A law of keys: the key of a prefix sets no bit that the prefix doesn't keep, each record's prefix at a node has a
+/// key of that node, and distinct prefixes of one node have distinct keys.
 pub fn keys_are_of_their_node()
     ensures of_prefix { (prefix : PrefixValue) → IsPrefix prefix → IsKeyOf (node_of prefix) (key_of prefix) }
     ensures of_record { (node : NodeValue) (rec : RecordValue) → IsNode node → HasKey node (key_of (prefix_at node rec)) (prefix_at node rec) }

@@ -11,14 +11,14 @@ pub enum Side {
     Dest,
 }
 
-/// Why a text is no prefix. One half is an address, a slash and a length in bits.
+/// Why a text is not a prefix. Each half is an address, a slash and a length in bits.
 #[derive(Clone, Copy, Debug, PartialEq, Eq, Error)]
 pub enum PrefixFault {
-    /// What stands before the first slash, or all of it, is not four numbers from 0 to 255
-    /// without leading zeros, joined by dots.
+    /// The text before the first slash, or all of it if there is no slash, is not four numbers from 0 to 255 without
+    /// leading zeros, joined by dots.
     #[error("{0}: bad address")]
     BadAddress(Side),
-    /// The address is good, and there is no slash, or what stands after the first one is not 0, 8, 16, 24 or 32.
+    /// The address is good, and there is no slash, or the text after the first one is not 0, 8, 16, 24 or 32.
     #[error("{0}: bad length")]
     BadLength(Side),
     /// Address and length are good, and a bit of the address past the length is set.

@@ -38,7 +38,7 @@ fn without_length(text: &[u8], side: Side) -> PrefixFault
     }
 }
 
-// The address that a text spells: four numbers from 0 to 255, joined by dots.
+// The address that a text spells, if it spells one: four numbers from 0 to 255, joined by dots.
 fn address_of_text(text: &[u8]) -> Option<u32>
     ensures some { IfSome result (λ address. (address < 2 ^ 32) × (text.now ≡ address_text address)) }
     ensures none { IfNone result ((address : ℕ) → address < 2 ^ 32 → text.now ≢ address_text address) }
@@ -81,7 +81,7 @@ fn byte_of(text: &[u8]) -> Option<u8>
     }
 }
 
-// How many bytes a length in bits keeps.
+// How many bytes a length in bits keeps, if it is 0, 8, 16, 24 or 32.
 fn kept_by(text: &[u8]) -> Option<u8>
     ensures some { IfSome result (λ bytes. (bytes ≤ 4) × (text.now ≡ decimal (8 * bytes))) }
     ensures none { IfNone result ((bytes : ℕ) → bytes ≤ 4 → text.now ≢ decimal (8 * bytes)) }
@@ -98,14 +98,14 @@ fn kept_by(text: &[u8]) -> Option<u8>
     Some((bits / 8) as u8)
 }
 
-/// A text cut at the first of some byte.
+/// A text split at the first occurrence of a byte.
 #[derive(Clone, Copy)]
 struct Cut<'a> {
     before: &'a [u8],
     after: &'a [u8],
 }
 
-// The text up to the first such byte, and the text after it.
+// The text before the first such byte and the text after it, if there is such a byte.
 fn cut_at(text: &[u8], at: u8) -> Option<Cut<'_>>
     ensures before { IfSome result (λ cut. cut.before.now ≡ before_first (λ byte. byte == at) text.now) }
     ensures joined { IfSome result (λ cut. text.now ≡ cut.before.now ++ at ∷ cut.after.now) }

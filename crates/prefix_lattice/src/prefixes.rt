@@ -21,12 +21,12 @@ impl Model for Prefixes {
 
     ghost view = { λ l. l.prefixes.items };
 
-    // Each keeps leading bytes alone.
+    // Each is a pair of lists of leading bytes.
     ghost invariant = { λ l. All IsPrefix l.prefixes.items };
 }
 
 impl Prefixes {
-    /// An empty list. It takes no memory.
+    /// An empty list. It allocates no memory.
     pub fn new(alloc: Global) -> Prefixes
         ensures { result ≡ [] }
     {
@@ -58,7 +58,7 @@ impl Prefixes {
         self.prefixes.is_empty()
     }
 
-    /// The prefix at a place below the length.
+    /// The prefix at an index below the length.
     pub fn at(&self, place: usize) -> &Prefix
         requires { place < length self.now }
         ensures { slice_get self.now place ≡ Some result.now }

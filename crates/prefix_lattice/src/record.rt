@@ -29,7 +29,7 @@ impl Model for Record {
 }
 
 impl Record {
-    /// A record of these addresses and this weight. `None` exactly where the weight is 0.
+    /// A record with these addresses and this weight. `None` exactly where the weight is 0.
     pub fn new(src: u32, dst: u32, weight: u32) -> Option<Record>
         ensures none { IsNone result ↔ (weight ≡ 0) }
         ensures some { IfSome result (λ r. r ≡ record { src = src; dst = dst; weight = weight }) }

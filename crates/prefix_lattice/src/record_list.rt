@@ -25,7 +25,7 @@ impl Model for RecordList {
 }
 
 impl RecordList {
-    /// An empty list. It takes no memory.
+    /// An empty list. It allocates no memory.
     pub fn new(alloc: Global) -> RecordList
         ensures { result ≡ [] }
     {
@@ -56,7 +56,7 @@ impl RecordList {
         self.records.is_empty()
     }
 
-    /// The record at a place below the length.
+    /// The record at an index below the length.
     pub fn at(&self, place: usize) -> &Record
         requires { place < length self.now }
         ensures { slice_get self.now place ≡ Some result.now }
@@ -73,7 +73,7 @@ impl RecordList {
         self.records.as_slice()
     }
 
-    /// An equal list of its own.
+    /// An equal copy of the list.
     pub fn copy(&self, alloc: Global) -> Result<RecordList, AllocError>
         ensures { IfOk result (λ list. list ≡ self.now) }
     {

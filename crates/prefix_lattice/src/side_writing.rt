@@ -6,8 +6,8 @@ ghost use Rattle.prefix_lattice.specs.PrefixText.{WritesPart, address_text, side
 use crate::decimal::write_number;
 use crate::kept_bytes::KeptBytes;
 
-/// Writes an address, a slash and a length in bits at a place of a text, where there is room for the 18 bytes that
-/// they may take, and answers the place behind them. Other bytes stay.
+/// Writes an address, a slash and a length in bits at an offset of a text, and returns the offset after them. The text
+/// has room for the 18 bytes that they may need. Other bytes are unchanged.
 pub fn write_side(text: &mut [u8], at: usize, side: &KeptBytes) -> usize
     requires { at + 18 ≤ length text.old }
     ensures written { WritesPart text.old text.new at result (side_text side.now) }
@@ -28,7 +28,7 @@ fn write_address(text: &mut [u8], at: usize, address: u32) -> usize
     write_behind(text, end, b'.', d)
 }
 
-// A byte, and a number behind it.
+// Writes a byte and a number after it.
 fn write_behind(text: &mut [u8], at: usize, mark: u8, number: u8) -> usize
     requires { at + length (mark ∷ decimal number) ≤ length text.old }
     ensures { WritesPart text.old text.new at result (mark ∷ decimal number) }

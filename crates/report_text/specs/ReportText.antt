@@ -1,4 +1,4 @@
--- The positions that a text can tell.
+-- The texts of reports and of the lines around them, and the positions that they can show.
 use Rattle.std.specs.Prelude.{ℕ, ◌≤◌, List, length, All, [], ◌∷◌, ◌++◌, map, codes, decimal, ◌<◌, ◌^◌}
 use Rattle.std.specs.List.{join_with_byte, flat_map}
 use Rattle.prefix_lattice.specs.{space, prefix_text, IsPrefix}
@@ -8,7 +8,7 @@ use Rattle.frame_records.specs.declared.records.Records.{Records}
 use Rattle.report_text.specs.declared.mark.Mark.{Mark}
 use Rattle.report_text.specs.declared.mark.Mark.TheVariants.{Opened, Saved}
 
--- one position for each of 1 to 16 shards, none past the 16,777,216 frames that a capture can have
+-- one position for each of 1 to 16 shards, none above 16,777,216, the most frames that a capture can have
 pub record ArePositions (positions : List ℕ) : Type 0 where
   pub some : 1 ≤ length positions
   pub few : length positions ≤ 16
@@ -18,19 +18,19 @@ pub record ArePositions (positions : List ℕ) : Type 0 where
 abbrev pub text_line : List (List ℕ) → List ℕ
 text_line words = join_with_byte space words ++ codes "\n"
 
--- a line that names a number
+-- a line with a name and a number
 abbrev pub number_line : List ℕ → ℕ → List ℕ
 number_line name number = text_line (name ∷ decimal number ∷ [])
 
--- a line that names some positions
+-- a line with a name and some positions
 abbrev pub positions_line : List ℕ → List ℕ → List ℕ
 positions_line name positions = text_line (name ∷ map decimal positions)
 
--- a line of a report: the prefix, which is two words, its low and its high
+-- a line of a report: `line`, the prefix, which is two words, its low and its high
 abbrev pub line_text : Line → List ℕ
 line_text line = text_line (codes "line" ∷ prefix_text line.prefix ∷ decimal line.lo ∷ decimal line.hi ∷ [])
 
--- the lines of a report, one behind another
+-- the lines of a report, one after the other
 abbrev pub lines_text : List Line → List ℕ
 lines_text lines = flat_map line_text lines
 
@@ -44,12 +44,12 @@ report_text report =
     ++ lines_text report.lines
     ++ text_line (codes "done" ∷ [])
 
--- what a line of positions is for
+-- the name of a line of positions
 abbrev pub mark_name : Mark → List ℕ
 mark_name Opened = codes "opened"
 mark_name Saved = codes "saved"
 
--- the line of positions that were opened or saved
+-- the line of the positions at the start of a session, or of a saved cut
 abbrev pub mark_text : Mark → List ℕ → List ℕ
 mark_text mark positions = positions_line (mark_name mark) positions
 
@@ -60,13 +60,13 @@ tail_text records =
     ++ text_line (codes "skipped" ∷ decimal records.not_ipv4 ∷ decimal records.short ∷ decimal records.bad_header ∷ [])
     ++ text_line (codes "end" ∷ [])
 
--- the line names a prefix, and two numbers of 64 bits
+-- the line shows a prefix, and its low and high are 64-bit numbers
 pub record IsTold (line : Line) : Type 0 where
   pub is_prefix : IsPrefix line.prefix
   pub low : line.lo < 2 ^ 64
   pub high : line.hi < 2 ^ 64
 
--- the numbers of the report have 64 bits, and its lines name prefixes
+-- the numbers of the report are 64-bit numbers, and its lines show prefixes
 pub record IsTellable (report : Report) : Type 0 where
   pub positions : All (λ position. position < 2 ^ 64) report.positions
   pub total : report.total < 2 ^ 64

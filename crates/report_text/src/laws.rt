@@ -1,4 +1,4 @@
-//! Laws of texts. A caller that runs one has it at hand.
+//! Laws of texts. A caller that calls one has its contract available.
 
 ghost use Rattle.std.specs.Prelude.{◌≡◌};
 ghost use Rattle.hhh_output.specs.{AreSame};
@@ -7,7 +7,7 @@ ghost use Rattle.report_text.specs.ReportText.{report_text, IsTellable};
 
 use prefix_lattice::prefix_texts_read_back;
 
-/// A law of reports: those that have one text show the same.
+/// A law of reports: reports with the same text show the same.
 pub fn report_texts_are_apart()
     ensures { (report other : Report) → IsTellable report → IsTellable other → report_text report ≡ report_text other → AreSame report other }
 {

@@ -10,22 +10,22 @@ use hhh_output::Report;
 use shard_state::Positions;
 use std::alloc::AllocError;
 
-// The most bytes that a line of a report takes: `line `, a prefix and two numbers.
+// The most bytes of a report line: `line `, a prefix and two numbers.
 const LINE_ROOM: usize = 85;
 
-// The most bytes that the other lines of a report take: 16 positions, two numbers and the words.
+// The most bytes of the other lines of a report: 16 positions, two numbers and the words.
 const REPORT_ROOM: usize = 409;
 
-// The most bytes that a line of 16 positions takes, at the longer of its two words.
+// The most bytes of a line of 16 positions, with the longer of its two names.
 const POSITIONS_ROOM: usize = 343;
 
-// The most bytes that the last three lines take: four numbers and the words.
+// The most bytes of the last three lines: four numbers and the words.
 const TAIL_ROOM: usize = 103;
 
-/// Appends the text of a report of 1 to 16 shards: the lines `report`, `at` and the positions, `total` and
-/// `threshold` with their numbers, for each line of the report `line`, the prefix, its low and its high, and then
-/// `done`. Each ends by a line feed. A position is at most 16,777,216, and the threshold at least 1. All room is taken
-/// first, so after an `Err`, which is want of memory, the bytes are as before.
+/// Appends the text of a report of 1 to 16 shards: the lines `report`, `at` with the positions, `total` and
+/// `threshold` with their numbers, one `line` with prefix, low and high for each line of the report, and `done`.
+/// Each line ends with a line feed. A position is at most 16,777,216, and the threshold at least 1. Memory is
+/// reserved first, so after an `Err`, which means that memory ran out, the bytes are as before.
 pub fn print(report: &Report, into: &mut Vec<u8>) -> Result<(), AllocError>
     requires positions { ArePositions report.now.positions }
     requires threshold { 1 ≤ report.now.threshold }
@@ -44,8 +44,8 @@ pub fn print(report: &Report, into: &mut Vec<u8>) -> Result<(), AllocError>
     Ok(())
 }
 
-/// Appends the line `opened` or `saved` with the positions of 1 to 16 shards, each at most 16,777,216. All room is
-/// taken first, so after an `Err`, which is want of memory, the bytes are as before.
+/// Appends the line `opened` or `saved` with the positions of 1 to 16 shards, each at most 16,777,216. Memory is
+/// reserved first, so after an `Err`, which means that memory ran out, the bytes are as before.
 pub fn print_positions(
     mark: Mark,
     positions: &Positions,
@@ -64,9 +64,9 @@ pub fn print_positions(
     Ok(())
 }
 
-/// Appends the last lines of a session: `frames` with the number of frames that were read, `skipped` with the numbers
-/// of those skipped as not IPv4, as short and for a bad header, and `end`. All room is taken first, so after an `Err`,
-/// which is want of memory, the bytes are as before.
+/// Appends the last lines of a session: `frames` with the number of frames that were read, `skipped` with the
+/// numbers of frames skipped as not IPv4, as short and for a bad header, and `end`. Memory is reserved first, so
+/// after an `Err`, which means that memory ran out, the bytes are as before.
 pub fn print_tail(records: &Records, into: &mut Vec<u8>) -> Result<(), AllocError>
     ensures ok { OnOk result (into.new.items ≡ into.old.items ++ tail_text records.now) }
     ensures err { OnErr result (into.new.items ≡ into.old.items) }

@@ -1,4 +1,4 @@
-//! Putting parts of a text behind it, where there is room for them already.
+//! Appending parts of a text within room that is already reserved.
 
 ghost use Rattle.std.specs.Prelude.{◌≡◌, ◌+◌, ◌*◌, ◌≤◌, ◌∷◌, ◌++◌, length, decimal, vec_len, vec_capacity};
 ghost use Rattle.prefix_lattice.specs.{prefix_text};
@@ -8,7 +8,7 @@ use hhh_output::Line;
 use itoa::Buffer;
 use prefix_lattice::Prefix;
 
-/// Puts bytes behind a text.
+/// Appends bytes to a text.
 pub(crate) fn put(text: &mut Vec<u8>, bytes: &[u8])
     requires { vec_len text.old + length bytes.now ≤ vec_capacity text.old }
     ensures text { text.new.items ≡ text.old.items ++ bytes.now }
@@ -18,7 +18,7 @@ pub(crate) fn put(text: &mut Vec<u8>, bytes: &[u8])
     text.extend_from_slice(bytes).unwrap();
 }
 
-/// Puts bytes and a number in decimal behind a text. A number takes 20 bytes at most.
+/// Appends bytes and a number in decimal to a text. A number needs at most 20 bytes.
 pub(crate) fn put_number(text: &mut Vec<u8>, before: &[u8], number: u64)
     requires { vec_len text.old + length before.now + 20 ≤ vec_capacity text.old }
     ensures text { text.new.items ≡ text.old.items ++ before.now ++ decimal number }
@@ -30,7 +30,7 @@ pub(crate) fn put_number(text: &mut Vec<u8>, before: &[u8], number: u64)
     put(text, buffer.format(number).as_bytes());
 }
 
-/// Puts a line of positions behind a text. A position takes 21 bytes at most, with the space before it.
+/// Appends a line of positions to a text. A position needs at most 21 bytes, including the space before it.
 pub(crate) fn put_positions(text: &mut Vec<u8>, name: &[u8], positions: &[u64])
     requires { vec_len text.old + length name.now + 21 * length positions.now + 1 ≤ vec_capacity text.old }
     ensures text { text.new.items ≡ text.old.items ++ positions_line name.now positions.now }
@@ -44,7 +44,7 @@ pub(crate) fn put_positions(text: &mut Vec<u8>, name: &[u8], positions: &[u64])
     put(text, b"\n");
 }
 
-/// Puts the lines of a report behind a text. A line takes 85 bytes at most.
+/// Appends the lines of a report to a text. A line needs at most 85 bytes.
 pub(crate) fn put_lines(text: &mut Vec<u8>, lines: &[Line])
     requires { vec_len text.old + 85 * length lines.now ≤ vec_capacity text.old }
     ensures text { text.new.items ≡ text.old.items ++ lines_text lines.now }

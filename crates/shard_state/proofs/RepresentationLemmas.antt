@@ -83,13 +83,13 @@ one_snapshot : (snapshot other : SnapshotValue) (list : List RecordValue) → sn
     → SnapshotStandsFor snapshot list → SnapshotStandsFor other list → snapshot ≡ other
 one_snapshot snapshot other list capacity position stands other_stands =
     let table : (place : ℕ) → place < length snapshot.tables → get_or snapshot.tables place [] ≡ get_or other.tables place [] = λ place within.
-        let is_node : IsNode (node_at place) = IsNode-node_at place (omega (arith, within, stands.shape)) in
-        let at_place : (of : SnapshotValue) → entries_at (node_at place) of ≡ get_or of.tables place [] = λ of. ap (λ p. get_or of.tables p []) (index_of-node_at place) in
-        sym (at_place snapshot)
-        ∙ stands.tables (node_at place) is_node
-        ∙ (λ i. records_table (capacity i) (node_at place) (take (position i) list))
-        ∙ sym (other_stands.tables (node_at place) is_node)
-        ∙ at_place other in
+    let is_node : IsNode (node_at place) = IsNode-node_at place (omega (arith, within, stands.shape)) in
+    let at_place : (of : SnapshotValue) → entries_at (node_at place) of ≡ get_or of.tables place [] = λ of. ap (λ p. get_or of.tables p []) (index_of-node_at place) in
+    sym (at_place snapshot)
+    ∙ stands.tables (node_at place) is_node
+    ∙ (λ i. records_table (capacity i) (node_at place) (take (position i) list))
+    ∙ sym (other_stands.tables (node_at place) is_node)
+    ∙ at_place other in
     let tables : snapshot.tables ≡ other.tables = ext_get_or [] snapshot.tables other.tables (stands.shape ∙ sym other_stands.shape) table in
     λ i. record { capacity = capacity i; position = position i; tables = tables i }
 
@@ -109,9 +109,9 @@ one_row (snapshot ∷ snapshots) (other ∷ others) (list ∷ lists) capacity al
     let same_position : snapshot.position ≡ other.position = cc in
     let later_positions : map position_of snapshots ≡ map position_of others = cc in
     let first : snapshot ≡ other =
-        one_snapshot snapshot other list (All-head IsAlike snapshot snapshots alike ∙ sym (All-head IsAlike other others other_alike)) same_position stand.0 other_stand.0 in
+    one_snapshot snapshot other list (All-head IsAlike snapshot snapshots alike ∙ sym (All-head IsAlike other others other_alike)) same_position stand.0 other_stand.0 in
     let rest : snapshots ≡ others =
-        one_row snapshots others lists capacity (All-tail IsAlike snapshot snapshots alike) (All-tail IsAlike other others other_alike) later_positions stand.1 other_stand.1 in
+    one_row snapshots others lists capacity (All-tail IsAlike snapshot snapshots alike) (All-tail IsAlike other others other_alike) later_positions stand.1 other_stand.1 in
     λ i. first i ∷ rest i
 
 -- cuts of one capacity at the same positions that stand for the same lists are equal
@@ -119,6 +119,6 @@ pub one_cut : (cut other : CutValue) (lists : List (List RecordValue)) → cut.c
     → CutStandsFor cut lists → CutStandsFor other lists → cut ≡ other
 one_cut cut other lists capacity positions stands other_stands =
     let other_alike : All (λ (s : SnapshotValue). s.capacity ≡ cut.capacity) other.shards =
-        subst (λ c. All (λ (s : SnapshotValue). s.capacity ≡ c) other.shards) (sym capacity) other_stands.alike in
+    subst (λ c. All (λ (s : SnapshotValue). s.capacity ≡ c) other.shards) (sym capacity) other_stands.alike in
     let shards : cut.shards ≡ other.shards = one_row cut.shards other.shards lists cut.capacity stands.alike other_alike positions stands.shards other_stands.shards in
     λ i. record { capacity = capacity i; shards = shards i }

@@ -1,4 +1,4 @@
--- What contracts see of a cut.
+-- A cut, as contracts see it.
 use Rattle.std.specs.Prelude.{ℕ, ◌≡◌, ◌≤◌, List, length, map, sum_by, All, [], ◌∷◌, ◌++◌, take}
 use Rattle.std.proofs.Math.ListN.{replicate}
 use Rattle.shard_state.specs.Snapshot.{SnapshotValue, IsSnapshot, empty_snapshot, total_of, SnapshotStandsFor}
@@ -18,7 +18,7 @@ positions_of cut = map (λ snapshot. snapshot.position) cut.shards
 abbrev pub total_of_cut : CutValue → ℕ
 total_of_cut cut = sum_by total_of cut.shards
 
--- what a cut keeps: 1 to 128 snapshots, each of its capacity
+-- what always holds of a cut: 1 to 128 snapshots, each of its capacity
 pub record IsCut (cut : CutValue) : Type 0 where
   pub least : 2 ≤ cut.capacity
   pub most : cut.capacity ≤ 4096
@@ -31,12 +31,12 @@ pub record IsCut (cut : CutValue) : Type 0 where
 abbrev pub empty_cut : ℕ → ℕ → CutValue
 empty_cut shards capacity = record { capacity = capacity; shards = replicate shards (empty_snapshot capacity) }
 
--- a cut stands for lists of records: each snapshot has the capacity of the cut and stands for the list of its shard
+-- a cut represents lists of records: each snapshot has the capacity of the cut and represents the list of its shard
 pub record CutStandsFor (cut : CutValue) (lists : List (List RecordValue)) : Type 0 where
   pub alike : All (λ snapshot. snapshot.capacity ≡ cut.capacity) cut.shards
   pub shards : AllZip SnapshotStandsFor cut.shards lists
 
--- the records before positions: of each list the first so many, one list after the other
+-- the records before positions: the first n records of each list, n being its position, one list after the other
 abbrev pub records_before : List (List RecordValue) → List ℕ → List RecordValue
 records_before [] positions = []
 records_before (list ∷ lists) [] = []

@@ -1,4 +1,4 @@
--- The pure core: what folds and reads of shards leave, and the reads of a run of events.
+-- The pure core: what folds and reads of shards change, and the reads in a run of events.
 use Rattle.std.specs.Prelude.{ℕ, ◌≡◌, ◌<◌, ◌≤◌, zero, suc, List, [], ◌∷◌, length, fold, slice_get, slice_set, Option, None, Some, All, ◌==◌, ◌&&◌, if◌then◌else◌, ⊤, ◌++◌, map}
 use Rattle.shard_state.specs.Cut.{CutValue}
 use Rattle.shard_state.specs.ShardState.{ShardValue, IsShard, folded, snapshot_of}
@@ -12,27 +12,27 @@ pub record CoreValue : Type 0 where
   pub shards : List ShardValue
   pub cuts : List CutValue
 
--- a list with the element at one place changed
+-- a list with the element at one index changed
 abbrev pub changed : {X : Type 0} → (X → X) → ℕ → List X → List X
 changed change place [] = []
 changed change zero (x ∷ xs) = change x ∷ xs
 changed change (suc place) (x ∷ xs) = x ∷ changed change place xs
 
--- a cut with the snapshot of a shard, if there is that shard, in the shard's place
+-- a cut with its snapshot of this shard replaced by that of the state, if there is such a state
 abbrev pub with_read : ℕ → Option ShardValue → CutValue → CutValue
 with_read shard None cut = cut
 with_read shard (Some state) cut = record cut { shards = slice_set cut.shards shard (snapshot_of state) }
 
--- what one event leaves: a fold moves its shard's position, a read puts the snapshot of its shard into its caller's cut
+-- the core after one event: a fold moves its shard's position, a read puts its shard's snapshot into its caller's cut
 abbrev pub after : CoreValue → Event → CoreValue
 after core (Fold shard block) = record core { shards = changed (folded block) shard core.shards }
 after core (Read caller shard) = record core { cuts = changed (with_read shard (slice_get core.shards shard)) caller core.cuts }
 
--- what a run of events leaves
+-- the core after a run of events
 abbrev pub run : CoreValue → List Event → CoreValue
 run core events = fold after core events
 
--- the capacity of the first shard, which is that of each
+-- the capacity of the first shard, which is that of all
 abbrev pub capacity_of : List ShardValue → ℕ
 capacity_of [] = 0
 capacity_of (first ∷ rest) = first.base.capacity
@@ -43,17 +43,17 @@ pub record AreShards (shards : List ShardValue) : Type 0 where
   pub few : length shards ≤ 16
   pub alike : All (λ shard. shard.base.capacity ≡ capacity_of shards) shards
 
--- what the core keeps
+-- what always holds of the core: 1 to 16 shards of one capacity, each within its limits
 pub record IsCore (shards : List ShardValue) : Type 0 where
   pub are_shards : AreShards shards
   pub kept : All IsShard shards
 
--- a cut of so many shards and of this capacity
+-- a cut of this many shards and of this capacity
 pub record HasShape (shards capacity : ℕ) (cut : CutValue) : Type 0 where
   pub as_many : length cut.shards ≡ shards
   pub alike : cut.capacity ≡ capacity
 
--- an event for so many shards and so many callers
+-- an event for this many shards and this many callers
 abbrev pub IsEventFor : ℕ → ℕ → Event → Type 0
 IsEventFor shards callers (Fold shard block) = (shard < shards) × (1 ≤ block)
 IsEventFor shards callers (Read caller shard) = (caller < callers) × (shard < shards)
@@ -84,7 +84,8 @@ abbrev pub NeverFall : ℕ → List ℕ → Type 0
 NeverFall least [] = ⊤
 NeverFall least (position ∷ later) = (least ≤ position) × NeverFall position later
 
--- what a cut has of a shard after reads that met these positions: the snapshot at the last of them, or what it had before
+-- the snapshot of a shard in a cut after reads that met these positions: that at the last of them, or the earlier one
+-- if there were no reads
 abbrev pub latest : ShardValue → SnapshotValue → List ℕ → SnapshotValue
 latest state before [] = before
 latest state before (position ∷ later) = latest state (snapshot_of (record state { position = position })) later
@@ -102,7 +103,7 @@ snapshot_in caller shard cuts = shard_in shard (slice_get cuts caller)
 abbrev pub lists_of : List ShardValue → List (List RecordValue)
 lists_of shards = map (λ shard. shard.list) shards
 
--- each shard's base stands for its list
+-- the base of each shard represents its list
 abbrev pub BasesStand : List ShardValue → Type 0
 BasesStand shards = All (λ shard. SnapshotStandsFor shard.base shard.list) shards
 

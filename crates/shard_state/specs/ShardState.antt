@@ -1,10 +1,10 @@
--- What contracts see of the state of a shard.
+-- The state of a shard, as contracts see it.
 use Rattle.std.specs.Prelude.{ℕ, ◌≡◌, ◌+◌, ◌^◌, ◌<◌, ◌≤◌, List, length, take, min, All}
 use Rattle.std.specs.List.{slice_range}
 use Rattle.prefix_lattice.specs.{RecordValue, total_weight}
 use Rattle.shard_state.specs.Snapshot.{fold_from, SnapshotValue, IsSnapshot, total_of}
 
--- the state of a shard: its records, the snapshot that it began with, and how many of its records it counted
+-- the state of a shard: its records, the snapshot that it started from, and how many of its records it counted
 pub record ShardValue : Type 0 where
   pub list : List RecordValue
   pub base : SnapshotValue
@@ -18,11 +18,11 @@ snapshot_of shard = record {
   tables = fold_from 0 shard.base.capacity shard.base.tables (slice_range shard.list shard.base.position shard.position);
 }
 
--- a shard after a block of so many more records, or as many as it has left
+-- a shard after its next `block` records, or its remaining records if they are fewer
 abbrev pub folded : ℕ → ShardValue → ShardValue
 folded block shard = record shard { position = min (length shard.list) (shard.position + block) }
 
--- what the state of a shard keeps: its limits, and that each of its tables counted the weight before its position
+-- what always holds of a shard's state: its limits, and that each table counted the weight before its position
 pub record IsShard (shard : ShardValue) : Type 0 where
   pub few : length shard.list ≤ 2 ^ 24
   pub begun : shard.base.position ≤ shard.position

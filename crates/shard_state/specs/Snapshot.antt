@@ -5,11 +5,11 @@ use Rattle.space_saving.specs.declared.entry.Entry.{Entry}
 use Rattle.space_saving.specs.{Add, step, table_of, total_count, TableValue, AreEntries}
 use Rattle.std.proofs.Math.ListN.{replicate}
 
--- what records add to a table at a node: each its weight, for the key of its prefix there
+-- what records add to a table at a node: for each record its weight, under the key of its prefix at the node
 abbrev pub adds_of : NodeValue → List RecordValue → List Add
 adds_of node records = map (λ rec. record { key = key_of (prefix_at node rec); weight = rec.weight }) records
 
--- the entries of the table of records at a node, begun with none
+-- the entries of the table of these records at a node, started empty
 abbrev pub records_table : ℕ → NodeValue → List RecordValue → List Entry
 records_table capacity node records = table_of capacity (adds_of node records)
 
@@ -17,7 +17,7 @@ records_table capacity node records = table_of capacity (adds_of node records)
 abbrev pub fold_at : ℕ → NodeValue → List Entry → List RecordValue → List Entry
 fold_at capacity node entries records = fold (step capacity) entries (adds_of node records)
 
--- a row of tables after more records, the first table being that of the node at this place
+-- a row of tables after more records; the first table is that of the node at this index
 abbrev pub fold_from : ℕ → ℕ → List (List Entry) → List RecordValue → List (List Entry)
 fold_from place capacity [] records = []
 fold_from place capacity (entries ∷ rest) records = fold_at capacity (node_at place) entries records ∷ fold_from (place + 1) capacity rest records
@@ -33,7 +33,7 @@ pub record IsTableAt (capacity total : ℕ) (node : NodeValue) (entries : List E
   pub keyed : HasKeysOf node entries
 
 -- the tables of a shard at a position: one capacity, how many records they count, and the entries of each of the
--- 25 tables, in the order of the nodes' places
+-- 25 tables, in the order of the nodes' indexes
 pub record SnapshotValue : Type 0 where
   pub capacity : ℕ
   pub position : ℕ
@@ -47,7 +47,7 @@ entries_at node snapshot = slice_index_or snapshot.tables (index_of node) []
 abbrev pub table_at : NodeValue → SnapshotValue → TableValue
 table_at node snapshot = record { capacity = snapshot.capacity; entries = entries_at node snapshot }
 
--- all tables of a snapshot, in the order of the nodes' places
+-- all tables of a snapshot, in the order of the nodes' indexes
 abbrev pub tables_of : SnapshotValue → List TableValue
 tables_of snapshot = map (λ entries. record { capacity = snapshot.capacity; entries = entries }) snapshot.tables
 
@@ -55,7 +55,7 @@ tables_of snapshot = map (λ entries. record { capacity = snapshot.capacity; ent
 abbrev pub total_of : SnapshotValue → ℕ
 total_of snapshot = total_count (slice_index_or snapshot.tables 0 [])
 
--- what a snapshot keeps: 25 tables of one allowed capacity and one total, each with keys of its node
+-- what always holds of a snapshot: 25 tables of one allowed capacity and one total, each with keys of its node
 pub record IsSnapshot (snapshot : SnapshotValue) : Type 0 where
   pub least : 2 ≤ snapshot.capacity
   pub most : snapshot.capacity ≤ 4096
@@ -77,14 +77,14 @@ pub record IsLike (capacity total : ℕ) (node : NodeValue) (table : TableValue)
   pub same_total : total_count table.entries ≡ total
   pub keyed : HasKeysOf node table.entries
 
--- 25 tables of one capacity and one total, each with keys of the node at its place
+-- 25 tables of one capacity and one total, each with keys of the node at its index
 pub record AreTables (tables : List TableValue) : Type 0 where
   pub capacity : ℕ
   pub total : ℕ
   pub shape : length tables ≡ node_count
   pub alike : (place : ℕ) (table : TableValue) → slice_get tables place ≡ Some table → IsLike capacity total (node_at place) table
 
--- the parts of a snapshot: a position of at most 2^24, and such tables
+-- the parts of a snapshot: a position of at most 2^24, and 25 such tables
 pub record AreParts (position : ℕ) (tables : List TableValue) : Type 0 where
   pub placed : position ≤ 2 ^ 24
   pub are_tables : AreTables tables
@@ -93,7 +93,7 @@ pub record AreParts (position : ℕ) (tables : List TableValue) : Type 0 where
 abbrev pub fold_table : NodeValue → List RecordValue → TableValue → TableValue
 fold_table node records table = record table { entries = fold_at table.capacity node table.entries records }
 
--- a row of tables after more records, the first table being that of the node at this place
+-- a row of tables after more records; the first table is that of the node at this index
 abbrev pub fold_tables : ℕ → List TableValue → List RecordValue → List TableValue
 fold_tables place [] records = []
 fold_tables place (table ∷ rest) records = fold_table (node_at place) records table ∷ fold_tables (place + 1) rest records
@@ -102,7 +102,8 @@ fold_tables place (table ∷ rest) records = fold_table (node_at place) records 
 abbrev pub copied_from : ℕ → ℕ → List TableValue → SnapshotValue
 copied_from capacity position tables = record { capacity = capacity; position = position; tables = map (λ table. table.entries) tables }
 
--- a snapshot stands for a list of records: each of its 25 tables is that of the first so many records, as its position says
+-- a snapshot represents a list of records: each of its 25 tables is that of the list's first n records,
+-- n being the snapshot's position
 pub record SnapshotStandsFor (snapshot : SnapshotValue) (list : List RecordValue) : Type 0 where
   pub within : snapshot.position ≤ length list
   pub shape : length snapshot.tables ≡ node_count

@@ -18,6 +18,6 @@ interval_over capacity prefix records = interval_after capacity (adds_of (node_o
 abbrev pub interval_of : PrefixValue → SnapshotValue → Interval
 interval_of prefix snapshot = interval_in (table_at (node_of prefix) snapshot) (key_of prefix)
 
--- the interval of a prefix in the table of records holds what the prefix weighs over them
+-- the interval of a prefix in the table of records holds the exact weight of the prefix over them
 abbrev pub HoldsWeightOver : ℕ → PrefixValue → List RecordValue → Type 0
 HoldsWeightOver capacity prefix records = Holds (interval_over capacity prefix records) capacity (weight_of prefix records) (total_weight records)

@@ -28,7 +28,7 @@ impl Model for Cut {
 }
 
 impl Cut {
-    /// Positions 0 and empty tables for 1 to 128 shards, with memory for `capacity` entries in each, 2 to 4096.
+    /// A cut at position 0 of 1 to 128 shards, with empty tables and memory for `capacity` entries in each, 2 to 4096.
     pub fn with_room(alloc: Global, shards: u32, capacity: u32) -> Result<Cut, AllocError>
         requires some { 1 ≤ shards }
         requires few { shards ≤ 128 }
@@ -55,7 +55,7 @@ impl Cut {
         self.shards.len() as u32
     }
 
-    /// How many entries each table can have, 2 to 4096.
+    /// The most entries of each table, 2 to 4096.
     pub fn capacity(&self) -> u32
         ensures capacity { result ≡ self.now.capacity }
         ensures kept { IsCut self.now }
@@ -63,7 +63,7 @@ impl Cut {
         self.capacity
     }
 
-    /// The snapshot of a shard below the number of shards.
+    /// The snapshot of a shard, whose index is below the number of shards.
     pub fn shard(&self, shard: u32) -> &Snapshot
         requires { shard < length self.now.shards }
         ensures shard { slice_get self.now.shards shard ≡ Some result.now }
@@ -85,7 +85,7 @@ impl Cut {
         Ok(positions)
     }
 
-    /// Puts a snapshot of the cut's capacity in a shard's place. The other shards stay.
+    /// Replaces the snapshot of a shard by one of the cut's capacity. The other shards are unchanged.
     pub fn put_shard(&mut self, shard: u32, snapshot: Snapshot)
         requires within { shard < length self.old.shards }
         requires capacity { snapshot.capacity ≡ self.old.capacity }
@@ -95,8 +95,8 @@ impl Cut {
         self.shards[shard as usize] = snapshot;
     }
 
-    /// Makes a shard's snapshot that of a state of the cut's capacity. The other shards stay. It takes no
-    /// memory.
+    /// Makes a shard's snapshot equal to that of a state of the cut's capacity. The other shards are unchanged. It
+    /// allocates no memory.
     pub fn copy_shard(&mut self, shard: u32, state: &ShardState)
         requires within { shard < length self.old.shards }
         requires capacity { state.now.base.capacity ≡ self.old.capacity }

@@ -11,7 +11,7 @@ use prefix_lattice::{Node, Prefix, Record};
 use space_saving::{Flat, Summary};
 use std::alloc::{AllocError, Global};
 
-/// Counts records in each of 25 tables, one table after the other, so that a table's entries stay in the
+/// Counts records in each of 25 tables, one table after the other, so that the entries of a table stay in the
 /// nearest cache.
 pub(crate) fn count_in_tables(tables: &mut [Table], records: &[Record])
     requires shape { length tables.old ≡ 25 }
@@ -34,7 +34,7 @@ fn count_in_table(table: &mut Table, node: Node, records: &[Record])
     }
 }
 
-/// Tables with the content of these.
+/// Tables with the contents of these.
 pub(crate) fn restored(alloc: Global, flats: &[Flat]) -> Result<Vec<Table>, AllocError>
     ensures { IfOk result (λ tables. tables.items ≡ flats.now) }
 {
@@ -45,7 +45,7 @@ pub(crate) fn restored(alloc: Global, flats: &[Flat]) -> Result<Vec<Table>, Allo
     Ok(tables)
 }
 
-/// Makes flat tables equal to these, each of the capacity of its own. It takes no memory.
+/// Makes flat tables equal to these, each of the same capacity as its source. It allocates no memory.
 pub(crate) fn copy_tables(tables: &[Table], into: &mut [Flat])
     requires shape { length into.old ≡ length tables.now }
     requires capacities { (place : ℕ) (table flat : TableValue) → slice_get tables.now place ≡ Some table

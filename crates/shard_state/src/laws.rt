@@ -13,9 +13,9 @@ ghost use Rattle.shard_state.specs.declared.event.Event.{Event};
 use prefix_lattice::keys_tell_covering;
 use space_saving::{adds_leave_a_table, intervals_hold};
 
-/// In the table of records at a prefix's node, the interval of the prefix holds its exact weight and is no
-/// wider than the total divided by the capacity (Metwally, Agrawal, El Abbadi 2005), and the counts add up to
-/// the total weight.
+/// In the table of records at a prefix's node, the interval of the prefix holds its exact weight and is no wider
+/// than the total divided by the capacity (Metwally, Agrawal, El Abbadi 2005), and the counts add up to the total
+/// weight.
 pub fn tables_hold_weights()
     ensures weight { (capacity : ℕ) (prefix : PrefixValue) (records : List RecordValue) → 1 ≤ capacity → IsPrefix prefix
         → All (λ rec. 1 ≤ rec.weight) records → HoldsWeightOver capacity prefix records }
@@ -27,7 +27,7 @@ pub fn tables_hold_weights()
     adds_leave_a_table();
 }
 
-/// A snapshot that stands for a list holds the weights of the records before its position.
+/// A snapshot that represents a list holds the weights of the records before its position.
 pub fn snapshots_hold_weights()
     ensures weight { (snapshot : SnapshotValue) (list : List RecordValue) (prefix : PrefixValue) → SnapshotStandsFor snapshot list → 1 ≤ snapshot.capacity
         → IsPrefix prefix → All (λ rec. 1 ≤ rec.weight) list
@@ -40,21 +40,21 @@ pub fn snapshots_hold_weights()
     tables_hold_weights();
 }
 
-/// Empty tables stand for each list, and where its base stands for its list, a shard's snapshot does so at
-/// each position.
+/// Empty tables represent each list, and if a shard's base represents its list, then so does the shard's snapshot
+/// at each position.
 pub fn shards_stand()
     ensures begins { (capacity : ℕ) (list : List RecordValue) → SnapshotStandsFor (empty_snapshot capacity) list }
     ensures goes_on { (shard : ShardValue) → SnapshotStandsFor shard.base shard.list → shard.base.position ≤ shard.position
         → shard.position ≤ length shard.list → SnapshotStandsFor (snapshot_of shard) shard.list }
 {}
 
-/// Two cuts of one capacity, at the same positions, that stand for the same lists are equal.
+/// Two cuts of one capacity, at the same positions, that represent the same lists are equal.
 pub fn standing_cuts_are_equal()
     ensures { (cut other : CutValue) (lists : List (List RecordValue)) → cut.capacity ≡ other.capacity → positions_of cut ≡ positions_of other
         → CutStandsFor cut lists → CutStandsFor other lists → cut ≡ other }
 {}
 
-/// In a run of events each cut of a caller that read every shard stands for the lists, where the bases do.
+/// After a run of events, the cut of a caller that read every shard represents the lists, if the bases do.
 pub fn runs_stand()
     ensures { (core : CoreValue) (events : List Event) (caller : ℕ) (cut : CutValue) → IsCore core.shards
         → All (HasShape (length core.shards) (capacity_of core.shards)) core.cuts → BasesStand core.shards

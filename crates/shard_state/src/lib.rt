@@ -1,5 +1,5 @@
-//! The states of shards: tables that count a shard's records up to a position, snapshots of them, and cuts
-//! of one snapshot for each shard.
+//! The states of shards: tables that count a shard's records up to a position, snapshots of these tables, and
+//! cuts, which have one snapshot for each shard.
 #![tactic(auto)]
 
 mod cut;

@@ -20,7 +20,7 @@ impl Model for Positions {
 }
 
 impl Positions {
-    /// An empty list. It takes no memory.
+    /// An empty list. It allocates no memory.
     pub fn new(alloc: Global) -> Positions
         ensures { result ≡ [] }
     {
@@ -44,7 +44,7 @@ impl Positions {
         self.places.len()
     }
 
-    /// The position at a place below the length.
+    /// The position at an index below the length.
     pub fn at(&self, place: usize) -> u64
         requires { place < length self.now }
         ensures { slice_get self.now place ≡ Some result }

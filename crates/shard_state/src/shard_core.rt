@@ -1,4 +1,4 @@
-//! The pure core: shards and callers' cuts under a list of events.
+//! The pure core: shards and the cuts of callers under a list of events.
 
 ghost use Rattle.std.specs.Prelude.{◌≡◌, ◌<◌, ◌≤◌, ℕ, length, slice_get, Some, All};
 ghost use Rattle.shard_state.specs.Snapshot.{SnapshotValue};
@@ -28,7 +28,7 @@ impl Model for Core {
 }
 
 impl Core {
-    /// The core of these states.
+    /// The core with these states.
     pub fn new(states: Vec<ShardState>) -> Core
         requires { AreShards states.items }
         ensures { result ≡ states.items }
@@ -37,8 +37,8 @@ impl Core {
         Core { states }
     }
 
-    /// One event: a fold of a shard, or a read of a shard into its caller's cut. All else stays. It takes
-    /// no memory.
+    /// Performs one event: a fold of a shard, or a read of a shard into its caller's cut. All else is unchanged. It
+    /// allocates no memory.
     pub fn step(&mut self, event: Event, cuts: &mut Vec<Cut>)
         requires event { IsEventFor (length self.old) (length cuts.old.items) event }
         requires cuts { All (HasShape (length self.old) (capacity_of self.old)) cuts.old.items }
@@ -51,14 +51,14 @@ impl Core {
         }
     }
 
-    /// A run of events, in order. It takes no memory.
+    /// Performs a run of events, in order. It allocates no memory.
     pub fn run_events(&mut self, events: &[Event], cuts: &mut Vec<Cut>)
         requires events { All (IsEventFor (length self.old) (length cuts.old.items)) events.now }
         requires cuts { All (HasShape (length self.old) (capacity_of self.old)) cuts.old.items }
         ensures shards { self.new ≡ (run (record { shards = self.old; cuts = cuts.old.items }) events.now).shards }
         ensures cuts { cuts.new.items ≡ (run (record { shards = self.old; cuts = cuts.old.items }) events.now).cuts }
 
-        // A caller's cut has of each shard what its last read of it met: the shard's snapshot at that position.
+        // For each shard, a caller's cut has the snapshot at the position that the caller's last read of it met.
         ensures latest { (caller shard : ℕ) (state : ShardValue) (before : SnapshotValue) → slice_get self.old shard ≡ Some state
             → snapshot_in caller shard cuts.old.items ≡ Some before → snapshot_in caller shard cuts.new.items
             ≡ Some (latest state before (reads_of caller shard (record { shards = self.old; cuts = cuts.old.items }) events.now)) }
@@ -70,11 +70,11 @@ impl Core {
         ensures never_fall { (caller shard : ℕ) (state : ShardValue) → slice_get self.old shard ≡ Some state
             → NeverFall state.position (reads_of caller shard (record { shards = self.old; cuts = cuts.old.items }) events.now) }
 
-        // Where the bases stand for the lists, so does each cut in which every shard was read.
+        // If the bases represent the lists, so does each cut in which every shard was read.
         ensures stands { BasesStand self.old → (caller : ℕ) (cut : CutValue) → slice_get cuts.new.items caller ≡ Some cut
             → ReadsEach caller (record { shards = self.old; cuts = cuts.old.items }) events.now → CutStandsFor cut (lists_of self.old) }
 
-        // There are as many shards and callers as before, and the cuts still have the core's shape.
+        // The numbers of shards and callers are unchanged, and the cuts still have the core's shape.
         ensures shards_stay { length self.new ≡ length self.old }
         ensures callers_stay { length cuts.new.items ≡ length cuts.old.items }
         ensures shapes { All (HasShape (length self.new) (capacity_of self.new)) cuts.new.items }
@@ -83,7 +83,7 @@ impl Core {
         self.run_in_order(events, cuts);
     }
 
-    // What the core keeps is known here, since a field is looked at.
+    // Reading a field makes the core's invariant known to the caller.
     fn keeps(&self)
         ensures { IsCore self.now }
     {
@@ -121,7 +121,7 @@ impl Core {
     }
 }
 
-// Looks at each state, so that what each keeps is known of all.
+// Visits each state, which makes the invariants of all states known.
 fn all_are_kept(states: &[ShardState])
     ensures { All IsShard states.now }
 {

@@ -14,7 +14,7 @@ use space_saving::steps_leave_a_table;
 use std::alloc::{AllocError, Global};
 use std::marker::Model;
 
-/// The positions between which a fold moved a shard: how many records were counted before it and after it.
+/// How many records of a shard were counted before a fold and after it.
 #[derive(Clone, Copy, Debug, PartialEq, Eq)]
 pub struct Folded {
     /// How many records were counted before the fold.
@@ -23,8 +23,8 @@ pub struct Folded {
     pub to: u64,
 }
 
-/// The records of a shard, and 25 tables that counted them up to a position: the tables of the snapshot
-/// that it began with, and each record since, for the key of its prefix at each node.
+/// The records of a shard, and 25 tables that count them up to a position: the tables of the snapshot that the
+/// state started from, and each record since, added at each node for the key of its prefix there.
 #[derive(Debug, Drop)]
 pub struct ShardState {
     list: RecordList,
@@ -47,8 +47,8 @@ impl Model for ShardState {
 }
 
 impl ShardState {
-    /// No record is counted yet. The list has at most 16,777,216 records, and a table 2 to 4096 entries. The list
-    /// is dropped on refusal.
+    /// The state with no record counted. The list has at most 16,777,216 records, and each table 2 to 4096 entries.
+    /// On an error, which means that memory ran out, the list is dropped.
     pub fn start(alloc: Global, list: RecordList, capacity: u32) -> Result<ShardState, AllocError>
         requires few { length list ≤ 2 ^ 24 }
         requires least { 2 ≤ capacity }
@@ -59,8 +59,9 @@ impl ShardState {
         ShardState::resume(alloc, list, base)
     }
 
-    /// Goes on from a snapshot that counted the first records of the list, as many as its position says.
-    /// The list has at most 16,777,216 records; list and base are dropped on refusal.
+    /// The state that continues from a snapshot, which counted the first n records of the list, n being its position.
+    /// The list has at most 16,777,216 records. On an error, which means that memory ran out, list and base are
+    /// dropped.
     pub fn resume(alloc: Global, list: RecordList, base: Snapshot) -> Result<ShardState, AllocError>
         requires few { length list ≤ 2 ^ 24 }
         requires within { base.position ≤ length list }
@@ -78,7 +79,7 @@ impl ShardState {
         })
     }
 
-    /// Counts a block of at least one more record, or what is left of the list. It takes no memory.
+    /// Counts the next `block` records, at least one, or the remaining records of the list. It allocates no memory.
     pub fn fold_block(&mut self, block: u32) -> Folded
         requires { 1 ≤ block }
         ensures state { self.new ≡ folded block self.old }
@@ -117,7 +118,7 @@ impl ShardState {
         self.list.len() as u64
     }
 
-    /// How many entries each table can have, 2 to 4096.
+    /// The most entries of each table, 2 to 4096.
     pub fn capacity(&self) -> u32
         ensures capacity { result ≡ self.now.base.capacity }
         ensures kept { IsShard self.now }
@@ -125,7 +126,7 @@ impl ShardState {
         self.base.capacity()
     }
 
-    /// Makes a snapshot of the shard's capacity that of the shard. It takes no memory.
+    /// Makes a snapshot of the shard's capacity equal to the shard's. It allocates no memory.
     pub fn copy_into(&self, into: &mut Snapshot)
         requires { into.old.capacity ≡ self.now.base.capacity }
         ensures { into.new ≡ snapshot_of self.now }

@@ -52,8 +52,8 @@ impl Snapshot {
         })
     }
 
-    /// The snapshot of these tables, in the order of their nodes' places. `None`, which drops them, comes
-    /// exactly where they are no snapshot: a position above 16,777,216, not 25 tables, capacities or totals
+    /// The snapshot of these tables, in the order of their nodes' indexes. `None`, which drops them, is returned
+    /// exactly where they are not a snapshot: a position above 16,777,216, not 25 tables, capacities or totals
     /// that differ, or a key with a bit set that its node doesn't keep.
     pub fn from_tables(position: u64, tables: Vec<Flat>) -> Option<Snapshot>
         ensures accepted { IsSome result ↔ AreParts position tables.items }
@@ -81,7 +81,7 @@ impl Snapshot {
         self.position
     }
 
-    /// How many entries each table can have, 2 to 4096.
+    /// The most entries of each table, 2 to 4096.
     pub fn capacity(&self) -> u32
         ensures capacity { result ≡ self.now.capacity }
         ensures least { 2 ≤ result }
@@ -98,7 +98,7 @@ impl Snapshot {
         &self.tables[usize::from(node.index())]
     }
 
-    /// The weight that the records counted have together, which each table counted.
+    /// The total weight of the counted records, which is also what each table counted.
     pub fn total(&self) -> u64
         ensures total { result ≡ total_of self.now }
         ensures bounded { result < 2 ^ 56 }
@@ -107,7 +107,7 @@ impl Snapshot {
         self.tables[0].total()
     }
 
-    /// All tables, in the order of their nodes' places.
+    /// All tables, in the order of their nodes' indexes.
     pub(crate) fn tables(&self) -> &[Flat]
         ensures tables { result.now ≡ tables_of self.now }
         ensures kept { IsSnapshot self.now }
@@ -115,7 +115,7 @@ impl Snapshot {
         self.tables.as_slice()
     }
 
-    /// Takes over a position and the content of tables of its capacity.
+    /// Takes the position, and the contents of tables of the snapshot's capacity.
     pub(crate) fn copy_from(&mut self, position: u64, tables: &[Table])
         requires alike { All (λ table. table.capacity ≡ self.old.capacity) tables.now }
         requires snapshot { IsSnapshot (copied_from self.old.capacity position tables.now) }

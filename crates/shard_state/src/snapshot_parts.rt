@@ -1,4 +1,4 @@
-//! Whether tables from outside are those of a snapshot, and empty ones.
+//! Checks that tables from outside are those of a snapshot, and makes empty tables.
 
 ghost use Rattle.std.specs.Prelude.{◌≡◌, ◌<◌, ◌≤◌, ◌↔◌, ℕ, [], length, slice_get, Some, IfOk, IsTrue};
 ghost use Rattle.std.proofs.Math.ListN.{replicate};
@@ -10,7 +10,7 @@ use prefix_lattice::{Node, Prefix};
 use space_saving::Flat;
 use std::alloc::{AllocError, Global};
 
-/// How many nodes the lattice has, and so how many tables a shard has.
+/// The number of nodes of the lattice, which is also the number of tables of a shard.
 pub(crate) const NODES: u8 = 25;
 
 /// One empty table for each node.
@@ -26,7 +26,7 @@ pub(crate) fn empty_tables(alloc: Global, capacity: u32) -> Result<Vec<Flat>, Al
     Ok(tables)
 }
 
-/// Whether there are 25 tables of one capacity and one total, each with keys of the node at its place.
+/// Whether there are 25 tables of one capacity and one total, each with keys of the node at its index.
 pub(crate) fn are_tables(tables: &[Flat]) -> bool
     ensures tables { IsTrue result ↔ AreTables tables.now }
     ensures kept { IsTrue result → (place : ℕ) (table : TableValue) → slice_get tables.now place ≡ Some table → AreEntries table.capacity table.entries }

@@ -65,7 +65,7 @@ fn list_of(alloc: Global, records: &[Record]) -> Result<RecordList, AllocError>
     Ok(list)
 }
 
-// A shard of these packets, with tables of capacity 4.
+// A shard with these packets, and with tables of capacity 4.
 fn started(alloc: Global, records: &[Record]) -> Result<ShardState, AllocError>
     requires { length records.now ≤ 2 ^ 24 }
     ensures capacity { IfOk result (λ shard. shard.base.capacity ≡ 4) }
@@ -75,7 +75,7 @@ fn started(alloc: Global, records: &[Record]) -> Result<ShardState, AllocError>
     ShardState::start(alloc, list, 4)
 }
 
-// A fold of which only this is said, so that the proofs of the tests stay short.
+// A fold with a short contract, so that the proofs of the tests stay short.
 fn fold(shard: &mut ShardState, block: u32) -> Folded
     requires { 1 ≤ block }
     ensures capacity { shard.new.base.capacity ≡ shard.old.base.capacity }
@@ -93,7 +93,7 @@ fn snapshot_of(alloc: Global, shard: &ShardState) -> Result<Snapshot, AllocError
     Ok(snapshot)
 }
 
-// A shard of these packets that goes on where another one stands.
+// A shard with these packets that goes on from the snapshot of another shard.
 fn resumed(alloc: Global, list: RecordList, shard: &ShardState) -> Result<ShardState, AllocError>
     requires capacity { shard.now.base.capacity ≡ 4 }
     requires list { list ≡ shard.now.list }
@@ -105,7 +105,7 @@ fn resumed(alloc: Global, list: RecordList, shard: &ShardState) -> Result<ShardS
     ShardState::resume(alloc, list, base)
 }
 
-// The key, count and error of each entry at the node of this place.
+// The key, count and error of each entry at the node with this index.
 fn entries_at(alloc: Global, snapshot: &Snapshot, place: u8) -> Result<Vec<(u64, u64, u64)>, Fail> {
     let table = snapshot.table(Node::from_index(place).ok_or("a node")?);
     let mut entries = Vec::new(alloc);
@@ -140,7 +140,7 @@ fn folds_move_to_the_end(rt: HostRuntime) -> Result<(), Fail> {
     Ok(())
 }
 
-// What tables of capacity 4 have of these packets, folded to their end.
+// The snapshot, in tables of capacity 4, after all these packets.
 fn end_of(alloc: Global, records: &[Record]) -> Result<Snapshot, AllocError>
     requires { length records.now ≤ 2 ^ 24 }
 {
@@ -149,7 +149,7 @@ fn end_of(alloc: Global, records: &[Record]) -> Result<Snapshot, AllocError>
     snapshot_of(alloc, &shard)
 }
 
-// The same from a shard that stopped at the third packet, and another that went on.
+// The same snapshot, from one shard that stopped at the third packet and another that went on.
 fn resumed_end_of(alloc: Global, records: &[Record]) -> Result<Snapshot, AllocError>
     requires { length records.now ≤ 2 ^ 24 }
 {
@@ -189,7 +189,7 @@ fn tables_are_tested(rt: HostRuntime) -> Result<(), Fail> {
     assert_eq!(rt; (whole.position(), whole.total()), (1 << 24, 5));
     let late = Snapshot::from_tables((1 << 24) + 1, tables_of(&rt, alloc, &end)?);
     assert!(rt; late.is_none());
-    // The place and the capacity of an empty table that is put in for one of the tables.
+    // The index and the capacity of an empty table that replaces one of the tables.
     for (place, capacity) in [(7, 4), (24, 5)] {
         let changed = with_empty_table(
             &rt,
@@ -272,7 +272,7 @@ fn core_with_cut(
     })
 }
 
-// Reads the first shard at 4 and the second at 2.
+// A run of events that reads the first shard at 4 and the second at 2.
 fn run_worked_events(core: &mut Core, cuts: &mut Vec<Cut>)
     requires two { length core.old ≡ 2 }
     requires one { length cuts.old.items ≡ 1 }

@@ -1,10 +1,10 @@
--- Where an entry stands in a table, which no public contract cites.
+-- The index of an entry in a table, which no public contract cites.
 use Rattle.std.specs.Prelude.{ℕ, ◌≡◌, ◌<◌, List, length, slice_get}
 use Rattle.std.specs.List.{remove}
 use Rattle.space_saving.specs.declared.entry.Entry.{Entry}
 use Rattle.space_saving.specs.Table.{entry_of, without}
 
--- the first entry of the key stands at this place
+-- the first entry of the key is at this index
 pub record IsPlaceOf (key : ℕ) (entries : List Entry) (place : ℕ) : Type 0 where
   pub within : place < length entries
   pub found : entry_of key entries ≡ slice_get entries place

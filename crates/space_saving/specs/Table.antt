@@ -8,12 +8,12 @@ pub record Add : Type 0 where
   pub key : ℕ
   pub weight : ℕ
 
--- a table: how many entries it may hold, and those that it holds, counts ascending
+-- a table: the most entries that it may hold, and those that it holds, counts ascending
 pub record TableValue : Type 0 where
   pub capacity : ℕ
   pub entries : List Entry
 
--- the entries after one more is put in, after every entry whose count is at most its own
+-- the entries after one more is inserted: after every entry whose count is at most its own, so last in a tie
 abbrev pub put : Entry → List Entry → List Entry
 put entry [] = entry ∷ []
 put entry (first ∷ rest) = if nat_le first.count entry.count then first ∷ put entry rest else entry ∷ first ∷ rest
@@ -23,7 +23,7 @@ abbrev pub entry_of : ℕ → List Entry → Option Entry
 entry_of key [] = None
 entry_of key (first ∷ rest) = if first.key == key then Some first else entry_of key rest
 
--- the entries after the first one of a key is taken out
+-- the entries after the first one of a key is removed
 abbrev pub without : ℕ → List Entry → List Entry
 without key [] = []
 without key (first ∷ rest) = if first.key == key then rest else first ∷ without key rest
@@ -33,14 +33,14 @@ abbrev pub replace_head : List Entry → Add → List Entry
 replace_head [] add = []
 replace_head (head ∷ rest) add = put (record { key = add.key; count = head.count + add.weight; error = head.count }) rest
 
--- the entries after an add of a key that has no entry: the new entry takes free room, or replaces the head
+-- the entries after an add for a key that has no entry: the new entry takes free room, or replaces the head
 abbrev pub enter : ℕ → List Entry → Add → List Entry
 enter capacity entries add =
     if nat_lt (length entries) capacity
     then put (record { key = add.key; count = add.weight; error = 0 }) entries
     else replace_head entries add
 
--- the entries after an add, by the entry that its key has: that entry is taken out and put in with the weight more
+-- the entries after an add, by the entry that its key has: that entry is removed, and inserted with the weight added
 abbrev pub step_from : Option Entry → ℕ → List Entry → Add → List Entry
 step_from None capacity entries add = enter capacity entries add
 step_from (Some entry) capacity entries add = put (record entry { count = entry.count + add.weight }) (without add.key entries)
@@ -49,7 +49,7 @@ step_from (Some entry) capacity entries add = put (record entry { count = entry.
 abbrev pub step : ℕ → List Entry → Add → List Entry
 step capacity entries add = step_from (entry_of add.key entries) capacity entries add
 
--- the entries of a table of this capacity after these adds, begun with none
+-- the entries of a table of this capacity after these adds, started empty
 abbrev pub table_of : ℕ → List Add → List Entry
 table_of capacity adds = fold (step capacity) [] adds
 
@@ -62,12 +62,12 @@ pub record Interval : Type 0 where
   pub low : ℕ
   pub high : ℕ
 
--- the count of the head
+-- the count of the head, or 0 if there is no entry
 abbrev pub least_count : List Entry → ℕ
 least_count [] = 0
 least_count (head ∷ rest) = head.count
 
--- the interval of a key by its entry, if it has one: a key that is missing may have had the least count where no room is left
+-- the interval of a key by its entry; the high of a missing key is the least count if the table is full, else 0
 abbrev pub interval_from : Option Entry → TableValue → Interval
 interval_from None table = record { low = 0; high = if nat_lt (length table.entries) table.capacity then 0 else least_count table.entries }
 interval_from (Some entry) table = record { low = entry.count - entry.error; high = entry.count }
@@ -93,16 +93,16 @@ abbrev pub RisesFrom : ℕ → List Entry → Type 0
 RisesFrom least [] = ⊤
 RisesFrom least (first ∷ rest) = (least ≤ first.count) × RisesFrom first.count rest
 
--- no two entries have one key
+-- no two entries have the same key
 abbrev pub AreApart : List Entry → Type 0
 AreApart [] = ⊤
 AreApart (first ∷ rest) = (entry_of first.key rest ≡ None) × AreApart rest
 
--- the error is below the count, and times the capacity it is at most the total
+-- the error is below the count, and the error times the capacity is at most the total
 abbrev pub HasSmallError : ℕ → ℕ → Entry → Type 0
 HasSmallError capacity total entry = (entry.error < entry.count) × (entry.error * capacity ≤ total)
 
--- at most so many entries, counts ascending, keys distinct, errors small
+-- at most as many entries as the capacity, counts ascending, keys distinct, errors small
 pub record IsTable (capacity : ℕ) (entries : List Entry) : Type 0 where
   pub fits : length entries ≤ capacity
   pub ascending : RisesFrom 0 entries
@@ -114,7 +114,7 @@ pub record AreEntries (capacity : ℕ) (entries : List Entry) : Type 0 where
   pub is_table : IsTable capacity entries
   pub bounded : total_count entries < 2 ^ 56
 
--- what a table keeps: its capacity is allowed, its memory has the room, its total is the sum of the counts
+-- what always holds of a table: its capacity is allowed, its memory has room for it, its total is the sum of the counts
 pub record IsKept (capacity room total : ℕ) (entries : List Entry) : Type 0 where
   pub least : 2 ≤ capacity
   pub most : capacity ≤ 4096

@@ -7,6 +7,6 @@ pub struct Entry {
     pub key: u64,
     /// At least the weight that was added for the key.
     pub count: u64,
-    /// The most by which the count can be above that weight.
+    /// The most by which the count can exceed that weight.
     pub error: u64,
 }

@@ -10,15 +10,15 @@ use crate::{Entry, EntrySource};
 use std::alloc::{AllocError, Global};
 use std::marker::Model;
 
-// Stands in the room of an entry until that is written.
+// Fills the room of an entry until the entry is written.
 const BLANK: Entry = Entry {
     key: 0,
     count: 0,
     error: 0,
 };
 
-/// A table of Space-Saving as plain entries, counts ascending, in memory that was reserved for as many as
-/// the capacity says.
+/// A Space-Saving table as plain entries, counts ascending, with memory reserved for as many entries as its
+/// capacity.
 #[derive(Debug, Drop)]
 pub struct Flat {
     capacity: u32,
@@ -51,10 +51,11 @@ impl Flat {
         })
     }
 
-    /// The table of these entries, in their order. The capacity is 2 to 4096, and the vector has memory for
-    /// as many entries. `None`, which drops them, comes exactly where they are no table of this capacity: more
-    /// entries than it, falling counts, a key twice, an error that isn't below its count or, times the
-    /// capacity, is above the total, or a total of 2^56 or more. It takes no memory, and the time of a sort of the keys.
+    /// The table of these entries, in their order. The capacity is 2 to 4096, and the vector has memory for as many
+    /// entries. `None`, which drops them, is returned exactly where they are not a table of this capacity: more
+    /// entries than the capacity, falling counts, a key twice, an error that is not below its count or that, times
+    /// the capacity, is above the total, or a total of 2^56 or more. It allocates no memory, and needs the time of
+    /// a sort of the keys.
     pub fn from_entries(capacity: u32, entries: Vec<Entry>) -> Option<Flat>
         requires least { 2 ≤ capacity }
         requires most { capacity ≤ 4096 }
@@ -92,7 +93,7 @@ impl Flat {
         }
     }
 
-    /// The entry at this place, from 0, in the order of rising counts. No earlier entry has its key.
+    /// The entry at this index, from 0, in the order of rising counts. No earlier entry has its key.
     pub fn entry(&self, place: usize) -> Entry
         requires { place < length self.now.entries }
         ensures entry { slice_get self.now.entries place ≡ Some result }
@@ -112,7 +113,7 @@ impl Flat {
         self.entries.len()
     }
 
-    /// How many entries there can be, 2 to 4096.
+    /// The most entries that the table can have, 2 to 4096.
     pub fn capacity(&self) -> u32
         ensures capacity { result ≡ self.now.capacity }
         ensures least { 2 ≤ result }
@@ -121,7 +122,7 @@ impl Flat {
         self.capacity
     }
 
-    /// The sum of the counts, below 2^56, which is the weight that was added.
+    /// The sum of the counts, below 2^56, which equals the weight that was added.
     pub fn total(&self) -> u64
         ensures total { result ≡ total_count self.now.entries }
         ensures bounded { result < 2 ^ 56 }
@@ -130,8 +131,8 @@ impl Flat {
         self.total
     }
 
-    /// Replaces the entries by those of a source, which are a table of this capacity. It takes no memory, and no
-    /// longer than the source and one pass over the entries.
+    /// Replaces the entries by those of a source, which are a table of this capacity. It allocates no memory, and needs
+    /// the time of the source and of one pass over the entries.
     pub fn refill<S: EntrySource>(&mut self, source: &S)
         requires table { AreEntries self.old.capacity (S.entries source.now) }
         ensures { self.new ≡ record self.old { entries = S.entries source.now } }
@@ -141,7 +142,7 @@ impl Flat {
         self.total = total_of(&self.entries).unwrap();
     }
 
-    /// Adds a weight for a key, by one step of Space-Saving. It takes no memory.
+    /// Adds a weight for a key, by one step of Space-Saving. It allocates no memory.
     pub(crate) fn add(&mut self, key: u64, weight: u32)
         requires weighs { 1 ≤ weight }
         requires room { total_count self.old.entries + weight < 2 ^ 56 }
@@ -155,7 +156,7 @@ impl Flat {
         self.total += weight;
     }
 
-    /// Makes the other table, of the same capacity, equal to this one. It takes no memory.
+    /// Makes the other table, of the same capacity, equal to this one. It allocates no memory.
     pub(crate) fn copy_into(&self, into: &mut Flat)
         requires { into.old.capacity ≡ self.now.capacity }
         ensures { into.new ≡ self.now }

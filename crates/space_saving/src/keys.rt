@@ -10,7 +10,7 @@ use crate::Entry;
 /// The most entries that a table can have.
 const MOST_ENTRIES: usize = 4096;
 
-/// Whether no two entries have one key. The keys are sorted on the stack: it takes no memory, and no choice of
+/// Whether no two entries have the same key. The keys are sorted on the stack: it allocates no memory, and no choice of
 /// keys makes it slow.
 pub(crate) fn are_apart(entries: &[Entry]) -> bool
     requires { length entries.now ≤ 4096 }
@@ -20,12 +20,12 @@ pub(crate) fn are_apart(entries: &[Entry]) -> bool
     are_apart_in(&mut room[..entries.len()], entries)
 }
 
-/// Room for the keys of a table. In a function of its own it stands in no other goal.
+/// Room for the keys of a table. It has a function of its own so that the array is part of no other proof goal.
 fn room_for_keys() -> [u64; MOST_ENTRIES] {
     [0; MOST_ENTRIES]
 }
 
-/// The same, with the keys written over these numbers, as many as entries.
+/// Whether no two entries have the same key. It overwrites `keys`, which has as many numbers as there are entries.
 fn are_apart_in(keys: &mut [u64], entries: &[Entry]) -> bool
     requires { length keys.old ≡ length entries.now }
     ensures { IsTrue result ↔ AreApart entries.now }
@@ -34,7 +34,7 @@ fn are_apart_in(keys: &mut [u64], entries: &[Entry]) -> bool
     rise_strictly(keys)
 }
 
-/// Writes the keys of the entries over these numbers, in rising order.
+/// Overwrites these numbers with the keys of the entries, in rising order.
 fn write_sorted_keys(keys: &mut [u64], entries: &[Entry])
     requires { length keys.old ≡ length entries.now }
     ensures permutation { IsPermutation (map (λ entry. entry.key) entries.now) keys.new }

@@ -4,8 +4,8 @@ ghost use Rattle.std.specs.Prelude.{◌≡◌, ℕ, ◌+◌, ◌-◌, ◌*◌, �
 ghost use Rattle.space_saving.specs.declared.entry.Entry.{Entry};
 ghost use Rattle.space_saving.specs.Table.{Add, step, table_of, entry_of, total_count, least_count, interval_from, interval_in, interval_after, weight_of_key, total_added, AreWeighed, IsTable};
 
-/// The interval of each key holds the weight that was added for it, and its width is at most the whole
-/// weight divided by the capacity (Metwally, Agrawal, El Abbadi 2005).
+/// The interval of each key holds the weight that was added for it, and its width is at most the total weight
+/// divided by the capacity (Metwally, Agrawal, El Abbadi 2005).
 pub fn intervals_hold()
     ensures low { (capacity : ℕ) (adds : List Add) (key : ℕ) → 1 ≤ capacity → AreWeighed adds
         → (interval_after capacity adds key).low ≤ weight_of_key key adds }
@@ -16,8 +16,8 @@ pub fn intervals_hold()
         ≤ total_added adds }
 {}
 
-/// A key that is missing in a full table has at most the least count as its weight, and that count is at
-/// most the whole weight divided by the capacity.
+/// The weight of a key that is missing in a full table is at most the least count, and that count is at most the
+/// total weight divided by the capacity.
 pub fn missing_keys_are_light()
     ensures light { (capacity : ℕ) (adds : List Add) (key : ℕ) → 1 ≤ capacity → AreWeighed adds
         → entry_of key (table_of capacity adds) ≡ None → length (table_of capacity adds) ≡ capacity
@@ -27,8 +27,8 @@ pub fn missing_keys_are_light()
         → least_count (table_of capacity adds) * capacity ≤ total_added adds }
 {}
 
-/// What adds leave has at most so many entries as the capacity says, distinct keys, ascending counts and
-/// small errors, and its counts add up to the whole weight.
+/// The table after some adds has at most as many entries as its capacity, distinct keys, ascending counts and small
+/// errors, and its counts add up to the total weight.
 pub fn adds_leave_a_table()
     ensures table { (capacity : ℕ) (adds : List Add) → 1 ≤ capacity → AreWeighed adds
         → IsTable capacity (table_of capacity adds) }
@@ -36,7 +36,7 @@ pub fn adds_leave_a_table()
         → total_count (table_of capacity adds) ≡ total_added adds }
 {}
 
-/// Adds may come in parts: the later ones go on from the table that the earlier ones left.
+/// Adds may come in parts: the later ones continue from the table after the earlier ones.
 pub fn adds_go_on()
     ensures more { (capacity : ℕ) (earlier later : List Add)
         → table_of capacity (earlier ++ later) ≡ fold (step capacity) (table_of capacity earlier) later }
@@ -44,7 +44,7 @@ pub fn adds_go_on()
         → table_of capacity (earlier ++ last ∷ []) ≡ step capacity (table_of capacity earlier) last }
 {}
 
-/// A step leaves a table where one was, and adds its weight to the sum of the counts.
+/// A step turns a table into a table, and adds its weight to the sum of the counts.
 pub fn steps_leave_a_table()
     ensures table { (capacity : ℕ) (entries : List Entry) (add : Add) → 1 ≤ capacity → 1 ≤ add.weight
         → IsTable capacity entries → IsTable capacity (step capacity entries add) }

@@ -1,5 +1,5 @@
-//! Space-Saving tables with weights: the few keys that may have had the most weight, each with the
-//! interval that holds its weight.
+//! Space-Saving tables with weights: the few keys that may have had the most weight, each with the interval that
+//! holds its weight.
 #![tactic(auto)]
 
 mod entry;

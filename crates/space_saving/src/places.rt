@@ -1,4 +1,4 @@
-//! Places in a list of entries whose counts rise: where a key stands, and where an entry is put.
+//! Indexes in a list of entries whose counts rise: that of a key, and that at which an entry is inserted.
 
 ghost use Rattle.std.specs.Prelude.{◌≡◌, ◌+◌, ◌<◌, ◌≤◌, ◌++◌, None, MatchOption, length, insert, take, drop};
 ghost use Rattle.space_saving.specs.Places.{IsPlaceOf};
@@ -6,7 +6,7 @@ ghost use Rattle.space_saving.specs.Table.{put, entry_of};
 
 use crate::Entry;
 
-/// The place of the first entry of this key.
+/// The index of the first entry of this key, if there is one.
 pub(crate) fn place_of(entries: &[Entry], key: u64) -> Option<usize>
     ensures { MatchOption result (entry_of key entries.now ≡ None) (IsPlaceOf key entries.now) }
 {
@@ -18,7 +18,7 @@ pub(crate) fn place_of(entries: &[Entry], key: u64) -> Option<usize>
     None
 }
 
-/// The place at which this entry is put in: after every entry whose count is at most its own.
+/// The index at which this entry is inserted: after every entry whose count is at most its own.
 pub(crate) fn place_for(entries: &[Entry], new: &Entry) -> usize
     ensures within { result ≤ length entries.now }
     ensures place { put new.now entries.now ≡ insert entries.now result new.now }
@@ -31,8 +31,8 @@ pub(crate) fn place_for(entries: &[Entry], new: &Entry) -> usize
     entries.len()
 }
 
-/// Puts an entry in for the one at this place, which it takes out. The entries between the two places
-/// move down by one.
+/// Removes the entry at index `from`, and inserts a new one by its count, at that index or later. The entries between
+/// the two indexes move down by one.
 pub(crate) fn settle(entries: &mut [Entry], from: usize, new: Entry)
     requires { from < length entries.old }
     ensures { entries.new ≡ take from entries.old ++ put new (drop (from + 1) entries.old) }

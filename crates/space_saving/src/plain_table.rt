@@ -1,11 +1,11 @@
-//! The plain table: one list of entries that is searched from its head.
+//! The plain table: one list of entries that is scanned from its head.
 
 use crate::{Entry, Flat, Summary};
 use std::alloc::{AllocError, Global};
 use std::marker::Model;
 
-/// A table that keeps its entries in one list, counts ascending. An add or a question looks through the
-/// list once, and an entry that moves up moves those that it passes down by one.
+/// A table that keeps its entries in one list, counts ascending. An add or a query scans the list once, and an entry
+/// that moves up moves those that it passes down by one.
 #[derive(Debug, Drop)]
 pub struct PlainTable {
     flat: Flat,

@@ -6,7 +6,7 @@ ghost use Rattle.space_saving.specs.Table.{step, total_count, IsTable};
 use crate::Entry;
 use crate::places::{place_for, place_of, settle};
 
-/// Adds a weight for a key: its entry moves up, or a new entry takes free room, or the head is replaced.
+/// Adds a weight for a key: its entry moves up, or a new entry takes free room, or a new entry replaces the head.
 pub(crate) fn add_weight(entries: &mut Vec<Entry>, capacity: usize, key: u64, weight: u64)
     requires some { 1 ≤ capacity }
     requires reserved { capacity ≤ vec_capacity entries.old }

@@ -1,4 +1,4 @@
-//! A table of Space-Saving, whatever it keeps its entries in.
+//! A Space-Saving table, in whatever form it keeps its entries.
 
 ghost use Rattle.std.specs.Prelude.{◌≡◌, ◌+◌, ◌-◌, ◌*◌, ◌^◌, ◌<◌, ◌≤◌, ◌↔◌, [], length, slice_get, IfOk, IsTrue, Some};
 ghost use Rattle.space_saving.specs.Table.{TableValue, step, total_count, interval_in, AreEntries};
@@ -6,24 +6,23 @@ ghost use Rattle.space_saving.specs.Table.{TableValue, step, total_count, interv
 use crate::{Entry, Flat};
 use std::alloc::{AllocError, Global};
 
-/// A table of Space-Saving with weights (Metwally, Agrawal, El Abbadi 2005): at most so many keys as its
-/// capacity says, each with the interval that holds the weight that was added for it.
+/// A Space-Saving table with weights (Metwally, Agrawal, El Abbadi 2005): at most as many keys as its capacity, each
+/// with the interval that holds the weight that was added for it.
 pub trait Summary: Sized {
-    /// The capacity, and the entries with counts ascending. Where counts are equal, the entry that was
-    /// put in later stands later.
+    /// The capacity, and the entries with counts ascending. In a tie, the entry that was inserted first stays first.
     ghost content: { Self → TableValue };
 
-    /// An empty table of a capacity of 2 to 4096. All memory is taken here.
+    /// An empty table of a capacity of 2 to 4096. All memory is reserved here.
     fn with_capacity(alloc: Global, capacity: u32) -> Result<Self, AllocError>
         requires least { 2 ≤ capacity }
         requires most { capacity ≤ 4096 }
         ensures { IfOk result (λ table. content table ≡ record { capacity = capacity; entries = [] }) };
 
-    /// A table with the capacity and the entries of this one. All memory is taken here.
+    /// A table with the capacity and the entries of this one. All memory is reserved here.
     fn restore(alloc: Global, flat: &Flat) -> Result<Self, AllocError>
         ensures { IfOk result (λ table. content table ≡ flat.now) };
 
-    /// Adds a weight of at least 1 for a key, by one step of Space-Saving. The total stays below 2^56. It takes
+    /// Adds a weight of at least 1 for a key, by one step of Space-Saving. The total stays below 2^56. It allocates
     /// no memory.
     fn add(&mut self, key: u64, weight: u32)
         requires weighs { 1 ≤ weight }
@@ -44,7 +43,7 @@ pub trait Summary: Sized {
         ensures narrow { (result.1 - result.0) * (content self.now).capacity
             ≤ total_count (content self.now).entries };
 
-    /// The entry at this place below the length, from 0, in the order of rising counts.
+    /// The entry at this index, from 0 and below the length, in the order of rising counts.
     fn entry(&self, place: usize) -> Entry
         requires { place < length (content self.now).entries }
         ensures { slice_get (content self.now).entries place ≡ Some result };
@@ -54,23 +53,23 @@ pub trait Summary: Sized {
         ensures length { result ≡ length (content self.now).entries }
         ensures within_capacity { result ≤ (content self.now).capacity };
 
-    /// How many entries there can be, 2 to 4096.
+    /// The most entries that the table can have, 2 to 4096.
     fn capacity(&self) -> u32
         ensures capacity { result ≡ (content self.now).capacity }
         ensures least { 2 ≤ result }
         ensures most { result ≤ 4096 };
 
-    /// The sum of the counts, below 2^56, which is the weight that was added.
+    /// The sum of the counts, below 2^56, which equals the weight that was added.
     fn total(&self) -> u64
         ensures total { result ≡ total_count (content self.now).entries }
         ensures bounded { result < 2 ^ 56 }
         ensures kept { AreEntries (content self.now).capacity (content self.now).entries };
 
-    /// Whether there are as many entries as there can be.
+    /// Whether the table has as many entries as its capacity.
     fn full(&self) -> bool
         ensures { IsTrue result ↔ (length (content self.now).entries ≡ (content self.now).capacity) };
 
-    /// Makes a flat table, of the same capacity, equal to this one. It takes no memory.
+    /// Makes a flat table, of the same capacity, equal to this one. It allocates no memory.
     fn copy_into(&self, into: &mut Flat)
         requires { into.old.capacity ≡ (content self.now).capacity }
         ensures { into.new ≡ content self.now };

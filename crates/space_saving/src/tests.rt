@@ -145,7 +145,7 @@ fn entries_are_tested(rt: HostRuntime) -> Result<(), Fail> {
     Ok(())
 }
 
-/// The entries of a slice, as another table would give its own.
+/// A source that gives the entries of a slice.
 #[derive(Clone, Copy)]
 struct Listed<'a>(&'a [Entry]);
 
@@ -187,8 +187,8 @@ fn tables_are_refilled(rt: HostRuntime) -> Result<(), Fail> {
     Ok(())
 }
 
-/// The three cases by another program: what changes goes to the end, and a stable sort by count then puts
-/// it after its equals.
+/// The three cases by an independent method: the changed entry is appended, and a stable sort by count then puts it
+/// after those with the same count.
 fn plain_step(
     alloc: Global,
     entries: &[Entry],

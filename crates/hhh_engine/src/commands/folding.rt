@@ -1,4 +1,4 @@
-//! Counting all records of the shards, in the calling thread.
+//! Counts all records of the shards, in the calling thread.
 
 ghost use Rattle.std.specs.Prelude.{◌≡◌, ◌^◌, ◌≤◌, All, length, IfOk};
 ghost use Rattle.deal_rules.specs.{AreShardLists};
@@ -14,8 +14,8 @@ use std::alloc::{AllocError, Global};
 // nearest cache.
 const WHOLE_LIST: u32 = u32::MAX;
 
-/// The cut at the ends of dealt lists. Each shard is counted to its end, and let go once its tables are copied,
-/// so that the tables of one shard at a time are kept twice.
+/// The cut at the ends of dealt lists. Each shard is counted to its end, and dropped once its tables are copied,
+/// so that the tables of only one shard at a time exist twice.
 pub fn cut_at_ends(alloc: Global, dealt: Dealt, capacity: u32) -> Result<Cut, AllocError>
     requires least { 2 ≤ capacity }
     requires most { capacity ≤ 4096 }
@@ -33,7 +33,7 @@ pub fn cut_at_ends(alloc: Global, dealt: Dealt, capacity: u32) -> Result<Cut, Al
     Ok(cut)
 }
 
-// The state of a shard that counted all records of its list.
+// The state of a shard after all records of its list are counted.
 fn count_to_end(alloc: Global, list: RecordList, capacity: u32) -> Result<ShardState, AllocError>
     requires few { length list ≤ 2 ^ 24 }
     requires least { 2 ≤ capacity }

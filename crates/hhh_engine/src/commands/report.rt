@@ -21,7 +21,7 @@ use report_text::{Mark, print, print_positions, print_tail};
 use shard_state::Positions;
 use std::alloc::{AllocError, Global};
 
-/// Reads a capture to its end, and makes the session with one report over its records.
+/// Reads a capture to its end, and returns the session with one report over its records.
 pub fn report<S: Source>(
     alloc: Global,
     settings: &Settings,
@@ -44,7 +44,7 @@ pub fn report<S: Source>(
     Ok(session(alloc, dealt, settings, &tail)?)
 }
 
-// Deals records as the settings say.
+// Deals records as the settings specify.
 fn deal_records(
     alloc: Global,
     list: &RecordList,
@@ -59,7 +59,7 @@ fn deal_records(
     deal(alloc, list, dealers.of(settings.deal), settings.shards)
 }
 
-// The session over dealt lists, which ends with this tail.
+// The session over dealt lists, which ends with the text `tail`.
 fn session(
     alloc: Global,
     dealt: Dealt,
@@ -78,7 +78,7 @@ fn session(
     Ok(text)
 }
 
-// The positions at which shards with nothing saved start.
+// The positions at which shards with no saved state start.
 fn start_of(alloc: Global, dealt: &Dealt) -> Result<Positions, AllocError>
     ensures start { IfOk result (λ start. start ≡ start_of dealt.now) }
     ensures positions { IfOk result ArePositions }
@@ -99,7 +99,7 @@ fn last_report(alloc: Global, dealt: Dealt, settings: &Settings) -> Result<Repor
     ensures threshold { IfOk result (λ report. 1 ≤ report.threshold) }
 {
     let cut = cut_at_ends(alloc, dealt, settings.capacity)?;
-    // That the total of so few shards is bounded is known once they are counted.
+    // Reading the number of shards makes the bound on their total known.
     let _few = cut.shards();
     report_of(alloc, &cut, settings.phi)
 }

@@ -1,4 +1,4 @@
-//! The weight of one prefix, in a table of Space-Saving.
+//! The weight of one prefix, from a Space-Saving table.
 
 ghost use Rattle.std.specs.Prelude.{◌≡◌, ◌≤◌, ◌^◌, List, length, All, IfOk, IfErr, IfSome, OnOk, IsErrOf};
 ghost use Rattle.std.specs.Io.KnownBytes.{IsAtEnd};
@@ -16,10 +16,10 @@ use shard_state::tables_hold_weights;
 use space_saving::{PlainTable, Summary};
 use std::alloc::{AllocError, Global};
 
-// How many prefixes the table of the prefix's node can tell apart.
+// How many prefixes of the same node the table can monitor.
 const WEIGH_CAPACITY: u32 = 64;
 
-/// Reads a capture to its end, and tells the weight of a prefix over its records.
+/// Reads a capture to its end, and returns the text with the weight of a prefix over its records.
 pub fn weigh<S: Source>(
     alloc: Global,
     prefix: &Prefix,
@@ -35,7 +35,7 @@ pub fn weigh<S: Source>(
     Ok(weigh_text(alloc, prefix, records.list.as_slice())?)
 }
 
-// The lines that tell the weight of a prefix over at most 16,777,216 records. They hold its exact weight.
+// The text with the weight of a prefix over at most 16,777,216 records. Its interval holds the exact weight.
 fn weigh_text(alloc: Global, prefix: &Prefix, records: &[Record]) -> Result<Vec<u8>, AllocError>
     requires few { length records.now ≤ 2 ^ 24 }
     requires weighed { All (λ rec. 1 ≤ rec.weight) records.now }
@@ -49,7 +49,7 @@ fn weigh_text(alloc: Global, prefix: &Prefix, records: &[Record]) -> Result<Vec<
     three_lines(alloc, low, high, table.total())
 }
 
-// The table of the records at a node.
+// The table at a node after all records.
 fn fold_records(alloc: Global, node: Node, records: &[Record]) -> Result<PlainTable, AllocError>
     requires { length records.now ≤ 2 ^ 24 }
     ensures { IfOk result (λ table. table ≡ record { capacity = 64; entries = records_table 64 node records.now }) }

@@ -1,4 +1,4 @@
-//! The line that tells how a command ended.
+//! The line that reports how a command ended.
 
 ghost use Rattle.std.specs.Prelude.{◌≡◌, ◌++◌, codes, decimal, IfOk, OnOk};
 ghost use Rattle.hhh_engine.specs.Status.{line_of, status_text, words_text, fault_text};

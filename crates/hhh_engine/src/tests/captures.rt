@@ -2,7 +2,7 @@
 
 use std::alloc::{AllocError, Global};
 
-// The header of a little-endian capture with microseconds.
+// The header of a little-endian capture with timestamps in microseconds.
 pub(crate) const HEADER: [u8; 24] = [
     0xd4, 0xc3, 0xb2, 0xa1, // magic
     2, 0, 4, 0, // version 2.4
@@ -14,7 +14,7 @@ pub(crate) const HEADER: [u8; 24] = [
 // The hardware addresses of a frame.
 const HARDWARE: [u8; 12] = [2, 0, 0, 0, 0, 2, 2, 0, 0, 0, 0, 1];
 
-// A header of IPv4 up to the checksum.
+// An IPv4 header up to and including the checksum.
 const IPV4: [u8; 12] = [0x45, 0, 0, 86, 0, 0, 0, 0, 64, 17, 0, 0];
 
 // The source and the destination of a frame.
@@ -23,7 +23,7 @@ pub(crate) type Packet = (u32, u32);
 // From 10.1.2.3 to 20.1.2.3.
 pub(crate) const ONE: Packet = (0x0a01_0203, 0x1401_0203);
 
-// Appends a frame of these captured bytes, which is 100 bytes long on the wire.
+// Appends a frame with these captured bytes, which was 100 bytes long on the wire.
 pub(crate) fn push_frame(bytes: &mut Vec<u8>, captured: &[u8]) -> Result<(), AllocError> {
     bytes.extend_from_slice(&[0; 8])?;
     let length = captured.len().min(262_144) as u32;
@@ -32,7 +32,7 @@ pub(crate) fn push_frame(bytes: &mut Vec<u8>, captured: &[u8]) -> Result<(), All
     bytes.extend_from_slice(captured)
 }
 
-// The 34 captured bytes of a packet, and of so many bytes more of tags.
+// The captured bytes of a packet: 34, and those of its tags.
 pub(crate) fn packet_bytes(
     alloc: Global,
     tags: &[u8],

@@ -1,4 +1,4 @@
-//! What is refused, and how it is told.
+//! What is refused, and how it is reported.
 
 use super::captures::{ONE, capture_of};
 use super::{Outside, SOUND, run_over};
@@ -10,7 +10,7 @@ use std::alloc::Global;
 use std::process::Abort;
 use std::test::Fail;
 
-// The words, what is wrong with them, and the line that tells it.
+// The arguments, what is wrong with them, and the line that reports it.
 type Case = (&'static [&'static str], WordsKind, &'static str);
 
 const CASES: [Case; 12] = [
@@ -89,7 +89,7 @@ pub(crate) fn refuses_captures(
 ) -> Result<(), Fail> {
     let words = ["report", "--shards", "1"];
     let one_frame = capture_of(alloc, &[ONE])?;
-    // The place of a byte, what stands there instead, how many bytes there are, and the fault.
+    // The offset of a byte, its new value, the number of bytes kept, the fault, and the offset it is reported at.
     for (place, byte, length, kind, at) in [
         (0, 0xd4, 0, FaultKind::ShortHeader, 0),
         (0, 0xd4, 23, FaultKind::ShortHeader, 23),
@@ -116,7 +116,7 @@ pub(crate) fn refuses_captures(
     Ok(())
 }
 
-// Each call of a source of 74 bytes in pieces of 7: eleven, and one more at the end.
+// The calls of a source of 74 bytes in pieces of 7: eleven, and one more at the end.
 const CALLS: [[u64; 1]; 12] = [[0], [1], [2], [3], [4], [5], [6], [7], [8], [9], [10], [11]];
 
 pub(crate) fn tells_the_faults_of_source_and_sink(

@@ -31,7 +31,7 @@ const NETWORK: [Packet; 4] = [
     (0x0a00_0004, 0x1400_0001),
 ];
 
-// Three packets from 10.0.0.0/8 and three to 20.0.0.0/8, one of which is both, and three of neither.
+// Three packets from 10.0.0.0/8 and three to 20.0.0.0/8, one of which is both, and three that are neither.
 const CROSSING: [Packet; 8] = [
     (0x0a01_0001, 0x1f00_0001),
     (0x0a02_0001, 0x2000_0001),
@@ -43,7 +43,7 @@ const CROSSING: [Packet; 8] = [
     (0x2b00_0001, 0x3500_0001),
 ];
 
-// The words, the packets, and what is written.
+// The arguments, the packets, and what is written.
 type Case = (&'static [&'static str], &'static [Packet], &'static str);
 
 const CASES: [Case; 8] = [
@@ -111,7 +111,7 @@ const CASES: [Case; 8] = [
         &NETWORK,
         "opened 0\nreport\nat 4\ntotal 4\nthreshold 2\nline 10.0.0.0/24 20.0.0.1/32 4 4\ndone\nframes 4\nskipped 0 0 0\nend\n",
     ),
-    // The packet that is both is counted once for the root.
+    // The packet that both lines cover is counted once for the root.
     (
         &[
             "report", "--shards", "1", "--phi", "375000", "--weigh", "packets",
@@ -145,7 +145,7 @@ pub(crate) fn deals_to_the_first(
     Ok(())
 }
 
-// The header of a big-endian capture, with nanoseconds.
+// The header of a big-endian capture with timestamps in nanoseconds.
 const BIG_HEADER: [u8; 24] = [
     0xa1, 0xb2, 0x3c, 0x4d, // magic
     0, 2, 0, 4, // version 2.4
@@ -154,10 +154,10 @@ const BIG_HEADER: [u8; 24] = [
     0, 0, 0, 1, // link type Ethernet
 ];
 
-// The header of a frame of 34 captured bytes in a big-endian capture.
+// The header of a frame with 34 captured bytes in a big-endian capture.
 const BIG_FRAME_HEADER: [u8; 16] = [0, 0, 0, 0, 0, 0, 0, 0, 0, 0, 0, 34, 0, 0, 0, 100];
 
-// A capture of one frame that begins with this magic, big-endian or not.
+// A capture of one frame that begins with this magic, big-endian or little-endian.
 fn capture_by(alloc: Global, big: bool, magic: &[u8]) -> Result<Vec<u8>, AllocError> {
     let packet = packet_bytes(alloc, &[], ONE)?;
     let mut bytes = Vec::from_slice(alloc, magic)?;
@@ -192,14 +192,14 @@ pub(crate) fn reads_the_four_spellings_of_the_magic(
     Ok(())
 }
 
-// The tags of a frame, or the type in place of IPv4 behind them.
+// The VLAN tags before the type of a frame.
 const TAG: [u8; 4] = [0x81, 0, 0, 1];
 
 const TWO_TAGS: [u8; 8] = [0x88, 0xa8, 0, 1, 0x81, 0, 0, 2];
 
 const THREE_TAGS: [u8; 12] = [0x88, 0xa8, 0, 1, 0x81, 0, 0, 2, 0x81, 0, 0, 3];
 
-// Three frames of IPv4 with no tag, one and two, then ARP, IPv6 and three tags, then a header cut off and one too short.
+// Three IPv4 frames with no tag, one and two; then ARP, IPv6 and three tags; then a cut-off header and one too short.
 fn mixed_capture(alloc: Global) -> Result<Vec<u8>, AllocError> {
     let mut bytes = Vec::from_slice(alloc, &HEADER)?;
     for tags in [

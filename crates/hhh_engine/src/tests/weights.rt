@@ -10,7 +10,7 @@ use std::alloc::{AllocError, Global};
 use std::process::Abort;
 use std::test::Fail;
 
-// The words behind `weigh`, the packets, and what is written.
+// The arguments, the packets, and what is written.
 type Case = (&'static [&'static str], &'static [Packet], &'static str);
 
 const CASES: [Case; 6] = [
@@ -59,7 +59,7 @@ pub(crate) fn weighs_prefixes(
     Ok(())
 }
 
-// A capture of one frame of so many captured bytes, all zero but for the type.
+// A capture of one frame with this many captured bytes, all zero except its type and the first byte of its header.
 fn long_capture(alloc: Global, captured: u32) -> Result<Vec<u8>, AllocError> {
     let mut bytes = Vec::from_slice(alloc, &HEADER)?;
     bytes.extend_from_slice(&[0; 8])?;

@@ -12,10 +12,10 @@ use crate::{CaptureFault, FaultKind, Frame};
 
 /// The most frames of a capture.
 pub(crate) const MOST_FRAMES: u32 = 16_777_216;
-/// The most captured bytes of a frame, which other tools use whatever the file's snapshot length says.
+/// The most captured bytes of a frame. Other tools use this limit too, whatever snapshot length the file states.
 pub(crate) const MOST_CAPTURED: u32 = 262_144;
 
-/// The frame whose header and head stand at the front of the bytes.
+/// The frame whose header and head are at the front of the bytes.
 pub(crate) fn frame_at(order: FileOrder, bytes: &[u8]) -> Frame<'_>
     requires header { 16 ≤ length bytes.now }
     requires limit { number_at order 4 8 bytes.now ≤ 262144 }
@@ -32,7 +32,7 @@ pub(crate) fn frame_at(order: FileOrder, bytes: &[u8]) -> Frame<'_>
     }
 }
 
-/// The first 42 of this many captured bytes behind the frame header.
+/// The first 42 of this many captured bytes after the frame header.
 #[tactic(auto, using(crate::proofs::FrameHeadLemmas::take_of_take))]
 fn head_of(bytes: &[u8], captured: u32) -> &[u8]
     requires header { 16 ≤ length bytes.now }
@@ -46,7 +46,7 @@ fn head_of(bytes: &[u8], captured: u32) -> &[u8]
     head
 }
 
-/// The frame that stands whole at the front of the bytes, and the rest behind it.
+/// The frame at the front of the bytes and the rest after it, if the whole frame is there.
 pub(crate) fn whole_at(order: FileOrder, bytes: &[u8]) -> Option<(Frame<'_>, &[u8])>
     ensures splits { IfSome result (λ found. SplitsFrame order bytes.now found.1.now (content_of found.0)) }
     ensures is_frame { IfSome result (λ found. IsFrame (content_of found.0)) }
@@ -62,7 +62,7 @@ pub(crate) fn whole_at(order: FileOrder, bytes: &[u8]) -> Option<(Frame<'_>, &[u
     Some((frame_at(order, front), rest))
 }
 
-/// How many bytes the frame takes at least, as far as its header is there.
+/// The least number of bytes that the frame takes, as far as its header is known.
 #[tactic(auto, unfolding(crate::specs::Frames::needed))]
 pub(crate) fn needed(order: FileOrder, bytes: &[u8]) -> u64
     ensures { result ≡ needed order bytes.now }
@@ -73,7 +73,7 @@ pub(crate) fn needed(order: FileOrder, bytes: &[u8]) -> u64
     16 + order.u32_at(bytes, 8) as u64
 }
 
-/// The first fault that the bytes behind `count` frames show, however the file goes on.
+/// The first fault that the bytes after `count` frames show, however the file continues.
 #[tactic(auto, unfolding(crate::specs::Frames::frame_fault))]
 pub(crate) fn frame_fault(
     order: FileOrder,

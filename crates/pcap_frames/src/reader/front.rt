@@ -1,11 +1,11 @@
-//! The front of a header or frame that a cut parts.
+//! The first bytes of a header or frame that is split between pieces.
 
 ghost use Rattle.std.specs.Prelude.{◌≡◌, ◌+◌, ◌^◌, ◌<◌, ◌≤◌, [], ◌++◌, length, min, take};
 
 use std::marker::Model;
 
-/// The first 58 of the bytes that came, and how many came. 58 bytes hold a file header, and they hold
-/// a frame header with the frame's head.
+/// The first 58 of the bytes that arrived, and how many arrived. 58 bytes hold a file header, or a frame header
+/// with the head of its frame.
 #[derive(Drop)]
 pub(crate) struct FrontBytes {
     bytes: [u8; 58],
@@ -32,7 +32,7 @@ impl FrontBytes {
         }
     }
 
-    /// How many bytes came.
+    /// How many bytes arrived.
     pub(crate) fn came(&self) -> u32
         ensures count { result ≡ self.now.came }
         ensures length { length self.now.first ≡ min 58 self.now.came }
@@ -40,7 +40,7 @@ impl FrontBytes {
         self.came
     }
 
-    /// The first 58 of the bytes that came.
+    /// The first 58 of the bytes that arrived.
     pub(crate) fn first(&self) -> &[u8]
         ensures bytes { result.now ≡ self.now.first }
         ensures length { length result.now ≡ min 58 self.now.came }
@@ -60,7 +60,7 @@ impl FrontBytes {
     }
 }
 
-/// Copies as many of the bytes as fit behind the place.
+/// Copies bytes to the offset `place`, as many as fit.
 fn copy_to_place(bytes: &mut [u8], place: usize, more: &[u8])
     requires { place ≤ length bytes.old }
     ensures length { length bytes.new ≡ length bytes.old }

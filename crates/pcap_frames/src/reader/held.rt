@@ -1,4 +1,4 @@
-//! A whole frame that came in more than one piece.
+//! A whole frame that arrived in more than one piece.
 
 ghost use Rattle.std.specs.Prelude.{◌≡◌, ◌+◌, ◌≤◌, length, min};
 ghost use Rattle.pcap_frames.specs.FileOrder.{number_at};
@@ -8,7 +8,7 @@ use crate::file_order::FileOrder;
 use crate::reader::framing::frame_at;
 use crate::reader::front::FrontBytes;
 
-/// The header and head of a whole frame, as the reader kept them.
+/// The header and head of a whole frame, as kept by the reader.
 #[derive(Drop)]
 pub(crate) struct HeldFrame {
     pub(crate) order: FileOrder,

@@ -9,9 +9,9 @@ ghost use Rattle.pcap_frames.specs.ReaderState as state;
 ghost use Rattle.pcap_frames.specs.Part.{state_of, IsInStage, IsWithin, frame_place};
 
 use crate::file_order::FileOrder;
+use crate::header::{header_fault, magic_order};
 use crate::reader::framing::{MOST_FRAMES, frame_fault, needed, whole_at};
 use crate::reader::front::FrontBytes;
-use crate::header::{header_fault, magic_order};
 use crate::reader::held::HeldFrame;
 use crate::{CaptureFault, Frame};
 use std::mem;
@@ -29,7 +29,7 @@ pub(crate) enum Stage {
     LacksMemory,
 }
 
-/// What is kept of the file header, or of the frame behind `count` frames, which begins at `place`.
+/// The bytes kept of the file header, or of the frame after `count` frames, which begins at the offset `place`.
 #[derive(Drop)]
 pub(crate) struct FramePart {
     pub(crate) order: FileOrder,
@@ -38,7 +38,7 @@ pub(crate) struct FramePart {
     pub(crate) kept: FrontBytes,
 }
 
-/// What a step left of a piece, and the frame that it completed.
+/// The result of a step: the next stage, the frame that the step completed, and the remaining bytes of the piece.
 #[derive(Drop)]
 pub(crate) struct Taken<'a> {
     pub(crate) stage: Stage,
@@ -47,7 +47,7 @@ pub(crate) struct Taken<'a> {
 }
 
 impl FramePart {
-    /// Nothing is kept.
+    /// The part before the file's first byte.
     pub(crate) fn new() -> FramePart
         ensures { result.kept ≡ record { first = []; came = 0 } }
     {
@@ -59,7 +59,7 @@ impl FramePart {
         }
     }
 
-    /// Takes the next bytes of what this stage waits for.
+    /// Takes the next bytes that this stage waits for.
     pub(crate) fn take<'a>(&mut self, stage: Stage, piece: &'a [u8]) -> Taken<'a>
         requires has_bytes { 0 < length piece.now }
         requires sound { IsInStage stage self.old }
@@ -92,7 +92,7 @@ impl FramePart {
         }
     }
 
-    /// The stage that the bytes of the file header lead to.
+    /// The stage after the bytes of the file header that arrived.
     fn leave_header(&mut self) -> Stage
         requires { self.old.kept.came ≤ 24 }
         ensures sound { IsInStage result self.new }
@@ -117,7 +117,7 @@ impl FramePart {
         Stage::Frames
     }
 
-    /// Takes the frame at the front of the piece, if it stands there whole.
+    /// Takes the frame at the front of the piece, if the whole frame is there.
     pub(crate) fn whole_frame<'a>(&mut self, piece: &'a [u8]) -> Option<(Frame<'a>, &'a [u8])>
         requires { IsWithin self.old }
         ensures sound { IsWithin self.new }
@@ -135,7 +135,7 @@ impl FramePart {
         Some((frame, rest))
     }
 
-    /// Takes the next bytes of a frame, and the whole frame with the last of them.
+    /// Takes the next bytes of a frame, and gives the whole frame with the last of them.
     fn take_frame<'a>(&mut self, piece: &'a [u8]) -> Taken<'a>
         requires has_bytes { 0 < length piece.now }
         requires sound { IsWithin self.old }
@@ -150,7 +150,7 @@ impl FramePart {
         Taken { stage, held, rest }
     }
 
-    /// The stage that the bytes of a frame lead to, and the frame once it is whole.
+    /// The stage after the bytes of a frame that arrived, and the frame once it is whole.
     fn leave_frame(&mut self) -> (Stage, Option<HeldFrame>)
         requires count { self.old.count ≤ 16777216 }
         requires place { self.old.place ≤ 24 + 262160 * self.old.count }
@@ -179,7 +179,7 @@ impl FramePart {
     }
 }
 
-/// Takes all the bytes, in a stage that no bytes leave.
+/// Takes all the bytes, in a stage that no bytes change.
 fn pass_over(stage: Stage, piece: &[u8]) -> Taken<'_>
     ensures stage { result.stage ≡ stage }
     ensures nothing { held_frames result.held ≡ [] }

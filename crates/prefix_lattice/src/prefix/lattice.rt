@@ -8,7 +8,7 @@ use crate::Prefix;
 use std::cmp::Ordering;
 
 impl Prefix {
-    /// A fact of every prefix for proofs: at most four bytes of each address are kept.
+    /// Makes known to proofs that a prefix keeps at most four bytes of each address.
     pub fn keeps_leading_bytes(&self)
         ensures { IsPrefix self.now }
     {
@@ -16,14 +16,14 @@ impl Prefix {
         let _ = self.dest.len();
     }
 
-    /// Whether the bytes of this prefix begin with those of the other one, on both sides.
+    /// Whether the bytes of this prefix begin with those of the other, on both sides.
     pub fn under(&self, other: &Prefix) -> bool
         ensures { result ≡ under self.now other.now }
     {
         self.source.under(&other.source) && self.dest.under(&other.dest)
     }
 
-    /// Under the other prefix, and not equal to it.
+    /// Whether this prefix is under the other and not equal to it.
     #[tactic(auto, using(crate::proofs::MeetLemmas::strictly_by_tests))]
     pub fn strictly_under(&self, other: &Prefix) -> bool
         ensures value { result ≡ strictly_under self.now other.now }
@@ -32,7 +32,7 @@ impl Prefix {
         self.under(other) && !other.under(self)
     }
 
-    /// The greatest prefix under both. `None` exactly where both cover no pair of addresses.
+    /// The greatest prefix under both. `None` exactly where no pair of addresses is covered by both.
     pub fn meet(&self, other: &Prefix) -> Option<Prefix>
         ensures value { result ≡ meet self.now other.now }
         ensures under_both { IfSome result (λ m. (under m self.now ≡ true) × (under m other.now ≡ true)) }
@@ -56,7 +56,7 @@ impl Prefix {
     }
 }
 
-// The prefix of the longer list on each side.
+// The prefix with the longer list on each side, if it is under both.
 fn lowest(prefix: &Prefix, other: &Prefix) -> Option<Prefix>
     ensures value { result ≡ meet prefix.now other.now }
     ensures prefix { IsPrefix prefix.now }

@@ -7,7 +7,8 @@ use crate::Prefix;
 use crate::side_writing::write_side;
 
 impl Prefix {
-    /// Writes the prefix as `10.0.0.0/8 20.1.0.0/16`, and answers how many bytes that took. Other bytes stay.
+    /// Writes the prefix as `10.0.0.0/8 20.1.0.0/16`, and returns the number of bytes written. Other bytes are
+    /// unchanged.
     pub fn write_text(&self, into: &mut [u8; 37]) -> usize
         ensures text { into.new ≡ prefix_text self.now ++ drop result into.old }
         ensures length { result ≡ length (prefix_text self.now) }

@@ -93,7 +93,7 @@ fn tells_which_is_under_which(rt: HostRuntime) -> Result<(), Fail> {
 
 #[test]
 fn orders_prefixes_as_a_report(rt: HostRuntime) -> Result<(), Fail> {
-    // In their order: by level, source address, kept source bytes and destination address.
+    // In report order: by level, source address, kept source bytes and destination address.
     let ordered = [
         "10.1.2.3/32 20.1.2.3/32",
         "9.0.0.0/8 20.0.0.0/8",

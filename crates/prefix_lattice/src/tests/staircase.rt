@@ -4,7 +4,7 @@ use crate::{Prefix, Prefixes, Record};
 use std::alloc::{AllocError, Global};
 use std::test::Fail;
 
-// Each side that keeps at most two bytes, all 0 or 1.
+// Each side that keeps at most two bytes, each of which is 0 or 1.
 const SIDES: [&str; 7] = [
     "0.0.0.0/0",
     "0.0.0.0/8",
@@ -15,17 +15,17 @@ const SIDES: [&str; 7] = [
     "1.1.0.0/16",
 ];
 
-// Each address whose first two bytes are 0 or 1.
+// Each address whose first two bytes are 0 or 1 and whose other bytes are 0.
 const ADDRESSES: [u32; 4] = [0, 0x0001_0000, 0x0100_0000, 0x0101_0000];
 
-/// What was looked at.
+/// What was counted.
 #[derive(Clone, Copy, Debug, PartialEq, Eq)]
 struct Tally {
     /// Sets of incomparable prefixes.
     sets: u32,
-    /// Records that some of a set cover.
+    /// Records that some member of a set covers, counted for each set.
     covered: u32,
-    /// Of those, where the law holds.
+    /// Those of them for which the law holds.
     obeyed: u32,
 }
 
@@ -50,7 +50,7 @@ fn kept_covering(members: &[Prefix], rec: &Record) -> usize {
     kept
 }
 
-// Whether the meet of two members covers the record, and is under no third.
+// Whether the meet of two members covers the record, and is under no third member.
 fn keeps(members: &[Prefix], first: usize, second: usize, rec: &Record) -> bool
     requires first { first < length members.now }
     requires second { second < length members.now }
@@ -82,7 +82,7 @@ fn counts_of(members: &[Prefix], records: &[Record]) -> Tally {
     tally
 }
 
-// Those of some prefixes that are not under this one, nor it under them.
+// The prefixes of a list that are not under this one, and that this one is not under.
 fn apart_from(alloc: Global, prefix: Prefix, others: &[Prefix]) -> Result<Prefixes, AllocError> {
     let mut apart = Prefixes::new(alloc);
     for other in others {
@@ -93,7 +93,7 @@ fn apart_from(alloc: Global, prefix: Prefix, others: &[Prefix]) -> Result<Prefix
     Ok(apart)
 }
 
-// Each set of three of these, and of a fourth behind them.
+// Counts over these three members, and over these with each possible fourth member after them.
 fn of_three(
     alloc: Global,
     members: [Prefix; 3],
@@ -185,7 +185,7 @@ fn each_small_set_obeys_the_staircase_law(rt: HostRuntime) -> Result<(), Fail> {
             records.as_slice(),
         )?);
     }
-    // Counted by another program.
+    // Counted by an independent program.
     assert_eq!(rt;
         all,
         Tally {
