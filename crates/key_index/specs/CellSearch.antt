@@ -11,7 +11,7 @@ IsOther marks keys key cell = (slice_index marks cell ≢ 0) × (slice_index key
 abbrev pub AreOthers : List ℕ → List ℕ → ℕ → ℕ → ℕ → Type 0
 AreOthers marks keys key from to = (cell : ℕ) → from ≤ cell → cell < to → IsOther marks keys key cell
 
--- at the place of the key, at the first free cell behind others, or past them all
+-- at the place of the key, at the first free cell after others, or past them all
 abbrev pub EndsAt : End → List ℕ → List ℕ → ℕ → ℕ → ℕ → Type 0
 EndsAt (At place) marks keys key from to = (place < length keys) × (slice_index keys place ≡ key)
 EndsAt Free marks keys key from to =

@@ -1,7 +1,7 @@
 -- The cells of an index, which no public contract cites.
 use Rattle.std.specs.Prelude.{ℕ, ◌≡◌, ◌+◌, ◌*◌, ◌^◌, ◌<◌, ◌≤◌, List, All, length, slice_index}
 
--- cells for so many keys, of which so many were filled
+-- how many keys the cells are for, how many cells were filled, and what each holds
 pub record Cells : Type 0 where
   pub room : ℕ
   pub fills : ℕ
@@ -11,7 +11,8 @@ pub record Cells : Type 0 where
 abbrev pub AreBelow : ℕ → List ℕ → Type 0
 AreBelow count marks = All (λ mark. mark ≤ count) marks
 
--- eight homes for each key and room behind them for as many cells as may be filled, and for one window and one free cell
+-- eight homes for each key, and after them as many cells as may be filled, one window and one free cell; what lies
+-- past the cells that can have been filled is free
 pub record AreCells (room fills : ℕ) (marks : List ℕ) : Type 0 where
   pub some : 1 ≤ room
   pub few : room < 2 ^ 16

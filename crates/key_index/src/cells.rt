@@ -12,7 +12,7 @@ use std::marker::Model;
 /// Four cells for each key may be filled before all are emptied.
 const FILLS_A_KEY: usize = 4;
 
-/// Room behind the homes beside that for the cells that are filled: a window, and one free cell.
+/// Cells after the homes beside those that may be filled: a window, and one free cell.
 const BEHIND: usize = 17;
 
 /// Marks in a row, one for each cell: 0 where it is free, else a place among the keys and 1 more.
@@ -34,7 +34,7 @@ impl Model for KeyCells {
 }
 
 impl KeyCells {
-    /// Free cells for so many keys.
+    /// Free cells for as many keys as `room`.
     pub(crate) fn with_room(alloc: Global, room: usize) -> Result<KeyCells, AllocError>
         requires some { 1 ≤ room }
         requires few { room < 2 ^ 16 }

@@ -27,8 +27,8 @@ impl Model for KeyIndex {
 }
 
 impl KeyIndex {
-    /// An index of no keys with memory for so many, 1 to 65,535. It takes 32 bytes for each and 34 more, and
-    /// nothing later.
+    /// An index of no keys with memory for as many as `room`, 1 to 65,535. It takes 32 bytes for each and 34 more,
+    /// and nothing later.
     pub fn with_room(alloc: Global, room: usize) -> Result<KeyIndex, AllocError>
         requires some { 1 ≤ room }
         requires few { room < 2 ^ 16 }
@@ -50,7 +50,7 @@ impl KeyIndex {
         self.cells.find(&self.keys, key)
     }
 
-    /// Puts a key behind the others. It takes no memory.
+    /// Appends a key. It takes no memory.
     pub fn push(&mut self, key: u64)
         requires { length self.old.keys < self.old.room }
         ensures { self.new ≡ record self.old { keys = self.old.keys ++ key ∷ [] } }

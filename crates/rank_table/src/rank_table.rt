@@ -82,7 +82,7 @@ impl Summary for RankTable {
     }
 
     /// The entry at this place below the length, from 0, in the order of rising counts. It compares each slot with
-    /// each; who wants many entries copies the table.
+    /// each; a reader of many entries copies the table.
     fn entry(&self, place: usize) -> Entry {
         slot_at(self.ranked.slots(), place).entry
     }
@@ -104,6 +104,7 @@ impl Summary for RankTable {
     }
 
     fn copy_into(&self, into: &mut Flat) {
+        // A look at a field shows what the table keeps, which `refill` asks for.
         let _ = &self.capacity;
         into.refill(self);
     }

@@ -35,7 +35,7 @@ impl Model for RankedSlots {
 }
 
 impl RankedSlots {
-    /// No slots, and memory for so many, 1 to 4096.
+    /// No slots, and memory for as many as the capacity, 1 to 4096.
     pub(crate) fn with_capacity(alloc: Global, capacity: usize) -> Result<RankedSlots, AllocError>
         requires least { 1 ≤ capacity }
         requires most { capacity ≤ 4096 }
@@ -65,7 +65,7 @@ impl RankedSlots {
         self.slots.len() < self.capacity
     }
 
-    /// Puts a slot behind the others. It takes no memory.
+    /// Appends a slot. It takes no memory.
     pub(crate) fn push(&mut self, slot: Slot)
         requires { length self.old.slots < self.old.capacity }
         ensures { self.new ≡ record self.old { slots = self.old.slots ++ slot ∷ [] } }

@@ -45,7 +45,7 @@ fn count_before(slots: &[Slot], slot: &Slot) -> usize
     slots.iter().filter(|other| is_before(other, slot)).count()
 }
 
-/// The slot before which so many others come. It compares each slot with each.
+/// The slot before which `place` others come. It compares each slot with each.
 pub(crate) fn slot_at(slots: &[Slot], place: usize) -> Slot
     requires slots { AreSlots (2 ^ 64) slots.now }
     requires within { place < length slots.now }

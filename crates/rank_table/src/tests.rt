@@ -17,7 +17,7 @@ fn next(random: u64) -> u64 {
         .wrapping_add(1442695040888963407)
 }
 
-/// Adds one weight of so many for one key of so many to both tables.
+/// Adds a weight of at most `weights` for one of `keys` keys to both tables.
 fn add_to_both(
     rt: &impl Abort,
     plain: &mut PlainTable,
@@ -59,7 +59,7 @@ fn compare(
     Ok(())
 }
 
-/// Both tables after so many adds, compared after each of them, and then both as they are after a copy.
+/// Compares both tables after each of 2,000 adds, and a restored one after each of 500 more.
 fn follow_the_plain_table(
     rt: &impl Abort,
     alloc: Global,
@@ -102,7 +102,7 @@ fn random_adds_follow_the_plain_table(rt: HostRuntime) -> Result<(), Fail> {
     Ok(())
 }
 
-/// Both tables after so many adds, compared at the end alone.
+/// Compares both tables after `adds` adds.
 fn end_as_the_plain_table(
     rt: &impl Abort,
     alloc: Global,

@@ -5,7 +5,7 @@ use Rattle.std.specs.Prelude.{ℕ, ◌≡◌, ◌+◌, ◌*◌, ◌^◌, ◌<◌
 abbrev pub IsLesser : List ℕ → ℕ → Type 0
 IsLesser nodes node = slice_index nodes node ≡ min (slice_index nodes (2 * node)) (slice_index nodes (2 * node + 1))
 
--- as many nodes as a tree of so many leaves has, each inner one the lesser of its children
+-- twice as many nodes as leaves, each inner one the lesser of its children
 pub record IsTree (leaves : ℕ) (nodes : List ℕ) : Type 0 where
   pub some : 1 ≤ leaves
   pub few : leaves < 2 ^ 32

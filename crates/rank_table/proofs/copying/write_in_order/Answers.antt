@@ -13,4 +13,5 @@ pub returns : goal.returns
 returns c =
     c.write_entries.ensures
     ∙ entries_of_sorted c.args.slots.now c.sort_marks.new.marks c.requires.slots
-    (subst (λ (marks : List Entry). IsPermutation marks c.sort_marks.new.marks) c.write_marks.ensures c.sort_marks.ensures.permuted) c.sort_marks.ensures.rising
+    (subst (λ (marks : List Entry). IsPermutation marks c.sort_marks.new.marks) c.write_marks.ensures c.sort_marks.ensures.permuted)
+    c.sort_marks.ensures.rising

@@ -29,4 +29,8 @@ raise-requires-clause-count c = λ d.
 pub raise-requires-clause-time : goal.raise-requires-clause-time
 raise-requires-clause-time c = λ d.
     subst (λ (r : Slots). (get_or r.slots c.least-place.result d).time ≤ c.args.now) (sym c.least-place.ensures.same)
-    (omega (arith, all-at (λ s. s.time < c.args.now) c.least-place.result c.args.ranked.now.slots d c.requires.slots.timed c.least-place.ensures.least.within))
+    (omega (
+      arith,
+      all-at (λ s. s.time < c.args.now) c.least-place.result c.args.ranked.now.slots d c.requires.slots.timed
+          c.least-place.ensures.least.within,
+    ))

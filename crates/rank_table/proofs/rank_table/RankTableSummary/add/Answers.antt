@@ -12,7 +12,8 @@ invariant_of-self c =
     let fits : total_count (entries_of c.self.inside.ranked.slots) + c.from-weight.result < 2 ^ 56 =
     subst (λ (t : TableValue). total_count t.entries + c.from-weight.result < 2 ^ 56) (sym c.self.view_is)
     (omega (arith, c.from-weight.ensures, c.requires.room)) in
-    IsRankTable-add c.self.inside.capacity c.self.inside.clock c.self.inside.total c.from-weight.result c.self.inside.index c.add_weight.new.index c.self.inside.ranked c.add_weight.new.ranked add
+    IsRankTable-add c.self.inside.capacity c.self.inside.clock c.self.inside.total c.from-weight.result c.self.inside.index c.add_weight.new.index
+    c.self.inside.ranked c.add_weight.new.ranked add
     c.self.invariant refl weighs fits
     (λ entries table. c.steps_leave_a_table.ensures.table c.self.inside.capacity entries add some weighs table)
     (λ entries. c.steps_leave_a_table.ensures.total c.self.inside.capacity entries add some)

@@ -10,7 +10,12 @@ use Rattle.rank_table.proofs.rank_table.RankTableSummary.entry.Goals as goal
 
 pub slot_at-requires-clause-within : goal.slot_at-requires-clause-within
 slot_at-requires-clause-within c =
-    omega (arith, c.requires, length-seen c.self.inside.capacity c.slots.result.now c.self.inside.ranked.slots c.args.self.now c.slots.ensures.slots c.self.view_is)
+    omega (
+      arith,
+      c.requires,
+      length-seen c.self.inside.capacity c.slots.result.now c.self.inside.ranked.slots c.args.self.now c.slots.ensures.slots
+          c.self.view_is,
+    )
 
 pub slot_at-requires-clause-slots : goal.slot_at-requires-clause-slots
 slot_at-requires-clause-slots c =

@@ -14,7 +14,8 @@ invariant_of-result c =
     let capacity = c.capacity-capacity.result in
     let are = subst (λ n. AreEntries n entries) (sym c.capacity-capacity.ensures.capacity) c.total-total.ensures.kept in
     subst (λ n. IsRankTable capacity n c.total-total.result c.load.new.index c.load.new.ranked) (sym c.len.ensures.length)
-    (IsRankTable-loaded capacity c.total-total.result entries c.load.new.index c.load.new.ranked c.capacity-capacity.ensures.least c.capacity-capacity.ensures.most are c.total-total.ensures.total
+    (IsRankTable-loaded capacity c.total-total.result entries c.load.new.index c.load.new.ranked c.capacity-capacity.ensures.least
+    c.capacity-capacity.ensures.most are c.total-total.ensures.total
     (ap (λ (i : Keys). i.room) c.load.ensures.index ∙ ap (λ (i : Keys). i.room) c.in_ok-index.ensures) (ap
     (λ (r : Slots). r.capacity) c.load.ensures.ranked ∙ ap (λ (r : Slots). r.capacity) c.in_ok-ranked.ensures)
     (ap (λ (i : Keys). i.keys) c.load.ensures.index) (ap (λ (r : Slots). r.slots) c.load.ensures.ranked))

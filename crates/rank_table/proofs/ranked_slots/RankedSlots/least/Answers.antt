@@ -17,7 +17,8 @@ returns-then-is_exact-clause-least c =
     → word c.self.inside.base (get_or l c.winner-place.result d) c.winner-place.result ≤ word c.self.inside.base
     (get_or l place d) place) same c.winner-place.ensures.least in
     let exact : IsExact c.self.inside.base c.index.result.now = c.is_exact.ensures.0 c.if-is_exact.true in
-    rw (← c.self.view_is) (least_from_exact (length items) c.self.inside.base c.winner-place.new.tree items c.winner-place.result c.index.result.now leaves within c.index.ensures exact least)
+    rw (← c.self.view_is) (least_from_exact (length items) c.self.inside.base c.winner-place.new.tree items c.winner-place.result c.index.result.now
+    leaves within c.index.ensures exact least)
 
 pub invariant_of-self-then-least-self-ge-MOST_EXCESS : goal.invariant_of-self-then-least-self-ge-MOST_EXCESS
 invariant_of-self-then-least-self-ge-MOST_EXCESS c =
@@ -30,4 +31,5 @@ invariant_of-self-then-least-self-ge-MOST_EXCESS c =
     let least = subst (λ (l : List Slot). (other : ℕ) (d : Slot) → other < length l
     → (get_or l c.least_of-place.result d).entry.count ≤ (get_or l other d).entry.count) c.deref-2.ensures.value c.least_of-place.ensures.count in
     subst (λ after. AreRanked c.self.inside.capacity c.self.inside.slots.cap c.index-2.result.now.entry.count after items) (sym restarted)
-    (AreRanked-restarted c.self.inside.capacity c.self.inside.slots.cap c.self.inside.base c.self.inside.tree items c.least_of-place.result c.index-2.result.now c.self.invariant full within c.index-2.ensures least)
+    (AreRanked-restarted c.self.inside.capacity c.self.inside.slots.cap c.self.inside.base c.self.inside.tree items c.least_of-place.result
+    c.index-2.result.now c.self.invariant full within c.index-2.ensures least)

@@ -13,6 +13,7 @@ invariant_of-self c =
     record {
       some = c.self.invariant.some;
       has_room = c.self.invariant.has_room;
-      are_leaves = AreLeaves-raised c.self.inside.capacity c.self.inside.base c.self.inside.tree items c.args.place c.args.slot c.self.invariant.are_leaves within more later;
+      are_leaves = AreLeaves-raised c.self.inside.capacity c.self.inside.base c.self.inside.tree items c.args.place c.args.slot
+          c.self.invariant.are_leaves within more later;
       unbased = λ room. c.self.invariant.unbased (omega (arith, length-set items c.args.place c.args.slot));
     }
