@@ -98,7 +98,7 @@ done
 for capacity in 32 128 512 4096; do
     part_instructions "$work/short" --shards 1 --capacity $capacity --phi $((2000000 / capacity + 1)) >"$work/part_instructions"
     awk -v capacity=$capacity -v few=$few '$1 == "folding" {
-        printf "short frames, one shard of capacity %d: folding has %.0f instructions a frame, %.1f a frame, node and entry\n",
-            capacity, $2 / few, $2 / few / 25 / capacity
+        printf "short frames, one shard of capacity %d: folding has %.0f instructions a frame, %.0f a frame and node\n",
+            capacity, $2 / few, $2 / few / 25
     }' "$work/part_instructions"
 done
