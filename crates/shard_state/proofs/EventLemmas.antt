@@ -5,24 +5,17 @@ use Rattle.std.proofs.lemmas.Bool.{cases_eq, eq-eqb, ne_eqb}
 use Rattle.shard_state.specs.Snapshot.{SnapshotValue}
 use Rattle.shard_state.specs.Cut.{CutValue}
 use Rattle.shard_state.specs.ShardState.{ShardValue, folded, snapshot_of}
-use Rattle.shard_state.specs.ShardCore.{CoreValue, after, changed, with_read, capacity_of, HasShape, met, position_in, latest, shard_in, snapshot_in}
+use Rattle.shard_state.specs.ShardCore.{CoreValue, MovedOn, after, changed, with_read, capacity_of, HasShape, met, position_in, latest, shard_in, snapshot_in}
 use Rattle.shard_state.specs.declared.event.Event.{Event}
 use Rattle.shard_state.specs.declared.event.Event.TheVariants.{Fold, Read}
 use Rattle.shard_state.proofs.ChangedListLemmas.{length-changed, changed_here, changed_there, All-changed, set_here, set_there}
 
--- a shard is at a position from its own to the end of its list
-pub record StandsAt (shards : List ShardValue) (shard : ℕ) (state : ShardValue) : Type 0 where
-  pub position : ℕ
-  pub is : slice_get shards shard ≡ Some (record state { position = position })
-  pub later : state.position ≤ position
-  pub within : position ≤ length state.list
-
-still : (shards : List ShardValue) (shard : ℕ) (state : ShardValue) → slice_get shards shard ≡ Some state → state.position ≤ length state.list → StandsAt shards shard state
+still : (shards : List ShardValue) (shard : ℕ) (state : ShardValue) → slice_get shards shard ≡ Some state → state.position ≤ length state.list → MovedOn shards shard state
 still shards shard state is within = record { position = state.position; is = is; later = omega arith; within = within }
 
 -- after an event each shard is at such a position
 pub stands_after : (core : CoreValue) (event : Event) (shard : ℕ) (state : ShardValue) → slice_get core.shards shard ≡ Some state → state.position ≤ length state.list
-    → StandsAt (after core event).shards shard state
+    → MovedOn (after core event).shards shard state
 stands_after core (Read by at) shard state is within = still core.shards shard state is within
 stands_after core (Fold at block) shard state is within =
     elim (cases_eq at shard) [

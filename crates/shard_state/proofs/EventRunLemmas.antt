@@ -8,11 +8,11 @@ use Rattle.prefix_lattice.specs.{RecordValue}
 use Rattle.shard_state.specs.Snapshot.{SnapshotValue, SnapshotStandsFor}
 use Rattle.shard_state.specs.Cut.{CutValue, positions_of, CutStandsFor}
 use Rattle.shard_state.specs.ShardState.{ShardValue, IsShard, snapshot_of}
-use Rattle.shard_state.specs.ShardCore.{CoreValue, after, run, capacity_of, HasShape, IsCore, met, position_in, reads_of, last_of, NeverFall, latest, shard_in, snapshot_in, lists_of, BasesStand, ReadsEach}
+use Rattle.shard_state.specs.ShardCore.{CoreValue, MovedOn, after, run, capacity_of, HasShape, IsCore, met, position_in, reads_of, last_of, NeverFall, latest, shard_in, snapshot_in, lists_of, BasesStand, ReadsEach}
 use Rattle.shard_state.specs.declared.event.Event.{Event}
 use Rattle.shard_state.specs.declared.event.Event.TheVariants.{Fold, Read}
 use Rattle.shard_state.proofs.RepresentationLemmas.{stands-shard}
-use Rattle.shard_state.proofs.EventLemmas.{StandsAt, stands_after, snapshot_after, shapes_after, many_after, callers_after, capacity_after}
+use Rattle.shard_state.proofs.EventLemmas.{stands_after, snapshot_after, shapes_after, many_after, callers_after, capacity_after}
 
 -- reads may come in parts
 latest-append : (state : ShardValue) (before : SnapshotValue) (earlier later : List ℕ) → latest state before (earlier ++ later) ≡ latest state (latest state before earlier) later
@@ -30,7 +30,7 @@ pub latest_after : (events : List Event) (core : CoreValue) (caller shard : ℕ)
     → snapshot_in caller shard (run core events).cuts ≡ Some (latest state before (reads_of caller shard core events))
 latest_after [] core caller shard state before is within holds = holds
 latest_after (event ∷ rest) core caller shard state before is within holds =
-    let moved : StandsAt (after core event).shards shard state = stands_after core event shard state is within in
+    let moved : MovedOn (after core event).shards shard state = stands_after core event shard state is within in
     let read = met caller shard core.shards event in
     let later = reads_of caller shard (after core event) rest in
     latest_after rest (after core event) caller shard (record state { position = moved.position }) (latest state before read) moved.is moved.within
@@ -56,7 +56,7 @@ pub never_fall : (events : List Event) (core : CoreValue) (caller shard : ℕ) (
     → state.position ≤ length state.list → NeverFall state.position (reads_of caller shard core events)
 never_fall [] core caller shard state is within = tt
 never_fall (event ∷ rest) core caller shard state is within =
-    let moved : StandsAt (after core event).shards shard state = stands_after core event shard state is within in
+    let moved : MovedOn (after core event).shards shard state = stands_after core event shard state is within in
     let later = reads_of caller shard (after core event) rest in
     let rise : NeverFall state.position later =
     lower state.position moved.position later moved.later (never_fall rest (after core event) caller shard (record state { position = moved.position }) moved.is moved.within) in
@@ -67,7 +67,7 @@ pub reads_within : (events : List Event) (core : CoreValue) (caller shard : ℕ)
     → state.position ≤ length state.list → All (λ p. p ≤ length state.list) (reads_of caller shard core events)
 reads_within [] core caller shard state is within = All-nil (λ p. p ≤ length state.list)
 reads_within (event ∷ rest) core caller shard state is within =
-    let moved : StandsAt (after core event).shards shard state = stands_after core event shard state is within in
+    let moved : MovedOn (after core event).shards shard state = stands_after core event shard state is within in
     let later = reads_of caller shard (after core event) rest in
     let all : All (λ p. p ≤ length state.list) later = reads_within rest (after core event) caller shard (record state { position = moved.position }) moved.is moved.within in
     met_is (λ ps. All (λ p. p ≤ length state.list) (ps ++ later)) caller shard core.shards event state is all (All-cons (λ p. p ≤ length state.list) state.position later within all)

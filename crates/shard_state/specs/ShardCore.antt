@@ -1,7 +1,7 @@
 -- The pure core: what folds and reads of shards change, and the reads in a run of events.
 use Rattle.std.specs.Prelude.{ℕ, ◌≡◌, ◌<◌, ◌≤◌, zero, suc, List, [], ◌∷◌, length, fold, slice_get, slice_set, Option, None, Some, All, ◌==◌, ◌&&◌, if◌then◌else◌, ⊤, ◌++◌, map}
 use Rattle.shard_state.specs.Cut.{CutValue}
-use Rattle.shard_state.specs.ShardState.{ShardValue, IsShard, folded, snapshot_of}
+use Rattle.shard_state.specs.ShardState.{ShardValue, IsShard, folded, snapshot_of, state_at}
 use Rattle.shard_state.specs.declared.event.Event.{Event}
 use Rattle.shard_state.specs.declared.event.Event.TheVariants.{Fold, Read}
 use Rattle.prefix_lattice.specs.{RecordValue}
@@ -58,6 +58,13 @@ abbrev pub IsEventFor : ℕ → ℕ → Event → Type 0
 IsEventFor shards callers (Fold shard block) = (shard < shards) × (1 ≤ block)
 IsEventFor shards callers (Read caller shard) = (caller < callers) × (shard < shards)
 
+-- a shard of a list has the list and base of this state, at a position from the state's own to the end of its list
+pub record MovedOn (shards : List ShardValue) (shard : ℕ) (state : ShardValue) : Type 0 where
+  pub position : ℕ
+  pub is : slice_get shards shard ≡ Some (state_at position state)
+  pub later : state.position ≤ position
+  pub within : position ≤ length state.list
+
 -- the position of a shard, if there is that shard
 abbrev pub position_in : Option ShardValue → List ℕ
 position_in None = []
@@ -88,7 +95,7 @@ NeverFall least (position ∷ later) = (least ≤ position) × NeverFall positio
 -- if there were no reads
 abbrev pub latest : ShardValue → SnapshotValue → List ℕ → SnapshotValue
 latest state before [] = before
-latest state before (position ∷ later) = latest state (snapshot_of (record state { position = position })) later
+latest state before (position ∷ later) = latest state (snapshot_of (state_at position state)) later
 
 -- the snapshot of a shard in a cut, if there is that cut and that shard
 abbrev pub shard_in : ℕ → Option CutValue → Option SnapshotValue

@@ -10,6 +10,10 @@ pub record ShardValue : Type 0 where
   pub base : SnapshotValue
   pub position : ℕ
 
+-- a shard's state with another position
+abbrev pub state_at : ℕ → ShardValue → ShardValue
+state_at position shard = record shard { position = position }
+
 -- the tables of a shard: those of its base, after the records from the base's position up to the shard's
 abbrev pub snapshot_of : ShardValue → SnapshotValue
 snapshot_of shard = record {

@@ -19,7 +19,7 @@ pub use laws::{
     runs_stand, shards_stand, snapshots_hold_weights, standing_cuts_are_equal, tables_hold_weights,
 };
 pub use positions::Positions;
-pub use shard_core::Core;
+pub use shard_core::{Core, states_are_kept};
 pub use shard_state::{Folded, ShardState};
 pub use snapshot::Snapshot;
 

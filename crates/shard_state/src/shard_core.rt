@@ -4,7 +4,7 @@ ghost use Rattle.std.specs.Prelude.{◌≡◌, ◌<◌, ◌≤◌, ℕ, length, 
 ghost use Rattle.shard_state.specs.Snapshot.{SnapshotValue};
 ghost use Rattle.shard_state.specs.Cut.{CutValue, positions_of, CutStandsFor};
 ghost use Rattle.shard_state.specs.ShardState.{ShardValue, IsShard, folded};
-ghost use Rattle.shard_state.specs.ShardCore.{AreShards, HasShape, IsCore, IsEventFor, after, capacity_of, changed, run, with_read, BasesStand, NeverFall, ReadsEach, last_of, latest, lists_of, reads_of, snapshot_in};
+ghost use Rattle.shard_state.specs.ShardCore.{AreShards, HasShape, IsCore, IsEventFor, after, capacity_of, changed, run, with_read, BasesStand, MovedOn, NeverFall, ReadsEach, last_of, latest, lists_of, reads_of, snapshot_in};
 
 use crate::{Cut, Event, ShardState};
 use std::marker::Model;
@@ -33,7 +33,7 @@ impl Core {
         requires { AreShards states.items }
         ensures { result ≡ states.items }
     {
-        all_are_kept(&states);
+        states_are_kept(&states);
         Core { states }
     }
 
@@ -44,11 +44,17 @@ impl Core {
         requires cuts { All (HasShape (length self.old) (capacity_of self.old)) cuts.old.items }
         ensures shards { self.new ≡ (after (record { shards = self.old; cuts = cuts.old.items }) event).shards }
         ensures cuts { cuts.new.items ≡ (after (record { shards = self.old; cuts = cuts.old.items }) event).cuts }
+
+        // Each shard has its list and base, at a position from the one before to the end of its list.
+        ensures moved_on { (shard : ℕ) (state : ShardValue) → slice_get self.old shard ≡ Some state → MovedOn self.new shard state }
+
+        // The numbers of shards and callers are unchanged, and the cuts still have the core's shape.
+        ensures shards_stay { length self.new ≡ length self.old }
+        ensures callers_stay { length cuts.new.items ≡ length cuts.old.items }
+        ensures shapes { All (HasShape (length self.new) (capacity_of self.new)) cuts.new.items }
     {
-        match event {
-            Event::Fold { shard, block } => self.fold(shard, block),
-            Event::Read { caller, shard } => self.read(caller, shard, cuts),
-        }
+        self.keeps();
+        self.act(event, cuts);
     }
 
     /// Performs a run of events, in order. It allocates no memory.
@@ -101,6 +107,19 @@ impl Core {
         }
     }
 
+    // Performs one event.
+    fn act(&mut self, event: Event, cuts: &mut Vec<Cut>)
+        requires event { IsEventFor (length self.old) (length cuts.old.items) event }
+        requires cuts { All (HasShape (length self.old) (capacity_of self.old)) cuts.old.items }
+        ensures shards { self.new ≡ (after (record { shards = self.old; cuts = cuts.old.items }) event).shards }
+        ensures cuts { cuts.new.items ≡ (after (record { shards = self.old; cuts = cuts.old.items }) event).cuts }
+    {
+        match event {
+            Event::Fold { shard, block } => self.fold(shard, block),
+            Event::Read { caller, shard } => self.read(caller, shard, cuts),
+        }
+    }
+
     // A shard counts a block.
     fn fold(&mut self, shard: u32, block: u32)
         requires within { shard < length self.old }
@@ -121,8 +140,8 @@ impl Core {
     }
 }
 
-// Visits each state, which makes the invariants of all states known.
-fn all_are_kept(states: &[ShardState])
+/// Each of these states is within its limits. It visits each state, and changes nothing.
+pub fn states_are_kept(states: &[ShardState])
     ensures { All IsShard states.now }
 {
     for state in states {

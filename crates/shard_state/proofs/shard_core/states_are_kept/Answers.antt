@@ -2,7 +2,7 @@ use Rattle.std.proofs.Common.{take, subst, sym, arith}
 use Rattle.std.proofs.lemmas.List.{take_all}
 use Rattle.std.proofs.lemmas.List.Elements.{All-more, All-same}
 use Rattle.shard_state.specs.ShardState.{IsShard}
-use Rattle.shard_state.proofs.shard_core.all_are_kept.Goals as goal
+use Rattle.shard_state.proofs.shard_core.states_are_kept.Goals as goal
 
 pub loop-state-preserved : goal.loop-state-preserved
 loop-state-preserved c =
