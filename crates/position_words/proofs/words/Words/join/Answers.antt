@@ -1,0 +1,27 @@
+use Rattle.std.proofs.Common.{ap, sym, ◌∙◌, arith, length, refl}
+use Rattle.position_words.specs.View.{joined}
+use Rattle.position_words.specs.Words.{slot_out}
+use Rattle.position_words.proofs.SeatLemmas.{is_seat}
+use Rattle.position_words.proofs.StepLemmas.{may_join}
+use Rattle.position_words.proofs.TrailLemmas.{length-joined}
+use Rattle.position_words.proofs.words.Words.join.Goals as goal
+
+pub join_seat-requires : goal.join_seat-requires
+join_seat-requires c =
+    let table = c.self.inside.table.shared in
+    let seat = c.args.seat.now in
+    let other = c.args.other in (
+      c.requires.seat.id ∙ sym (ap (λ w. w.id) c.self.view_is),
+      c.requires.other.id ∙ sym (ap (λ w. w.id) c.self.view_is),
+      c.requires.other.slot ∙ ap slot_out c.requires.other_free,
+      omega (arith, c.self.invariant.0, c.self.invariant.2.some),
+      may_join table.key.value.items seat.id other.id seat.me.0 other.me.0 c.requires.seat.live c.requires.other.live c.requires.other_free,
+    )
+
+pub returns-clause-seat : goal.returns-clause-seat
+returns-clause-seat c =
+    let before = c.args.seat.now in
+    let join = c.join_seat.ensures in
+    let seat = c.requires.seat in
+    is_seat c.args.self.now c.join_seat.new.seat (joined before.me.0 c.args.other.me.0) before.me.1 (join.0 ∙ seat.id) join.2 seat.opening
+    (length-joined before.me.0.trails c.args.other.me.0.trails ∙ seat.trails) seat.live seat.slot

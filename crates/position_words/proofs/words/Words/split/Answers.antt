@@ -1,0 +1,14 @@
+use Rattle.std.proofs.Common.{ap, sym, ◌∙◌, arith, length, refl}
+use Rattle.position_words.specs.View.{split_off, newcomer}
+use Rattle.position_words.proofs.SeatLemmas.{is_seat}
+use Rattle.position_words.proofs.StepLemmas.{may_split}
+use Rattle.position_words.proofs.words.Words.split.Goals as goal
+
+pub split_seat-requires : goal.split_seat-requires
+split_seat-requires c =
+    let table = c.self.inside.table.shared in
+    let seat = c.args.seat.now in (
+      c.requires.seat.id ∙ sym (ap (λ w. w.id) c.self.view_is),
+      omega (arith, c.self.invariant.0, c.self.invariant.2.some),
+      may_split table.key.value.items seat.id seat.me.0 c.requires.seat.live,
+    )

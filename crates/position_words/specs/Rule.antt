@@ -1,0 +1,44 @@
+-- What words, slots and views keep between any two steps.
+use Rattle.std.specs.Prelude.{ℕ, ◌≡◌, ◌+◌, ◌*◌, ◌/◌, ◌%◌, ◌<◌, ◌≤◌, false, List, length, Option, Some, slice_get, slice_index}
+use mathlib.Core.Option.{some}
+use lib.ListN.{get_elem?}
+use Rattle.atomic_table.specs.Table.{State}
+use Rattle.shard_state.specs.{ShardValue, state_at}
+use Rattle.position_words.specs.declared.view.Held.{Held}
+use Rattle.position_words.specs.declared.view.View.{View}
+use Rattle.position_words.specs.View.{seen_of}
+
+-- no seat holds the shard of an even word, and one holds that of an odd word
+abbrev pub IsEven : ℕ → Type 0
+IsEven word = word % 2 ≡ 0
+
+abbrev pub IsOdd : ℕ → Type 0
+IsOdd word = word % 2 ≡ 1
+
+-- the view of a seat holds this shard
+pub record IsHolder (views : List View) (seat shard : ℕ) : Type 0 where
+  pub view : View
+  pub held : Held
+  pub at : get_elem? views seat ≡ some view
+  pub holds : view.held ≡ Some held
+  pub is : held.shard ≡ shard
+
+-- a view that was not joined to another names the shards, and has seen no position that a word has not reached
+pub record Fits (shards : List ShardValue) (words : List ℕ) (view : View) : Type 0 where
+  pub opening : view.opening ≡ shards
+  pub trails : length view.trails ≡ length shards
+  pub reached : (shard : ℕ) → seen_of shard view ≤ slice_index words shard / 2
+
+-- The rule. Each word is twice a position of its shard's list, plus one while a seat holds the shard, which is then
+-- the only one. While no seat does, the slot has the shard's state at that position.
+pub record IsKept (opening : List ShardValue) (state : State (Option ShardValue) View) : Type 0 where
+  pub words : length state.words ≡ length opening
+  pub slots : length state.homes ≡ length opening
+  pub within : (place : ℕ) (shard : ShardValue) → slice_get opening place ≡ Some shard → slice_index state.words place / 2 ≤ length shard.list
+  pub even : (place : ℕ) (shard : ShardValue) → slice_get opening place ≡ Some shard → IsEven (slice_index state.words place)
+      → get_elem? state.homes place ≡ some (some (Some (state_at (slice_index state.words place / 2) shard)))
+  pub odd : (place : ℕ) → place < length opening → IsOdd (slice_index state.words place) → (seat : ℕ) × IsHolder state.views seat place
+  pub held : (seat : ℕ) (view : View) (held : Held) → get_elem? state.views seat ≡ some view → view.held ≡ Some held
+      → slice_index state.words held.shard ≡ 2 * held.position + 1
+  pub alone : (seat other place : ℕ) → IsHolder state.views seat place → IsHolder state.views other place → seat ≡ other
+  pub views : (seat : ℕ) (view : View) → get_elem? state.views seat ≡ some view → view.spent ≡ false → Fits opening state.words view

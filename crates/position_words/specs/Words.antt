@@ -1,0 +1,49 @@
+-- The words and slots of shards, and their seats, as contracts see them.
+use Rattle.std.specs.Prelude.{ℕ, ◌≡◌, ◌≤◌, ◌<◌, false, List, [], ◌∷◌, length, Option, None, Some, slice_get}
+use Rattle.atomic_table.specs.Seated.{TableId}
+use Rattle.atomic_table.specs.declared.shared.Seat.{Seat}
+use Rattle.shard_state.specs.{ShardValue, state_at}
+use Rattle.position_words.specs.declared.view.Aim.{Aim}
+use Rattle.position_words.specs.declared.view.Aim.TheVariants.{Fold, Read}
+use Rattle.position_words.specs.declared.view.Held.{Held}
+use Rattle.position_words.specs.declared.view.View.{View}
+
+-- which words these are, and the shards as they were at the start
+pub record WordsValue : Type 0 where
+  pub id : TableId
+  pub opening : List ShardValue
+
+-- what a seat knows
+abbrev pub view : Seat (Option ShardValue) View → View
+view seat = seat.me.0
+
+-- the empty slot that is out with a seat which holds a shard
+abbrev pub slot_out : Option Held → List (ℕ × Option ShardValue)
+slot_out None = []
+slot_out (Some held) = (held.shard, None) ∷ []
+
+-- a seat of these words: it names their shards, has a trail for each, and was not joined to another
+pub record IsSeatOf (words : WordsValue) (seat : Seat (Option ShardValue) View) : Type 0 where
+  pub id : seat.table_id ≡ words.id
+  pub opening : (view seat).opening ≡ words.opening
+  pub trails : length (view seat).trails ≡ length words.opening
+  pub live : (view seat).spent ≡ false
+  pub slot : seat.me.1 ≡ slot_out (view seat).held
+
+-- a state has the list and the base of a shard: at some position it is the shard as it was at the start
+pub record IsOfShard (opening : List ShardValue) (shard : ℕ) (state : ShardValue) : Type 0 where
+  pub start : ℕ
+  pub is : slice_get opening shard ≡ Some (state_at start state)
+
+-- at which positions a shard may be given back
+abbrev pub MayFollow : Aim → ℕ → ℕ → Type 0
+MayFollow Fold met position = met ≤ position
+MayFollow Read met position = position ≡ met
+
+-- a view holds a shard, and may give it back at this position: after a read at the one that it met, after a fold at
+-- none before that
+pub record MayGive (shard position : ℕ) (view : View) : Type 0 where
+  pub held : Held
+  pub holds : view.held ≡ Some held
+  pub is : held.shard ≡ shard
+  pub follows : MayFollow held.aim held.position position

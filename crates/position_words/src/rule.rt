@@ -1,0 +1,68 @@
+//! The rule that the words, the slots and the views keep between any two steps, and what each kind of step tells.
+
+ghost use Rattle.position_words.specs.declared.view.Aim.TheVariants.{Fold, Read};
+ghost use Rattle.position_words.specs.Step.{Looks, Takes, Gives};
+ghost use Rattle.position_words.specs.View.{split_off, newcomer, joined, spent};
+
+use crate::view::View;
+use atomic_table::{Join, Play, Split, TableRule};
+use shard_state::ShardState;
+use std::snapshot::Snapshot;
+
+/// The rule. It is told the states of the shards at the start.
+pub struct SlotRule;
+
+impl TableRule<Option<ShardState>, View, Snapshot<Vec<ShardState>>> for SlotRule {
+    ghost use Rattle.position_words.specs.Rule.{IsKept};
+    ghost use Rattle.position_words.specs.View.{first_view};
+
+    ghost holds = { λ key. IsKept key.value.items };
+
+    ghost first = { λ key. first_view key.value.items };
+}
+
+// A load of a word.
+pub(crate) struct Looking;
+
+impl Play<Option<ShardState>, View> for Looking {
+    ghost then = { Looks };
+}
+
+// A take to fold, which wins or loses.
+pub(crate) struct TakingToFold;
+
+impl Play<Option<ShardState>, View> for TakingToFold {
+    ghost then = { Takes Fold };
+}
+
+// A take to read, which wins or loses.
+pub(crate) struct TakingToRead;
+
+impl Play<Option<ShardState>, View> for TakingToRead {
+    ghost then = { Takes Read };
+}
+
+// The store that gives a shard back.
+pub(crate) struct Giving;
+
+impl Play<Option<ShardState>, View> for Giving {
+    ghost then = { Gives };
+}
+
+// A new seat that has seen as much.
+pub(crate) struct SplittingOff;
+
+impl Split<View> for SplittingOff {
+    ghost left = { split_off };
+
+    ghost right = { newcomer };
+}
+
+// A seat that has seen what both have.
+pub(crate) struct Joining;
+
+impl Join<View> for Joining {
+    ghost both = { joined };
+
+    ghost spent = { spent };
+}
