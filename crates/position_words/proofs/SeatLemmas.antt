@@ -9,7 +9,7 @@ use Rattle.position_words.specs.declared.view.Aim.{Aim}
 use Rattle.position_words.specs.declared.view.Held.{Held}
 use Rattle.position_words.specs.declared.view.Trail.{Trail}
 use Rattle.position_words.specs.declared.view.View.{View}
-use Rattle.position_words.specs.View.{with_trail, taken_for, took, given_after, gave, gave_held}
+use Rattle.position_words.specs.View.{with_trail, lost_at, taken_for, took, given_after, gave, gave_held}
 use Rattle.position_words.specs.declared.view.Aim.TheVariants.{Fold, Read}
 use Rattle.position_words.specs.Words.{WordsValue, view, slot_out, IsSeatOf, IsOfShard, MayFollow, MayGive}
 use Rattle.position_words.specs.Rule.{IsEven, IsOdd, IsKept}
@@ -102,7 +102,7 @@ module _ (words : WordsValue) (before filled after : Seat (Option ShardValue) Vi
 pub lost_seat : (words : WordsValue) (before after : Seat (Option ShardValue) View) (aim : Aim) (shard word : ℕ)
     → Marks aim shard before.me word after.me → IsOdd word → IsSame before after → IsSeatOf words before → IsSeatOf words after
 lost_seat words before after aim shard word marks odd same of =
-    trail_steps words before after (λ trail. record trail { seen = word / 2; losses = trail.losses ++ word ∷ [] }) shard of same (marks.loses odd)
+    trail_steps words before after (lost_at word) shard of same (marks.loses odd)
 
 -- a take that met an even one: the slot that came out with the seat has a state, and then none
 module _ (words : WordsValue) (before marked after : Seat (Option ShardValue) View) (aim : Aim) (shard word : ℕ) where

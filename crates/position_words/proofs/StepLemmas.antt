@@ -14,7 +14,7 @@ use Rattle.position_words.specs.declared.view.Aim.TheVariants.{Fold, Read}
 use Rattle.position_words.specs.declared.view.Held.{Held}
 use Rattle.position_words.specs.declared.view.Trail.{Trail}
 use Rattle.position_words.specs.declared.view.View.{View}
-use Rattle.position_words.specs.View.{seen_of, trail_from, looked, taken_for, took, lost, given_after, gave, gave_held, split_off, newcomer, joined, spent, with_trail}
+use Rattle.position_words.specs.View.{seen_of, trail_from, looked, taken_for, took, lost, lost_at, given_after, gave, gave_held, split_off, newcomer, joined, spent, with_trail}
 use Rattle.position_words.specs.Words.{MayFollow}
 use Rattle.position_words.specs.Rule.{IsEven, IsOdd, Fits, IsKept}
 use Rattle.position_words.specs.Step.{Meets, Looks, Wins, Marks, Takes, Gives}
@@ -91,7 +91,7 @@ loses shards slots seat place aim me live state kept at odd =
     let word : ℕ = slice_index state.words place in
     let fits : Fits shards state.words me.0 = kept.views seat me.0 at live in
     let now_fits : Fits shards state.words (lost place word me.0) =
-    fits_with_trail shards state.words (λ trail. record trail { seen = word / 2; losses = trail.losses ++ word ∷ [] }) (word / 2) place me.0 (λ trail. refl) (omega arith) fits in (
+    fits_with_trail shards state.words (lost_at word) (word / 2) place me.0 (λ trail. refl) (omega arith) fits in (
       lost place word me.0,
       keeps,
       tt,

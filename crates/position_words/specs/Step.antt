@@ -59,8 +59,14 @@ pub record IsReady (opening : List ShardValue) (shard position : ℕ) (me : Me (
   pub within : state.position ≤ length state.list
   pub gives : MayGive shard position me.0
 
--- what a take answers: the state of the shard, which the seat then holds at its position; or that another seat holds
--- it, if the word that the take met was odd
+-- a take that lost: the word that it met was odd, so another seat holds the shard
+pub record Loses (shard : ℕ) (before now : View) : Type 0 where
+  pub word : ℕ
+  pub odd : IsOdd word
+  pub meets : Meets shard (word / 2) before
+  pub view : now ≡ lost shard word before
+
+-- what a take answers: the state of the shard, which the seat then holds at its position; or that it lost
 abbrev pub Answers : List ShardValue → ℕ → Aim → View → View → Take → Type 0
 Answers opening shard aim before now (Taken state) = IsOfShard opening shard state × Meets shard state.position before × (now ≡ took aim shard state.position before)
-Answers opening shard aim before now Busy = (word : ℕ) × IsOdd word × Meets shard (word / 2) before × (now ≡ lost shard word before)
+Answers opening shard aim before now Busy = Loses shard before now

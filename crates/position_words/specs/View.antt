@@ -36,9 +36,13 @@ taken_for Read position trail = record trail { seen = position; reads = trail.re
 abbrev pub took : Aim → ℕ → ℕ → View → View
 took aim shard position view = record (with_trail (taken_for aim position) shard view) { held = Some (record { shard = shard; position = position; aim = aim }) }
 
+-- what a trail has after a take that met this odd word
+abbrev pub lost_at : ℕ → Trail → Trail
+lost_at word trail = record trail { seen = word / 2; losses = trail.losses ++ word ∷ [] }
+
 -- after a take that met this odd word
 abbrev pub lost : ℕ → ℕ → View → View
-lost shard word view = with_trail (λ trail. record trail { seen = word / 2; losses = trail.losses ++ word ∷ [] }) shard view
+lost shard word view = with_trail (lost_at word) shard view
 
 -- what a trail has after a shard that was taken at one position is given back at another
 abbrev pub given_after : Aim → ℕ → ℕ → Trail → Trail

@@ -5,7 +5,7 @@ pub mod Weights
 pub mod ShardCore
 -- the face: what contracts of other crates cite
 pub use Rattle.shard_state.specs.Cut.{CutStandsFor, CutValue, IsCut, positions_of, records_before, total_of_cut}
-pub use Rattle.shard_state.specs.ShardCore.{AreShards, BasesStand, CoreValue, HasShape, IsCore, MovedOn, ReadsEach, capacity_of, changed, lists_of, run}
+pub use Rattle.shard_state.specs.ShardCore.{AreShards, BasesStand, CoreValue, HasShape, IsCore, MovedOn, ReadsEach, capacity_of, changed, lists_of, run, with_read}
 pub use Rattle.shard_state.specs.ShardState.{IsShard, ShardValue, folded, snapshot_of, state_at}
 pub use Rattle.shard_state.specs.Snapshot.{IsSnapshot, SnapshotStandsFor, SnapshotValue, empty_snapshot, entries_at, fold_from, records_table, table_at, total_of}
 unfoldable pub use Rattle.shard_state.specs.Snapshot.{no_entries}
