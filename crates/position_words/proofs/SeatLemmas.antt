@@ -1,6 +1,5 @@
 -- A seat stays one of its words.
 use Rattle.std.proofs.Common.{◌≡◌, ℕ, ◌*◌, ◌/◌, ◌<◌, ◌≤◌, arith, false, List, [], ◌∷◌, ◌++◌, length, slice_get, Option, None, Some, refl, sym, ap, ◌∙◌, subst}
-use Rattle.atomic_table.specs.declared.shared.Seat.{Seat}
 use Rattle.atomic_table.specs.Table.{Me, Allows, step, rest}
 use mathlib.Core.Option.{none}
 use Rattle.std.proofs.lemmas.Option.{slice_get_within, same_Some}
@@ -11,7 +10,7 @@ use Rattle.position_words.specs.declared.view.Trail.{Trail}
 use Rattle.position_words.specs.declared.view.View.{View}
 use Rattle.position_words.specs.View.{with_trail, lost_at, taken_for, took, given_after, gave, gave_held}
 use Rattle.position_words.specs.declared.view.Aim.TheVariants.{Fold, Read}
-use Rattle.position_words.specs.Words.{WordsValue, view, slot_out, IsSeatOf, IsOfShard, MayFollow, MayGive}
+use Rattle.position_words.specs.Words.{SeatValue, WordsValue, view, slot_out, IsSeatOf, IsOfShard, MayFollow, MayGive}
 use Rattle.position_words.specs.Rule.{IsEven, IsOdd, IsKept}
 use Rattle.position_words.specs.Step.{Gives, HasTaken, IsReady, IsSame, Marks, Meets}
 use Rattle.position_words.proofs.WordLemmas.{even_if_not_odd}
@@ -24,7 +23,7 @@ first_state [] = None
 first_state (slot ∷ slots) = slot.1
 
 -- a seat with a live view of the shards, and the slot that goes with what it holds
-pub is_seat : (words : WordsValue) (seat : Seat (Option ShardValue) View) (now : View) (slots : List (ℕ × Option ShardValue)) → seat.table_id ≡ words.id → seat.me ≡ (now, slots)
+pub is_seat : (words : WordsValue) (seat : SeatValue) (now : View) (slots : List (ℕ × Option ShardValue)) → seat.table_id ≡ words.id → seat.me ≡ (now, slots)
     → now.opening ≡ words.opening → length now.trails ≡ length words.opening → now.spent ≡ false → slots ≡ slot_out now.held → IsSeatOf words seat
 is_seat words seat now slots id me opening trails live slot = record {
   id = id;
@@ -35,7 +34,7 @@ is_seat words seat now slots id me opening trails live slot = record {
 }
 
 -- after a step at one shard which leaves what is held
-pub trail_steps : (words : WordsValue) (before after : Seat (Option ShardValue) View) (change : Trail → Trail) (place : ℕ) → IsSeatOf words before → IsSame before after
+pub trail_steps : (words : WordsValue) (before after : SeatValue) (change : Trail → Trail) (place : ℕ) → IsSeatOf words before → IsSame before after
     → after.me ≡ (with_trail change place (view before), before.me.1) → IsSeatOf words after
 trail_steps words before after change place of same me =
     is_seat words after (with_trail change place (view before)) before.me.1 (same.table ∙ of.id) me of.opening (length-changed change place (view before).trails ∙ of.trails) of.live of.slot
@@ -58,7 +57,7 @@ pub shard_inside : (shards : List ShardValue) (place : ℕ) (state : ShardValue)
 shard_inside shards place state of = slice_get_within shards place (state_at of.start state) of.is
 
 -- a give: the seat's one slot is empty, then it has the state, and at last it is out no more
-module _ (words : WordsValue) (before filled after : Seat (Option ShardValue) View) (shard position : ℕ) (state : ShardValue) where
+module _ (words : WordsValue) (before filled after : SeatValue) (shard position : ℕ) (state : ShardValue) where
   pub empty_slot : IsSeatOf words before → MayGive shard position (view before) → before.me.1 ≡ (shard, None) ∷ []
   empty_slot of gives = of.slot ∙ ap slot_out gives.holds ∙ ap (λ k. (k, None) ∷ []) gives.is
 
@@ -99,13 +98,13 @@ module _ (words : WordsValue) (before filled after : Seat (Option ShardValue) Vi
       (length-changed change is.0.shard (view before).trails ∙ of.trails) of.live refl
 
 -- a take that met an odd word
-pub lost_seat : (words : WordsValue) (before after : Seat (Option ShardValue) View) (aim : Aim) (shard word : ℕ)
+pub lost_seat : (words : WordsValue) (before after : SeatValue) (aim : Aim) (shard word : ℕ)
     → Marks aim shard before.me word after.me → IsOdd word → IsSame before after → IsSeatOf words before → IsSeatOf words after
 lost_seat words before after aim shard word marks odd same of =
     trail_steps words before after (lost_at word) shard of same (marks.loses odd)
 
 -- a take that met an even one: the slot that came out with the seat has a state, and then none
-module _ (words : WordsValue) (before marked after : Seat (Option ShardValue) View) (aim : Aim) (shard word : ℕ) where
+module _ (words : WordsValue) (before marked after : SeatValue) (aim : Aim) (shard word : ℕ) where
   -- what a seat has that won
   won : IsSeatOf words before → (view before).held ≡ None → Marks aim shard before.me word marked.me → (IsOdd word → ⊥)
       → (state : ShardValue) × (slice_get words.opening shard ≡ Some state) × (marked.me ≡ (took aim shard (word / 2) (view before), (shard, Some (state_at (word / 2) state)) ∷ []))

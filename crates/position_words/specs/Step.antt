@@ -1,13 +1,12 @@
 -- What each kind of step tells of the seat that makes it.
 use Rattle.std.specs.Prelude.{ℕ, ◌≡◌, ◌/◌, ◌≤◌, false, List, [], ◌∷◌, length, Option, Some, slice_get}
 use Rattle.atomic_table.specs.Table.{Me, Step, rest}
-use Rattle.atomic_table.specs.declared.shared.Seat.{Seat}
 use Rattle.shard_state.specs.{ShardValue, state_at}
 use Rattle.position_words.specs.declared.view.Aim.{Aim}
 use Rattle.position_words.specs.declared.view.View.{View}
 use Rattle.position_words.specs.View.{seen_of, looked, took, lost, gave}
 use Rattle.position_words.specs.Rule.{IsEven, IsOdd}
-use Rattle.position_words.specs.Words.{IsOfShard, MayGive}
+use Rattle.position_words.specs.Words.{IsOfShard, MayGive, SeatValue}
 use Rattle.position_words.specs.declared.words.Take.{Take}
 use Rattle.position_words.specs.declared.words.Take.TheVariants.{Taken, Busy}
 
@@ -40,7 +39,7 @@ abbrev pub Gives : Step (Option ShardValue) → Me (Option ShardValue) View → 
 Gives step before word now = now ≡ (gave (word / 2) before.0, rest before.1)
 
 -- a step leaves which seat it is, and of which table
-pub record IsSame (before now : Seat (Option ShardValue) View) : Type 0 where
+pub record IsSame (before now : SeatValue) : Type 0 where
   pub table : now.table_id ≡ before.table_id
   pub seat : now.id ≡ before.id
 

@@ -13,8 +13,12 @@ pub record WordsValue : Type 0 where
   pub id : TableId
   pub opening : List ShardValue
 
+-- a seat, as contracts see it
+abbrev pub SeatValue : Type 0
+SeatValue = Seat (Option ShardValue) View
+
 -- what a seat knows
-abbrev pub view : Seat (Option ShardValue) View → View
+abbrev pub view : SeatValue → View
 view seat = seat.me.0
 
 -- the empty slot that is out with a seat which holds a shard
@@ -23,7 +27,7 @@ slot_out None = []
 slot_out (Some held) = (held.shard, None) ∷ []
 
 -- a seat of these words: it names their shards, has a trail for each, and was not joined to another
-pub record IsSeatOf (words : WordsValue) (seat : Seat (Option ShardValue) View) : Type 0 where
+pub record IsSeatOf (words : WordsValue) (seat : SeatValue) : Type 0 where
   pub id : seat.table_id ≡ words.id
   pub opening : (view seat).opening ≡ words.opening
   pub trails : length (view seat).trails ≡ length words.opening

@@ -1,0 +1,5 @@
+pub mod ChangedListLemmas
+pub mod FoldLemmas
+pub mod ReadLemmas
+pub mod WaitLemmas
+pub mod CutLemmas

@@ -1,0 +1,8 @@
+use Rattle.position_words.specs.{view}
+use Rattle.pass_tokens.specs.Board.{IsPassOf}
+use Rattle.pass_tokens.specs.Fold.{Waits}
+use Rattle.pass_tokens.proofs.board.Board.fold.Given as goal
+
+-- all takes so far lost
+abbrev pub invariant-loop : goal.invariant-loop
+invariant-loop g l = IsPassOf l.self l.pass × Waits l.shard (view l.initial.pass) (view l.pass)

@@ -1,0 +1,50 @@
+-- What a fold does: one fold of the pure core.
+use Rattle.std.specs.Prelude.{ℕ, ◌≡◌, ◌≤◌, List, [], ◌∷◌, ◌++◌, fold, All, Some, slice_get}
+use Rattle.shard_state.specs.{ShardValue, folded, state_at}
+use Rattle.shard_state.specs.declared.shard_state.Folded.{Folded}
+use Rattle.position_words.specs.{IsOdd, Loses, lost_at, seen_of, with_trail}
+use Rattle.position_words.specs.declared.view.Trail.{Trail}
+use Rattle.position_words.specs.declared.view.View.{View}
+use Rattle.pass_tokens.specs.declared.board.TryFold.{TryFold}
+use Rattle.pass_tokens.specs.declared.board.TryFold.TheVariants.{Done, Busy}
+
+-- what a trail has after a fold
+abbrev pub folded_once : Folded → Trail → Trail
+folded_once block trail = record trail { seen = block.to; folds = trail.folds ++ block ∷ [] }
+
+-- a fold from one position to another is that of the pure core: the shard, which starts as `state`, was at the first,
+-- and a fold of a block brings it to the other
+pub record IsFoldOf (opening : List ShardValue) (shard block : ℕ) (done : Folded) : Type 0 where
+  pub state : ShardValue
+  pub is : slice_get opening shard ≡ Some state
+  pub core : state_at done.to state ≡ folded block (state_at done.from state)
+
+-- a fold that was made: it began at no position before what the pass had seen, and its step is all that the view gets
+pub record Folds (opening : List ShardValue) (shard block : ℕ) (before now : View) (done : Folded) : Type 0 where
+  pub core : IsFoldOf opening shard block done
+  pub later : seen_of shard before ≤ done.from
+  pub view : now ≡ with_trail (folded_once done) shard before
+
+-- what a try to fold answers
+abbrev pub TriesToFold : List ShardValue → ℕ → ℕ → View → View → TryFold → Type 0
+TriesToFold opening shard block before now (Done done) = Folds opening shard block before now done
+TriesToFold opening shard block before now Busy = Loses shard before now
+
+-- what a trail has after takes that met these odd words
+abbrev pub lost_all : List ℕ → Trail → Trail
+lost_all words trail = fold (λ trail word. lost_at word trail) trail words
+
+-- a fold after any number of takes that lost
+pub record FoldsAtLast (opening : List ShardValue) (shard block : ℕ) (before now : View) (done : Folded) : Type 0 where
+  pub losses : List ℕ
+  pub odd : All IsOdd losses
+  pub core : IsFoldOf opening shard block done
+  pub later : seen_of shard before ≤ done.from
+  pub view : now ≡ with_trail (λ trail. folded_once done (lost_all losses trail)) shard before
+
+-- within the crate: takes of a shard that all lost so far
+pub record Waits (shard : ℕ) (before now : View) : Type 0 where
+  pub losses : List ℕ
+  pub odd : All IsOdd losses
+  pub later : seen_of shard before ≤ seen_of shard now
+  pub view : now ≡ with_trail (lost_all losses) shard before
