@@ -10,8 +10,10 @@ use Rattle.command_words.specs.declared.command_word.CommandWord.{CommandWord}
 
 -- the matches hold the arguments: the value of each option by its name, and each positional by its name in the form
 pub record Tells (form : Form) (arguments : List Argument) (matches : ArgMatches) : Type 0 where
-  pub options : (name : Text) → (Contains form.positionals name → ⊥) → first_value (found_of matches) name ≡ value_of name arguments
-  pub positionals : (place : ℕ) (name : Text) → slice_get form.positionals place ≡ Some name → first_value (found_of matches) name ≡ slice_get (positionals_in arguments) place
+  pub options : (name : Text) → (Contains form.positionals name → ⊥)
+      → first_value (found_of matches) name ≡ value_of name arguments
+  pub positionals : (place : ℕ) (name : Text) → slice_get form.positionals place ≡ Some name
+      → first_value (found_of matches) name ≡ slice_get (positionals_in arguments) place
 
 -- the matches hold the arguments that the words of a command line spell
 pub record TellsWords (words : List Text) (command : CommandWord) (matches : ArgMatches) : Type 0 where

@@ -1,5 +1,6 @@
 -- The options whose values are checked: what each takes, and what is wrong with a value.
-use Rattle.std.specs.Prelude.{⊤, ℕ, ◌≡◌, ◌⊎◌, ◌^◌, ◌<◌, ◌≤◌, List, [], ◌∷◌, codes, decimal, Contains, Option, Some, None}
+use Rattle.std.specs.Prelude.{⊤, ℕ, ◌≡◌, ◌⊎◌, ◌^◌, ◌<◌, ◌≤◌, List, [], ◌∷◌, codes, decimal, Contains, Option, Some}
+use Rattle.std.specs.Prelude.{None}
 use Rattle.command_words.specs.Arguments.{Text}
 use Rattle.command_words.specs.declared.opt.Opt.{Opt}
 use Rattle.command_words.specs.declared.opt.Opt.TheVariants.{Weigh, Shards, Capacity, Phi, Deal}

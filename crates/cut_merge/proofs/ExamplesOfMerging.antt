@@ -6,7 +6,8 @@ use Rattle.space_saving.specs.{TableValue, Interval, entry_of}
 use Rattle.cut_merge.specs.declared.gain.Gain.{Gain}
 use Rattle.cut_merge.specs.NodeMerge.{NodeMergeValue, no_gain, noted, gain_of}
 use Rattle.cut_merge.specs.Tables.{merged_interval}
-use Rattle.cut_merge.specs.Merged.{nothing_merged, interval_for_key, seen, missing_high, IsBounded, plus, gain_from, AddsTable, StandsForTables}
+use Rattle.cut_merge.specs.Merged.{nothing_merged, interval_for_key, seen, missing_high, IsBounded, plus, gain_from}
+use Rattle.cut_merge.specs.Merged.{AddsTable, StandsForTables}
 
 -- an entry of a key, with a count and an error
 abbrev entry : ℕ → ℕ → ℕ → Entry
@@ -82,7 +83,10 @@ first = record { gains = (5, gain 2 4) ∷ []; missing = 0 }
 pub adds_the_table_with_room : AddsTable nothing_merged roomy first
 adds_the_table_with_room = record {
   gains = λ key. ⊎_elim
-      (λ (is : key ≡ 5). subst (λ k. gain_of k first.gains ≡ plus (gain_of k nothing_merged.gains) (gain_from roomy (entry_of k roomy.entries))) (sym is) refl)
+      (λ (is : key ≡ 5).
+        subst (λ k.
+          gain_of k first.gains
+            ≡ plus (gain_of k nothing_merged.gains) (gain_from roomy (entry_of k roomy.entries))) (sym is) refl)
       (λ other. rw (ne_eqb key 5 other, ne_eqb 5 key (λ is. other (sym is))) refl)
       (cases_eq key 5);
   missing = refl;
@@ -102,4 +106,5 @@ stands_for_the_table_with_room = record {
 }
 
 pub stands_for_no_more_than_was_merged : ¬ StandsForTables first (roomy ∷ full ∷ [])
-stands_for_no_more_than_was_merged stands = let high : 4 ≡ 11 = ap (λ (i : Interval). i.high) (stands.intervals 5) in omega (arith, high)
+stands_for_no_more_than_was_merged stands =
+    let high : 4 ≡ 11 = ap (λ (i : Interval). i.high) (stands.intervals 5) in omega (arith, high)

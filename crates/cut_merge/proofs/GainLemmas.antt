@@ -1,5 +1,6 @@
 -- What one more noted gain changes.
-use Rattle.std.proofs.Common.{◌≡◌, ℕ, eqb, cond, ◌||◌, Bool, true, false, List, [], ◌∷◌, ◌++◌, None, Some, is_some, refl, zero-add, ◌+◌, sym, ap, ◌∙◌, if◌then◌else◌}
+use Rattle.std.proofs.Common.{◌≡◌, ℕ, eqb, cond, ◌||◌, Bool, true, false, List, [], ◌∷◌, ◌++◌, None, Some, is_some}
+use Rattle.std.proofs.Common.{refl, zero-add, ◌+◌, sym, ap, ◌∙◌, if◌then◌else◌}
 use Rattle.std.proofs.lemmas.Bool.{eqb-true}
 use Rattle.std.specs.List.{list_any}
 use Rattle.std.specs.Map.{lookup, keys_of}
@@ -8,38 +9,48 @@ use Rattle.cut_merge.specs.NodeMerge.{gain_of, noted, no_gain}
 use Rattle.cut_merge.specs.Merged.{seen, plus}
 
 -- a key has an entry exactly where it stands among the keys
-some_among : (key : ℕ) (gains : List (ℕ × Gain)) → is_some (lookup (λ other. eqb key other) gains) ≡ list_any (λ other. eqb key other) (keys_of gains)
+some_among : (key : ℕ) (gains : List (ℕ × Gain))
+    → is_some (lookup (λ other. eqb key other) gains) ≡ list_any (λ other. eqb key other) (keys_of gains)
 some_among key [] = refl
 some_among key (first ∷ rest) = by (some_among key rest) (eqb key first.0)
   where
     by : is_some (lookup (λ other. eqb key other) rest) ≡ list_any (λ other. eqb key other) (keys_of rest)
-        → (b : Bool) → is_some (cond b (Some first.1) (lookup (λ other. eqb key other) rest)) ≡ (b || list_any (λ other. eqb key other) (keys_of rest))
+        → (b : Bool)
+        → is_some (cond b (Some first.1) (lookup (λ other. eqb key other) rest))
+          ≡ (b || list_any (λ other. eqb key other) (keys_of rest))
     by tail true = refl
     by tail false = tail
 
 -- a key with an entry was seen
-pub seen_before : (key : ℕ) (gains : List (ℕ × Gain)) (gain : Gain) → lookup (λ other. eqb key other) gains ≡ Some gain → seen (keys_of gains) key ≡ keys_of gains
+pub seen_before : (key : ℕ) (gains : List (ℕ × Gain)) (gain : Gain)
+    → lookup (λ other. eqb key other) gains ≡ Some gain → seen (keys_of gains) key ≡ keys_of gains
 seen_before key gains gain there =
     ap (λ b. if b then keys_of gains else keys_of gains ++ key ∷ []) (sym (some_among key gains) ∙ ap is_some there)
 
 -- a key without one wasn't
-pub not_seen_before : (key : ℕ) (gains : List (ℕ × Gain)) → lookup (λ other. eqb key other) gains ≡ None → seen (keys_of gains) key ≡ keys_of gains ++ key ∷ []
+pub not_seen_before : (key : ℕ) (gains : List (ℕ × Gain)) → lookup (λ other. eqb key other) gains ≡ None
+    → seen (keys_of gains) key ≡ keys_of gains ++ key ∷ []
 not_seen_before key gains missing =
     ap (λ b. if b then keys_of gains else keys_of gains ++ key ∷ []) (sym (some_among key gains) ∙ ap is_some missing)
 
 -- what is found for each key after a gain is put at one
 abbrev pub Puts : ℕ → List (ℕ × Gain) → List (ℕ × Gain) → Gain → Type 0
-Puts key old new gain = (other : ℕ) → lookup (λ k. eqb other k) new ≡ cond (eqb key other) (Some gain) (lookup (λ k. eqb other k) old)
+Puts key old new gain =
+    (other : ℕ) → lookup (λ k. eqb other k) new ≡ cond (eqb key other) (Some gain) (lookup (λ k. eqb other k) old)
 
 -- what is noted for each key after a gain more for one
 abbrev pub Notes : ℕ → List (ℕ × Gain) → List (ℕ × Gain) → Gain → Type 0
-Notes key old new more = (other : ℕ) → gain_of other new ≡ (if eqb key other then plus (gain_of other old) more else gain_of other old)
+Notes key old new more =
+    (other : ℕ) → gain_of other new ≡ (if eqb key other then plus (gain_of other old) more else gain_of other old)
 
 -- a gain put at a key that is the old one and more
-notes-puts : (key : ℕ) (old new : List (ℕ × Gain)) (gain more : Gain) → Puts key old new gain → gain ≡ plus (gain_of key old) more → Notes key old new more
+notes-puts : (key : ℕ) (old new : List (ℕ × Gain)) (gain more : Gain) → Puts key old new gain
+    → gain ≡ plus (gain_of key old) more → Notes key old new more
 notes-puts key old new gain more puts is other = ap noted (puts other) ∙ by (eqb key other) refl
   where
-    by : (b : Bool) → eqb key other ≡ b → noted (cond b (Some gain) (lookup (λ k. eqb other k) old)) ≡ (if b then plus (gain_of other old) more else gain_of other old)
+    by : (b : Bool) → eqb key other ≡ b
+        → noted (cond b (Some gain) (lookup (λ k. eqb other k) old))
+          ≡ (if b then plus (gain_of other old) more else gain_of other old)
     by true same = is ∙ ap (λ k. plus (gain_of k old) more) (eqb-true key other same)
     by false _ = refl
 
@@ -50,17 +61,21 @@ plus-nothing more =
     ap (λ low. pair low (0 + more.high)) (zero-add more.low) ∙ ap (λ high. pair more.low high) (zero-add more.high)
 
 -- the first gain of a key
-pub notes_first : (key : ℕ) (old new : List (ℕ × Gain)) (more : Gain) → Puts key old new more → lookup (λ k. eqb key k) old ≡ None → Notes key old new more
+pub notes_first : (key : ℕ) (old new : List (ℕ × Gain)) (more : Gain) → Puts key old new more
+    → lookup (λ k. eqb key k) old ≡ None → Notes key old new more
 notes_first key old new more puts missing =
     notes-puts key old new more more puts (sym (ap (λ found. plus (noted found) more) missing ∙ plus-nothing more))
 
 -- a gain more for a key that has one: it is put there alone, and then both together
-pub notes_next : (key : ℕ) (old between new : List (ℕ × Gain)) (before both more : Gain) → Puts key old between more → Puts key between new both
+pub notes_next : (key : ℕ) (old between new : List (ℕ × Gain)) (before both more : Gain) → Puts key old between more
+    → Puts key between new both
     → lookup (λ k. eqb key k) old ≡ Some before → both ≡ plus before more → Notes key old new more
 notes_next key old between new before both more first second there is =
     notes-puts key old new both more puts (is ∙ ap (λ found. plus (noted found) more) (sym there))
   where
-    by : (other : ℕ) (b : Bool) → eqb key other ≡ b → cond b (Some both) (lookup (λ k. eqb other k) between) ≡ cond b (Some both) (lookup (λ k. eqb other k) old)
+    by : (other : ℕ) (b : Bool) → eqb key other ≡ b
+        → cond b (Some both) (lookup (λ k. eqb other k) between)
+          ≡ cond b (Some both) (lookup (λ k. eqb other k) old)
     by other true same = refl
     by other false differs = first other ∙ ap (λ b. cond b (Some more) (lookup (λ k. eqb other k) old)) differs
 

@@ -1,5 +1,6 @@
 -- The tables of a cut, merged.
-use Rattle.std.specs.Prelude.{ℕ, List, ◌≡◌, ◌+◌, ◌^◌, ◌<◌, [], length, slice_index_or, ◌==◌, ◌-◌, ◌≤◌, ◌∷◌, ◌++◌, Option, None, Some, fold, if◌then◌else◌}
+use Rattle.std.specs.Prelude.{ℕ, List, ◌≡◌, ◌+◌, ◌^◌, ◌<◌, [], length, slice_index_or, ◌==◌, ◌-◌, ◌≤◌, ◌∷◌, ◌++◌}
+use Rattle.std.specs.Prelude.{Option, None, Some, fold, if◌then◌else◌}
 use Rattle.cut_merge.specs.NodeMerge.{NodeMergeValue, gain_of, no_gain}
 use Rattle.std.specs.Map.{keys_of}
 use Rattle.prefix_lattice.specs.{NodeValue, IsNode, index_of, PrefixValue, IsPrefix, node_of, key_of, node_count}
@@ -28,7 +29,10 @@ merge_at node merged = slice_index_or merged.nodes (index_of node) nothing_merge
 
 -- the interval of a key in the merged tables of a node
 abbrev pub interval_for_key : NodeMergeValue → ℕ → Interval
-interval_for_key merge key = record { low = (gain_of key merge.gains).low; high = merge.missing + (gain_of key merge.gains).high }
+interval_for_key merge key = record {
+  low = (gain_of key merge.gains).low;
+  high = merge.missing + (gain_of key merge.gains).high;
+}
 
 -- the interval of a prefix in merged tables
 abbrev pub interval_for : MergedValue → PrefixValue → Interval
@@ -50,7 +54,8 @@ pub record StandsForCut (merged : MergedValue) (cut : CutValue) : Type 0 where
 pub record IsMerged (merged : MergedValue) : Type 0 where
   pub bounded : merged.total < 2 ^ 60
   pub shape : length merged.nodes ≡ node_count
-  pub intervals : (place key : ℕ) → IsWithinTotal merged.total (interval_for_key (slice_index_or merged.nodes place nothing_merged) key)
+  pub intervals : (place key : ℕ)
+      → IsWithinTotal merged.total (interval_for_key (slice_index_or merged.nodes place nothing_merged) key)
 
 -- the keys seen so far after one more key: a new key is appended
 abbrev pub seen : List ℕ → ℕ → List ℕ
@@ -78,7 +83,8 @@ gain_from table (Some entry) = record { low = entry.count - entry.error; high = 
 
 -- one more table was merged in
 pub record AddsTable (old : NodeMergeValue) (table : TableValue) (new : NodeMergeValue) : Type 0 where
-  pub gains : (key : ℕ) → gain_of key new.gains ≡ plus (gain_of key old.gains) (gain_from table (entry_of key table.entries))
+  pub gains : (key : ℕ)
+      → gain_of key new.gains ≡ plus (gain_of key old.gains) (gain_from table (entry_of key table.entries))
   pub missing : new.missing ≡ old.missing + missing_high table
   pub keys : keys_of new.gains ≡ fold seen (keys_of old.gains) (table_keys table)
 

@@ -7,14 +7,17 @@ use Rattle.deal_rules.specs.Rule.{MayBeDealt}
 
 -- the records of a shard: those whose number is the shard's, in order
 abbrev pub dealt_list : ℕ → List ℕ → List RecordValue → List RecordValue
-dealt_list shard numbers records = map (λ (dealt : ℕ × RecordValue). dealt.1) (filter (λ (dealt : ℕ × RecordValue). dealt.0 == shard) (zip numbers records))
+dealt_list shard numbers records =
+    map (λ (dealt : ℕ × RecordValue). dealt.1)
+      (filter (λ (dealt : ℕ × RecordValue). dealt.0 == shard) (zip numbers records))
 
 -- the lists of all shards, from shard 0 on
 abbrev pub dealt_lists : ℕ → List ℕ → List RecordValue → List (List RecordValue)
 dealt_lists shards numbers records = map (λ shard. dealt_list shard numbers records) (range_with_len 0 shards)
 
 -- each record has one number, which is a shard, and each shard has the records with its number
-pub record AreDealt (shards : ℕ) (records : List RecordValue) (numbers : List ℕ) (lists : List (List RecordValue)) : Type 0 where
+pub record AreDealt (shards : ℕ) (records : List RecordValue) (numbers : List ℕ) (lists : List (List RecordValue))
+    : Type 0 where
   pub as_many : length numbers ≡ length records
   pub below : All (λ number. number < shards) numbers
   pub parted : lists ≡ dealt_lists shards numbers records
@@ -22,10 +25,12 @@ pub record AreDealt (shards : ℕ) (records : List RecordValue) (numbers : List 
 -- each number is one that the rule may give the record at its index, counted from 0
 abbrev pub FollowRule : DealKind → (ℕ → RecordValue → ℕ → ℕ → Type 0) → ℕ → List RecordValue → List ℕ → Type 0
 FollowRule kind may_answer shards records numbers = (place number : ℕ) (rec : RecordValue)
-    → slice_get records place ≡ Some rec → slice_get numbers place ≡ Some number → MayBeDealt kind may_answer place rec shards number
+    → slice_get records place ≡ Some rec → slice_get numbers place ≡ Some number
+    → MayBeDealt kind may_answer place rec shards number
 
 -- the lists are a dealing of the records by the rule
-pub record IsDealing (kind : DealKind) (may_answer : ℕ → RecordValue → ℕ → ℕ → Type 0) (shards : ℕ) (records : List RecordValue) (lists : List (List RecordValue)) : Type 0 where
+pub record IsDealing (kind : DealKind) (may_answer : ℕ → RecordValue → ℕ → ℕ → Type 0) (shards : ℕ)
+    (records : List RecordValue) (lists : List (List RecordValue)) : Type 0 where
   pub numbers : List ℕ
   pub dealt : AreDealt shards records numbers lists
   pub ruled : FollowRule kind may_answer shards records numbers

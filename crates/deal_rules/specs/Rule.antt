@@ -20,7 +20,8 @@ pub record IsOfKind (kind : DealKind) (place : ℕ) (rec : RecordValue) (shards 
   pub source : kind ≡ BySource → number ≡ rec.src % shards
 
 -- a shard that a dealing may give a record: it follows the formula of the kind, and the stored function may return it
-pub record MayBeDealt (kind : DealKind) (may_answer : ℕ → RecordValue → ℕ → ℕ → Type 0) (place : ℕ) (rec : RecordValue) (shards number : ℕ) : Type 0 where
+pub record MayBeDealt (kind : DealKind) (may_answer : ℕ → RecordValue → ℕ → ℕ → Type 0) (place : ℕ)
+    (rec : RecordValue) (shards number : ℕ) : Type 0 where
   pub below : number < shards
   pub of_kind : IsOfKind kind place rec shards number
   pub answered : may_answer place rec shards number

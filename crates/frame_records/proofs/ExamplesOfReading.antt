@@ -35,7 +35,8 @@ records_of_an_untold_capture = record { frames = frames; few = omega arith; told
 
 pub empty_file_is_refused : HasRefused (Some []) 3 3 (Capture (fault_at ShortHeader 0))
 unfolding header_fault
-empty_file_is_refused = ([], inr (inl (record { none_shown = refl; short = omega arith; none_before = refl; is_fault = refl })))
+empty_file_is_refused =
+    ([], inr (inl (record { none_shown = refl; short = omega arith; none_before = refl; is_fault = refl })))
 
 pub fault_of_the_source_was_counted : HasRefused None 3 4 ReadFault
 fault_of_the_source_was_counted = omega arith
@@ -67,7 +68,8 @@ visitor_keeps_them = record { list = refl; frames = refl; not_ipv4 = refl; short
 pub short_frame_is_counted : with_skip Short records ≡ record records { short = 1 }
 short_frame_is_counted = refl
 
-pub after_another_packet : after_frame (record_of Packets plain) records ≡ record records { list = weighing 1 ∷ weighing 1 ∷ weighing 1 ∷ []; frames = 4 }
+pub after_another_packet : after_frame (record_of Packets plain) records
+    ≡ record records { list = weighing 1 ∷ weighing 1 ∷ weighing 1 ∷ []; frames = 4 }
 after_another_packet = refl
 
 pub after_a_bad_header : after_frame (Err BadHeader) records ≡ record records { frames = 4; bad_header = 1 }

@@ -1,7 +1,9 @@
 -- How the lines of a report are selected among the candidates of merged tables, which no public contract cites.
-use Rattle.std.specs.Prelude.{ℕ, ◌≡◌, ◌≢◌, ◌+◌, ◌-◌, ◌*◌, ◌<◌, ◌≤◌, ◌==◌, ◌↔◌, zero, suc, List, length, if◌then◌else◌, All, AllPairs, Contains, pos, ◌≤ℤ◌}
+use Rattle.std.specs.Prelude.{ℕ, ◌≡◌, ◌≢◌, ◌+◌, ◌-◌, ◌*◌, ◌<◌, ◌≤◌, ◌==◌, ◌↔◌, zero, suc, List, length}
+use Rattle.std.specs.Prelude.{if◌then◌else◌, All, AllPairs, Contains, pos, ◌≤ℤ◌}
 use Rattle.std.specs.declared.cmp.Ordering.TheVariants.{Less}
-use Rattle.prefix_lattice.specs.{NodeValue, IsNode, node_at, level_of, PrefixValue, IsPrefix, node_of, key_of, IsKeyOf, report_order}
+use Rattle.prefix_lattice.specs.{NodeValue, IsNode, node_at, level_of, PrefixValue, IsPrefix, node_of, key_of}
+use Rattle.prefix_lattice.specs.{IsKeyOf, report_order}
 use Rattle.cut_merge.specs.{MergedValue, interval_for, candidates_at}
 use Rattle.conditioned_bounds.specs.{bound_of}
 use Rattle.hhh_output.specs.declared.line.Line.{Line}
@@ -53,14 +55,17 @@ abbrev pub AreDistinct : List Line → Type 0
 AreDistinct lines = AllPairs (λ line other. line.prefix ≢ other.prefix) lines
 
 -- these lines are exactly those of a level that merged tables give over the reported lines, in the order of a report
-pub record AreOfLevel (merged : MergedValue) (threshold : ℕ) (reported : List PrefixValue) (level : ℕ) (found : List Line) : Type 0 where
-  pub members : (line : Line) → Contains found line ↔ ((level_of (node_of line.prefix) ≡ level) × IsSelected merged threshold reported line)
+pub record AreOfLevel (merged : MergedValue) (threshold : ℕ) (reported : List PrefixValue) (level : ℕ)
+    (found : List Line) : Type 0 where
+  pub members : (line : Line)
+      → Contains found line ↔ ((level_of (node_of line.prefix) ≡ level) × IsSelected merged threshold reported line)
   pub rising : AllPairs (λ line later. report_order line.prefix later.prefix ≡ Less) found
   pub few : length found ≤ nodes_before level 25 * most_candidates
 
 -- these lines are exactly those of this many levels, from level 8 down, that merged tables give over them
 pub record AreDownTo (merged : MergedValue) (threshold levels : ℕ) (lines : List Line) : Type 0 where
   pub above : (line : Line) → Contains lines line → 8 < level_of (node_of line.prefix) + levels
-  pub members : (line : Line) → 8 < level_of (node_of line.prefix) + levels → Contains lines line ↔ IsSelected merged threshold (prefixes_of lines) line
+  pub members : (line : Line) → 8 < level_of (node_of line.prefix) + levels
+      → Contains lines line ↔ IsSelected merged threshold (prefixes_of lines) line
   pub rising : AllPairs (λ line later. report_order line.prefix later.prefix ≡ Less) lines
   pub few : length lines ≤ nodes_down levels * most_candidates

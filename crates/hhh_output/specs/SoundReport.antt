@@ -1,7 +1,8 @@
 -- What a report says of the records themselves: eight tests over the plain lists, without tables or bounds.
 use Rattle.std.specs.Prelude.{ℕ, ◌≡◌, ◌+◌, ◌-◌, ◌*◌, ◌<◌, ◌≤◌, List, length, All, Contains}
 use Rattle.std.specs.List.{AllZip}
-use Rattle.prefix_lattice.specs.{RecordValue, PrefixValue, IsPrefix, weight_of, total_weight, conditioned_weight, closest, kept_pairs}
+use Rattle.prefix_lattice.specs.{RecordValue, PrefixValue, IsPrefix, weight_of, total_weight, conditioned_weight}
+use Rattle.prefix_lattice.specs.{closest, kept_pairs}
 use Rattle.shard_state.specs.{records_before}
 use Rattle.hhh_output.specs.declared.line.Line.{Line}
 use Rattle.hhh_output.specs.declared.report.Report.{Report}
@@ -32,6 +33,8 @@ pub record IsSound (report : Report) (lists : List (List RecordValue)) (capacity
   pub interval : All (HoldsWeight (records_before lists report.positions)) report.lines
   pub width : All (IsNarrow capacity report.total) report.lines
   pub heavy : All (λ line. report.threshold ≤ line.hi) report.lines
-  pub justified : All (IsJustified capacity report.threshold (prefixes_of report.lines) (records_before lists report.positions)) report.lines
+  pub justified : All
+      (IsJustified capacity report.threshold (prefixes_of report.lines) (records_before lists report.positions))
+      report.lines
   pub complete : (prefix : PrefixValue) → IsPrefix prefix → ¬ Contains (prefixes_of report.lines) prefix
       → conditioned_weight prefix (prefixes_of report.lines) (records_before lists report.positions) < report.threshold

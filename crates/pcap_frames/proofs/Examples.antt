@@ -1,14 +1,17 @@
 -- Worked examples of captures, of their headers and frames, and of first faults.
-use Rattle.std.proofs.Common.{inl, inr, ℕ, zero, suc, ◌≡◌, ◌<◌, ◌≤◌, true, false, List, [], ◌∷◌, ◌++◌, length, take, replicate, slice_index, Some, None, refl, arith}
+use Rattle.std.proofs.Common.{inl, inr, ℕ, zero, suc, ◌≡◌, ◌<◌, ◌≤◌, true, false, List, [], ◌∷◌, ◌++◌, length, take}
+use Rattle.std.proofs.Common.{replicate, slice_index, Some, None, refl, arith}
 use Rattle.pcap_frames.specs.declared.file_order.FileOrder.TheVariants.{Big, Little}
 use Rattle.pcap_frames.specs.declared.fault.CaptureFault.{CaptureFault}
-use Rattle.pcap_frames.specs.declared.fault.FaultKind.TheVariants.{ShortHeader, NotCapture, Version, Link, LongFrame, CutFrame, TooManyFrames}
+use Rattle.pcap_frames.specs.declared.fault.FaultKind.TheVariants.{ShortHeader, NotCapture, Version, Link}
+use Rattle.pcap_frames.specs.declared.fault.FaultKind.TheVariants.{LongFrame, CutFrame, TooManyFrames}
 use Rattle.pcap_frames.specs.declared.frame.Frame.{Frame}
 use Rattle.pcap_frames.specs.FileOrder.{number_at}
 use Rattle.pcap_frames.specs.Frame.{FrameValue, content_of}
 use Rattle.pcap_frames.specs.Header.{IsHeader, is_magic, magic_order, fields_fault, header_fault, fault_at}
 use Rattle.pcap_frames.specs.Frames.{frame_at, BeginsFrame, BeginsFrames, needed, frame_fault, IsFrame, AreFrames}
-use Rattle.pcap_frames.specs.Capture.{Splits, IsCapture, ShowsInHeader, ShowsInFrames, ShowsFault, EndsInHeader, EndsInFrame, EndsInside, HasFaultAfter, HasFault}
+use Rattle.pcap_frames.specs.Capture.{Splits, IsCapture, ShowsInHeader, ShowsInFrames, ShowsFault, EndsInHeader}
+use Rattle.pcap_frames.specs.Capture.{EndsInFrame, EndsInside, HasFaultAfter, HasFault}
 use Rattle.pcap_frames.proofs.CaptureLawLemmas.{files_decided}
 
 -- the header of a little-endian capture
@@ -91,7 +94,9 @@ unfolding number_at
 frame_at_the_front = refl
 
 -- of 45 captured bytes the head has 42
-pub head_of_a_greater_frame : frame_at Little (take 8 frame_bytes ++ 45 ∷ 0 ∷ 0 ∷ 0 ∷ 60 ∷ 0 ∷ 0 ∷ 0 ∷ replicate 45 7) ≡ record { head = replicate 42 7; captured = 45; original = 60 }
+pub head_of_a_greater_frame : frame_at Little
+    (take 8 frame_bytes ++ 45 ∷ 0 ∷ 0 ∷ 0 ∷ 60 ∷ 0 ∷ 0 ∷ 0 ∷ replicate 45 7)
+    ≡ record { head = replicate 42 7; captured = 45; original = 60 }
 unfolding number_at
 head_of_a_greater_frame = refl
 
@@ -146,10 +151,20 @@ pub header_alone : IsCapture header []
 header_alone = (Little, record { header = header_and_more [] (omega arith); begins = refl; limit = omega arith })
 
 pub header_a_frame_and_a_rest : Splits cut_file Little [] (take 18 frame_bytes)
-header_a_frame_and_a_rest = record { header = header_and_more (take 18 frame_bytes) (omega arith); begins = refl; limit = omega arith }
+header_a_frame_and_a_rest = record {
+  header = header_and_more (take 18 frame_bytes) (omega arith);
+  begins = refl;
+  limit = omega arith;
+}
 
 pub header_and_frame : IsCapture capture (frame ∷ [])
-header_and_frame = (Little, record { header = header_and_more frame_bytes (omega arith); begins = (whole_frame, refl); limit = omega arith })
+header_and_frame =
+    (Little,
+      record {
+        header = header_and_more frame_bytes (omega arith);
+        begins = (whole_frame, refl);
+        limit = omega arith;
+      })
 
 pub empty_header : EndsInHeader [] [] (fault_at ShortHeader 0)
 unfolding header_fault
@@ -199,7 +214,8 @@ pub fault_of_a_cut_file : HasFaultAfter cut_file [] (fault_at CutFrame 24)
 fault_of_a_cut_file = inr (inr cut_frame)
 
 pub cut_file_is_no_capture : (frames : List FrameValue) → IsCapture cut_file frames → ⊥
-cut_file_is_no_capture frames is = files_decided.never_both cut_file frames (fault_at CutFrame 24) is ([], fault_of_a_cut_file)
+cut_file_is_no_capture frames is =
+    files_decided.never_both cut_file frames (fault_at CutFrame 24) is ([], fault_of_a_cut_file)
 
 pub capture_has_no_fault : (fault : CaptureFault) → HasFault capture fault → ⊥
 capture_has_no_fault fault = files_decided.never_both capture (frame ∷ []) fault header_and_frame
@@ -227,5 +243,6 @@ long_frame = (frame ∷ [], inl (inr long_frame_behind_another))
 
 -- ---- what a visitor is shown
 
-pub content_of_a_frame : (shown : Frame) → shown.head.now ≡ 7 ∷ 8 ∷ 9 ∷ [] → shown.captured ≡ 3 → shown.original ≡ 100 → content_of shown ≡ frame
+pub content_of_a_frame : (shown : Frame) → shown.head.now ≡ 7 ∷ 8 ∷ 9 ∷ [] → shown.captured ≡ 3
+    → shown.original ≡ 100 → content_of shown ≡ frame
 content_of_a_frame shown head captured original = cc

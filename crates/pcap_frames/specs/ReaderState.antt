@@ -62,4 +62,5 @@ HasStopped LacksMemory = ⊤
 
 -- whatever bytes the reader represented, it now represents them followed by these bytes, which complete these frames
 pub record Advances (old new : ReaderState) (bytes : List ℕ) (given : List FrameValue) : Type 0 where
-  pub reads : (before : List ℕ) (frames : List FrameValue) → ReaderStandsFor old before frames → ReaderStandsFor new (before ++ bytes) (frames ++ given)
+  pub reads : (before : List ℕ) (frames : List FrameValue) → ReaderStandsFor old before frames
+      → ReaderStandsFor new (before ++ bytes) (frames ++ given)

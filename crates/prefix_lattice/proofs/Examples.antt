@@ -3,9 +3,11 @@ use Rattle.std.proofs.Common.{◌≡◌, ℕ, ◌<◌, zero, suc, [], ◌∷◌,
 use Rattle.std.specs.declared.cmp.Ordering.TheVariants.{Less, Equal, Greater}
 use Rattle.prefix_lattice.specs.Record.{RecordValue}
 use Rattle.prefix_lattice.specs.Node.{NodeValue, IsNode, index_of, node_at, level_of}
-use Rattle.prefix_lattice.specs.Prefix.{IsKeyOf, HasKey, PrefixValue, IsPrefix, covers, weight_of, total_weight, node_of, prefix_at, key_of}
+use Rattle.prefix_lattice.specs.Prefix.{IsKeyOf, HasKey, PrefixValue, IsPrefix, covers, weight_of, total_weight}
+use Rattle.prefix_lattice.specs.Prefix.{node_of, prefix_at, key_of}
 use Rattle.prefix_lattice.specs.KeptBytes.{digits, number_from, address_bytes, address_of, begins_with, AreLeadingBytes}
-use Rattle.prefix_lattice.specs.Lattice.{under, same_prefix, strictly_under, longer_side, prefix_of_sides, meet, ShareAddresses, report_order}
+use Rattle.prefix_lattice.specs.Lattice.{under, same_prefix, strictly_under, longer_side, prefix_of_sides, meet}
+use Rattle.prefix_lattice.specs.Lattice.{ShareAddresses, report_order}
 use Rattle.prefix_lattice.proofs.MeetLemmas.{meet-some}
 
 -- 100 bytes from 10.1.2.3 to 20.1.2.3
@@ -190,7 +192,13 @@ other_sources_do_not_meet = refl
 
 -- both cover the packet's pair of addresses
 pub addresses_are_shared : ShareAddresses from_ten to_twenty
-addresses_are_shared = record { pair = packet; is_source = omega arith; is_dest = omega arith; covered = refl; covered_by_other = refl }
+addresses_are_shared = record {
+  pair = packet;
+  is_source = omega arith;
+  is_dest = omega arith;
+  covered = refl;
+  covered_by_other = refl;
+}
 
 pub no_address_is_shared : ShareAddresses from_ten from_eleven → ⊥
 no_address_is_shared shares =

@@ -1,5 +1,6 @@
 -- The text of a prefix: how it is spelled, and what is wrong with a text that spells no prefix.
-use Rattle.std.specs.Prelude.{ℕ, ◌≡◌, ◌≢◌, ◌-◌, ◌*◌, ◌^◌, ◌%◌, ◌<◌, ◌≤◌, ◌⊎◌, ◌==◌, List, ◌∷◌, ◌++◌, length, map, decimal, ◌+◌, take, drop}
+use Rattle.std.specs.Prelude.{ℕ, ◌≡◌, ◌≢◌, ◌-◌, ◌*◌, ◌^◌, ◌%◌, ◌<◌, ◌≤◌, ◌⊎◌, ◌==◌, List, ◌∷◌, ◌++◌, length, map}
+use Rattle.std.specs.Prelude.{decimal, ◌+◌, take, drop}
 use Rattle.std.specs.List.{join_with_byte, before_first, after_first}
 use Rattle.prefix_lattice.specs.KeptBytes.{address_bytes, address_of, AreLeadingBytes, address_length}
 use Rattle.prefix_lattice.specs.Prefix.{PrefixValue}
@@ -83,7 +84,8 @@ pub record SpellsPrefix (source_text dest_text : List ℕ) (prefix : PrefixValue
 
 -- what is wrong with the two texts: the source is checked completely before the destination
 abbrev pub HasPrefixFault : List ℕ → List ℕ → PrefixFault → Type 0
-HasPrefixFault source dest fault = HasSideFault Source source fault ⊎ (((front : List ℕ) × SpellsSide source front) × HasSideFault Dest dest fault)
+HasPrefixFault source dest fault =
+    HasSideFault Source source fault ⊎ (((front : List ℕ) × SpellsSide source front) × HasSideFault Dest dest fault)
 
 -- this part was written from this offset on, and other bytes are unchanged
 pub record WritesPart (old new : List ℕ) (start end : ℕ) (part : List ℕ) : Type 0 where

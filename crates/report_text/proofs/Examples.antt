@@ -9,7 +9,8 @@ use Rattle.frame_records.specs.declared.records.Records.{Records}
 use Rattle.hhh_output.specs.declared.line.Line.{Line}
 use Rattle.hhh_output.specs.declared.report.Report.{Report}
 use Rattle.report_text.specs.declared.mark.Mark.TheVariants.{Opened, Saved}
-use Rattle.report_text.specs.ReportText.{ArePositions, IsTold, IsTellable, text_line, number_line, positions_line, mark_name, line_text, lines_text, mark_text, report_text, tail_text}
+use Rattle.report_text.specs.ReportText.{ArePositions, IsTold, IsTellable, text_line, number_line, positions_line}
+use Rattle.report_text.specs.ReportText.{mark_name, line_text, lines_text, mark_text, report_text, tail_text}
 use Rattle.report_text.proofs.OrderedListLemmas.{one_line_in_order}
 
 -- 100 bytes from 10.1.2.3 to 20.1.2.3
@@ -45,11 +46,14 @@ pub positions_of_three_shards : ArePositions (0 ∷ 7 ∷ 16777216 ∷ [])
 positions_of_three_shards = record {
   some = omega arith;
   few = omega arith;
-  within = All-from_recursion (λ (position : ℕ). position ≤ 16777216) (0 ∷ 7 ∷ 16777216 ∷ []) (omega arith, (omega arith, (omega arith, tt)));
+  within =
+      All-from_recursion (λ (position : ℕ). position ≤ 16777216) (0 ∷ 7 ∷ 16777216 ∷ [])
+        (omega arith, (omega arith, (omega arith, tt)));
 }
 
 pub no_position_is_past_the_frames_of_a_capture : ¬ ArePositions (16777217 ∷ [])
-no_position_is_past_the_frames_of_a_capture are = let most : 16777217 ≤ 16777216 = are.within 0 0 (omega arith) in omega (arith, most)
+no_position_is_past_the_frames_of_a_capture are =
+    let most : 16777217 ≤ 16777216 = are.within 0 0 (omega arith) in omega (arith, most)
 
 pub no_shard_is_none : ¬ ArePositions []
 no_shard_is_none are = omega (arith, are.some)
@@ -65,20 +69,31 @@ pub text_of_a_saved_shard : mark_text Saved (1 ∷ []) ≡ codes "saved 1\n"
 unfolding digits
 text_of_a_saved_shard = refl
 
-pub text_of_two_lines : lines_text (line ∷ wide ∷ []) ≡ codes "line 10.1.2.3/32 20.1.2.3/32 100 100\nline 10.0.0.0/8 0.0.0.0/0 60 100\n"
+pub text_of_two_lines : lines_text (line ∷ wide ∷ [])
+    ≡ codes "line 10.1.2.3/32 20.1.2.3/32 100 100\nline 10.0.0.0/8 0.0.0.0/0 60 100\n"
 unfolding digits
 text_of_two_lines = refl
 
 -- what is reported of one record of one shard, where every prefix that carries weight is heavy
 abbrev report : Report
-report = record { positions = 1 ∷ []; total = 100; threshold = 1; lines = line ∷ []; are_lines = one_line_in_order line (omega arith) }
+report = record {
+  positions = 1 ∷ [];
+  total = 100;
+  threshold = 1;
+  lines = line ∷ [];
+  are_lines = one_line_in_order line (omega arith);
+}
 
-pub text_of_a_report : report_text report ≡ codes "report\nat 1\ntotal 100\nthreshold 1\nline 10.1.2.3/32 20.1.2.3/32 100 100\ndone\n"
+pub text_of_a_report : report_text report
+    ≡ codes "report\nat 1\ntotal 100\nthreshold 1\nline 10.1.2.3/32 20.1.2.3/32 100 100\ndone\n"
 unfolding digits
 text_of_a_report = refl
 
 line_names_a_prefix : IsPrefix line.prefix
-line_names_a_prefix = record { source = record { few = omega arith; bytes = source }; dest = record { few = omega arith; bytes = dest } }
+line_names_a_prefix = record {
+  source = record { few = omega arith; bytes = source };
+  dest = record { few = omega arith; bytes = dest };
+}
   where
     source : (place : ℕ) → slice_index (10 ∷ 1 ∷ 2 ∷ 3 ∷ []) place < 256
     source zero = omega arith
@@ -106,7 +121,9 @@ line_of_a_number_that_is_too_great told = omega (arith, told.high)
 
 pub report_that_can_be_told : IsTellable report
 report_that_can_be_told = record {
-  positions = All-cons (λ (position : ℕ). position < 2 ^ 64) 1 [] (omega arith) (All-nil (λ (position : ℕ). position < 2 ^ 64));
+  positions =
+      All-cons (λ (position : ℕ). position < 2 ^ 64) 1 [] (omega arith)
+        (All-nil (λ (position : ℕ). position < 2 ^ 64));
   total = omega arith;
   threshold = omega arith;
   lines = All-cons IsTold line [] line_of_a_prefix_and_two_numbers (All-nil IsTold);

@@ -4,7 +4,9 @@ use Rattle.std.proofs.lemmas.List.Elements.{All-from_recursion}
 use Rattle.shard_state.specs.Snapshot.{empty_snapshot, SnapshotStandsFor}
 use Rattle.shard_state.specs.Cut.{empty_cut}
 use Rattle.shard_state.specs.ShardState.{ShardValue, IsShard, folded, snapshot_of}
-use Rattle.shard_state.specs.ShardCore.{CoreValue, changed, with_read, after, run, capacity_of, AreShards, IsCore, HasShape, IsEventFor, position_in, met, reads_of, last_of, NeverFall, latest, shard_in, snapshot_in, lists_of, BasesStand, ReadsEach}
+use Rattle.shard_state.specs.ShardCore.{CoreValue, changed, with_read, after, run, capacity_of, AreShards, IsCore}
+use Rattle.shard_state.specs.ShardCore.{HasShape, IsEventFor, position_in, met, reads_of, last_of, NeverFall}
+use Rattle.shard_state.specs.ShardCore.{latest, shard_in, snapshot_in, lists_of, BasesStand, ReadsEach}
 use Rattle.shard_state.specs.declared.event.Event.{Event}
 use Rattle.shard_state.specs.declared.event.Event.TheVariants.{Fold, Read}
 use Rattle.shard_state.proofs.RepresentationLemmas.{stands-empty}
@@ -49,7 +51,11 @@ pub capacity_of_the_core : capacity_of core.shards ≡ 4
 capacity_of_the_core = refl
 
 pub one_shard_is_some : AreShards core.shards
-one_shard_is_some = record { some = omega arith; few = omega arith; alike = All-from_recursion (λ (s : ShardValue). s.base.capacity ≡ 4) core.shards (refl, tt) }
+one_shard_is_some = record {
+  some = omega arith;
+  few = omega arith;
+  alike = All-from_recursion (λ (s : ShardValue). s.base.capacity ≡ 4) core.shards (refl, tt);
+}
 
 pub core_of_one_shard : IsCore core.shards
 core_of_one_shard = record { are_shards = one_shard_is_some; kept = All-from_recursion IsShard core.shards (begun_shard, tt) }

@@ -2,7 +2,10 @@
 use Rattle.std.proofs.Common.{◌≡◌, ◌≤◌, ℕ, List, [], ◌∷◌, None, Some, refl, lit<, arith}
 use Rattle.std.proofs.lemmas.List.Elements.{All-from_recursion, All-head}
 use Rattle.space_saving.specs.declared.entry.Entry.{Entry}
-use Rattle.space_saving.specs.Table.{Add, TableValue, Interval, put, entry_of, without, replace_head, enter, step_from, step, table_of, total_count, least_count, interval_from, interval_in, interval_after, weight_of_key, total_added, RisesFrom, AreApart, HasSmallError, IsTable, AreEntries, IsKept, AreWeighed}
+use Rattle.space_saving.specs.Table.{Add, TableValue, Interval, put, entry_of, without, replace_head, enter}
+use Rattle.space_saving.specs.Table.{step_from, step, table_of, total_count, least_count, interval_from}
+use Rattle.space_saving.specs.Table.{interval_in, interval_after, weight_of_key, total_added, RisesFrom, AreApart}
+use Rattle.space_saving.specs.Table.{HasSmallError, IsTable, AreEntries, IsKept, AreWeighed}
 use Rattle.space_saving.specs.Places.{IsPlaceOf}
 
 -- this weight for this key
@@ -160,7 +163,8 @@ full_table_is_one = record {
   fits = omega arith;
   ascending = (omega arith, (omega arith, tt));
   distinct = keys_apart;
-  small_errors = All-from_recursion (HasSmallError 2 9) entries (error_within_its_share, ((omega arith, omega arith), tt));
+  small_errors =
+      All-from_recursion (HasSmallError 2 9) entries (error_within_its_share, ((omega arith, omega arith), tt));
 }
 
 pub too_many_entries : IsTable 1 entries → ⊥
@@ -175,7 +179,13 @@ total_at_the_limit are = omega (arith, are.bounded)
 
 -- memory for four entries serves a table of two
 pub full_table_is_kept : IsKept 2 4 9 entries
-full_table_is_kept = record { least = omega arith; most = omega arith; has_room = omega arith; adds_up = refl; are_entries = entries_of_the_full_table }
+full_table_is_kept = record {
+  least = omega arith;
+  most = omega arith;
+  has_room = omega arith;
+  adds_up = refl;
+  are_entries = entries_of_the_full_table;
+}
 
 pub too_little_memory : IsKept 2 1 9 entries → ⊥
 too_little_memory kept = omega (arith, kept.has_room)

@@ -8,4 +8,5 @@ returns-in_err-rest-clause-err g c =
     rw (p.1) (begun g.V.FrameVisitor.stands_for _ _ _ _ _ _ _ c.loop-rest.invariant c.in_err-rest.ensures.err)
 
 pub loop-rest-preserved : goal.loop-rest-preserved
-loop-rest-preserved g c = more_fed g.V.FrameVisitor.stands_for _ _ _ _ _ _ _ _ _ c.loop-rest.invariant c.in_ok-rest.ensures.ok
+loop-rest-preserved g c =
+    more_fed g.V.FrameVisitor.stands_for _ _ _ _ _ _ _ _ _ c.loop-rest.invariant c.in_ok-rest.ensures.ok
