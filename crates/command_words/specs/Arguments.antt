@@ -39,7 +39,7 @@ abbrev pub Spells : List Text → Argument → Type 0
 Spells words (positional text) = IsValue text × (words ≡ text ∷ [])
 Spells words (option name value) =
     IsName name × IsValue value
-      × ((words ≡ long name ∷ value ∷ []) ⊎ (words ≡ (long name ++ equals_sign ∷ value) ∷ []))
+    × ((words ≡ long name ∷ value ∷ []) ⊎ (words ≡ (long name ++ equals_sign ∷ value) ∷ []))
 
 -- the first words spell this argument, and the others follow
 pub record Begins (words : List Text) (argument : Argument) (others : List Text) : Type 0 where

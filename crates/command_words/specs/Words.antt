@@ -57,7 +57,7 @@ IsLimited (command.Report settings) = AreLimited settings × IsWide settings
 abbrev pub HasGoodPositionals : CommandWord → List Argument → Type 0
 HasGoodPositionals Weigh arguments =
     (source : Text) × (dest : Text) × HasSides arguments source dest
-      × ((prefix : PrefixValue) × SpellsPrefix source dest prefix)
+    × ((prefix : PrefixValue) × SpellsPrefix source dest prefix)
 HasGoodPositionals Report arguments = ⊤
 
 -- the positionals of `weigh` have this fault
@@ -105,10 +105,10 @@ abbrev pub HasWordsFault : List Text → WordsKind → Type 0
 HasWordsFault words NoCommand = words ≡ []
 HasWordsFault words UnknownCommand =
     (first : Text) × (behind : List Text) × (words ≡ first ∷ behind)
-      × ((command : CommandWord) → first ≢ word_of command)
+    × ((command : CommandWord) → first ≢ word_of command)
 HasWordsFault words Refused =
     (command : CommandWord) × (behind : List Text) × (words ≡ word_of command ∷ behind)
-      × ((arguments : List Argument) → AreWellFormed (form_of command) behind arguments → ⊥)
+    × ((arguments : List Argument) → AreWellFormed (form_of command) behind arguments → ⊥)
 HasWordsFault words (BadPrefix fault) = HasBadPrefix words fault
 HasWordsFault words (BadNumber opt) = HasBadValue words (BadNumber opt)
 HasWordsFault words (OutOfLimits opt) = HasBadValue words (OutOfLimits opt)

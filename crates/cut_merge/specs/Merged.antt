@@ -1,9 +1,9 @@
 -- The tables of a cut, merged.
-use Rattle.std.specs.Prelude.{ℕ, List, ◌≡◌, ◌+◌, ◌^◌, ◌<◌, [], length, slice_index_or, ◌==◌, ◌-◌, ◌≤◌, ◌∷◌, ◌++◌}
+use Rattle.std.specs.Prelude.{ℕ, List, ◌≡◌, ◌+◌, ◌<◌, [], length, slice_index_or, ◌==◌, ◌-◌, ◌≤◌, ◌∷◌, ◌++◌}
 use Rattle.std.specs.Prelude.{Option, None, Some, fold, if◌then◌else◌}
 use Rattle.cut_merge.specs.NodeMerge.{NodeMergeValue, gain_of, no_gain}
 use Rattle.std.specs.Map.{keys_of}
-use Rattle.prefix_lattice.specs.{NodeValue, IsNode, index_of, PrefixValue, IsPrefix, node_of, key_of, node_count}
+use Rattle.prefix_lattice.specs.{NodeValue, IsNode, index_of, PrefixValue, IsPrefix, node_of, key_of, node_count, total_limit}
 use Rattle.space_saving.specs.{Interval, TableValue, entry_of, interval_in, interval_from, total_count}
 use Rattle.shard_state.specs.{CutValue, total_of_cut}
 use Rattle.cut_merge.specs.Span.{span, monitored_at, IsWithinTotal}
@@ -52,7 +52,7 @@ pub record StandsForCut (merged : MergedValue) (cut : CutValue) : Type 0 where
 
 -- what always holds of merged tables: there are 25 nodes, and no interval is above the total, which is below 2^60
 pub record IsMerged (merged : MergedValue) : Type 0 where
-  pub bounded : merged.total < 2 ^ 60
+  pub bounded : merged.total < total_limit
   pub shape : length merged.nodes ≡ node_count
   pub intervals : (place key : ℕ)
       → IsWithinTotal merged.total (interval_for_key (slice_index_or merged.nodes place nothing_merged) key)

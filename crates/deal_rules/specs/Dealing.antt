@@ -1,7 +1,7 @@
 -- Dealing: one shard number for each record, and each shard's records in their order.
-use Rattle.std.specs.Prelude.{ℕ, ◌≡◌, ◌<◌, ◌≤◌, ◌^◌, ◌==◌, List, length, map, filter, All, slice_get, Some}
+use Rattle.std.specs.Prelude.{ℕ, ◌≡◌, ◌<◌, ◌≤◌, ◌==◌, List, length, map, filter, All, slice_get, Some}
 use Rattle.std.specs.List.{zip, range_with_len, sum_by}
-use Rattle.prefix_lattice.specs.{RecordValue}
+use Rattle.prefix_lattice.specs.{RecordValue, most_records, most_shards}
 use Rattle.deal_rules.specs.declared.deal_kind.DealKind.{DealKind}
 use Rattle.deal_rules.specs.Rule.{MayBeDealt}
 
@@ -9,7 +9,7 @@ use Rattle.deal_rules.specs.Rule.{MayBeDealt}
 abbrev pub dealt_list : ℕ → List ℕ → List RecordValue → List RecordValue
 dealt_list shard numbers records =
     map (λ (dealt : ℕ × RecordValue). dealt.1)
-      (filter (λ (dealt : ℕ × RecordValue). dealt.0 == shard) (zip numbers records))
+    (filter (λ (dealt : ℕ × RecordValue). dealt.0 == shard) (zip numbers records))
 
 -- the lists of all shards, from shard 0 on
 abbrev pub dealt_lists : ℕ → List ℕ → List RecordValue → List (List RecordValue)
@@ -38,5 +38,5 @@ pub record IsDealing (kind : DealKind) (may_answer : ℕ → RecordValue → ℕ
 -- the lists of 1 to 16 shards, with at most 16,777,216 records in all
 pub record AreShardLists (lists : List (List RecordValue)) : Type 0 where
   pub some : 1 ≤ length lists
-  pub few : length lists ≤ 16
-  pub small : sum_by (λ list. length list) lists ≤ 2 ^ 24
+  pub few : length lists ≤ most_shards
+  pub small : sum_by (λ list. length list) lists ≤ most_records

@@ -16,7 +16,7 @@ use Rattle.frame_records.specs.declared.skip.Skip.TheVariants.{NotIpv4, Short, B
 abbrev pub has_tag_at : ℕ → FrameValue → Bool
 has_tag_at place frame =
     nat_le (place + 2) frame.captured
-      && (big_from place 2 frame.head == 0x8100 || big_from place 2 frame.head == 0x88a8)
+    && (big_from place 2 frame.head == 0x8100 || big_from place 2 frame.head == 0x88a8)
 
 -- how many bytes of tags precede the type of the frame: a third tag counts as its type
 abbrev pub tag_bytes : FrameValue → ℕ

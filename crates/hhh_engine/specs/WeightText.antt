@@ -14,7 +14,7 @@ weigh_capacity = 64
 abbrev pub weigh_text : ℕ → ℕ → ℕ → List ℕ
 weigh_text low high total =
     codes "low " ++ decimal low ++ codes "\nhigh " ++ decimal high ++ codes "\ntotal " ++ decimal total
-      ++ codes "\n"
+    ++ codes "\n"
 
 -- what is written for a prefix and some records
 abbrev pub text_for : PrefixValue → List RecordValue → List ℕ

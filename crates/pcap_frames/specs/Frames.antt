@@ -36,7 +36,7 @@ BeginsFrames order bytes (frame ∷ frames) rest =
 unfoldable pub needed : FileOrder → List ℕ → ℕ
 needed order bytes =
     if nat_lt (length bytes) frame_header_length then frame_header_length else frame_header_length
-      + number_at order 4 8 bytes
+    + number_at order 4 8 bytes
 
 -- the first fault that a rest shows after this many frames, however the file continues; its offset is that of the rest
 unfoldable pub frame_fault : FileOrder → ℕ → ℕ → List ℕ → Option CaptureFault

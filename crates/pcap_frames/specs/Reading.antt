@@ -78,7 +78,7 @@ IsSeen stands_for seen saw left now (Err OutOfMemory) = SeesPart stands_for seen
 abbrev pub IsReadOf : List ℕ → Result ℕ ReadRefusal → Type 0
 IsReadOf file (Ok count) =
     ((frames : List FrameValue) × IsCapture file frames × (length frames ≡ count))
-      × ((fault : CaptureFault) → HasFault file fault → ⊥)
+    × ((fault : CaptureFault) → HasFault file fault → ⊥)
 IsReadOf file (Err (Capture fault)) = HasFault file fault × ((frames : List FrameValue) → IsCapture file frames → ⊥)
 IsReadOf file (Err ReadFault) = ⊤
 IsReadOf file (Err OutOfMemory) = ⊤

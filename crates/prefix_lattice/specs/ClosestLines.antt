@@ -18,7 +18,7 @@ one_covers lines rec = list_any (λ line. covers line rec) lines
 abbrev pub conditioned_weight : PrefixValue → List PrefixValue → List RecordValue → ℕ
 conditioned_weight prefix lines records =
     sum_by (λ rec. rec.weight)
-      (filter (λ rec. covers prefix rec && not (one_covers (lines_under prefix lines) rec)) records)
+    (filter (λ rec. covers prefix rec && not (one_covers (lines_under prefix lines) rec)) records)
 
 -- the members that are strictly under no other member
 abbrev pub greatest : List PrefixValue → List PrefixValue

@@ -37,6 +37,10 @@ space = 32
 abbrev pub prefix_text : PrefixValue → List ℕ
 prefix_text prefix = side_text prefix.source ++ space ∷ side_text prefix.dest
 
+-- the most bytes of the text of a prefix: two sides of 18, as `255.255.255.255/32`, and a space
+abbrev pub longest_prefix_text : ℕ
+longest_prefix_text = 37
+
 -- the part of a text before its first space
 abbrev pub source_part : List ℕ → List ℕ
 source_part text = before_first (λ byte. byte == space) text

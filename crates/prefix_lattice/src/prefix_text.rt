@@ -3,6 +3,7 @@
 ghost use Rattle.std.specs.Prelude.{◌≡◌, ◌≢◌, ◌==◌, ◌<◌, ◌≤◌, ◌*◌, ◌^◌, ◌++◌, ◌∷◌, ℕ, length, position, decimal, IfSome, IfNone, IfOk, IfErr};
 ghost use Rattle.std.specs.List.{before_first};
 ghost use Rattle.prefix_lattice.specs.PrefixText.{address_text, SpellsSide, HasSideFault};
+ghost use Rattle.prefix_lattice.specs.KeptBytes.{address_length};
 
 use crate::kept_bytes::KeptBytes;
 use crate::{PrefixFault, Side, number_of};
@@ -83,8 +84,8 @@ fn byte_of(text: &[u8]) -> Option<u8>
 
 // How many bytes a length in bits keeps, if it is 0, 8, 16, 24 or 32.
 fn kept_by(text: &[u8]) -> Option<u8>
-    ensures some { IfSome result (λ bytes. (bytes ≤ 4) × (text.now ≡ decimal (8 * bytes))) }
-    ensures none { IfNone result ((bytes : ℕ) → bytes ≤ 4 → text.now ≢ decimal (8 * bytes)) }
+    ensures some { IfSome result (λ bytes. (bytes ≤ address_length) × (text.now ≡ decimal (8 * bytes))) }
+    ensures none { IfNone result ((bytes : ℕ) → bytes ≤ address_length → text.now ≢ decimal (8 * bytes)) }
 {
     let Some(bits) = number_of(text) else {
         return None

@@ -3,8 +3,10 @@ pub mod Cut
 pub mod ShardState
 pub mod Weights
 pub mod ShardCore
+-- passed on: the limits of the tables of a shard
+pub use Rattle.space_saving.specs.{least_capacity, most_capacity}
 -- the face: what contracts of other crates cite
-pub use Rattle.shard_state.specs.Cut.{CutStandsFor, CutValue, IsCut, positions_of, records_before, total_of_cut}
+pub use Rattle.shard_state.specs.Cut.{CutStandsFor, CutValue, IsCut, most_snapshots, positions_of, records_before, total_of_cut}
 pub use Rattle.shard_state.specs.ShardCore.{BasesStand, CoreValue, HasShape, IsCore, ReadsEach, capacity_of, lists_of, run}
 pub use Rattle.shard_state.specs.ShardState.{ShardValue, snapshot_of}
 pub use Rattle.shard_state.specs.Snapshot.{IsSnapshot, SnapshotStandsFor, SnapshotValue, empty_snapshot, entries_at, fold_from, records_table, table_at, total_of}

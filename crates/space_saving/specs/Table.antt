@@ -115,15 +115,27 @@ pub record IsTable (capacity : ℕ) (entries : List Entry) : Type 0 where
   pub distinct : AreApart entries
   pub small_errors : All (HasSmallError capacity (total_count entries)) entries
 
+-- the least capacity of a table
+abbrev pub least_capacity : ℕ
+least_capacity = 2
+
+-- the greatest capacity of a table
+abbrev pub most_capacity : ℕ
+most_capacity = 4096
+
+-- no table's total reaches this: it counts at most 2^24 adds, and each weighs less than 2^32
+abbrev pub table_limit : ℕ
+table_limit = 2 ^ 56
+
 -- the entries of a table of this capacity whose counts add up to less than 2^56
 pub record AreEntries (capacity : ℕ) (entries : List Entry) : Type 0 where
   pub is_table : IsTable capacity entries
-  pub bounded : total_count entries < 2 ^ 56
+  pub bounded : total_count entries < table_limit
 
 -- what always holds of a table: its capacity is allowed, its memory has room for it, its total is the sum of the counts
 pub record IsKept (capacity room total : ℕ) (entries : List Entry) : Type 0 where
-  pub least : 2 ≤ capacity
-  pub most : capacity ≤ 4096
+  pub least : least_capacity ≤ capacity
+  pub most : capacity ≤ most_capacity
   pub has_room : capacity ≤ room
   pub adds_up : total ≡ total_count entries
   pub are_entries : AreEntries capacity entries
