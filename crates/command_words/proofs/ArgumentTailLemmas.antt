@@ -46,9 +46,10 @@ names_by_name (option other value) rest name is = let same : other ≡ name = cc
 pub same_names : (argument : Argument) (rest : List Argument) (name : Text) → (option_name argument ≡ Some name → ⊥)
     → Contains (names_in (argument ∷ rest)) name ↔ Contains (names_in rest) name
 same_names (positional text) rest name other = (λ h. h, λ h. h)
-same_names (option first value) rest name other =
-    (contains_other first name (names_in rest) (λ same. other (ap Some same)),
-      Contains-append_right (first ∷ []) (names_in rest) name)
+same_names (option first value) rest name other = (
+  contains_other first name (names_in rest) (λ same. other (ap Some same)),
+  Contains-append_right (first ∷ []) (names_in rest) name,
+)
 
 -- the rest of some arguments, which the words spell, and in which a name stands just where it stands in all of them
 pub record LeavesNames (words : List Text) (arguments : List Argument) (name : Text) : Type 0 where
@@ -84,7 +85,7 @@ pub stands_here : (words others : List Text) (argument : Argument) (arguments : 
 stands_here words others argument arguments name begins is leaves =
     let behind = follow words others argument leaves.rest begins leaves.spelled in
     leaves.same.1 (subst (λ names. Contains names name)
-      (sym (ap names_in behind.are ∙ names_by_name argument behind.rest name is)) (0, omega arith, refl))
+    (sym (ap names_in behind.are ∙ names_by_name argument behind.rest name is)) (0, omega arith, refl))
 
 -- and nowhere once no argument is left
 pub stands_nowhere : (words : List Text) (arguments : List Argument) (name : Text)
@@ -92,17 +93,17 @@ pub stands_nowhere : (words : List Text) (arguments : List Argument) (name : Tex
     → LeavesNames words arguments name → Contains (names_in arguments) name → ⊥
 stands_nowhere words arguments name never leaves h =
     let none =
-      subst (λ rest. Contains (names_in rest) name) (none_spelled words leaves.rest never leaves.spelled)
-        (leaves.same.0 h) in
+    subst (λ rest. Contains (names_in rest) name) (none_spelled words leaves.rest never leaves.spelled)
+    (leaves.same.0 h) in
     omega (arith, none.1)
 
 -- the argument at the front of the words from a place on, in the form that a range has, begins those words
 pub begins_from : (words : List (Bor Text)) (from step : ℕ) (found : Option Text)
     → (argument : Argument)
-      × Begins (texts (take (length words - from) (drop from words))) argument
-        (texts (drop step (take (length words - from) (drop from words)))) × (found ≡ option_name argument)
+    × Begins (texts (take (length words - from) (drop from words))) argument
+    (texts (drop step (take (length words - from) (drop from words)))) × (found ≡ option_name argument)
     → (argument : Argument) × Begins (texts (drop from words)) argument (texts (drop (from + step) words))
-      × (found ≡ option_name argument)
+    × (found ≡ option_name argument)
 begins_from words from step found (argument, begins, is) = (
   argument,
   subst (λ ws. Begins (texts (drop from words)) argument (texts ws)) (drop-drop step from words)
@@ -113,7 +114,7 @@ begins_from words from step found (argument, begins, is) = (
 -- and where none stands there, none begins them
 pub none_from : (words : List (Bor Text)) (from : ℕ)
     → ((argument : Argument) (others : List Text)
-      → Begins (texts (take (length words - from) (drop from words))) argument others → ⊥)
+    → Begins (texts (take (length words - from) (drop from words))) argument others → ⊥)
     → (argument : Argument) (others : List Text) → Begins (texts (drop from words)) argument others → ⊥
 none_from words from never argument others begins =
     never argument others (subst (λ ws. Begins (texts ws) argument others) (sym (take_rest words from)) begins)
@@ -121,9 +122,9 @@ none_from words from never argument others begins =
 -- the argument at the front of all the words, with those behind it in the form that a range has
 pub begins_range : (words : List (Bor Text)) (step : ℕ) (found : Option Text)
     → (argument : Argument) × Begins (texts words) argument (texts (drop step words))
-      × (found ≡ option_name argument)
+    × (found ≡ option_name argument)
     → (argument : Argument) × Begins (texts words) argument (texts (take (length words - step) (drop step words)))
-      × (found ≡ option_name argument)
+    × (found ≡ option_name argument)
 begins_range words step found (argument, begins, is) =
     (argument, subst (λ ws. Begins (texts words) argument (texts ws)) (sym (take_rest words step)) begins, is)
 

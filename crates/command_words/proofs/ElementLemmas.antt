@@ -22,14 +22,14 @@ among texts text = (
       let at = Any-from_list_any (λ other. bytes_eq other text) texts found in
       subst (λ other. Contains texts other) ((bytes_eq-Decides at.1 text).0 at.4) (at.0, at.2, at.3),
   λ h.
-    list_any-from_Any (λ other. bytes_eq other text) texts
+      list_any-from_Any (λ other. bytes_eq other text) texts
       (h.0, text, h.1, h.2, (bytes_eq-Decides text text).1 refl),
 )
 
 -- so does one among texts behind references
 any_behind : (names : List (Bor (List ℕ))) (text : List ℕ)
     → list_any (λ name. bytes_eq name.now text) names
-      ≡ list_any (λ other. bytes_eq other text) (map (λ name. name.now) names)
+    ≡ list_any (λ other. bytes_eq other text) (map (λ name. name.now) names)
 any_behind [] text = refl
 any_behind (name ∷ names) text = ap (λ rest. bytes_eq name.now text || rest) (any_behind names text)
 
@@ -39,8 +39,8 @@ pub is_among : (names : List (Bor (List ℕ))) (texts : List (List ℕ)) (text :
     → IsTrue answer ↔ Contains texts text
 is_among names texts text answer are is =
     subst (λ ts. IsTrue answer ↔ Contains ts text) are
-      (subst (λ test. IsTrue test ↔ Contains (map (λ name. name.now) names) text)
-        (sym (is ∙ any_behind names text)) (among _ text))
+    (subst (λ test. IsTrue test ↔ Contains (map (λ name. name.now) names) text)
+    (sym (is ∙ any_behind names text)) (among _ text))
 
 -- a search that fails shows that a text is none of some
 pub not_among : (texts : List (List ℕ)) (text : List ℕ) → list_any (λ other. bytes_eq other text) texts ≡ false
@@ -55,4 +55,4 @@ apart text other fails same = false≢true (sym fails ∙ (bytes_eq-Decides text
 pub no_equals_sign_in : (name : List ℕ) → list_any (λ byte. byte == equals_sign) name ≡ false → IsName name
 no_equals_sign_in name none k d within same =
     false≢true (sym none
-      ∙ list_any_at (λ byte. byte == equals_sign) name k d within (eq-eqb (get_or name k d) equals_sign same))
+    ∙ list_any_at (λ byte. byte == equals_sign) name k d within (eq-eqb (get_or name k d) equals_sign same))

@@ -51,7 +51,7 @@ words = codes "--weigh=packets" ∷ codes "10.0.0.0/8" ∷ codes "--capture" ∷
 abbrev pub arguments : List Argument
 arguments =
     option (codes "weigh") (codes "packets") ∷ positional (codes "10.0.0.0/8")
-      ∷ option (codes "capture") (codes "a.pcap") ∷ positional (codes "20.0.0.0/8") ∷ []
+    ∷ option (codes "capture") (codes "a.pcap") ∷ positional (codes "20.0.0.0/8") ∷ []
 
 -- the option at the front is one word
 pub option_at_the_front : Begins words (option (codes "weigh") (codes "packets"))
@@ -119,8 +119,8 @@ names_are_apart : AllPairs (λ name other. name ≢ other) (names_in arguments)
 names_are_apart =
     AllPairs-cons (λ name other. name ≢ other) (codes "weigh") (codes "capture" ∷ [])
     (λ k d within.
-      All-cons (λ other. codes "weigh" ≢ other) (codes "capture") [] (apart (codes "weigh") (codes "capture") refl)
-        (All-nil (λ other. codes "weigh" ≢ other)) k d within)
+    All-cons (λ other. codes "weigh" ≢ other) (codes "capture") [] (apart (codes "weigh") (codes "capture") refl)
+    (All-nil (λ other. codes "weigh" ≢ other)) k d within)
     (λ i j d before within. absurd (omega (arith, before, within)))
 
 -- `weigh` has two positionals, and options of these names
@@ -130,14 +130,14 @@ form = form_of Weigh
 capture_known : All (λ name. Contains form.options name) (codes "capture" ∷ [])
 capture_known =
     All-cons (λ name. Contains form.options name) (codes "capture") []
-      ((among form.options (codes "capture")).0 refl) (All-nil (λ name. Contains form.options name))
+    ((among form.options (codes "capture")).0 refl) (All-nil (λ name. Contains form.options name))
 
 pub arguments_of_weigh : AreOfForm form arguments
 arguments_of_weigh = record {
   as_many = refl;
   known =
       All-cons (λ name. Contains form.options name) (codes "weigh") (codes "capture" ∷ [])
-        ((among form.options (codes "weigh")).0 refl) capture_known;
+      ((among form.options (codes "weigh")).0 refl) capture_known;
   once = names_are_apart;
 }
 

@@ -31,8 +31,8 @@ options_behind_what_stands = refl
 
 pub parser_of_weigh
     : (parser_for (codes "weigh") (form_of Weigh)).top.rules
-        ≡ new_rule (codes "SRC") ∷ new_rule (codes "DST") ∷ option_rule (codes "capture")
-          ∷ option_rule (codes "weigh") ∷ []
+    ≡ new_rule (codes "SRC") ∷ new_rule (codes "DST") ∷ option_rule (codes "capture")
+    ∷ option_rule (codes "weigh") ∷ []
 parser_of_weigh = refl
 
 -- what is found among `--weigh=packets 10.0.0.0/8 --capture a.pcap 20.0.0.0/8`

@@ -197,7 +197,8 @@ bits_past_the_length = record {
   dest = codes "0.0.0.0/0";
   sides = refl;
   has_fault =
-      inl (refl,
+      inl (
+        refl,
         record {
           address = 0x0a010200;
           bytes = 2;
@@ -205,7 +206,8 @@ bits_past_the_length = record {
           is_length = omega arith;
           spelled = refl;
           loose = λ none. omega (arith, none);
-        });
+        },
+      );
 }
 
 pub prefix_is_the_fault : HasWordsFault (codes "weigh" ∷ loose_words) (BadPrefix (LooseBits Source))
@@ -224,18 +226,20 @@ words_for_many_shards = record {
   behind = codes "--shards=17" ∷ [];
   begun = refl;
   well_formed = record {
-    spelled =
-        ([],
-          record {
-            front = codes "--shards=17" ∷ [];
-            parted = refl;
-            spelled = (no_equals_sign_in (codes "shards") refl, λ same. omega (arith, same), inr refl);
-          }, refl);
+    spelled = (
+      [],
+      record {
+        front = codes "--shards=17" ∷ [];
+        parted = refl;
+        spelled = (no_equals_sign_in (codes "shards") refl, λ same. omega (arith, same), inr refl);
+      },
+      refl,
+    );
     of_form = record {
       as_many = refl;
       known =
           All-cons IsOption (codes "shards") [] ((among (form_of Report).options (codes "shards")).0 refl)
-            (All-nil IsOption);
+          (All-nil IsOption);
       once = λ i j d before within. absurd (omega (arith, before, within));
     };
   };
@@ -272,12 +276,15 @@ narrow_words_are_spelled = (
     parted = refl;
     spelled = (no_equals_sign_in (codes "phi") refl, λ same. omega (arith, same), inl refl);
   },
-  ([],
+  (
+    [],
     record {
       front = codes "--capacity" ∷ codes "17" ∷ [];
       parted = refl;
       spelled = (no_equals_sign_in (codes "capacity") refl, λ same. omega (arith, same), inl refl);
-    }, refl),
+    },
+    refl,
+  ),
 )
 
 narrow_words_are_of_report : AreWellFormed (form_of Report) narrow_words narrow_arguments
@@ -287,12 +294,12 @@ narrow_words_are_of_report = record {
     as_many = refl;
     known =
         All-cons IsOption (codes "phi") (codes "capacity" ∷ [])
-          ((among (form_of Report).options (codes "phi")).0 refl)
+        ((among (form_of Report).options (codes "phi")).0 refl)
         (All-cons IsOption (codes "capacity") [] ((among (form_of Report).options (codes "capacity")).0 refl)
-          (All-nil IsOption));
+        (All-nil IsOption));
     once = AllPairs-cons (λ name other. name ≢ other) (codes "phi") (codes "capacity" ∷ [])
         (All-cons (λ other. codes "phi" ≢ other) (codes "capacity") []
-          (apart (codes "phi") (codes "capacity") refl) (All-nil (λ other. codes "phi" ≢ other)))
+        (apart (codes "phi") (codes "capacity") refl) (All-nil (λ other. codes "phi" ≢ other)))
         (λ i j d before within. absurd (omega (arith, before, within)));
   };
 }

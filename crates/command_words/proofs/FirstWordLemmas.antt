@@ -36,7 +36,7 @@ pub tells_behind : (words : List (Bor Text)) (first : Bor Text) (others : List (
     (matches : ArgMatches) → words ≡ first ∷ others → first.now ≡ word_of word
     → (arguments : List Argument) × AreWellFormed (form_of word) (texts others) arguments
     → ((arguments : List Argument) → AreWellFormed (form_of word) (texts others) arguments
-      → Tells (form_of word) arguments matches) → TellsWords (texts words) word matches
+    → Tells (form_of word) arguments matches) → TellsWords (texts words) word matches
 tells_behind words first others word matches are first_is well tells = record {
   arguments = well.0;
   are_words = record {

@@ -57,7 +57,7 @@ fit_positional form positionals words others (option name value) begins is fits 
 fit_positional form positionals words others (positional text) begins is (arguments, fits) =
     let behind = follow words others (positional text) arguments begins fits.spelled in
     let as_many : length (positionals_in (positional text ∷ behind.rest)) ≡ positionals =
-      subst (λ list. length (positionals_in list) ≡ positionals) behind.are fits.as_many in (
+    subst (λ list. length (positionals_in list) ≡ positionals) behind.are fits.as_many in (
       omega (arith, as_many),
       (
         behind.rest,
@@ -86,11 +86,11 @@ option_fits form positionals words others (option first value) name begins is kn
         as_many = fits.as_many;
         known =
             All-cons (λ n. Contains form.options n) first names (subst (Contains form.options) same known)
-              fits.known;
+            fits.known;
         once = AllPairs-cons (λ n other. n ≢ other) first names
             (λ k d within is_here.
-              apart arguments fits.spelled
-                (subst (Contains names) (sym (same ∙ is_here)) (Contains-get_or names k d within))) fits.once;
+            apart arguments fits.spelled
+            (subst (Contains names) (sym (same ∙ is_here)) (Contains-get_or names k d within))) fits.once;
       },
     )
 
@@ -114,7 +114,7 @@ fit_option form positionals words others (option first value) name begins is (ar
     record {
       known =
           subst (Contains form.options) same
-            (All-head (λ n. Contains form.options n) first (names_in behind.rest) known);
+          (All-head (λ n. Contains form.options n) first (names_in behind.rest) known);
       rest = behind.rest;
       fits = record {
         spelled = behind.spelled;
@@ -124,23 +124,27 @@ fit_option form positionals words others (option first value) name begins is (ar
       };
       apart = λ stands.
           All-contains (λ other. first ≢ other) (names_in behind.rest) name
-            (AllPairs-head (λ n other. n ≢ other) first (names_in behind.rest) once) stands same;
+          (AllPairs-head (λ n other. n ≢ other) first (names_in behind.rest) once) stands same;
     }
 
 -- words that fit with as many positionals as the form has are well formed
 pub well_formed_fit : (form : Form) (positionals : ℕ) (words : List Text) → positionals ≡ length form.positionals
     → Fit form positionals words ↔ ((arguments : List Argument) × AreWellFormed form words arguments)
 well_formed_fit form positionals words count = (
-  λ (arguments, fits). (arguments,
+  λ (arguments, fits). (
+    arguments,
     record {
       spelled = fits.spelled;
       of_form = record { as_many = fits.as_many ∙ count; known = fits.known; once = fits.once };
-    }),
-  λ (arguments, formed). (arguments,
+    },
+  ),
+  λ (arguments, formed). (
+    arguments,
     record {
       spelled = formed.spelled;
       as_many = formed.of_form.as_many ∙ sym count;
       known = formed.of_form.known;
       once = formed.of_form.once;
-    }),
+    },
+  ),
 )

@@ -24,8 +24,8 @@ set_is_limited : (values : Values) (settings : Settings) → SetsSettings values
 set_is_limited values settings set =
     let shards = set_within Shards 4 1 16 (values Shards) settings.shards refl (omega arith) (omega arith) set.shards in
     let capacity =
-      set_within Capacity 512 2 4096 (values Capacity) settings.capacity refl (omega arith) (omega arith)
-        set.capacity in
+    set_within Capacity 512 2 4096 (values Capacity) settings.capacity refl (omega arith) (omega arith)
+    set.capacity in
     let phi = set_within Phi 10000 1 1000000 (values Phi) settings.phi refl (omega arith) (omega arith) set.phi in
     record {
       some_shards = shards.0;

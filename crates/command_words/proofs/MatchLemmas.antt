@@ -129,7 +129,6 @@ pub found_sides : (words : List Text) (matches : ArgMatches) (tells : TellsWords
     → HasSides tells.arguments source_text dest_text
 found_sides words matches tells found_source found_dest source dest source_is dest_is source_found dest_found
     source_text dest_text same_source same_dest =
-
     let told = told_sides tells.arguments matches tells.are_words.well_formed.of_form.as_many tells.told in
     told.sides
     ∙ ap₂ (λ s d. s ∷ d ∷ [])

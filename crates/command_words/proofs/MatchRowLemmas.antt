@@ -52,7 +52,7 @@ told_option name ids [] apart = refl
 told_option name [] (positional text ∷ arguments) apart = told_option name [] arguments apart
 told_option name (id ∷ ids) (positional text ∷ arguments) apart =
     first_behind name id text (told ids arguments) (All-head (λ i. i ≢ name) id ids apart)
-      ∙ told_option name ids arguments (All-tail (λ i. i ≢ name) id ids apart)
+    ∙ told_option name ids arguments (All-tail (λ i. i ≢ name) id ids apart)
 told_option name ids (option other value ∷ arguments) apart =
     go (bytes_eq other name) refl (told_option name ids arguments apart)
   where
@@ -72,8 +72,8 @@ told_positional zero name (id ∷ ids) (positional text ∷ arguments) at distin
     first_here name id text (told ids arguments) cc
 told_positional (suc place) name (id ∷ ids) (positional text ∷ arguments) at distinct apart =
     first_behind name id text (told ids arguments)
-      (at_place (λ other. id ≢ other) place name ids at (AllPairs-head (λ a b. a ≢ b) id ids distinct))
-      ∙ told_positional place name ids arguments at (AllPairs-tail (λ a b. a ≢ b) id ids distinct) apart
+    (at_place (λ other. id ≢ other) place name ids at (AllPairs-head (λ a b. a ≢ b) id ids distinct))
+    ∙ told_positional place name ids arguments at (AllPairs-tail (λ a b. a ≢ b) id ids distinct) apart
 told_positional place name ids (option other value ∷ arguments) at distinct apart =
     first_behind name other value (told ids arguments) (All-head (λ o. o ≢ name) other (names_in arguments) apart)
     ∙ told_positional place name ids arguments at distinct (All-tail (λ o. o ≢ name) other (names_in arguments) apart)

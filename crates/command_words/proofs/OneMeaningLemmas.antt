@@ -56,7 +56,7 @@ one_words words word other arguments more one two =
     let same = sym one.begun ∙ two.begun in (
       same_command word other (same_head _ _ _ _ same),
       one_reading one.behind arguments more one.well_formed.spelled
-        (subst (λ behind. SpellsAll behind more) (sym (same_rest _ _ _ _ same)) two.well_formed.spelled),
+          (subst (λ behind. SpellsAll behind more) (sym (same_rest _ _ _ _ same)) two.well_formed.spelled),
     )
 
 -- what values come to: what they set, or their first fault
@@ -93,34 +93,30 @@ at_sides : (P : Text → Text → Type 0) (arguments : List Argument) (source de
 at_sides P arguments source dest other more one two holds =
     let same = sym one ∙ two in
     subst (λ s. P s dest) (sym (same_head _ _ _ _ same))
-      (subst (λ d. P other d) (sym (same_head _ _ _ _ (same_rest _ _ _ _ same))) holds)
+    (subst (λ d. P other d) (sym (same_head _ _ _ _ (same_rest _ _ _ _ same))) holds)
 
 -- the arguments of `weigh` come to one thing
 weigh_tells_once : HasOneReading → (arguments : List Argument) (outcome other : Outcome)
     → WeighTells arguments outcome → WeighTells arguments other → outcome ≡ other
 weigh_tells_once reading arguments outcome other (badly source dest fault sides has is)
     (badly source' dest' fault' sides' has' is') =
-
     let same =
-      reading.one_fault source dest fault fault' has
-        (at_sides (λ s d. HasPrefixFault s d fault') arguments source dest source' dest' sides sides' has') in
+    reading.one_fault source dest fault fault' has
+    (at_sides (λ s d. HasPrefixFault s d fault') arguments source dest source' dest' sides sides' has') in
     is ∙ ap (λ f. Err (BadPrefix f)) same ∙ sym is'
 weigh_tells_once reading arguments outcome other (badly source dest fault sides has is)
     (well source' dest' prefix' read' sides' spelled' told' is') =
-
     absurd (reading.no_fault source dest prefix' fault
-      (at_sides (λ s d. SpellsPrefix s d prefix') arguments source dest source' dest' sides sides' spelled') has)
+    (at_sides (λ s d. SpellsPrefix s d prefix') arguments source dest source' dest' sides sides' spelled') has)
 weigh_tells_once reading arguments outcome other (well source dest prefix read sides spelled told is)
     (badly source' dest' fault' sides' has' is') =
-
     absurd (reading.no_fault source dest prefix fault' spelled
-      (at_sides (λ s d. HasPrefixFault s d fault') arguments source dest source' dest' sides sides' has'))
+    (at_sides (λ s d. HasPrefixFault s d fault') arguments source dest source' dest' sides sides' has'))
 weigh_tells_once reading arguments outcome other (well source dest prefix read sides spelled told is)
     (well source' dest' prefix' read' sides' spelled' told' is') =
-
     let same =
-      reading.one_prefix source dest prefix prefix' spelled
-        (at_sides (λ s d. SpellsPrefix s d prefix') arguments source dest source' dest' sides sides' spelled') in
+    reading.one_prefix source dest prefix prefix' spelled
+    (at_sides (λ s d. SpellsPrefix s d prefix') arguments source dest source' dest' sides sides' spelled') in
     is ∙ ap₂ weighing same (values_tell_once (values_in arguments) read read' told told') ∙ sym is'
 
 -- what `report` comes to, once its values are read
@@ -149,7 +145,7 @@ report_tells_once : (arguments : List Argument) (outcome other : Outcome) → Re
 report_tells_once arguments outcome other one two =
     report_comes_to_one one.read outcome other one.comes_to
     (subst (λ read. ReportComesTo read other)
-      (sym (values_tell_once (values_in arguments) one.read two.read one.told two.told)) two.comes_to)
+    (sym (values_tell_once (values_in arguments) one.read two.read one.told two.told)) two.comes_to)
 
 -- what the arguments of a command come to
 abbrev ArgumentsTell : CommandWord → List Argument → Outcome → Type 0
@@ -235,16 +231,16 @@ one_story reading words outcome other (told word arguments are_words tell) (told
     let same = one_words words word word' arguments more are_words are_words' in
     arguments_tell_once reading word arguments outcome other tell
     (subst (λ w. ArgumentsTell w arguments other) (sym same.0)
-      (subst (λ a. ArgumentsTell word' a other) (sym same.1) tell'))
+    (subst (λ a. ArgumentsTell word' a other) (sym same.1) tell'))
 
 -- what words ask for is what they come to
 asked_story : (words : List Text) (asked : Command) → AskFor words asked → Story words (Ok asked)
 asked_story words (command.Weigh prefix settings) asks =
     told Weigh asks.arguments asks.are_words
-      (well asks.source asks.dest prefix (Ok settings) asks.sides asks.spelled asks.set refl)
+    (well asks.source asks.dest prefix (Ok settings) asks.sides asks.spelled asks.set refl)
 asked_story words (command.Report settings) asks =
     told Report asks.arguments asks.are_words record
-      { read = Ok settings; told = asks.set; comes_to = inl (asks.wide, refl) }
+    { read = Ok settings; told = asks.set; comes_to = inl (asks.wide, refl) }
 
 -- a bad value is what arguments come to
 bad_value_tells : (word : CommandWord) (arguments : List Argument) (kind : WordsKind)
@@ -256,7 +252,7 @@ bad_value_tells Report arguments kind good has = record { read = Err kind; told 
 bad_value_story : (words : List Text) (kind : WordsKind) → HasBadValue words kind → Story words (Err kind)
 bad_value_story words kind has =
     told has.command has.arguments has.are_words
-      (bad_value_tells has.command has.arguments kind has.positionals has.has_fault)
+    (bad_value_tells has.command has.arguments kind has.positionals has.has_fault)
 
 -- the fault of words is what they come to
 fault_story : (words : List Text) (kind : WordsKind) → HasWordsFault words kind → Story words (Err kind)
@@ -270,14 +266,14 @@ fault_story words (OutOfLimits opt) has = bad_value_story words (OutOfLimits opt
 fault_story words (BadChoice opt) has = bad_value_story words (BadChoice opt) has
 fault_story words Bound has =
     told Report has.arguments has.are_words record
-      { read = Ok has.settings; told = has.set; comes_to = inr (has.narrow, refl) }
+    { read = Ok has.settings; told = has.set; comes_to = inr (has.narrow, refl) }
 
 -- words ask for one command at most
 pub one_command : HasOneReading → (words : List Text) (asked other : Command) → AskFor words asked
     → AskFor words other → asked ≡ other
 one_command reading words asked other one two =
     same_ok asked other
-      (one_story reading words (Ok asked) (Ok other) (asked_story words asked one) (asked_story words other two))
+    (one_story reading words (Ok asked) (Ok other) (asked_story words asked one) (asked_story words other two))
   where
     same_ok : (asked other : Command) → Path Outcome (Ok asked) (Ok other) → asked ≡ other
     same_ok asked other same = cc
@@ -287,7 +283,7 @@ pub no_words_fault : HasOneReading → (words : List Text) (asked : Command) (ki
     → HasWordsFault words kind → ⊥
 no_words_fault reading words asked kind asks has =
     not_both asked kind
-      (one_story reading words (Ok asked) (Err kind) (asked_story words asked asks) (fault_story words kind has))
+    (one_story reading words (Ok asked) (Err kind) (asked_story words asked asks) (fault_story words kind has))
   where
     not_both : (asked : Command) (kind : WordsKind) → Path Outcome (Ok asked) (Err kind) → ⊥
     not_both asked kind same = cc
@@ -297,7 +293,7 @@ pub one_words_fault : HasOneReading → (words : List Text) (kind other : WordsK
     → HasWordsFault words other → kind ≡ other
 one_words_fault reading words kind other one two =
     same_err kind other
-      (one_story reading words (Err kind) (Err other) (fault_story words kind one) (fault_story words other two))
+    (one_story reading words (Err kind) (Err other) (fault_story words kind one) (fault_story words other two))
   where
     same_err : (kind other : WordsKind) → Path Outcome (Err kind) (Err other) → kind ≡ other
     same_err kind other same = cc

@@ -35,8 +35,8 @@ parted_once (byte ∷ name) [] value more is_name is_other same =
     absurd (All-head (λ b. b ≢ equals_sign) byte name is_name (same_head _ _ _ _ same))
 parted_once (byte ∷ name) (x ∷ other) value more is_name is_other same =
     let behind =
-      parted_once name other value more (All-tail (λ b. b ≢ equals_sign) byte name is_name)
-        (All-tail (λ b. b ≢ equals_sign) x other is_other) (same_rest _ _ _ _ same) in
+    parted_once name other value more (All-tail (λ b. b ≢ equals_sign) byte name is_name)
+    (All-tail (λ b. b ≢ equals_sign) x other is_other) (same_rest _ _ _ _ same) in
     (ap₂ (λ b bs. b ∷ bs) (same_head _ _ _ _ same) behind.0, behind.1)
 
 -- a value is no word that begins with a hyphen
@@ -87,7 +87,7 @@ options_once words others more name value other worth is_name is_other (inr one)
 options_once words others more name value other worth is_name is_other (inr one) (inr two) =
     let same = sym one ∙ two in
     let apart =
-      parted_once name other value worth is_name is_other (same_behind_hyphens _ _ (same_head _ _ _ _ same)) in
+    parted_once name other value worth is_name is_other (same_behind_hyphens _ _ (same_head _ _ _ _ same)) in
     (ap₂ option apart.0 apart.1, same_rest _ _ _ _ same)
 
 -- words that begin with an option begin with one of its two forms
@@ -102,18 +102,18 @@ pub begins_once : (words others more : List Text) (argument other : Argument) �
     → Begins words other more → (argument ≡ other) × (others ≡ more)
 begins_once words others more (positional text) (positional other) one two =
     positionals_once words others more text other (words_are words one.front others _ one.parted one.spelled.1)
-      (words_are words two.front more _ two.parted two.spelled.1)
+    (words_are words two.front more _ two.parted two.spelled.1)
 begins_once words others more (positional text) (option name value) one two =
     absurd (no_positional words others more text name value one.spelled.0
-      (words_are words one.front others _ one.parted one.spelled.1)
+    (words_are words one.front others _ one.parted one.spelled.1)
     (option_words words two.front more name value two.parted two.spelled.2))
 begins_once words others more (option name value) (positional text) one two =
     absurd (no_positional words more others text name value two.spelled.0
-      (words_are words two.front more _ two.parted two.spelled.1)
+    (words_are words two.front more _ two.parted two.spelled.1)
     (option_words words one.front others name value one.parted one.spelled.2))
 begins_once words others more (option name value) (option other worth) one two =
     options_once words others more name value other worth one.spelled.0 two.spelled.0
-      (option_words words one.front others name value one.parted one.spelled.2)
+    (option_words words one.front others name value one.parted one.spelled.2)
     (option_words words two.front more other worth two.parted two.spelled.2)
 
 -- no words begin with an argument where there are none
@@ -138,4 +138,4 @@ one_reading words (argument ∷ arguments) [] one two =
 one_reading words (argument ∷ arguments) (other ∷ others) one two =
     let same = begins_once words one.0 two.0 argument other one.1 two.1 in
     ap₂ (λ a rest. a ∷ rest) same.0
-      (one_reading two.0 arguments others (subst (λ w. SpellsAll w arguments) same.1 one.2) two.2)
+    (one_reading two.0 arguments others (subst (λ w. SpellsAll w arguments) same.1 one.2) two.2)

@@ -89,8 +89,8 @@ bad_once : (IsBad IsWorse : Kind → Text → Type 0) (values : Values) (opt : O
     → IsFirstBad IsBad values opt → IsFirstBad IsWorse values opt → ⊥
 bad_once IsBad IsWorse values opt apart bad worse =
     apart (kind_of opt) bad.text bad.is_bad
-      (subst (λ t. IsWorse (kind_of opt) t) (same_some worse.text bad.text (sym worse.value ∙ bad.value))
-        worse.is_bad)
+    (subst (λ t. IsWorse (kind_of opt) t) (same_some worse.text bad.text (sym worse.value ∙ bad.value))
+    worse.is_bad)
   where
     same_some : (text other : Text) → Path (Option Text) (Some text) (Some other) → text ≡ other
     same_some text other same = cc
@@ -102,7 +102,7 @@ bad_in_one_way : (IsBad IsWorse : Kind → Text → Type 0) (values : Values) (o
 bad_in_one_way IsBad IsWorse values opt other bad_no_good worse_no_good apart bad worse =
     bad_once IsBad IsWorse values opt apart bad
     (subst (λ o. IsFirstBad IsWorse values o)
-      (sym (one_place IsBad IsWorse values opt other bad_no_good worse_no_good bad worse)) worse)
+    (sym (one_place IsBad IsWorse values opt other bad_no_good worse_no_good bad worse)) worse)
 
 -- values have one first fault at most
 pub one_value_fault : (values : Values) (kind other : WordsKind) → HasValueFault values kind
@@ -111,26 +111,26 @@ one_value_fault values (BadNumber at) (BadNumber place) one two =
     ap BadNumber (one_place IsNoNumber IsNoNumber values at place no_number_is_bad no_number_is_bad one two)
 one_value_fault values (BadNumber at) (OutOfLimits place) one two =
     absurd (bad_in_one_way IsNoNumber IsOutside values at place no_number_is_bad outside_is_bad no_number_outside
-      one two)
+    one two)
 one_value_fault values (BadNumber at) (BadChoice place) one two =
     absurd (bad_in_one_way IsNoNumber IsNoChoice values at place no_number_is_bad no_choice_is_bad
-      no_number_no_choice one two)
+    no_number_no_choice one two)
 one_value_fault values (BadNumber at) _ one two = absurd two
 one_value_fault values (OutOfLimits at) (BadNumber place) one two =
     absurd (bad_in_one_way IsNoNumber IsOutside values place at no_number_is_bad outside_is_bad no_number_outside
-      two one)
+    two one)
 one_value_fault values (OutOfLimits at) (OutOfLimits place) one two =
     ap OutOfLimits (one_place IsOutside IsOutside values at place outside_is_bad outside_is_bad one two)
 one_value_fault values (OutOfLimits at) (BadChoice place) one two =
     absurd (bad_in_one_way IsOutside IsNoChoice values at place outside_is_bad no_choice_is_bad outside_no_choice
-      one two)
+    one two)
 one_value_fault values (OutOfLimits at) _ one two = absurd two
 one_value_fault values (BadChoice at) (BadNumber place) one two =
     absurd (bad_in_one_way IsNoNumber IsNoChoice values place at no_number_is_bad no_choice_is_bad
-      no_number_no_choice two one)
+    no_number_no_choice two one)
 one_value_fault values (BadChoice at) (OutOfLimits place) one two =
     absurd (bad_in_one_way IsOutside IsNoChoice values place at outside_is_bad no_choice_is_bad outside_no_choice
-      two one)
+    two one)
 one_value_fault values (BadChoice at) (BadChoice place) one two =
     ap BadChoice (one_place IsNoChoice IsNoChoice values at place no_choice_is_bad no_choice_is_bad one two)
 one_value_fault values (BadChoice at) _ one two = absurd two
@@ -191,7 +191,7 @@ one_set values settings other one two =
       shards = one_set_number opt.Shards 4 (values opt.Shards) settings.shards other.shards one.shards two.shards i;
       capacity =
           one_set_number opt.Capacity 512 (values opt.Capacity) settings.capacity other.capacity one.capacity
-            two.capacity i;
+          two.capacity i;
       phi = one_set_number opt.Phi 10000 (values opt.Phi) settings.phi other.phi one.phi two.phi i;
       block = (one.block ∙ sym two.block) i;
       workers = (one.workers ∙ sym two.workers) i;

@@ -43,7 +43,7 @@ no_defaults [] rows empty = refl
 no_defaults (a ∷ rules) rows empty =
     let parts = and_parts _ _ empty in
     ap (λ rs. fold with_default rs rules) (no_default a.defaults (has_row a.id rows) a.id _ rows parts.0)
-      ∙ no_defaults rules rows parts.1
+    ∙ no_defaults rules rows parts.1
 
 -- nothing is required, and nothing has a default
 pub record IsOptional (s : Shape) : Type 0 where
@@ -52,7 +52,7 @@ pub record IsOptional (s : Shape) : Type 0 where
   pub valid : (rows : List Row) → is_valid s rows false ≡ true
 
 module _ (s : Shape) (optional : IsOptional s) (words : List Text) (position : ℕ) (rows : List Row)
-  (reached : Reaches s (standing nothing_held 1) words position rows) where
+    (reached : Reaches s (standing nothing_held 1) words position rows) where
   -- nothing comes to the rows at the end
   pub rows_reached : rows_after s.rules [] words ≡ rows
   rows_reached = rw reached.ends (no_defaults s.rules _ optional.empty ∙ reached.holds.rows_are)
@@ -65,7 +65,7 @@ module _ (s : Shape) (optional : IsOptional s) (words : List Text) (position : �
   pub level_reached : level_passes s [] nothing_held words false ≡ true
   level_reached =
       rw (reached.passes, reached.ends, reached.holds.passes, optional.passes)
-        (optional.valid (finished s.rules reached.held))
+      (optional.valid (finished s.rules reached.held))
 
 -- ---- the two commands
 
@@ -114,12 +114,12 @@ no_option : (id : Text) → bytes_eq id (codes "capture") ≡ false → bytes_eq
 no_option id capture weigh name within =
     each_contained (λ other. id ≢ other) (form_of Weigh).options name
     (All-from_recursion (λ other. id ≢ other) (form_of Weigh).options
-      (apart_by id _ capture, (apart_by id _ weigh, tt))) within
+    (apart_by id _ capture, (apart_by id _ weigh, tt))) within
 
 no_options : (command : CommandWord) → AreNoOptions (form_of command).options (form_of command).positionals
 no_options Weigh =
     All-from_recursion (IsNoOption (form_of Weigh).options) (form_of Weigh).positionals
-      (no_option _ refl refl, (no_option _ refl refl, tt))
+    (no_option _ refl refl, (no_option _ refl refl, tt))
 no_options Report = All-nil (IsNoOption (form_of Report).options)
 
 none_apart : AllPairs {X = Text} (λ a b. a ≢ b) []
@@ -134,19 +134,19 @@ are_apart Report = none_apart
 
 -- well-formed words bring the walk to the rows of their arguments
 module _ (command : CommandWord) (words : List Text) (arguments : List Argument)
-  (well_formed : AreWellFormed (form_of command) words arguments) where
+    (well_formed : AreWellFormed (form_of command) words arguments) where
   form_reached : Reaches (shape command) (standing nothing_held 1) words (last_position 1 arguments)
       (told (form_of command).positionals arguments)
   form_reached =
       let of_form = well_formed.of_form in
       let knows =
-        λ (name : Text) (within : Contains (form_of command).options name).
-          each_contained (Knows (shape command)) (form_of command).options name (each_known command) within in
+      λ (name : Text) (within : Contains (form_of command).options name).
+      each_contained (Knows (shape command)) (form_of command).options name (each_known command) within in
       let fits = fit (form_of command).options (shape command) knows 1 (form_of command).positionals [] arguments
-        (places command) (no_options command) (are_apart command) of_form.as_many of_form.known
+      (places command) (no_options command) (are_apart command) of_form.as_many of_form.known
       of_form.once (λ place default within. refl) (λ place default within. refl) in
       reaches_all (shape command) words arguments (form_of command).positionals 1 [] nothing_held
-        well_formed.spelled fits (record { passes = refl; rows_are = refl })
+      well_formed.spelled fits (record { passes = refl; rows_are = refl })
 
 -- the parser takes the words
 pub well_formed_taken : (command : CommandWord) (words : List Text) (arguments : List Argument)
@@ -154,11 +154,11 @@ pub well_formed_taken : (command : CommandWord) (words : List Text) (arguments :
 well_formed_taken Weigh words arguments well_formed =
     let reached = form_reached Weigh words arguments well_formed in
     rw (never_stopped (shape Weigh) (optional Weigh) words _ _ reached)
-      (level_reached (shape Weigh) (optional Weigh) words _ _ reached)
+    (level_reached (shape Weigh) (optional Weigh) words _ _ reached)
 well_formed_taken Report words arguments well_formed =
     let reached = form_reached Report words arguments well_formed in
     rw (never_stopped (shape Report) (optional Report) words _ _ reached)
-      (level_reached (shape Report) (optional Report) words _ _ reached)
+    (level_reached (shape Report) (optional Report) words _ _ reached)
 
 -- and finds the rows of their arguments
 pub well_formed_found : (command : CommandWord) (words : List Text) (arguments : List Argument)
@@ -188,10 +188,10 @@ pub rows_tell : (command : CommandWord) (arguments : List Argument) (matches : A
 rows_tell command arguments matches of_form rows = record {
   options = λ name never. first_value-rows (found_of matches) name ∙ ap (first_of name) rows
       ∙ told_option name (form_of command).positionals arguments
-        (not_contained (form_of command).positionals name never);
+      (not_contained (form_of command).positionals name never);
   positionals = λ place name at. first_value-rows (found_of matches) name ∙ ap (first_of name) rows
       ∙ told_positional place name (form_of command).positionals arguments at (are_apart command)
       (λ k default within same.
-        at_place (IsNoOption (form_of command).options) place name (form_of command).positionals at
-          (no_options command) _ (of_form.known k default within) (sym same));
+      at_place (IsNoOption (form_of command).options) place name (form_of command).positionals at
+      (no_options command) _ (of_form.known k default within) (sym same));
 }

@@ -63,25 +63,25 @@ module _ (options : List Text) where
   fit s knows position [] rows (positional text ∷ arguments) places apart distinct as_many known once fresh unused =
       absurd (omega arith)
   fit s knows position (id ∷ ids) rows (positional text ∷ arguments) places apart distinct as_many known once fresh
-    unused = (
-    places.0,
-    All-head (IsNew rows) id ids fresh,
-    fit s knows (min (position + 1) usize_max) ids (rows ++ row id text ∷ []) arguments places.1
-      (All-tail IsNoOption id ids apart) (AllPairs-tail (λ a b. a ≢ b) id ids distinct) (omega arith) known once
-        (are_new_more id text rows ids (All-tail (IsNew rows) id ids fresh)
-          (AllPairs-head (λ a b. a ≢ b) id ids distinct))
-        (are_new_more id text rows (names_in arguments) unused
-          (no_names id (names_in arguments) (All-head IsNoOption id ids apart) known)),
-  )
+      unused = (
+        places.0,
+        All-head (IsNew rows) id ids fresh,
+        fit s knows (min (position + 1) usize_max) ids (rows ++ row id text ∷ []) arguments places.1
+            (All-tail IsNoOption id ids apart) (AllPairs-tail (λ a b. a ≢ b) id ids distinct) (omega arith) known once
+            (are_new_more id text rows ids (All-tail (IsNew rows) id ids fresh)
+            (AllPairs-head (λ a b. a ≢ b) id ids distinct))
+            (are_new_more id text rows (names_in arguments) unused
+            (no_names id (names_in arguments) (All-head IsNoOption id ids apart) known)),
+      )
   fit s knows position ids rows (option name value ∷ arguments) places apart distinct as_many known once fresh unused =
       let here = All-head (λ n. Contains options n) name (names_in arguments) known in (
         knows name here,
         All-head (IsNew rows) name (names_in arguments) unused,
         fit s knows position ids (rows ++ row name value ∷ []) arguments places apart distinct as_many
-          (All-tail (λ n. Contains options n) name (names_in arguments) known)
-          (AllPairs-tail (λ a b. a ≢ b) name (names_in arguments) once)
+            (All-tail (λ n. Contains options n) name (names_in arguments) known)
+            (AllPairs-tail (λ a b. a ≢ b) name (names_in arguments) once)
             (are_new_more name value rows ids fresh (no_ids name ids here apart))
             (are_new_more name value rows (names_in arguments)
-              (All-tail (IsNew rows) name (names_in arguments) unused)
-              (AllPairs-head (λ a b. a ≢ b) name (names_in arguments) once)),
+            (All-tail (IsNew rows) name (names_in arguments) unused)
+            (AllPairs-head (λ a b. a ≢ b) name (names_in arguments) once)),
       )

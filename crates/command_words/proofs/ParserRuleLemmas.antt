@@ -18,6 +18,6 @@ pub rule_more : (f : Text → Rule) (start before after : App) (rule : Rule) (na
 rule_more f start before after rule names i name inside so_far is added =
     let inside_texts : i < length (texts names) = omega (arith, length-map names (λ (n : Bor Text). n.now)) in
     let at : slice_index_or (texts names) i name.now ≡ (slice_index_or names i name).now =
-      get_or-map (λ (n : Bor Text). n.now) names i name name.now inside in
+    get_or-map (λ (n : Bor Text). n.now) names i name name.now inside in
     added ∙ ap₂ with_rule so_far (is ∙ ap f (sym at))
-      ∙ sym (fold_more (λ parser n. with_rule parser (f n)) start (texts names) i name.now inside_texts)
+    ∙ sym (fold_more (λ parser n. with_rule parser (f n)) start (texts names) i name.now inside_texts)

@@ -46,13 +46,13 @@ option_used : (name value : Text) (rows : List Row) → has_row name rows ≡ fa
     → used (built_option name) (value ∷ []) rows ≡ rows ++ row name value ∷ []
 option_used name value rows none =
     rw (without_no_row name rows none)
-      (at_no_row name (more_values CommandLine (value ∷ [])) (row name value ∷ []) rows none)
+    (at_no_row name (more_values CommandLine (value ∷ [])) (row name value ∷ []) rows none)
 
 positional_used : (place : ℕ) (name value : Text) (rows : List Row) → has_row name rows ≡ false
     → used (built_positional place name) (value ∷ []) rows ≡ rows ++ row name value ∷ []
 positional_used place name value rows none =
     rw (without_no_row name rows none)
-      (at_no_row name (more_values CommandLine (value ∷ [])) (row name value ∷ []) rows none)
+    (at_no_row name (more_values CommandLine (value ∷ [])) (row name value ∷ []) rows none)
 
 option_use_passes : (again : Bool) (name value : Text) (rows : List Row) → has_row name rows ≡ false
     → use_passes again (built_option name) (value ∷ []) rows ≡ true
@@ -147,7 +147,7 @@ reaches_both s start front others middle position between rows one next =
       held = two.held;
       ends =
           fold-append (walked s.rules []) start front others ∙ ap (λ w. fold (walked s.rules []) w others) one.ends
-            ∙ two.ends;
+          ∙ two.ends;
       passes = walk_passes_both s start front others one.passes (rw one.ends two.passes);
       holds = two.holds;
     }
@@ -203,14 +203,14 @@ module _ (s : Shape) (held : Held) (rows : List Row) (holds : Holds s held rows)
       let apart = value_apart value is_value in
       let passes : turn_passes s [] (standing held position) value ≡ true =
       rw (apart.2, apart.0, apart.1, placed)
-        (positional_passes_or (is_pending (built_positional position name) held.pending) _ holds.passes) in
+      (positional_passes_or (is_pending (built_positional position name) held.pending) _ holds.passes) in
       let is : walked s.rules [] (standing held position) value
-        ≡ standing (pending_value name value) (min (position + 1) usize_max) =
+      ≡ standing (pending_value name value) (min (position + 1) usize_max) =
       rw (apart.2, apart.0, apart.1, placed)
-        (ap (λ (h : Held). standing (pushed name value h) (min (position + 1) usize_max))
-          (not_pending (is_pending (built_positional position name) held.pending) held)) in
+      (ap (λ (h : Held). standing (pushed name value h) (min (position + 1) usize_max))
+      (not_pending (is_pending (built_positional position name) held.pending) held)) in
       reaches_by s (standing held position) value (min (position + 1) usize_max) (rows ++ row name value ∷ [])
-        (pending_value name value) passes is (pending_positional position name value known none)
+      (pending_value name value) passes is (pending_positional position name value known none)
 
   -- the walk behind a word that names an option
   abbrev awaiting : Text → Walk
@@ -219,7 +219,7 @@ module _ (s : Shape) (held : Held) (rows : List Row) (holds : Holds s held rows)
   }
 
   module _ (name value : Text) (named : IsNamed name) (is_value : IsValue value)
-    (met : arg_by_long s.rules name ≡ Some (built_option name))
+      (met : arg_by_long s.rules name ≡ Some (built_option name))
       (known : arg_by_id s.rules name ≡ Some (built_option name)) (none : has_row name rows ≡ false) where
     name_passes : turn_passes s [] (standing held position) (long name) ≡ true
     name_passes = rw (no_dashes name named, long_alone name named, met, holds.passes) refl
@@ -253,23 +253,23 @@ module _ (s : Shape) (held : Held) (rows : List Row) (holds : Holds s held rows)
     joined_passes : turn_passes s [] (standing held position) (long name ++ equals_sign ∷ value) ≡ true
     joined_passes =
         rw (no_dashes_with name value named, long_with name value named, met, holds.rows_are, holds.passes, none)
-          refl
+        refl
 
     joined_walked : walked s.rules [] (standing held position) (long name ++ equals_sign ∷ value)
         ≡ standing joined position
     unfolding walked
     joined_walked =
         rw (no_dashes_with name value named, long_with name value named, met, holds.rows_are)
-          (ap (λ rs. standing (record { rows = rs; pending = None; skip = held.skip }) position)
-            (option_used name value rows none))
+        (ap (λ rs. standing (record { rows = rs; pending = None; skip = held.skip }) position)
+        (option_used name value rows none))
 
     -- an option and its value in one word
     pub reaches_joined : Reaches s (standing held position) ((long name ++ equals_sign ∷ value) ∷ []) position
         (rows ++ row name value ∷ [])
     reaches_joined =
         reaches_by s (standing held position) (long name ++ equals_sign ∷ value) position
-          (rows ++ row name value ∷ []) joined joined_passes joined_walked
-          (record { passes = refl; rows_are = refl })
+        (rows ++ row name value ∷ []) joined joined_passes joined_walked
+        (record { passes = refl; rows_are = refl })
 
 -- ---- all words
 
@@ -294,7 +294,7 @@ Fit s position ids rows [] = ⊤
 Fit s position [] rows (positional text ∷ arguments) = ⊥
 Fit s position (id ∷ ids) rows (positional text ∷ arguments) =
     HasPlace s position id × IsNew rows id
-      × Fit s (min (position + 1) usize_max) ids (rows ++ row id text ∷ []) arguments
+    × Fit s (min (position + 1) usize_max) ids (rows ++ row id text ∷ []) arguments
 Fit s position ids rows (option name value ∷ arguments) =
     Knows s name × IsNew rows name × Fit s position ids (rows ++ row name value ∷ []) arguments
 
@@ -309,12 +309,12 @@ reaches_more : (s : Shape) (start : Walk) (words front others : List Text) (midd
     (before more : List Row) (found : Row) → words ≡ front ++ others
     → Reaches s start front middle (before ++ found ∷ [])
     → ((held : Held) → Holds s held (before ++ found ∷ [])
-      → Reaches s (standing held middle) others position ((before ++ found ∷ []) ++ more))
+    → Reaches s (standing held middle) others position ((before ++ found ∷ []) ++ more))
     → Reaches s start words position (before ++ found ∷ more)
 reaches_more s start words front others middle position before more found parted one next =
     rw (parted, ← append_assoc before (found ∷ []) more)
-      (reaches_both s start front others middle position (before ++ found ∷ []) ((before ++ found ∷ []) ++ more)
-        one next)
+    (reaches_both s start front others middle position (before ++ found ∷ []) ((before ++ found ∷ []) ++ more)
+    one next)
 
 -- words that spell arguments bring the walk to the rows of the arguments
 pub reaches_all : (s : Shape) (words : List Text) (arguments : List Argument) (ids : List Text) (position : ℕ)
@@ -327,28 +327,28 @@ reaches_all s words [] ids position rows held spelled fit holds =
 reaches_all s words (positional text ∷ arguments) [] position rows held spelled fit holds = absurd fit
 reaches_all s words (positional text ∷ arguments) (id ∷ ids) position rows held spelled fit holds =
     reaches_more s (standing held position) words spelled.1.front spelled.0 (min (position + 1) usize_max)
-      (last_position position (positional text ∷ arguments)) rows (told ids arguments) (row id text)
+    (last_position position (positional text ∷ arguments)) rows (told ids arguments) (row id text)
     spelled.1.parted
     (rw spelled.1.spelled.1
-      (reaches_positional s held rows holds position id text spelled.1.spelled.0 fit.0.placed fit.0.known fit.1))
+    (reaches_positional s held rows holds position id text spelled.1.spelled.0 fit.0.placed fit.0.known fit.1))
     (λ after behind.
-      reaches_all s spelled.0 arguments ids (min (position + 1) usize_max) (rows ++ row id text ∷ []) after
-        spelled.2 fit.2 behind)
+    reaches_all s spelled.0 arguments ids (min (position + 1) usize_max) (rows ++ row id text ∷ []) after
+    spelled.2 fit.2 behind)
 reaches_all s words (option name value ∷ arguments) ids position rows held spelled fit holds =
     reaches_more s (standing held position) words spelled.1.front spelled.0 position
-      (last_position position arguments) rows (told ids arguments) (row name value)
+    (last_position position arguments) rows (told ids arguments) (row name value)
     spelled.1.parted
     (elim spelled.1.spelled.2 [
       | inl apart ↦
           rw apart
-            (reaches_option s held rows holds position name value
-              (record { is_name = spelled.1.spelled.0; named = fit.0.named }) spelled.1.spelled.1 fit.0.met
-              fit.0.known fit.1)
+          (reaches_option s held rows holds position name value
+          (record { is_name = spelled.1.spelled.0; named = fit.0.named }) spelled.1.spelled.1 fit.0.met
+          fit.0.known fit.1)
       | inr joined ↦
           rw joined
-            (reaches_joined s held rows holds position name value
-              (record { is_name = spelled.1.spelled.0; named = fit.0.named }) spelled.1.spelled.1 fit.0.met
-              fit.0.known fit.1)
+          (reaches_joined s held rows holds position name value
+          (record { is_name = spelled.1.spelled.0; named = fit.0.named }) spelled.1.spelled.1 fit.0.met
+          fit.0.known fit.1)
     ])
     (λ after behind.
-      reaches_all s spelled.0 arguments ids position (rows ++ row name value ∷ []) after spelled.2 fit.2 behind)
+    reaches_all s spelled.0 arguments ids position (rows ++ row name value ∷ []) after spelled.2 fit.2 behind)

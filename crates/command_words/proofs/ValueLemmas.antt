@@ -22,7 +22,7 @@ use Rattle.command_words.specs.declared.opt.Opt.TheVariants as opt
 abbrev opt_at : ℕ → Opt
 opt_at place =
     if place == 0 then opt.Weigh else if place == 1 then opt.Shards else if place
-      == 2 then opt.Capacity else if place == 3 then opt.Phi else opt.Deal
+    == 2 then opt.Capacity else if place == 3 then opt.Phi else opt.Deal
 
 at_place : (opt : Opt) → opt_at (place_of opt) ≡ opt
 at_place opt.Weigh = refl
@@ -53,7 +53,7 @@ good_before_next values opt told same before good other below = go (cases_lt (pl
     go (inl under) = before other under
     go (inr over) =
         subst (λ o. IsGood o (values o)) (same_opt opt other (omega arith))
-          (subst (λ t. IsGood opt t) (sym same) good)
+        (subst (λ t. IsGood opt t) (sym same) good)
 
 -- a number that an option may have is good
 allowed_is_good : (kind : Kind) (text : Text) (value : ℕ) → IsNumber text value → IsAllowed kind value
@@ -87,10 +87,10 @@ pub number_is_first : (values : Values) (opt : Opt) (told : Option Text) (kind :
 number_is_first values opt None kind same before bad = absurd bad
 number_is_first values opt (Some text) (BadNumber at) same before bad =
     subst (λ o. IsFirstBad IsNoNumber values o) (sym bad.0) record
-      { before = before; text = text; value = same; is_bad = bad.1 }
+    { before = before; text = text; value = same; is_bad = bad.1 }
 number_is_first values opt (Some text) (OutOfLimits at) same before bad =
     subst (λ o. IsFirstBad IsOutside values o) (sym bad.0) record
-      { before = before; text = text; value = same; is_bad = bad.1 }
+    { before = before; text = text; value = same; is_bad = bad.1 }
 number_is_first values opt (Some text) _ same before bad = absurd bad
 
 -- a choice that is bad, where all before it are good, is the first fault
@@ -100,5 +100,5 @@ pub choice_is_first : (values : Values) (opt : Opt) (told : Option Text) (kind :
 choice_is_first values opt None kind same before bad = absurd bad
 choice_is_first values opt (Some text) (BadChoice at) same before bad =
     subst (λ o. IsFirstBad IsNoChoice values o) (sym bad.0) record
-      { before = before; text = text; value = same; is_bad = bad.1 }
+    { before = before; text = text; value = same; is_bad = bad.1 }
 choice_is_first values opt (Some text) _ same before bad = absurd bad

@@ -41,7 +41,7 @@ pub begins_positional : (words others : List (Bor Text)) (word : Bor Text) → w
     → IsValue word.now → Begins (texts words) (positional word.now) (texts (drop 1 words))
 begins_positional words others word are is_value =
     subst (λ ws. Begins (texts ws) (positional word.now) (texts (drop 1 ws))) (sym are) record
-      { front = word.now ∷ []; parted = refl; spelled = (is_value, refl) }
+    { front = word.now ∷ []; parted = refl; spelled = (is_value, refl) }
 
 -- a word with `=` and a value behind it is an option
 pub begins_joined : (words others : List (Bor Text)) (word : Bor Text) (name value : Text) → words ≡ word ∷ others
@@ -57,7 +57,7 @@ pub begins_apart : (words others rest : List (Bor Text)) (word value : Bor Text)
     → Begins (texts words) (option name value.now) (texts (drop 2 words))
 begins_apart words others rest word value name are behind spelled is_name is_value =
     subst (λ ws. Begins (texts ws) (option name value.now) (texts (drop 2 ws)))
-      (sym (are ∙ ap (λ ws. word ∷ ws) behind))
+    (sym (are ∙ ap (λ ws. word ∷ ws) behind))
     record {
       front = word.now ∷ value.now ∷ [];
       parted = refl;
@@ -77,12 +77,12 @@ pub no_positional_begins : (words others : List (Bor Text)) (word : Bor Text) �
     → Begins (texts words) argument more → ⊥
 no_positional_begins words others word are short no_value (positional text) more begins =
     no_value (subst IsValue
-      (same_head _ _ _ _
-        (sym (words_are (texts words) begins.front more _ begins.parted begins.spelled.1)
-          ∙ ap (λ ws. texts ws) are)) begins.spelled.0)
+    (same_head _ _ _ _
+    (sym (words_are (texts words) begins.front more _ begins.parted begins.spelled.1)
+    ∙ ap (λ ws. texts ws) are)) begins.spelled.0)
 no_positional_begins words others word are short no_value (option name value) more begins =
     no_short_option (texts words) more word.now name value (texts others) (ap (λ ws. texts ws) are) short
-      (option_words (texts words) begins.front more name value begins.parted begins.spelled.2)
+    (option_words (texts words) begins.front more name value begins.parted begins.spelled.2)
 
 -- a word that begins with two hyphens is no positional
 no_long_positional : (words others more : List Text) (word text rest : Text) → words ≡ word ∷ more
@@ -95,15 +95,13 @@ no_joined_option : (words others more : List Text) (word name value other worth 
     → IsName other → IsValue worth → OptionWords words other worth others → ⊥
 no_joined_option words others more word name value other worth are spelled is_name no_value is_other is_worth
     (inl one) =
-
     no_equals_sign other name value is_other
-      (same_behind_hyphens _ _ (sym (same_head _ _ _ _ (sym are ∙ one)) ∙ spelled))
+    (same_behind_hyphens _ _ (sym (same_head _ _ _ _ (sym are ∙ one)) ∙ spelled))
 no_joined_option words others more word name value other worth are spelled is_name no_value is_other is_worth
     (inr one) =
-
     no_value (subst IsValue
-      (sym (parted_once name other value worth is_name is_other
-        (same_behind_hyphens _ _ (sym spelled ∙ same_head _ _ _ _ (sym are ∙ one)))).1) is_worth)
+    (sym (parted_once name other value worth is_name is_other
+    (same_behind_hyphens _ _ (sym spelled ∙ same_head _ _ _ _ (sym are ∙ one)))).1) is_worth)
 
 -- a word with `=` and no value behind it begins no argument
 pub no_joined_begins : (words others : List (Bor Text)) (word : Bor Text) (name value : Text)
@@ -111,11 +109,11 @@ pub no_joined_begins : (words others : List (Bor Text)) (word : Bor Text) (name 
     → (argument : Argument) (more : List Text) → Begins (texts words) argument more → ⊥
 no_joined_begins words others word name value are spelled is_name no_value (positional text) more begins =
     no_long_positional (texts words) more (texts others) word.now text (name ++ equals_sign ∷ value)
-      (ap (λ ws. texts ws) are) spelled begins.spelled.0
+    (ap (λ ws. texts ws) are) spelled begins.spelled.0
     (words_are (texts words) begins.front more _ begins.parted begins.spelled.1)
 no_joined_begins words others word name value are spelled is_name no_value (option other worth) more begins =
     no_joined_option (texts words) more (texts others) word.now name value other worth (ap (λ ws. texts ws) are)
-      spelled is_name no_value begins.spelled.0 begins.spelled.1
+    spelled is_name no_value begins.spelled.0 begins.spelled.1
     (option_words (texts words) begins.front more other worth begins.parted begins.spelled.2)
 
 no_apart_option : (words others more : List Text) (word name other worth : Text) → words ≡ word ∷ more
@@ -134,11 +132,11 @@ pub no_apart_begins : (words others : List (Bor Text)) (word : Bor Text) (name :
     → (argument : Argument) (more : List Text) → Begins (texts words) argument more → ⊥
 no_apart_begins words others word name are spelled is_name no_value (positional text) more begins =
     no_long_positional (texts words) more (texts others) word.now text name (ap (λ ws. texts ws) are) spelled
-      begins.spelled.0
+    begins.spelled.0
     (words_are (texts words) begins.front more _ begins.parted begins.spelled.1)
 no_apart_begins words others word name are spelled is_name no_value (option other worth) more begins =
     no_apart_option (texts words) more (texts others) word.now name other worth (ap (λ ws. texts ws) are) spelled
-      is_name no_value begins.spelled.1
+    is_name no_value begins.spelled.1
     (option_words (texts words) begins.front more other worth begins.parted begins.spelled.2)
 
 -- a word that `--` is stripped off

@@ -15,7 +15,7 @@ use Rattle.conditioned_bounds.proofs.IntervalSumLemmas.{low-slack, times_differe
 abbrev pub InBalance : PrefixValue → List PrefixValue → List RecordValue → Type 0
 InBalance p lines rs =
     weight_of p rs + weights (kept_pairs (closest p lines)) rs
-      ≡ weights (closest p lines) rs + conditioned_weight p lines rs
+    ≡ weights (closest p lines) rs + conditioned_weight p lines rs
 
 -- what is so of a list is so of its front and of the rest
 all_front : (P : PrefixValue → Type 0) (xs ys : List PrefixValue) → All P (xs ++ ys) → All P xs
@@ -57,11 +57,11 @@ bound_of-least low high p lines rs balance holds =
     let held = each_part (Holds low high rs) p near meets holds in
     let top : weight_of p rs ≤ high p = held.top.1 in
     let ups : weights meets rs ≤ sum_by high meets =
-      sum_by-mono (λ q. weight_of q rs) high meets
-        (All-weaker (Holds low high rs) (λ q. weight_of q rs ≤ high q) (λ q h. h.1) meets held.meets) in
+    sum_by-mono (λ q. weight_of q rs) high meets
+    (All-weaker (Holds low high rs) (λ q. weight_of q rs ≤ high q) (λ q h. h.1) meets held.meets) in
     let downs : sum_by low near ≤ weights near rs =
-      sum_by-mono low (λ q. weight_of q rs) near
-        (All-weaker (Holds low high rs) (λ q. low q ≤ weight_of q rs) (λ q h. h.0) near held.lines) in
+    sum_by-mono low (λ q. weight_of q rs) near
+    (All-weaker (Holds low high rs) (λ q. low q ≤ weight_of q rs) (λ q h. h.0) near held.lines) in
     omega (arith, ints)
 
 -- the bound over exact intervals is what is left
@@ -75,11 +75,11 @@ bound_of-exact low high p lines rs balance exact =
     let parts = each_part is_weight p near meets exact in
     let top : high p ≡ weight_of p rs = parts.top.1 in
     let ups : sum_by high meets ≡ weights meets rs =
-      sum_by-same high (λ q. weight_of q rs) meets
-        (All-weaker is_weight (λ q. high q ≡ weight_of q rs) (λ q h. h.1) meets parts.meets) in
+    sum_by-same high (λ q. weight_of q rs) meets
+    (All-weaker is_weight (λ q. high q ≡ weight_of q rs) (λ q h. h.1) meets parts.meets) in
     let downs : sum_by low near ≡ weights near rs =
-      sum_by-same low (λ q. weight_of q rs) near
-        (All-weaker is_weight (λ q. low q ≡ weight_of q rs) (λ q h. h.0) near parts.lines) in
+    sum_by-same low (λ q. weight_of q rs) near
+    (All-weaker is_weight (λ q. low q ≡ weight_of q rs) (λ q h. h.0) near parts.lines) in
     omega (arith, ints)
 
 -- what one narrow interval says of the weight
@@ -90,7 +90,7 @@ all_both : (P Q : PrefixValue → Type 0) (qs : List PrefixValue) → All P qs �
 all_both P Q [] ps qs = All-nil (λ q. P q × Q q)
 all_both P Q (x ∷ xs) ps qs =
     All-cons (λ q. P q × Q q) x xs (All-head P x xs ps, All-head Q x xs qs)
-      (all_both P Q xs (All-tail P x xs ps) (All-tail Q x xs qs))
+    (all_both P Q xs (All-tail P x xs ps) (All-tail Q x xs qs))
 
 -- the bound over narrow intervals is not far above what is left
 pub bound_of-most : (low high : PrefixValue → ℕ) (p : PrefixValue) (lines : List PrefixValue)
@@ -98,36 +98,36 @@ pub bound_of-most : (low high : PrefixValue → ℕ) (p : PrefixValue) (lines : 
     → InBalance p lines rs → HoldWeights low high rs (asked_of p lines)
     → AreNarrow low high times whole (asked_of p lines)
     → (pos times *ℤ bound_of low high p lines)
-      ≤ℤ pos (times * conditioned_weight p lines rs
-        + (1 + length (closest p lines) + length (kept_pairs (closest p lines))) * whole)
+    ≤ℤ pos (times * conditioned_weight p lines rs
+    + (1 + length (closest p lines) + length (kept_pairs (closest p lines))) * whole)
 bound_of-most low high p lines rs times whole balance holds narrow =
     let near = closest p lines in
     let meets = kept_pairs near in
     let left = conditioned_weight p lines rs in
     let narrowly = HoldsNarrowly low high times whole rs in
     let parts =
-      each_part narrowly p near meets
-        (all_both (Holds low high rs) (λ q. (high q - low q) * times ≤ whole) (asked_of p lines) holds narrow) in
+    each_part narrowly p near meets
+    (all_both (Holds low high rs) (λ q. (high q - low q) * times ≤ whole) (asked_of p lines) holds narrow) in
     let top : high p * times ≤ weight_of p rs * times + whole =
-      high-slack (low p) (high p) (weight_of p rs) times whole parts.top.0.0 parts.top.0.1 parts.top.1 in
+    high-slack (low p) (high p) (weight_of p rs) times whole parts.top.0.0 parts.top.0.1 parts.top.1 in
     let ups : sum_by high meets * times ≤ weights meets rs * times + length meets * whole =
     sum_by-slack high (λ q. weight_of q rs) times whole meets
-      (All-weaker narrowly (λ q. high q * times ≤ weight_of q rs * times + whole)
-        (λ q h. high-slack (low q) (high q) (weight_of q rs) times whole h.0.0 h.0.1 h.1) meets parts.meets) in
+    (All-weaker narrowly (λ q. high q * times ≤ weight_of q rs * times + whole)
+    (λ q h. high-slack (low q) (high q) (weight_of q rs) times whole h.0.0 h.0.1 h.1) meets parts.meets) in
     let downs : weights near rs * times ≤ sum_by low near * times + length near * whole =
     sum_by-slack (λ q. weight_of q rs) low times whole near
-      (All-weaker narrowly (λ q. weight_of q rs * times ≤ low q * times + whole)
-        (λ q h. low-slack (low q) (high q) (weight_of q rs) times whole h.0.0 h.0.1 h.1) near parts.lines) in
+    (All-weaker narrowly (λ q. weight_of q rs * times ≤ low q * times + whole)
+    (λ q h. low-slack (low q) (high q) (weight_of q rs) times whole h.0.0 h.0.1 h.1) near parts.lines) in
     let scaled : weight_of p rs * times + weights meets rs * times ≡ weights near rs * times + left * times =
     sym (add-mul (weight_of p rs) (weights meets rs) times) ∙ ap (λ n. n * times) balance
-      ∙ add-mul (weights near rs) left times in
+    ∙ add-mul (weights near rs) left times in
     let all_ups : (high p + sum_by high meets) * times ≡ high p * times + sum_by high meets * times =
-      add-mul (high p) (sum_by high meets) times in
+    add-mul (high p) (sum_by high meets) times in
     let turned : times * left ≡ left * times = mul_comm times left in
     let slack : (1 + length near + length meets) * whole ≡ whole + length near * whole + length meets * whole =
     add-mul (1 + length near) (length meets) whole
-      ∙ ap (λ n. n + length meets * whole) (add-mul 1 (length near) whole ∙ omega arith) in
+    ∙ ap (λ n. n + length meets * whole) (add-mul 1 (length near) whole ∙ omega arith) in
     let least : pos left ≤ℤ bound_of low high p lines = bound_of-least low high p lines rs balance holds in
     let above : sum_by low near ≤ high p + sum_by high meets = omega (arith, ints) in
     times_difference times (high p + sum_by high meets) (sum_by low near)
-      (times * left + (1 + length near + length meets) * whole) above (omega arith)
+    (times * left + (1 + length near + length meets) * whole) above (omega arith)

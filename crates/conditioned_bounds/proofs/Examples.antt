@@ -16,7 +16,7 @@ root = record { source = []; dest = [] }
 abbrev stairs : List PrefixValue
 stairs =
     record { source = 10 ∷ []; dest = 20 ∷ 1 ∷ 1 ∷ [] } ∷ record { source = 10 ∷ 1 ∷ []; dest = 20 ∷ 1 ∷ [] }
-      ∷ record { source = 10 ∷ 1 ∷ 1 ∷ []; dest = 20 ∷ [] } ∷ []
+    ∷ record { source = 10 ∷ 1 ∷ 1 ∷ []; dest = 20 ∷ [] } ∷ []
 
 -- this number for each prefix that covers the packet
 abbrev where_covered : ℕ → PrefixValue → ℕ
@@ -51,9 +51,9 @@ pub wide_intervals_hold_the_weights : HoldWeights (where_covered 7) (where_cover
 wide_intervals_hold_the_weights =
     let within : (7 ≤ 9) × (9 ≤ 11) = (omega arith, omega arith) in
     All-from_recursion
-      (λ prefix.
-        (where_covered 7 prefix ≤ weight_of prefix (packet ∷ []))
-          × (weight_of prefix (packet ∷ []) ≤ where_covered 11 prefix))
+    (λ prefix.
+    (where_covered 7 prefix ≤ weight_of prefix (packet ∷ []))
+    × (weight_of prefix (packet ∷ []) ≤ where_covered 11 prefix))
     (asked_of root stairs) (within, (within, (within, (within, (within, (within, tt))))))
 
 pub intervals_up_to_8_do_not_hold_a_weight_of_9 : ¬ HoldWeights (where_covered 7) (where_covered 8) (packet ∷ [])
@@ -66,7 +66,7 @@ pub wide_intervals_are_narrow_for_two_entries : AreNarrow (where_covered 7) (whe
 wide_intervals_are_narrow_for_two_entries =
     let narrow : 8 ≤ 9 = omega arith in
     All-from_recursion (λ prefix. (where_covered 11 prefix - where_covered 7 prefix) * 2 ≤ 9) (root ∷ stairs)
-      (narrow, (narrow, (narrow, (narrow, tt))))
+    (narrow, (narrow, (narrow, (narrow, tt))))
 
 pub and_too_wide_for_three : ¬ AreNarrow (where_covered 7) (where_covered 11) 3 9 (root ∷ stairs)
 and_too_wide_for_three narrow = let most : 12 ≤ 9 = narrow 0 root (omega arith) in omega (arith, most)
@@ -74,9 +74,9 @@ and_too_wide_for_three narrow = let most : 12 ≤ 9 = narrow 0 root (omega arith
 pub exact_intervals_are_the_weights : AreWeights (where_covered 9) (where_covered 9) (packet ∷ []) (root ∷ stairs)
 exact_intervals_are_the_weights =
     All-from_recursion
-      (λ prefix.
-        (where_covered 9 prefix ≡ weight_of prefix (packet ∷ []))
-          × (where_covered 9 prefix ≡ weight_of prefix (packet ∷ [])))
+    (λ prefix.
+    (where_covered 9 prefix ≡ weight_of prefix (packet ∷ []))
+    × (where_covered 9 prefix ≡ weight_of prefix (packet ∷ [])))
     (root ∷ stairs) ((refl, refl), ((refl, refl), ((refl, refl), ((refl, refl), tt))))
 
 pub and_wide_ones_are_not : ¬ AreWeights (where_covered 7) (where_covered 11) (packet ∷ []) (root ∷ stairs)

@@ -31,12 +31,12 @@ sum_by-slack f g times whole [] all = omega arith
 sum_by-slack f g times whole (q ∷ qs) all =
     let first : f q * times ≤ g q * times + whole = All-head (λ p. f p * times ≤ g p * times + whole) q qs all in
     let fs : sum_by f (q ∷ qs) * times ≡ f q * times + sum_by f qs * times =
-      ap (λ n. n * times) (sum_by-cons f q qs) ∙ add-mul (f q) (sum_by f qs) times in
+    ap (λ n. n * times) (sum_by-cons f q qs) ∙ add-mul (f q) (sum_by f qs) times in
     let gs : sum_by g (q ∷ qs) * times ≡ g q * times + sum_by g qs * times =
-      ap (λ n. n * times) (sum_by-cons g q qs) ∙ add-mul (g q) (sum_by g qs) times in
+    ap (λ n. n * times) (sum_by-cons g q qs) ∙ add-mul (g q) (sum_by g qs) times in
     let more : length (q ∷ qs) * whole ≡ whole + length qs * whole =
-      let one : length (q ∷ qs) ≡ 1 + length qs = omega arith in
-      ap (λ n. n * whole) one ∙ add-mul 1 (length qs) whole ∙ (omega arith) in
+    let one : length (q ∷ qs) ≡ 1 + length qs = omega arith in
+    ap (λ n. n * whole) one ∙ add-mul 1 (length qs) whole ∙ (omega arith) in
     omega (arith, sum_by-slack f g times whole qs (All-tail (λ p. f p * times ≤ g p * times + whole) q qs all))
 
 -- the high is at most the whole divided by so many above the weight
@@ -45,7 +45,7 @@ pub high-slack : (low high weight times whole : ℕ) → low ≤ weight → weig
 high-slack low high weight times whole least most narrow =
     let parts : high ≡ (high - low) + low = omega arith in
     let split : high * times ≡ (high - low) * times + low * times =
-      ap (λ n. n * times) parts ∙ add-mul (high - low) low times in
+    ap (λ n. n * times) parts ∙ add-mul (high - low) low times in
     omega (arith, mul-le low times weight times least (omega arith))
 
 -- the weight is at most the whole divided by so many above the low
@@ -54,7 +54,7 @@ pub low-slack : (low high weight times whole : ℕ) → low ≤ weight → weigh
 low-slack low high weight times whole least most narrow =
     let parts : high ≡ (high - low) + low = omega arith in
     let split : high * times ≡ (high - low) * times + low * times =
-      ap (λ n. n * times) parts ∙ add-mul (high - low) low times in
+    ap (λ n. n * times) parts ∙ add-mul (high - low) low times in
     omega (arith, mul-le weight times high times most (omega arith))
 
 -- a difference, taken so many times
@@ -64,7 +64,7 @@ times_difference times ups downs most above within =
     let same : pos ups -ℤ pos downs ≡ pos (ups - downs) = omega (arith, ints) in
     let parts : ups ≡ (ups - downs) + downs = omega arith in
     let split : ups * times ≡ (ups - downs) * times + downs * times =
-      ap (λ n. n * times) parts ∙ add-mul (ups - downs) downs times in
+    ap (λ n. n * times) parts ∙ add-mul (ups - downs) downs times in
     let turned : times * (ups - downs) ≡ (ups - downs) * times = mul_comm times (ups - downs) in
     let few : times * (ups - downs) ≤ most = omega arith in
     rw same (omega (arith, ints))

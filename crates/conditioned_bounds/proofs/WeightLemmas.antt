@@ -14,10 +14,10 @@ mark b = cond b 1 0
 -- what the records weigh that pass a test
 pub passing-cons : (p : RecordValue → Bool) (r : RecordValue) (rs : List RecordValue)
     → sum_by (λ (x : RecordValue). x.weight) (filter p (r ∷ rs))
-      ≡ mark (p r) * r.weight + sum_by (λ (x : RecordValue). x.weight) (filter p rs)
+    ≡ mark (p r) * r.weight + sum_by (λ (x : RecordValue). x.weight) (filter p rs)
 passing-cons p r rs =
     elim (p r) as (λ b. sum_by (λ (x : RecordValue). x.weight) (cond b (r ∷ filter p rs) (filter p rs)) ≡ mark b
-      * r.weight + sum_by (λ (x : RecordValue). x.weight) (filter p rs)) [
+    * r.weight + sum_by (λ (x : RecordValue). x.weight) (filter p rs)) [
       | true ↦ omega (arith, sum_by-cons (λ (x : RecordValue). x.weight) r (filter p rs))
       | false ↦ omega arith
     ]
@@ -36,12 +36,12 @@ pub weights-cons : (qs : List PrefixValue) (r : RecordValue) (rs : List RecordVa
 weights-cons [] r rs = omega arith
 weights-cons (q ∷ qs) r rs =
     let all : weights (q ∷ qs) (r ∷ rs) ≡ weight_of q (r ∷ rs) + weights qs (r ∷ rs) =
-      sum_by-cons (λ p. weight_of p (r ∷ rs)) q qs in
+    sum_by-cons (λ p. weight_of p (r ∷ rs)) q qs in
     let rest : weights (q ∷ qs) rs ≡ weight_of q rs + weights qs rs = sum_by-cons (λ p. weight_of p rs) q qs in
     let first : weight_of q (r ∷ rs) ≡ mark (covers q r) * r.weight + weight_of q rs = passing-cons (covers q) r rs in
     let count : covering_count r (q ∷ qs) * r.weight ≡ mark (covers q r) * r.weight + covering_count r qs * r.weight =
     ap (λ n. n * r.weight) (sum_by-cons (λ p. mark (covers p r)) q qs)
-      ∙ add-mul (mark (covers q r)) (covering_count r qs) r.weight in
+    ∙ add-mul (mark (covers q r)) (covering_count r qs) r.weight in
     omega (arith, weights-cons qs r rs)
 
 -- whether a record that the prefix covers is left by the lines under it
@@ -62,10 +62,10 @@ weights_balance p lines near meets balances (r ∷ rs) =
     let before = weights_balance p lines near meets balances rs in
     let one : weight_of p (r ∷ rs) ≡ mark (covers p r) * r.weight + weight_of p rs = passing-cons (covers p) r rs in
     let left : conditioned_weight p lines (r ∷ rs)
-        ≡ mark (is_left p lines r) * r.weight + conditioned_weight p lines rs =
-      passing-cons (is_left p lines) r rs in
+    ≡ mark (is_left p lines r) * r.weight + conditioned_weight p lines rs =
+    passing-cons (is_left p lines) r rs in
     let times : mark (covers p r) * r.weight + covering_count r meets * r.weight
-      ≡ covering_count r near * r.weight + mark (is_left p lines r) * r.weight =
+    ≡ covering_count r near * r.weight + mark (is_left p lines r) * r.weight =
     sym (add-mul (mark (covers p r)) (covering_count r meets) r.weight) ∙ ap (λ n. n * r.weight) (balances r)
-      ∙ add-mul (covering_count r near) (mark (is_left p lines r)) r.weight in
+    ∙ add-mul (covering_count r near) (mark (is_left p lines r)) r.weight in
     omega (arith, weights-cons near r rs, weights-cons meets r rs)

@@ -36,9 +36,9 @@ within_cut node cut shards key merge law is_node kept stands =
     merged_bounded (take shards tables) key (All-take (IsBounded key) shards tables (law cut node key kept is_node)) in
     let few : counted (take shards tables) ≤ total_of_cut cut =
     subst (λ n. counted (take shards tables) ≤ n) (counted-at node cut is_node kept)
-      (sum_by-take-le (λ (t : TableValue). total_count t.entries) tables shards) in
+    (sum_by-take-le (λ (t : TableValue). total_count t.entries) tables shards) in
     subst (IsWithinTotal (total_of_cut cut)) (sym (stands.intervals key))
-      (record { ordered = bounded.ordered; within_total = omega (arith, few, bounded.within_total) })
+    (record { ordered = bounded.ordered; within_total = omega (arith, few, bounded.within_total) })
 
 -- one more shard
 pub one_more_shard : (node : NodeValue) (cut : CutValue) (shard : ℕ) (snapshot : SnapshotValue)
@@ -53,11 +53,11 @@ one_more_shard node cut shard snapshot old new law is_node kept at stands adds =
     let within = slice_get_within tables shard table place in
     let read : get_or tables shard table ≡ table = get_or_from_slice_get tables shard table table place in
     let more : take (shard + 1) tables ≡ take shard tables ++ table ∷ [] =
-      take_more tables shard table within ∙ ap (λ t. take shard tables ++ t ∷ []) read in
+    take_more tables shard table within ∙ ap (λ t. take shard tables ++ t ∷ []) read in
     let bounded : (key : ℕ) → IsBounded key table =
     λ key.
-      subst (IsBounded key) read
-        (All-get_or (IsBounded key) tables shard table within (law cut node key kept is_node)) in
+    subst (IsBounded key) read
+    (All-get_or (IsBounded key) tables shard table within (law cut node key kept is_node)) in
     subst (StandsForTables new) (sym more) (stands_for_more old new (take shard tables) table bounded stands adds)
 
 -- an interval of merged tables at a place
@@ -92,16 +92,16 @@ pub merges_more : (cut : CutValue) (nodes : List NodeMergeValue) (place : ℕ) (
     → MergesNodes cut (nodes ++ merge ∷ []) (place + 1)
 merges_more cut nodes place merge merges stands within =
     let At : (ℕ → NodeMergeValue → Type 0) → ℕ → Type 0 =
-      λ P k. P k (slice_index_or (nodes ++ merge ∷ []) k nothing_merged) in
+    λ P k. P k (slice_index_or (nodes ++ merge ∷ []) k nothing_merged) in
     let at : (P : ℕ → NodeMergeValue → Type 0) → ((k : ℕ) → k < place → P k (slice_index_or nodes k nothing_merged))
-      → P place merge → (k : ℕ) → k < place + 1 → At P k =
+    → P place merge → (k : ℕ) → k < place + 1 → At P k =
     λ P below here k less. by_cases P below here k less in
     record {
       count = length_push nodes merge ∙ ap (λ n. n + 1) merges.count;
       stands = at (λ k m. StandsForTables m (node_tables (node_at k) cut)) merges.stands stands;
       within = λ k key less.
           at (λ _ m. IsWithinTotal (total_of_cut cut) (interval_for_key m key)) (λ j. merges.within j key)
-            (within key) k less;
+          (within key) k less;
     }
   where
     by_cases : (P : ℕ → NodeMergeValue → Type 0)
@@ -110,7 +110,7 @@ merges_more cut nodes place merge merges stands within =
     by_cases P below here k less = elim (cases_lt k place) [
       | inl under ↦
           subst (P k) (sym (get_or_append_left nodes (merge ∷ []) nothing_merged k (omega (arith, merges.count))))
-            (below k under)
+          (below k under)
       | inr above ↦ let same : k ≡ place = omega arith in
           subst (λ j. P j (slice_index_or (nodes ++ merge ∷ []) j nothing_merged)) (sym same)
           (subst (P place) (sym (get_or_push nodes merge nothing_merged place merges.count)) here)
@@ -127,7 +127,7 @@ merged_keeps cut nodes capacity bounded merges = record {
     | inl under ↦ merges.within place key under
     | inr above ↦
         subst (λ m. IsWithinTotal (total_of_cut cut) (interval_for_key m key))
-          (sym (get_or_past nodes place nothing_merged (omega (arith, merges.count))))
+        (sym (get_or_past nodes place nothing_merged (omega (arith, merges.count))))
         (record { ordered = omega arith; within_total = omega arith })
   ];
 }
@@ -137,16 +137,16 @@ pub merged_stands : (cut : CutValue) (nodes : List NodeMergeValue) → MergesNod
     → StandsForCut (record { capacity = cut.capacity; total = total_of_cut cut; nodes = nodes }) cut
 merged_stands cut nodes merges =
     let at : (node : NodeValue) → IsNode node
-      → StandsForTables (slice_index_or nodes (index_of node) nothing_merged) (node_tables node cut) =
+    → StandsForTables (slice_index_or nodes (index_of node) nothing_merged) (node_tables node cut) =
     λ node is_node.
-      subst (λ n. StandsForTables (slice_index_or nodes (index_of node) nothing_merged) (node_tables n cut))
-        (node_at-index_of node is_node)
+    subst (λ n. StandsForTables (slice_index_or nodes (index_of node) nothing_merged) (node_tables n cut))
+    (node_at-index_of node is_node)
     (merges.stands (index_of node) (omega (arith, is_node.source, is_node.dest))) in
     record {
       capacity = refl;
       total = refl;
       intervals = λ prefix is_prefix.
           (at (node_of prefix) (record { source = is_prefix.source.few; dest = is_prefix.dest.few })).intervals
-            (key_of prefix);
+          (key_of prefix);
       candidates = λ node is_node. (at node is_node).keys;
     }

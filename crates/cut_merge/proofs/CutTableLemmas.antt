@@ -14,18 +14,18 @@ use Rattle.cut_merge.proofs.TableMergeLemmas.{counted}
 pub record IntervalsAreBounded : Type 0 where
   pub ordered : (capacity : ℕ) (entries : List Entry) (key : ℕ) → IsTable capacity entries
       → (interval_in (record { capacity = capacity; entries = entries }) key).low
-        ≤ (interval_in (record { capacity = capacity; entries = entries }) key).high
+      ≤ (interval_in (record { capacity = capacity; entries = entries }) key).high
   pub within_total : (capacity : ℕ) (entries : List Entry) (key : ℕ) → IsTable capacity entries
       → (interval_in (record { capacity = capacity; entries = entries }) key).high ≤ total_count entries
   pub above_missing : (capacity : ℕ) (entries : List Entry) (key : ℕ) → IsTable capacity entries
       → (interval_from None (record { capacity = capacity; entries = entries })).high
-        ≤ (interval_in (record { capacity = capacity; entries = entries }) key).high
+      ≤ (interval_in (record { capacity = capacity; entries = entries }) key).high
 
 -- in every cut the intervals of the tables at a node are bounded
 abbrev pub TablesAreBounded : Type 0
 TablesAreBounded =
     (cut : CutValue) (node : NodeValue) (key : ℕ) → IsCut cut → IsNode node
-      → All (IsBounded key) (node_tables node cut)
+    → All (IsBounded key) (node_tables node cut)
 
 -- so it is in a table of a snapshot
 bounded_table : (node : NodeValue) (snapshot : SnapshotValue) (key : ℕ) → IntervalsAreBounded → IsNode node
@@ -60,7 +60,7 @@ counted_shards node [] is_node kept = refl
 counted_shards node (snapshot ∷ shards) is_node kept =
     sum_by-cons (λ (t : TableValue). total_count t.entries) (table_at node snapshot) (map (table_at node) shards)
     ∙ ap (λ n. n + counted (map (table_at node) shards))
-      ((All-head IsSnapshot snapshot shards kept).tables node is_node).counted
+    ((All-head IsSnapshot snapshot shards kept).tables node is_node).counted
     ∙ ap (λ n. total_of snapshot + n) (counted_shards node shards is_node (All-tail IsSnapshot snapshot shards kept))
     ∙ sym (sum_by-cons total_of snapshot shards)
 

@@ -42,7 +42,7 @@ entry_of-push_own : (key : ℕ) (es : List Entry) (e : Entry) → entry_of key e
 entry_of-push_own key [] e missing same = ap (λ b. if b then Some e else None) same
 entry_of-push_own key (f ∷ fs) e missing same =
     (elim (eqb f.key key) as
-      (λ b. cond b (Some f) (entry_of key fs) ≡ None → cond b (Some f) (entry_of key (fs ++ e ∷ [])) ≡ Some e) [
+    (λ b. cond b (Some f) (entry_of key fs) ≡ None → cond b (Some f) (entry_of key (fs ++ e ∷ [])) ≡ Some e) [
       | true ↦ λ is. cc
       | false ↦ λ is. entry_of-push_own key fs e is same
     ]) missing
@@ -57,32 +57,32 @@ notes_more table old now next place e notes at apart gains keys =
     let es = take place table.entries in
     let more : take (place + 1) table.entries ≡ es ++ e ∷ [] =
     take_more table.entries place e (slice_get_within table.entries place e at)
-      ∙ ap (λ f. es ++ f ∷ []) (get_or_from_slice_get table.entries place e e at) in
+    ∙ ap (λ f. es ++ f ∷ []) (get_or_from_slice_get table.entries place e e at) in
     let Noted : List Entry → ℕ → Type 0 =
-      λ fs key. gain_of key next ≡ plus (gain_of key old) (gain_from table (entry_of key fs)) in
+    λ fs key. gain_of key next ≡ plus (gain_of key old) (gain_from table (entry_of key fs)) in
     let own : (key : ℕ) → e.key ≡ key → entry_of key es ≡ None =
-      λ key same. subst (λ k. entry_of k es ≡ None) same apart in
+    λ key same. subst (λ k. entry_of k es ≡ None) same apart in
     let by : (key : ℕ) (b : Bool) → eqb e.key key ≡ b → Noted (es ++ e ∷ []) key =
-      λ key b. elim b as (λ b. eqb e.key key ≡ b → Noted (es ++ e ∷ []) key) [
+    λ key b. elim b as (λ b. eqb e.key key ≡ b → Noted (es ++ e ∷ []) key) [
       | true ↦ λ same.
           gains key ∙ ap (λ b. if b then plus (gain_of key now) (gain_from table (Some e)) else gain_of key now) same
           ∙ ap (λ g. plus g (gain_from table (Some e)))
-            (notes.gains key
-              ∙ ap (λ found. plus (gain_of key old) (gain_from table found)) (own key (eqb-true e.key key same))
-              ∙ nothing-plus (gain_of key old))
+          (notes.gains key
+          ∙ ap (λ found. plus (gain_of key old) (gain_from table found)) (own key (eqb-true e.key key same))
+          ∙ nothing-plus (gain_of key old))
           ∙ ap (λ found. plus (gain_of key old) (gain_from table found))
-            (sym (entry_of-push_own key es e (own key (eqb-true e.key key same)) same))
+          (sym (entry_of-push_own key es e (own key (eqb-true e.key key same)) same))
       | false ↦ λ differs.
           gains key ∙ ap (λ b. if b then plus (gain_of key now) (gain_from table (Some e)) else gain_of key now) differs
           ∙ notes.gains key
           ∙ ap (λ found. plus (gain_of key old) (gain_from table found))
-            (sym (entry_of-push_other key es e differs))
+          (sym (entry_of-push_other key es e differs))
     ] in
     record {
       gains = λ key. subst (λ fs. Noted fs key) (sym more) (by key (eqb e.key key) refl);
       keys = keys ∙ ap (λ ks. seen ks e.key) notes.keys
           ∙ sym (fold_push seen (keys_of old) (map (λ (entry : Entry). entry.key) es) e.key)
           ∙ ap (fold seen (keys_of old))
-            (sym (map-append (λ (entry : Entry). entry.key) es (e ∷ []))
-              ∙ ap (map (λ (entry : Entry). entry.key)) (sym more));
+          (sym (map-append (λ (entry : Entry). entry.key) es (e ∷ []))
+          ∙ ap (map (λ (entry : Entry). entry.key)) (sym more));
     }

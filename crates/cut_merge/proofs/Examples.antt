@@ -120,7 +120,7 @@ abbrev hosts : NodeMergeValue
 hosts = record {
   gains =
       (host_key 2 0x14000001, gain 1 0) ∷ (host_key 1 0x14000001, gain 2 1) ∷ (host_key 3 0x14000001, gain 1 0)
-        ∷ (host_key 4 0x14000001, gain 1 1) ∷ [];
+      ∷ (host_key 4 0x14000001, gain 1 1) ∷ [];
   missing = 2;
 }
 
@@ -178,7 +178,7 @@ nothing_stands_for_nothing_counted =
       intervals = λ prefix is_prefix.
           ap (λ merge. interval_for_key merge (key_of prefix)) (alike nothing_merged 25 (index_of (node_of prefix)))
           ∙ sym (ap (λ entries. merged_interval (table entries ∷ []) (key_of prefix))
-            (alike [] 25 (index_of (node_of prefix))));
+          (alike [] 25 (index_of (node_of prefix))));
       candidates = λ node is_node.
           ap (λ (merge : NodeMergeValue). keys_of merge.gains) (alike nothing_merged 25 (index_of node))
           ∙ sym (ap (λ entries. monitored_keys (table entries ∷ [])) (alike [] 25 (index_of node)));
@@ -190,7 +190,7 @@ nothing_is_merged = record {
   shape = refl;
   intervals = λ place key.
       subst (λ merge. IsWithinTotal 0 (interval_for_key merge key)) (sym (alike nothing_merged 25 place))
-        (record { ordered = omega arith; within_total = omega arith });
+      (record { ordered = omega arith; within_total = omega arith });
 }
 
 -- a total of 2 is below the high of host 1

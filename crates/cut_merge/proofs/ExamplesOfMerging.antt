@@ -84,9 +84,9 @@ pub adds_the_table_with_room : AddsTable nothing_merged roomy first
 adds_the_table_with_room = record {
   gains = λ key. ⊎_elim
       (λ (is : key ≡ 5).
-        subst (λ k.
-          gain_of k first.gains
-            ≡ plus (gain_of k nothing_merged.gains) (gain_from roomy (entry_of k roomy.entries))) (sym is) refl)
+      subst (λ k.
+      gain_of k first.gains
+      ≡ plus (gain_of k nothing_merged.gains) (gain_from roomy (entry_of k roomy.entries))) (sym is) refl)
       (λ other. rw (ne_eqb key 5 other, ne_eqb 5 key (λ is. other (sym is))) refl)
       (cases_eq key 5);
   missing = refl;

@@ -17,7 +17,7 @@ some_among key (first ∷ rest) = by (some_among key rest) (eqb key first.0)
     by : is_some (lookup (λ other. eqb key other) rest) ≡ list_any (λ other. eqb key other) (keys_of rest)
         → (b : Bool)
         → is_some (cond b (Some first.1) (lookup (λ other. eqb key other) rest))
-          ≡ (b || list_any (λ other. eqb key other) (keys_of rest))
+        ≡ (b || list_any (λ other. eqb key other) (keys_of rest))
     by tail true = refl
     by tail false = tail
 
@@ -50,7 +50,7 @@ notes-puts key old new gain more puts is other = ap noted (puts other) ∙ by (e
   where
     by : (b : Bool) → eqb key other ≡ b
         → noted (cond b (Some gain) (lookup (λ k. eqb other k) old))
-          ≡ (if b then plus (gain_of other old) more else gain_of other old)
+        ≡ (if b then plus (gain_of other old) more else gain_of other old)
     by true same = is ∙ ap (λ k. plus (gain_of k old) more) (eqb-true key other same)
     by false _ = refl
 
@@ -75,7 +75,7 @@ notes_next key old between new before both more first second there is =
   where
     by : (other : ℕ) (b : Bool) → eqb key other ≡ b
         → cond b (Some both) (lookup (λ k. eqb other k) between)
-          ≡ cond b (Some both) (lookup (λ k. eqb other k) old)
+        ≡ cond b (Some both) (lookup (λ k. eqb other k) old)
     by other true same = refl
     by other false differs = first other ∙ ap (λ b. cond b (Some more) (lookup (λ k. eqb other k) old)) differs
 

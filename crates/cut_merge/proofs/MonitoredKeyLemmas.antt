@@ -21,7 +21,7 @@ keyed_shards node is_node [] kept = All-nil (IsKeyOf node)
 keyed_shards node is_node (shard ∷ shards) kept =
     All-append (IsKeyOf node) (table_keys (table_at node shard)) (flat_map table_keys (map (table_at node) shards))
     (All-map (IsKeyOf node) (λ (e : Entry). e.key) (table_at node shard).entries
-      ((All-head IsSnapshot shard shards kept).tables node is_node).keyed)
+    ((All-head IsSnapshot shard shards kept).tables node is_node).keyed)
     (keyed_shards node is_node shards (All-tail IsSnapshot shard shards kept))
 
 -- they are keys of the node
@@ -41,15 +41,24 @@ few_in_shards node capacity is_node (shard ∷ shards) alike kept =
     let fits = (((All-head IsSnapshot shard shards kept).tables node is_node).are_entries).is_table.fits in
     let first : length table.entries ≤ capacity = subst (λ m. length table.entries ≤ m) same fits in
     let rest =
-      few_in_shards node capacity is_node shards
-        (All-tail (λ (s : SnapshotValue). s.capacity ≡ capacity) shard shards alike)
-        (All-tail IsSnapshot shard shards kept) in
-    omega (arith, first, rest, length-append (table_keys table) (flat_map table_keys (map (table_at node) shards)),
-      length-map table.entries (λ (e : Entry). e.key), add-mul 1 (length shards) capacity)
+    few_in_shards node capacity is_node shards
+    (All-tail (λ (s : SnapshotValue). s.capacity ≡ capacity) shard shards alike)
+    (All-tail IsSnapshot shard shards kept) in
+    omega (
+      arith,
+      first,
+      rest,
+      length-append (table_keys table) (flat_map table_keys (map (table_at node) shards)),
+      length-map table.entries (λ (e : Entry). e.key),
+      add-mul 1 (length shards) capacity,
+    )
 
 -- and no more of them than the tables have entries
 pub monitored_few : (cut : CutValue) (node : NodeValue) → IsCut cut → IsNode node
     → length (monitored_at cut node) ≤ length cut.shards * cut.capacity
 monitored_few cut node kept is_node =
-    omega (arith, first_seen-length (node_keys cut node),
-      few_in_shards node cut.capacity is_node cut.shards kept.alike kept.kept)
+    omega (
+      arith,
+      first_seen-length (node_keys cut node),
+      few_in_shards node cut.capacity is_node cut.shards kept.alike kept.kept,
+    )

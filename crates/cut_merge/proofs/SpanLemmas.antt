@@ -33,7 +33,7 @@ pub record SnapshotsHold : Type 0 where
       → SnapshotStandsFor snapshot list → 1 ≤ snapshot.capacity
       → IsPrefix prefix → All (λ (rec : RecordValue). 1 ≤ rec.weight) list
       → Holds (interval_of prefix snapshot) snapshot.capacity (weight_of prefix (take snapshot.position list))
-        (total_of snapshot)
+      (total_of snapshot)
 
 -- each record has a weight
 abbrev Weighed : List RecordValue → Type 0
@@ -56,13 +56,13 @@ shards_hold law capacity prefix some is_prefix (shard ∷ shards) [] alike stand
 shards_hold law capacity prefix some is_prefix (shard ∷ shards) (list ∷ lists) alike stand weighed =
     let same : shard.capacity ≡ capacity = All-head (λ (s : SnapshotValue). s.capacity ≡ capacity) shard shards alike in
     let first : Holds (interval_of prefix shard) capacity (weight_of prefix (take shard.position list))
-      (total_of shard) =
+    (total_of shard) =
     subst (λ m. Holds (interval_of prefix shard) m (weight_of prefix (take shard.position list)) (total_of shard)) same
     (law.weight shard list prefix stand.0 (omega (arith, same)) is_prefix (All-head Weighed list lists weighed)) in
     let rest =
-      shards_hold law capacity prefix some is_prefix shards lists
-        (All-tail (λ (s : SnapshotValue). s.capacity ≡ capacity) shard shards alike) stand.1
-        (All-tail Weighed list lists weighed) in
+    shards_hold law capacity prefix some is_prefix shards lists
+    (All-tail (λ (s : SnapshotValue). s.capacity ≡ capacity) shard shards alike) stand.1
+    (All-tail Weighed list lists weighed) in
     let tables = map (table_at (node_of prefix)) shards in
     let table = table_at (node_of prefix) shard in
     let key = key_of prefix in
@@ -70,27 +70,27 @@ shards_hold law capacity prefix some is_prefix (shard ∷ shards) (list ∷ list
     let high = sum_by-cons (λ (t : TableValue). (interval_in t key).high) table tables in
     let total = sum_by-cons total_of shard shards in
     let weight =
-      weight_of-append prefix (take shard.position list)
-        (records_before lists (map (λ (s : SnapshotValue). s.position) shards)) in
+    weight_of-append prefix (take shard.position list)
+    (records_before lists (map (λ (s : SnapshotValue). s.position) shards)) in
     let least : (merged_interval (table ∷ tables) key).low
-      ≤ weight_of prefix
-        (take shard.position list ++ records_before lists (map (λ (s : SnapshotValue). s.position) shards)) =
+    ≤ weight_of prefix
+    (take shard.position list ++ records_before lists (map (λ (s : SnapshotValue). s.position) shards)) =
     omega (arith, low, weight, first.low, rest.low) in
     let most : weight_of prefix
-      (take shard.position list ++ records_before lists (map (λ (s : SnapshotValue). s.position) shards))
-      ≤ (merged_interval (table ∷ tables) key).high =
+    (take shard.position list ++ records_before lists (map (λ (s : SnapshotValue). s.position) shards))
+    ≤ (merged_interval (table ∷ tables) key).high =
     omega (arith, high, weight, first.high, rest.high) in
     let first_ordered : (interval_of prefix shard).low ≤ (interval_of prefix shard).high =
-      omega (arith, first.low, first.high) in
+    omega (arith, first.low, first.high) in
     let rest_ordered : (merged_interval tables key).low ≤ (merged_interval tables key).high =
-      omega (arith, rest.low, rest.high) in
+    omega (arith, rest.low, rest.high) in
     record {
       low = least;
       high = most;
       width =
           let apart : (merged_interval (table ∷ tables) key).high - (merged_interval (table ∷ tables) key).low
           ≡ ((interval_of prefix shard).high - (interval_of prefix shard).low)
-            + ((merged_interval tables key).high - (merged_interval tables key).low) =
+          + ((merged_interval tables key).high - (merged_interval tables key).low) =
           omega (arith, low, high, first_ordered, rest_ordered) in
           subst (λ n. n * capacity ≤ sum_by total_of (shard ∷ shards)) (sym apart)
           (omega (
@@ -99,7 +99,7 @@ shards_hold law capacity prefix some is_prefix (shard ∷ shards) (list ∷ list
             first.width,
             rest.width,
             add-mul ((interval_of prefix shard).high - (interval_of prefix shard).low)
-              ((merged_interval tables key).high - (merged_interval tables key).low) capacity,
+                ((merged_interval tables key).high - (merged_interval tables key).low) capacity,
           ));
     }
 
@@ -107,10 +107,10 @@ shards_hold law capacity prefix some is_prefix (shard ∷ shards) (list ∷ list
 pub span_holds : SnapshotsHold → (cut : CutValue) (lists : List (List RecordValue)) (prefix : PrefixValue)
     → IsCut cut → CutStandsFor cut lists → All Weighed lists → IsPrefix prefix
     → Holds (span cut prefix) cut.capacity (weight_of prefix (records_before lists (positions_of cut)))
-      (total_of_cut cut)
+    (total_of_cut cut)
 span_holds law cut lists prefix kept stands weighed is_prefix =
     shards_hold law cut.capacity prefix (omega (arith, kept.least)) is_prefix cut.shards lists kept.alike
-      stands.shards weighed
+    stands.shards weighed
 
 -- a key that isn't monitored has no entry
 missing_entry : (entries : List Entry) (key : ℕ) → ¬ Contains (map (λ (e : Entry). e.key) entries) key
@@ -118,21 +118,21 @@ missing_entry : (entries : List Entry) (key : ℕ) → ¬ Contains (map (λ (e :
 missing_entry [] key missing = refl
 missing_entry (entry ∷ entries) key missing =
     by (eqb entry.key key) refl
-      (missing_entry entries key
-        (λ there. missing (Contains-tail entry.key (map (λ (e : Entry). e.key) entries) key there)))
+    (missing_entry entries key
+    (λ there. missing (Contains-tail entry.key (map (λ (e : Entry). e.key) entries) key there)))
   where
     by : (b : Bool) → eqb entry.key key ≡ b → entry_of key entries ≡ None
         → (if b then Some entry else entry_of key entries) ≡ None
     by true same rest =
         absurd (missing (subst (Contains (entry.key ∷ map (λ (e : Entry). e.key) entries))
-          (eqb-true entry.key key same) (Contains-head entry.key (map (λ (e : Entry). e.key) entries))))
+        (eqb-true entry.key key same) (Contains-head entry.key (map (λ (e : Entry). e.key) entries))))
     by false _ rest = rest
 
 -- in every table an interval is at most as wide as what the table counted divided by its capacity
 abbrev pub IntervalsAreNarrow : Type 0
 IntervalsAreNarrow = (capacity : ℕ) (entries : List Entry) (key : ℕ) → IsTable capacity entries
     → ((interval_in (record { capacity = capacity; entries = entries }) key).high
-      - (interval_in (record { capacity = capacity; entries = entries }) key).low) * capacity ≤ total_count entries
+    - (interval_in (record { capacity = capacity; entries = entries }) key).low) * capacity ≤ total_count entries
 
 -- so the highs of a key that no shard monitors are light together
 light_shards : IntervalsAreNarrow → (capacity : ℕ) (node : NodeValue) (key : ℕ) → IsNode node
@@ -147,25 +147,30 @@ light_shards law capacity node key is_node (shard ∷ shards) alike kept missing
     let same : shard.capacity ≡ capacity = All-head (λ (s : SnapshotValue). s.capacity ≡ capacity) shard shards alike in
     let of_shard = (All-head IsSnapshot shard shards kept).tables node is_node in
     let none : entry_of key table.entries ≡ None =
-      missing_entry table.entries key
-        (λ there. missing (Contains-append_left (table_keys table) (flat_map table_keys tables) key there)) in
+    missing_entry table.entries key
+    (λ there. missing (Contains-append_left (table_keys table) (flat_map table_keys tables) key there)) in
     let low : (interval_in table key).low ≡ 0 = ap (λ found. (interval_from found table).low) none in
     let narrow = law shard.capacity table.entries key of_shard.are_entries.is_table in
     let width : (interval_in table key).high - (interval_in table key).low ≡ (interval_in table key).high =
-      omega (arith, low) in
+    omega (arith, low) in
     let first : (interval_in table key).high * capacity ≤ total_of shard =
     subst (λ m. (interval_in table key).high * m ≤ total_of shard) same
     (subst (λ n. n * shard.capacity ≤ total_of shard) width
-      (subst (λ n. ((interval_in table key).high - (interval_in table key).low) * shard.capacity ≤ n)
-        of_shard.counted narrow)) in
+    (subst (λ n. ((interval_in table key).high - (interval_in table key).low) * shard.capacity ≤ n)
+    of_shard.counted narrow)) in
     let rest = light_shards law capacity node key is_node shards
-      (All-tail (λ (s : SnapshotValue). s.capacity ≡ capacity) shard shards alike)
-      (All-tail IsSnapshot shard shards kept)
+    (All-tail (λ (s : SnapshotValue). s.capacity ≡ capacity) shard shards alike)
+    (All-tail IsSnapshot shard shards kept)
     (λ there. missing (Contains-append_right (table_keys table) (flat_map table_keys tables) key there)) in
     let high = sum_by-cons (λ (t : TableValue). (interval_in t key).high) table tables in
     subst (λ n. n * capacity ≤ sum_by total_of (shard ∷ shards)) (sym high)
-    (omega (arith, first, rest, sum_by-cons total_of shard shards,
-      add-mul (interval_in table key).high (merged_interval tables key).high capacity))
+    (omega (
+      arith,
+      first,
+      rest,
+      sum_by-cons total_of shard shards,
+      add-mul (interval_in table key).high (merged_interval tables key).high capacity,
+    ))
 
 -- a prefix that no shard monitors has a light span
 pub span_light : IntervalsAreNarrow → (cut : CutValue) (prefix : PrefixValue) → IsCut cut → IsPrefix prefix
@@ -173,9 +178,9 @@ pub span_light : IntervalsAreNarrow → (cut : CutValue) (prefix : PrefixValue) 
     → (span cut prefix).high * cut.capacity ≤ total_of_cut cut
 span_light law cut prefix kept is_prefix missing =
     light_shards law cut.capacity (node_of prefix) (key_of prefix)
-      (record { source = is_prefix.source.few; dest = is_prefix.dest.few }) cut.shards kept.alike kept.kept
+    (record { source = is_prefix.source.few; dest = is_prefix.dest.few }) cut.shards kept.alike kept.kept
     (λ there.
-      missing (first_seen-contains (flat_map table_keys (node_tables (node_of prefix) cut)) (key_of prefix) there))
+    missing (first_seen-contains (flat_map table_keys (node_tables (node_of prefix) cut)) (key_of prefix) there))
 
 -- and every span is within the total
 pub span_within : TablesAreBounded → (cut : CutValue) (prefix : PrefixValue) → IsCut cut → IsPrefix prefix
@@ -184,7 +189,7 @@ span_within law cut prefix kept is_prefix =
     let is_node : IsNode (node_of prefix) = record { source = is_prefix.source.few; dest = is_prefix.dest.few } in
     let tables = node_tables (node_of prefix) cut in
     let bounded : IsMergedBounded tables (key_of prefix) =
-      merged_bounded tables (key_of prefix) (law cut (node_of prefix) (key_of prefix) kept is_node) in
+    merged_bounded tables (key_of prefix) (law cut (node_of prefix) (key_of prefix) kept is_node) in
     record {
       ordered = bounded.ordered;
       within_total = omega (arith, bounded.within_total, counted-at (node_of prefix) cut is_node kept);

@@ -38,29 +38,41 @@ stands_for_more old new tables table bounded stands adds = record {
       let make : ℕ → ℕ → Interval = λ low high. record { low = low; high = high } in
       let found = entry_of key table.entries in
       let old_low : (gain_of key old.gains).low ≡ sum_by (λ t. (interval_in t key).low) tables =
-        ap (λ (i : Interval). i.low) (stands.intervals key) in
+      ap (λ (i : Interval). i.low) (stands.intervals key) in
       let old_high : old.missing + (gain_of key old.gains).high ≡ sum_by (λ t. (interval_in t key).high) tables =
-        ap (λ (i : Interval). i.high) (stands.intervals key) in
+      ap (λ (i : Interval). i.high) (stands.intervals key) in
       let new_low : (gain_of key new.gains).low ≡ (gain_of key old.gains).low + (gain_from table found).low =
-        ap (λ (g : Gain). g.low) (adds.gains key) in
+      ap (λ (g : Gain). g.low) (adds.gains key) in
       let new_high : (gain_of key new.gains).high ≡ (gain_of key old.gains).high + (gain_from table found).high =
-        ap (λ (g : Gain). g.high) (adds.gains key) in
+      ap (λ (g : Gain). g.high) (adds.gains key) in
       let above : missing_high table ≤ (interval_in table key).high = (bounded key).above_missing in
       let low : (gain_of key new.gains).low ≡ sum_by (λ t. (interval_in t key).low) (tables ++ table ∷ []) =
-      omega (arith, new_low, old_low, low-gain table found,
-        sum_by_push (λ (t : TableValue). (interval_in t key).low) tables table) in
+      omega (
+        arith,
+        new_low,
+        old_low,
+        low-gain table found,
+        sum_by_push (λ (t : TableValue). (interval_in t key).low) tables table,
+      ) in
       let high : new.missing + (gain_of key new.gains).high
-        ≡ sum_by (λ t. (interval_in t key).high) (tables ++ table ∷ []) =
-      omega (arith, new_high, old_high, adds.missing, above, high-gain table found,
-        sum_by_push (λ (t : TableValue). (interval_in t key).high) tables table) in
+      ≡ sum_by (λ t. (interval_in t key).high) (tables ++ table ∷ []) =
+      omega (
+        arith,
+        new_high,
+        old_high,
+        adds.missing,
+        above,
+        high-gain table found,
+        sum_by_push (λ (t : TableValue). (interval_in t key).high) tables table,
+      ) in
       ap (λ l. make l (new.missing + (gain_of key new.gains).high)) low
-        ∙ ap (λ h. make (sum_by (λ t. (interval_in t key).low) (tables ++ table ∷ [])) h) high;
+      ∙ ap (λ h. make (sum_by (λ t. (interval_in t key).low) (tables ++ table ∷ [])) h) high;
   keys =
       adds.keys ∙ ap (λ keys. fold seen keys (table_keys table)) stands.keys
       ∙ sym (first_seen-append (flat_map table_keys tables) (table_keys table))
       ∙ ap first_seen
-        (ap (λ more. flat_map table_keys tables ++ more) (sym (append-nil (table_keys table)))
-          ∙ sym (flat_map-append table_keys tables (table ∷ [])));
+      (ap (λ more. flat_map table_keys tables ++ more) (sym (append-nil (table_keys table)))
+      ∙ sym (flat_map-append table_keys tables (table ∷ [])));
 }
 
 -- what the tables counted together

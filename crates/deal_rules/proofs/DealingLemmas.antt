@@ -32,7 +32,7 @@ joined-past : (n : ℕ) (r : RecordValue) (f : ℕ → List RecordValue) (from c
 joined-past n r f from zero past = refl
 joined-past n r f from (suc count) past =
     cond_both (eqb n from) (r ∷ f from) (f from)
-      (λ l. l ++ joined (with_first n r f) (from + 1) count ≡ joined f from (suc count))
+    (λ l. l ++ joined (with_first n r f) (from + 1) count ≡ joined f from (suc count))
     (λ here. let e : n ≡ from = eqb-true n from here in absurd (omega (arith, e, past)))
     (λ other. ap (λ l. f from ++ l) (joined-past n r f (from + 1) count (omega (arith, past))))
 
@@ -42,10 +42,10 @@ joined-first : (n : ℕ) (r : RecordValue) (f : ℕ → List RecordValue) (from 
 joined-first n r f from zero least most = absurd (omega (arith, least, most))
 joined-first n r f from (suc count) least most =
     cond_both (eqb n from) (r ∷ f from) (f from)
-      (λ l. IsPermutation (r ∷ joined f from (suc count)) (l ++ joined (with_first n r f) (from + 1) count))
+    (λ l. IsPermutation (r ∷ joined f from (suc count)) (l ++ joined (with_first n r f) (from + 1) count))
     (λ here. let e : n ≡ from = eqb-true n from here in
     subst (λ l. IsPermutation (r ∷ joined f from (suc count)) ((r ∷ f from) ++ l))
-      (sym (joined-past n r f (from + 1) count (omega (arith, e))))
+    (sym (joined-past n r f (from + 1) count (omega (arith, e))))
     (IsPermutation-refl (r ∷ joined f from (suc count))))
     (λ other. let apart : n ≡ from → ⊥ = eqb-false n from other in
     let later : IsPermutation (r ∷ joined f (from + 1) count) (joined (with_first n r f) (from + 1) count) =
@@ -64,15 +64,15 @@ dealt_list-cons shard n ns r rs =
     let record_of : ℕ × RecordValue → RecordValue = λ dealt. dealt.1 in
     let later : List (ℕ × RecordValue) = filter (λ (dealt : ℕ × RecordValue). eqb dealt.0 shard) (zip ns rs) in
     elim (eqb n shard) as
-      (λ b. map record_of (cond b ((n, r) ∷ later) later) ≡ cond b (r ∷ map record_of later) (map record_of later))
-      [ true ↦ refl | false ↦ refl ]
+    (λ b. map record_of (cond b ((n, r) ∷ later) later) ≡ cond b (r ∷ map record_of later) (map record_of later))
+    [ true ↦ refl | false ↦ refl ]
 
 joined-same : (f g : ℕ → List RecordValue) → ((shard : ℕ) → f shard ≡ g shard) → (from count : ℕ)
     → joined f from count ≡ joined g from count
 joined-same f g same from zero = refl
 joined-same f g same from (suc count) =
     ap (λ l. l ++ joined f (from + 1) count) (same from)
-      ∙ ap (λ l. g from ++ l) (joined-same f g same (from + 1) count)
+    ∙ ap (λ l. g from ++ l) (joined-same f g same (from + 1) count)
 
 -- the lists of all shards together are the records in another order
 dealt_lists-permuted : (shards : ℕ) (ns : List ℕ) (rs : List RecordValue) → length ns ≡ length rs
@@ -85,13 +85,13 @@ dealt_lists-permuted shards (n ∷ ns) [] same below = absurd (omega (arith, sam
 dealt_lists-permuted shards (n ∷ ns) (r ∷ rs) same below =
     let f : ℕ → List RecordValue = λ s. dealt_list s ns rs in
     let earlier : IsPermutation rs (joined f 0 shards) =
-      dealt_lists-permuted shards ns rs (omega (arith, same)) (All-tail (λ m. m < shards) n ns below) in
+    dealt_lists-permuted shards ns rs (omega (arith, same)) (All-tail (λ m. m < shards) n ns below) in
     let first : IsPermutation (r ∷ joined f 0 shards) (joined (with_first n r f) 0 shards) =
     joined-first n r f 0 shards (omega arith)
-      (let h : n < shards = All-head (λ m. m < shards) n ns below in omega (arith, h)) in
+    (let h : n < shards = All-head (λ m. m < shards) n ns below in omega (arith, h)) in
     subst (λ l. IsPermutation (r ∷ rs) l)
-      (sym (joined-same (λ s. dealt_list s (n ∷ ns) (r ∷ rs)) (with_first n r f)
-        (λ s. dealt_list-cons s n ns r rs) 0 shards))
+    (sym (joined-same (λ s. dealt_list s (n ∷ ns) (r ∷ rs)) (with_first n r f)
+    (λ s. dealt_list-cons s n ns r rs) 0 shards))
     (IsPermutation-trans (r ∷ rs) (r ∷ joined f 0 shards) _ (IsPermutation-cons r rs (joined f 0 shards) earlier) first)
 
 sum_by-joined : {X : Type 0} (f : X → ℕ) → (lists : List (List X))
@@ -99,13 +99,13 @@ sum_by-joined : {X : Type 0} (f : X → ℕ) → (lists : List (List X))
 sum_by-joined f [] = refl
 sum_by-joined f (l ∷ ls) =
     sum_by-append f l (flat_map (λ list. list) ls) ∙ ap (λ n. sum_by f l + n) (sum_by-joined f ls)
-      ∙ sym (sum_by-cons (sum_by f) l ls)
+    ∙ sym (sum_by-cons (sum_by f) l ls)
 
 sum_by-same : {X : Type 0} (f g : X → ℕ) → ((x : X) → f x ≡ g x) → (xs : List X) → sum_by f xs ≡ sum_by g xs
 sum_by-same f g same [] = refl
 sum_by-same f g same (x ∷ xs) =
     sum_by-cons f x xs ∙ ap (λ n. n + sum_by f xs) (same x) ∙ ap (λ n. g x + n) (sum_by-same f g same xs)
-      ∙ sym (sum_by-cons g x xs)
+    ∙ sym (sum_by-cons g x xs)
 
 -- what covered records weigh, as a sum over all of them
 weight_of-sum : (prefix : PrefixValue) (rs : List RecordValue)
@@ -117,10 +117,10 @@ weight_of-sum prefix (r ∷ rs) =
     let later : List RecordValue = filter (covers prefix) rs in
     let ih : sum_by weigh later ≡ sum_by part rs = weight_of-sum prefix rs in
     let here : sum_by weigh (cond (covers prefix r) (r ∷ later) later)
-      ≡ cond (covers prefix r) r.weight 0 + sum_by weigh later =
+    ≡ cond (covers prefix r) r.weight 0 + sum_by weigh later =
     elim (covers prefix r) as
-      (λ b. sum_by weigh (cond b (r ∷ later) later) ≡ cond b r.weight 0 + sum_by weigh later)
-      [ true ↦ sum_by-cons weigh r later | false ↦ omega arith ] in
+    (λ b. sum_by weigh (cond b (r ∷ later) later) ≡ cond b r.weight 0 + sum_by weigh later)
+    [ true ↦ sum_by-cons weigh r later | false ↦ omega arith ] in
     here ∙ ap (λ n. part r + n) ih ∙ sym (sum_by-cons part r rs)
 
 -- the laws, of lists that are dealt
@@ -129,21 +129,21 @@ pub permuted : (shards : ℕ) (records : List RecordValue) (numbers : List ℕ) 
     → IsPermutation records (flat_map (λ list. list) lists)
 permuted shards records numbers lists dealt =
     subst (λ (ls : List (List RecordValue)). IsPermutation records (flat_map (λ list. list) ls)) (sym dealt.parted)
-      (dealt_lists-permuted shards numbers records dealt.as_many dealt.below)
+    (dealt_lists-permuted shards numbers records dealt.as_many dealt.below)
 
 pub summed : (shards : ℕ) (records : List RecordValue) (numbers : List ℕ) (lists : List (List RecordValue))
     → AreDealt shards records numbers lists
     → (weigh : RecordValue → ℕ) → sum_by (sum_by weigh) lists ≡ sum_by weigh records
 summed shards records numbers lists dealt weigh =
     sym (sum_by-joined weigh lists)
-      ∙ sum_by-IsPermutation weigh records _ (permuted shards records numbers lists dealt)
+    ∙ sum_by-IsPermutation weigh records _ (permuted shards records numbers lists dealt)
 
 pub counted : (shards : ℕ) (records : List RecordValue) (numbers : List ℕ) (lists : List (List RecordValue))
     → AreDealt shards records numbers lists
     → sum_by (λ list. length list) lists ≡ length records
 counted shards records numbers lists dealt =
     sym (length-flat_map (λ list. list) lists)
-      ∙ length_permutation records _ (permuted shards records numbers lists dealt)
+    ∙ length_permutation records _ (permuted shards records numbers lists dealt)
 
 pub weighed : (shards : ℕ) (records : List RecordValue) (numbers : List ℕ) (lists : List (List RecordValue))
     → AreDealt shards records numbers lists
@@ -151,7 +151,7 @@ pub weighed : (shards : ℕ) (records : List RecordValue) (numbers : List ℕ) (
 weighed shards records numbers lists dealt prefix =
     let part : RecordValue → ℕ = λ rec. cond (covers prefix rec) rec.weight 0 in
     sum_by-same (weight_of prefix) (sum_by part) (weight_of-sum prefix) lists
-      ∙ summed shards records numbers lists dealt part ∙ sym (weight_of-sum prefix records)
+    ∙ summed shards records numbers lists dealt part ∙ sym (weight_of-sum prefix records)
 
 pub total : (shards : ℕ) (records : List RecordValue) (numbers : List ℕ) (lists : List (List RecordValue))
     → AreDealt shards records numbers lists
@@ -166,5 +166,5 @@ pub AreShardLists-dealing : (kind : DealKind) (may_answer : ℕ → RecordValue 
 AreShardLists-dealing kind may_answer shards records lists dealing some few small =
     let long : length lists ≡ shards = length-dealing kind may_answer shards records lists dealing in
     let all : sum_by (λ list. length list) lists ≡ length records =
-      counted shards records dealing.numbers lists dealing.dealt in
+    counted shards records dealing.numbers lists dealing.dealt in
     record { some = omega (arith, long, some); few = omega (arith, long, few); small = omega (arith, all, small) }

@@ -97,7 +97,7 @@ record_without_a_number dealt = omega (arith, dealt.as_many)
 pub lists_of_each_other : AreDealt 2 (first ∷ second ∷ []) (0 ∷ 1 ∷ []) ((second ∷ []) ∷ (first ∷ []) ∷ []) → ⊥
 lists_of_each_other dealt =
     let same : 4 ≡ 7 =
-      ap (λ (lists : List (List RecordValue)). (get_or (get_or lists 0 []) 0 third).src) dealt.parted in
+    ap (λ (lists : List (List RecordValue)). (get_or (get_or lists 0 []) 0 third).src) dealt.parted in
     omega (arith, same)
 
 -- the number at each place is the place modulo two

@@ -30,7 +30,7 @@ dealt_list-push shard ns rs n r same =
     let record_of : ℕ × RecordValue → RecordValue = λ dealt. dealt.1 in
     let last : map record_of (cond (eqb n shard) ((n, r) ∷ []) []) ≡ cond (eqb n shard) (r ∷ []) [] =
     elim (eqb n shard) as (λ b. map record_of (cond b ((n, r) ∷ []) []) ≡ cond b (r ∷ []) [])
-      [ true ↦ refl | false ↦ refl ] in
+    [ true ↦ refl | false ↦ refl ] in
     ap (λ l. map record_of (filter is_here l)) (zip-push ns rs n r same)
     ∙ ap (map record_of) (filter-append is_here (zip ns rs) ((n, r) ∷ []))
     ∙ map-append record_of (filter is_here (zip ns rs)) (filter is_here ((n, r) ∷ []))
@@ -40,18 +40,18 @@ dealt_list-push shard ns rs n r same =
 pushed_at : (shards : ℕ) (ns : List ℕ) (rs : List RecordValue) (n : ℕ) (r : RecordValue) → length ns ≡ length rs
     → n < shards → (shard : ℕ) → shard < shards
     → get_or (set (dealt_lists shards ns rs) n (dealt_list n ns rs ++ r ∷ [])) shard []
-      ≡ dealt_list shard (ns ++ n ∷ []) (rs ++ r ∷ [])
+    ≡ dealt_list shard (ns ++ n ∷ []) (rs ++ r ∷ [])
 pushed_at shards ns rs n r same below shard within =
     let old = dealt_lists shards ns rs in
     let long : length old ≡ shards = length-map-range_with_len (λ s. dealt_list s ns rs) 0 shards in
     let read : get_or old shard [] ≡ dealt_list shard ns rs =
-      get_or-map-range_with_len (λ s. dealt_list s ns rs) 0 shards shard shard [] within (omega arith) in
+    get_or-map-range_with_len (λ s. dealt_list s ns rs) 0 shards shard shard [] within (omega arith) in
     sym (dealt_list-push shard ns rs n r same
     ∙ cond_both (eqb n shard) (r ∷ []) []
-      (λ last. dealt_list shard ns rs ++ last ≡ get_or (set old n (dealt_list n ns rs ++ r ∷ [])) shard [])
+    (λ last. dealt_list shard ns rs ++ last ≡ get_or (set old n (dealt_list n ns rs ++ r ∷ [])) shard [])
     (λ here. let e : n ≡ shard = eqb-true n shard here in
     ap (λ s. dealt_list s ns rs ++ r ∷ []) (sym e)
-      ∙ sym (get_or-set_same old n (dealt_list n ns rs ++ r ∷ []) [] (omega (arith, long, below)))
+    ∙ sym (get_or-set_same old n (dealt_list n ns rs ++ r ∷ []) [] (omega (arith, long, below)))
     ∙ ap (λ s. get_or (set old n (dealt_list n ns rs ++ r ∷ [])) s []) e)
     (λ other. append-nil (dealt_list shard ns rs) ∙ sym read
     ∙ sym (get_or-set_other old n shard (dealt_list n ns rs ++ r ∷ []) [] (λ e. eqb-false n shard other (sym e)))))
@@ -106,7 +106,7 @@ pub length-dealing : (kind : DealKind) (may_answer : ℕ → RecordValue → ℕ
     → IsDealing kind may_answer shards records lists → length lists ≡ shards
 length-dealing kind may_answer shards records lists dealing =
     ap (λ (ls : List (List RecordValue)). length ls) dealing.dealt.parted
-      ∙ length-map-range_with_len (λ shard. dealt_list shard dealing.numbers records) 0 shards
+    ∙ length-map-range_with_len (λ shard. dealt_list shard dealing.numbers records) 0 shards
 
 -- no record is dealt yet
 pub IsDealing-none : (kind : DealKind) (may_answer : ℕ → RecordValue → ℕ → ℕ → Type 0) (shards : ℕ)
@@ -126,7 +126,7 @@ pub IsDealing-push : (kind : DealKind) (may_answer : ℕ → RecordValue → ℕ
 IsDealing-push kind may_answer shards rs lists r n dealing last =
     let ns = dealing.numbers in
     let at : get_or (dealt_lists shards ns rs) n [] ≡ dealt_list n ns rs =
-      get_or-map-range_with_len (λ s. dealt_list s ns rs) 0 shards n n [] last.below (omega arith) in
+    get_or-map-range_with_len (λ s. dealt_list s ns rs) 0 shards n n [] last.below (omega arith) in
     record {
       numbers = ns ++ n ∷ [];
       dealt = record {
@@ -152,12 +152,12 @@ IsDealing-more kind may_answer shards records place lists r n old new read deali
     let long : length (take place records) ≡ place = length-take-le place records (omega (arith, within)) in
     let longer : take (place + 1) records ≡ take place records ++ r ∷ [] =
     take_more records place r within
-      ∙ ap (λ q. take place records ++ q ∷ []) (get_or_from_slice_get records place r r read) in
+    ∙ ap (λ q. take place records ++ q ∷ []) (get_or_from_slice_get records place r r read) in
     let here : n < length lists =
-      let h = last.below in
-      let e = length-dealing kind may_answer shards (take place records) lists dealing in omega (arith, h, e) in
+    let h = last.below in
+    let e = length-dealing kind may_answer shards (take place records) lists dealing in omega (arith, h, e) in
     let grown : new ≡ get_or lists n [] ++ r ∷ [] =
-      pushed ∙ ap (λ l. l ++ r ∷ []) (was ∙ get_or_default lists n old [] here) in
+    pushed ∙ ap (λ l. l ++ r ∷ []) (was ∙ get_or_default lists n old [] here) in
     subst (λ (rs : List RecordValue). IsDealing kind may_answer shards rs (set lists n new)) (sym longer)
     (subst (λ l. IsDealing kind may_answer shards (take place records ++ r ∷ []) (set lists n l)) (sym grown)
     (IsDealing-push kind may_answer shards (take place records) lists r n dealing

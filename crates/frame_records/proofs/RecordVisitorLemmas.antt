@@ -27,18 +27,18 @@ skipped-more : (skip : Skip) (all : List FrameValue) (frame : FrameValue) (why :
     → skipped skip (all ++ frame ∷ []) ≡ skipped skip all + cond (is_skipped skip why) 1 0
 skipped-more skip all frame why is_why =
     count_by-more (λ f. is_skipped skip (skip_of f)) all frame
-      ∙ ap (λ o. skipped skip all + cond (is_skipped skip o) 1 0) is_why
+    ∙ ap (λ o. skipped skip all + cond (is_skipped skip o) 1 0) is_why
 
 -- the records, with one more frame
 records_of-more : (weigh : Weigh) (all : List FrameValue) (frame : FrameValue) (why : Option Skip) → skip_of frame ≡ why
     → records_of weigh (all ++ frame ∷ [])
-      ≡ records_of weigh all
-        ++ cons_option (result_ok (unless_skipped why (record_at (network_place frame) weigh frame))) []
+    ≡ records_of weigh all
+    ++ cons_option (result_ok (unless_skipped why (record_at (network_place frame) weigh frame))) []
 records_of-more weigh all frame why is_why =
     filter_map-append (λ f. result_ok (record_of weigh f)) all (frame ∷ [])
     ∙ ap (λ o.
-      records_of weigh all
-        ++ cons_option (result_ok (unless_skipped o (record_at (network_place frame) weigh frame))) []) is_why
+    records_of weigh all
+    ++ cons_option (result_ok (unless_skipped o (record_at (network_place frame) weigh frame))) []) is_why
 
 -- a frame that isn't skipped for a reason leaves its capped count
 count_stays : (skip : Skip) (all : List FrameValue) (frame : FrameValue) (why : Option Skip) → skip_of frame ≡ why
@@ -46,7 +46,7 @@ count_stays : (skip : Skip) (all : List FrameValue) (frame : FrameValue) (why : 
     → capped (skipped skip all) ≡ capped (skipped skip (all ++ frame ∷ []))
 count_stays skip all frame why is_why not_so =
     let same : skipped skip (all ++ frame ∷ []) ≡ skipped skip all + 0 =
-      skipped-more skip all frame why is_why ∙ ap (λ b. skipped skip all + cond b 1 0) not_so in
+    skipped-more skip all frame why is_why ∙ ap (λ b. skipped skip all + cond b 1 0) not_so in
     omega arith
 
 -- one that is skipped for it adds one to it
@@ -55,7 +55,7 @@ count_grows : (skip : Skip) (all : List FrameValue) (frame : FrameValue) (why : 
     → capped (capped (skipped skip all) + 1) ≡ capped (skipped skip (all ++ frame ∷ []))
 count_grows skip all frame why is_why so =
     let more : skipped skip (all ++ frame ∷ []) ≡ skipped skip all + 1 =
-      skipped-more skip all frame why is_why ∙ ap (λ b. skipped skip all + cond b 1 0) so in
+    skipped-more skip all frame why is_why ∙ ap (λ b. skipped skip all + cond b 1 0) so in
     omega arith
 
 -- every frame adds one to the capped count of frames
@@ -73,11 +73,11 @@ list_stays weigh all frame skip is_why =
 kept_by : (weigh : Weigh) (all : List FrameValue) (frame : FrameValue) (old : Records) (why : Option Skip)
     → skip_of frame ≡ why → KeepsRecordsOf weigh all old
     → KeepsRecordsOf weigh (all ++ frame ∷ [])
-      (after_frame (unless_skipped why (record_at (network_place frame) weigh frame)) old)
+    (after_frame (unless_skipped why (record_at (network_place frame) weigh frame)) old)
 kept_by weigh all frame old None is_why kept = record {
   list =
       ap (λ l. l ++ record_at (network_place frame) weigh frame ∷ []) kept.list
-        ∙ sym (records_of-more weigh all frame None is_why);
+      ∙ sym (records_of-more weigh all frame None is_why);
   frames = ap (λ n. capped (n + 1)) kept.frames ∙ frames_grow all frame;
   not_ipv4 = kept.not_ipv4 ∙ count_stays NotIpv4 all frame None is_why refl;
   short = kept.short ∙ count_stays Short all frame None is_why refl;
@@ -111,7 +111,7 @@ pub more_kept : (weigh : Weigh) (all : List FrameValue) (frame : FrameValue) (ol
     → new ≡ after_frame (record_of weigh frame) old → KeepsRecordsOf weigh (all ++ frame ∷ []) new
 more_kept weigh all frame old new kept is_new =
     subst (KeepsRecordsOf weigh (all ++ frame ∷ [])) (sym is_new)
-      (kept_by weigh all frame old (skip_of frame) refl kept)
+    (kept_by weigh all frame old (skip_of frame) refl kept)
 
 -- what follows where a call is Ok
 pub on_ok : {T E : Type 0} (result : Result T E) (P Q : Type 0) → (P → Q) → OnOk result P → OnOk result Q
@@ -123,7 +123,7 @@ pub exact_counts : (weigh : Weigh) (all : List FrameValue) (records : Records) �
     → KeepsRecordsOf weigh all records → AreRecordsOf weigh all records
 exact_counts weigh all records few kept =
     let exact : (skip : Skip) → capped (skipped skip all) ≡ skipped skip all =
-      λ skip. omega (arith, count_by-le-length (λ f. is_skipped skip (skip_of f)) all) in
+    λ skip. omega (arith, count_by-le-length (λ f. is_skipped skip (skip_of f)) all) in
     record {
       list = kept.list;
       frames = omega (arith, kept.frames);

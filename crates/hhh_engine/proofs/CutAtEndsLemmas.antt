@@ -33,12 +33,12 @@ none_counted capacity lists = same_list lists (empty_snapshot capacity)
 -- then one more counted all
 one_more_counted : (capacity : ℕ) (done left : List (List RecordValue)) (list : List RecordValue)
     → slice_set (counted capacity done (list ∷ left)) (length done) (at_end capacity list)
-      ≡ counted capacity (done ++ list ∷ []) left
+    ≡ counted capacity (done ++ list ∷ []) left
 one_more_counted capacity done left list =
     let before = map (at_end capacity) done in
     let behind = map (λ l. empty_snapshot capacity) left in
     ap (λ n. slice_set (before ++ empty_snapshot capacity ∷ behind) n (at_end capacity list))
-      (sym (length-map done (at_end capacity)))
+    (sym (length-map done (at_end capacity)))
     ∙ set-append_seam before (empty_snapshot capacity) behind (at_end capacity list)
     ∙ sym (append_assoc before (at_end capacity list ∷ []) behind)
     ∙ ap (λ xs. xs ++ behind) (sym (map-append (at_end capacity) done (list ∷ [])))
@@ -71,7 +71,7 @@ stand_at_ends : ShardsStand → (capacity : ℕ) (lists : List (List RecordValue
 stand_at_ends stand capacity [] = tt
 stand_at_ends stand capacity (list ∷ lists) = (
   stand.goes_on (record { list = list; base = empty_snapshot capacity; position = length list })
-    (stand.begins capacity list) (omega arith) (omega arith),
+      (stand.begins capacity list) (omega arith) (omega arith),
   stand_at_ends stand capacity lists,
 )
 
@@ -88,17 +88,17 @@ pub all_counted : ShardsStand → (capacity : ℕ) (lists done : List (List Reco
 all_counted stand capacity lists done cut whole same_capacity shards =
     let is_done : lists ≡ done = whole ∙ append-nil done in
     let is_counted : cut.shards ≡ map (at_end capacity) lists =
-      shards ∙ append-nil (map (at_end capacity) done) ∙ ap (map (at_end capacity)) (sym is_done) in
+    shards ∙ append-nil (map (at_end capacity) done) ∙ ap (map (at_end capacity)) (sym is_done) in
     record {
       same_capacity = same_capacity;
       at_ends = ap (map (λ snapshot. snapshot.position)) is_counted ∙ positions_at_ends capacity lists;
       stands = record {
         alike = subst (λ c. All (λ (s : SnapshotValue). s.capacity ≡ c) cut.shards) (sym same_capacity)
             (subst (All (λ (s : SnapshotValue). s.capacity ≡ capacity)) (sym is_counted)
-              (alike_at_ends capacity lists));
+            (alike_at_ends capacity lists));
         shards =
             subst (λ snapshots. AllZip SnapshotStandsFor snapshots lists) (sym is_counted)
-              (stand_at_ends stand capacity lists);
+            (stand_at_ends stand capacity lists);
       };
     }
 
@@ -125,7 +125,7 @@ pub ends_are_positions : (capacity : ℕ) (lists : List (List RecordValue)) (cut
     → positions ≡ positions_of cut → ArePositions positions
 ends_are_positions capacity lists cut positions shards at same =
     subst ArePositions (sym (same ∙ at.at_ends))
-      (positions_over (λ list. length list) lists shards (each_few 16777216 lists shards.small))
+    (positions_over (λ list. length list) lists shards (each_few 16777216 lists shards.small))
 
 -- one 0 for each list
 pub start_is : (lists : List (List RecordValue)) (n : ℕ) (start : List ℕ) → n ≡ length lists → start ≡ replicate n 0

@@ -54,13 +54,14 @@ in_turn kind place rec shards number = number ≡ place % shards
 
 pub header_is_a_capture : HasFrames header []
 unfolding number_at magic_order
-header_is_a_capture =
-    (Little,
-      record {
-        header = record { whole = omega arith; magic = refl; major = refl; minor = refl; link = refl };
-        begins = refl;
-        limit = omega arith;
-      })
+header_is_a_capture = (
+  Little,
+  record {
+    header = record { whole = omega arith; magic = refl; major = refl; minor = refl; link = refl };
+    begins = refl;
+    limit = omega arith;
+  },
+)
 
 -- four shards without records
 abbrev lists : List (List RecordValue)
@@ -96,7 +97,7 @@ pub cut_of_another_capacity : IsCutAtEnds 512 ([] ∷ [])
     (record { capacity = 512; shards = empty_snapshot 4096 ∷ [] }) → ⊥
 cut_of_another_capacity at =
     let same : 4096 ≡ 512 =
-      All-head (λ (s : SnapshotValue). s.capacity ≡ 512) (empty_snapshot 4096) [] at.stands.alike in
+    All-head (λ (s : SnapshotValue). s.capacity ≡ 512) (empty_snapshot 4096) [] at.stands.alike in
     omega (arith, same)
 
 -- its report has no line
@@ -120,7 +121,7 @@ high_of_nothing : (node : NodeValue) (key : ℕ) → IsNode node
     → (interval_in (table_at node (empty_snapshot 512)) key).high ≡ 0
 high_of_nothing node key is_node =
     ap (λ entries. (interval_in (record { capacity = 512; entries = entries }) key).high)
-      (nothing_counted node is_node)
+    (nothing_counted node is_node)
 
 nothing_is_heavy : (line : Line) → IsLineOf cut 1 [] line → ⊥
 nothing_is_heavy line is_line =
@@ -258,8 +259,10 @@ session_was_written_in_part = record {
   is_answer = session_is_the_answer;
   written = record {
     front = codes "opened 0 0 0";
-    is_beginning = (codes " 0\nreport\nat 0 0 0 0\ntotal 0\nthreshold 1\ndone\nframes 0\nskipped 0 0 0\nend\n",
-      refl);
+    is_beginning = (
+      codes " 0\nreport\nat 0 0 0 0\ntotal 0\nthreshold 1\ndone\nframes 0\nskipped 0 0 0\nend\n",
+      refl,
+    );
     cut = omega arith;
     appended = refl;
   };

@@ -14,7 +14,7 @@ use Rattle.hhh_engine.specs.Session.{Rules, IsReportAtEnds, IsSession, start_of}
 abbrev pub SessionOver : Settings → List (List RecordValue) → List ℕ → List ℕ → Type 0
 SessionOver settings lists tail text =
     (report : Report) × IsReportAtEnds settings lists report
-      × (text ≡ mark_text Opened (start_of lists) ++ report_text report ++ tail)
+    × (text ≡ mark_text Opened (start_of lists) ++ report_text report ++ tail)
 
 -- a text made of an opening, a report and a tail
 pub three_parts : (opening other report tail none first second third : List ℕ) → none ≡ [] → other ≡ opening

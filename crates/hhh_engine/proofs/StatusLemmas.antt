@@ -19,7 +19,7 @@ use Rattle.hhh_engine.specs.declared.status.Status.TheVariants.{OutOfMemory}
 abbrev pub NeverBoth : Type 0
 NeverBoth =
     (file : List ℕ) (frames : List FrameValue) (fault : CaptureFault) → HasFrames file frames
-      → IsRefusedFor file fault → ⊥
+    → IsRefusedFor file fault → ⊥
 
 -- a file has one fault at most
 abbrev pub OneFault : Type 0
@@ -51,7 +51,7 @@ wants_memory never_both Done left before now tells no_fault none = inl refl
 wants_memory never_both (BadWords kind) left before now tells no_fault none = absurd none
 wants_memory never_both (BadCapture fault) left before now tells no_fault none =
     absurd (never_both tells.file tells.frames fault tells.capture
-      (of_file left tells.file (λ f. IsRefusedFor f fault) tells.told none))
+    (of_file left tells.file (λ f. IsRefusedFor f fault) tells.told none))
 wants_memory never_both ReadFault left before now tells no_fault none = absurd (no_fault none)
 wants_memory never_both WriteFault left before now tells no_fault none = absurd none
 wants_memory never_both OutOfMemory left before now tells no_fault none = inr refl
@@ -69,7 +69,7 @@ pub no_answer : NeverBoth
     → IfSome left (λ f. IsAnswer rules command f text) → ⊥
 no_answer never_both rules command left file text fault told has answer =
     let capture =
-      captured rules command file text (of_file left file (λ f. IsAnswer rules command f text) told answer) in
+    captured rules command file text (of_file left file (λ f. IsAnswer rules command f text) told answer) in
     never_both file capture.0 fault capture.1 has
 
 -- the text that was made was written

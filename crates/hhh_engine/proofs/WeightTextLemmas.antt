@@ -5,7 +5,7 @@ use Rattle.hhh_engine.specs.WeightText.{weigh_text}
 -- parts that follow one another, as one text
 grouped : (low-name low high-name high total-name total end : List ℕ)
     → ((([] ++ low-name ++ low) ++ high-name ++ high) ++ total-name ++ total) ++ end
-      ≡ low-name ++ low ++ high-name ++ high ++ total-name ++ total ++ end
+    ≡ low-name ++ low ++ high-name ++ high ++ total-name ++ total ++ end
 grouped low-name low high-name high total-name total end = simp append_assoc
 
 -- the three lines that tell a weight
@@ -19,4 +19,4 @@ weigh-parts start first second third all low high total is_start is_first is_sec
     ∙ ap (λ text. text ++ codes "\nhigh " ++ decimal high) (is_first
     ∙ ap (λ text. text ++ codes "low " ++ decimal low) is_start)))
     ∙ grouped (codes "low ") (decimal low) (codes "\nhigh ") (decimal high) (codes "\ntotal ") (decimal total)
-      (codes "\n")
+    (codes "\n")

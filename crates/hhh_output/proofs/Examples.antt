@@ -1,6 +1,6 @@
 -- Worked examples of thresholds, lines, reports and their tests, most by computing.
 use Rattle.std.proofs.Common.{◌≡◌, ℕ, zero, suc, ◌≤◌, ◌<◌, ◌≤ℤ◌, List, [], ◌∷◌, length, Contains, Bool, true, false}
-use Rattle.std.proofs.Common.{eqb, refl, ap, ◌∙◌, subst, arith, pos}
+use Rattle.std.proofs.Common.{eqb, refl, ap, ◌∙◌, subst, arith, pos, ◌*◌}
 use Rattle.std.proofs.Math.ListN.{replicate}
 use Rattle.std.proofs.lemmas.Bool.{and_parts, eqb-true, false≢true}
 use Rattle.std.proofs.lemmas.Int.{ints}
@@ -16,7 +16,7 @@ use Rattle.cut_merge.specs.{monitored_keys}
 use Rattle.hhh_output.specs.Lines.{prefixes_of, AreLines}
 use Rattle.hhh_output.specs.Report.{IsMonitored, low_in, high_in, IsUnexplained, IsLineOf, IsReportOf, AreSame}
 use Rattle.hhh_output.specs.SoundReport.{HoldsWeight, IsNarrow, IsJustified, IsSound}
-use Rattle.hhh_output.specs.Threshold.{IsHeavy, IsThreshold}
+use Rattle.hhh_output.specs.Threshold.{IsHeavy, IsThreshold, million, IsWideShare}
 use Rattle.hhh_output.specs.declared.line.Line.{Line}
 use Rattle.hhh_output.specs.declared.report.Report.{Report}
 
@@ -39,6 +39,17 @@ threshold_of_nothing = record {
   heavy = record { some = omega arith; share = omega arith };
   least = λ weight heavy. heavy.some;
 }
+
+-- the whole, in parts per million
+pub whole_in_parts : IsHeavy million 7 7
+whole_in_parts = record { some = omega arith; share = omega arith }
+
+-- tables of 512 entries can't hide a hundredth, those of 199 can
+pub tables_for_a_hundredth : IsWideShare 10000 512
+tables_for_a_hundredth = omega arith
+
+pub tables_too_small_for_a_hundredth : IsWideShare 10000 199 → ⊥
+tables_too_small_for_a_hundredth wide = omega (arith, wide)
 
 -- all of the weight
 pub threshold_of_the_whole : IsThreshold 1000000 7 7
@@ -147,7 +158,7 @@ lines_of_greater_level_come_first = record {
   few = omega arith;
   ordered =
       All-cons (λ (line : Line). line.lo ≤ line.hi) own (of_all ∷ []) (omega arith)
-        (All-cons (λ (line : Line). line.lo ≤ line.hi) of_all [] (omega arith) no_lines.ordered);
+      (All-cons (λ (line : Line). line.lo ≤ line.hi) of_all [] (omega arith) no_lines.ordered);
   rising = AllPairs-cons Precedes own (of_all ∷ []) (All-cons (Precedes own) of_all [] refl (All-nil (Precedes own)))
       (AllPairs-cons Precedes of_all [] (All-nil (Precedes of_all)) no_lines.rising);
 }
@@ -195,7 +206,7 @@ another_network_is_not monitored = other monitored.0 monitored.1 monitored.2
   where
     other : (place : ℕ) → place < 1
         → slice_index_or (key_of (record { source = 10 ∷ []; dest = [] }) ∷ []) place (key_of elsewhere)
-          ≡ key_of elsewhere → ⊥
+        ≡ key_of elsewhere → ⊥
     other zero within is = omega (arith, is)
     other (suc place) within is = omega arith
 
@@ -249,7 +260,7 @@ nothing_is_told_of_nothing = record {
     (λ asked.
         let none = subst (λ keys. Contains keys (key_of line.prefix))
         (ap (λ entries. monitored_keys (record { capacity = 4; entries = entries } ∷ []))
-          (alike [] 25 (index_of (node_of line.prefix)))) asked.monitored in
+        (alike [] 25 (index_of (node_of line.prefix)))) asked.monitored in
         absurd (omega (arith, none.1))),
   );
 }
@@ -263,7 +274,7 @@ both_begin (byte ∷ bytes) (first ∷ rest) begins begun =
     let parts = and_parts (eqb byte first) (begins_with bytes rest) begins in
     let other = and_parts (eqb first byte) (begins_with rest bytes) begun in
     ap (λ head. head ∷ bytes) (eqb-true byte first parts.0)
-      ∙ ap (λ tail. first ∷ tail) (both_begin bytes rest parts.1 other.1)
+    ∙ ap (λ tail. first ∷ tail) (both_begin bytes rest parts.1 other.1)
 
 -- a prefix that covers the packet and isn't its own stands above it, so the line explains the packet
 explained : (prefix : PrefixValue) → ¬ Contains (whole ∷ []) prefix
@@ -279,9 +290,9 @@ explained prefix missing = by_cover (covers prefix packet) refl (under prefix wh
         let below = and_parts (begins_with prefix.source whole.source) (begins_with prefix.dest whole.dest) is in
         let same : whole ≡ prefix =
         ap (λ source. record { source = source; dest = whole.dest })
-          (both_begin whole.source prefix.source above.0 below.0)
+        (both_begin whole.source prefix.source above.0 below.0)
         ∙ ap (λ dest. record { source = prefix.source; dest = dest })
-          (both_begin whole.dest prefix.dest above.1 below.1) in
+        (both_begin whole.dest prefix.dest above.1 below.1) in
         absurd (missing (0, omega arith, same))
 
 pub justified_by_its_weight : IsJustified 4 1 (whole ∷ []) (packet ∷ []) own
@@ -299,13 +310,13 @@ told_is_sound = record {
   interval =
       let weight : weight_of whole (packet ∷ []) ≡ 100 = refl in
       All-cons (HoldsWeight (packet ∷ [])) own []
-        (record { low = omega (arith, weight); high = omega (arith, weight) })
-        (All-nil (HoldsWeight (packet ∷ [])));
+      (record { low = omega (arith, weight); high = omega (arith, weight) })
+      (All-nil (HoldsWeight (packet ∷ [])));
   width = All-cons (IsNarrow 4 100) own [] (omega arith) (All-nil (IsNarrow 4 100));
   heavy = All-cons (λ (line : Line). 1 ≤ line.hi) own [] (omega arith) (All-nil (λ (line : Line). 1 ≤ line.hi));
   justified =
       All-cons (IsJustified 4 1 (whole ∷ []) (packet ∷ [])) own [] justified_by_its_weight
-        (All-nil (IsJustified 4 1 (whole ∷ []) (packet ∷ [])));
+      (All-nil (IsJustified 4 1 (whole ∷ []) (packet ∷ [])));
   complete = λ prefix is_prefix missing. explained prefix missing;
 }
 

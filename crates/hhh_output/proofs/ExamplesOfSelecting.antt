@@ -1,17 +1,18 @@
 -- Worked examples of how the lines of a report are found, most by computing.
 use Rattle.std.proofs.Common.{◌≡◌, ◌≢◌, ℕ, ◌*◌, ◌≤◌, ◌≤ℤ◌, List, [], ◌∷◌, ◌++◌, length, All, AllPairs, Contains}
-use Rattle.std.proofs.Common.{refl, sym, ap, subst, arith, pos}
+use Rattle.std.proofs.Common.{refl, sym, ap, subst, arith, pos, ◌<◌}
 use Rattle.std.proofs.Math.ListN.{replicate}
 use Rattle.std.proofs.lemmas.Int.{ints}
 use Rattle.std.proofs.lemmas.List.Elements.{All-nil, All-cons}
 use Rattle.std.proofs.lemmas.List.Kept.{AllPairs-cons}
 use Rattle.std.specs.Map.{keys_of}
-use Rattle.prefix_lattice.specs.{NodeValue, index_of, PrefixValue, node_of, key_of, IsKeyOf}
+use Rattle.prefix_lattice.specs.{NodeValue, index_of, PrefixValue, node_of, key_of, IsKeyOf, node_count}
 use Rattle.cut_merge.specs.{NodeMergeValue, MergedValue, nothing_merged, candidates_at}
 use Rattle.hhh_output.specs.declared.line.Line.{Line}
 use Rattle.hhh_output.specs.Selecting.{merged_low, merged_high, IsMergedLine, IsSelected, most_candidates}
 use Rattle.hhh_output.specs.Selecting.{AreCandidates, nodes_before, nodes_down, AreDistinct, AreOfLevel, AreDownTo}
 use Rattle.hhh_output.proofs.Examples.{root, whole, whole_is_prefix, own, of_all, alike}
+use Rattle.hhh_output.specs.Lines.{line_limit}
 
 -- of the nodes one has level 8, and two have level 7
 pub nodes_of_the_first_levels : nodes_down 2 ≡ 3
@@ -23,14 +24,17 @@ nodes_of_level_4 = refl
 pub a_node_has_the_entries_of_128_tables_at_most : most_candidates ≡ 128 * 4096
 a_node_has_the_entries_of_128_tables_at_most = refl
 
+pub candidates_of_all_nodes_are_below_the_limit : node_count * most_candidates < line_limit
+candidates_of_all_nodes_are_below_the_limit = omega arith
+
 pub lines_of_two_prefixes_are_distinct : AreDistinct (own ∷ of_all ∷ [])
 lines_of_two_prefixes_are_distinct =
     let Other : Line → Line → Type 0 = λ line other. line.prefix ≢ other.prefix in
     AllPairs-cons Other own (of_all ∷ [])
-      (All-cons (Other own) of_all []
-        (λ same. let kept : 4
-          ≡ 0 = ap (λ (prefix : PrefixValue). length prefix.source) same in omega (arith, kept))
-        (All-nil (Other own)))
+    (All-cons (Other own) of_all []
+    (λ same. let kept : 4
+    ≡ 0 = ap (λ (prefix : PrefixValue). length prefix.source) same in omega (arith, kept))
+    (All-nil (Other own)))
     (AllPairs-cons Other of_all [] (All-nil (Other of_all)) (λ place later other before within. absurd (omega arith)))
 
 pub a_prefix_has_one_line : ¬ AreDistinct (own ∷ own ∷ [])
@@ -43,7 +47,7 @@ merged = record {
   total = 100;
   nodes =
       replicate 24 nothing_merged
-        ++ record { gains = (key_of whole, record { low = 100; high = 100 }) ∷ []; missing = 0 } ∷ [];
+      ++ record { gains = (key_of whole, record { low = 100; high = 100 }) ∷ []; missing = 0 } ∷ [];
 }
 
 -- those that know nothing at all
@@ -82,7 +86,7 @@ nothing_has_no_candidates = record {
   keyed = λ node is_node. subst (All (IsKeyOf node)) (sym (no_candidates node)) (All-nil (IsKeyOf node));
   distinct = λ node is_node.
       subst (AllPairs (λ key other. key ≢ other)) (sym (no_candidates node))
-        (λ place later other before within. absurd (omega arith));
+      (λ place later other before within. absurd (omega arith));
   few = λ node is_node.
       subst (λ (keys : List ℕ). length keys ≤ most_candidates) (sym (no_candidates node)) (omega arith);
 }
@@ -92,15 +96,15 @@ pub root_has_no_key_1 : ¬ AreCandidates
     (record nothing { nodes = record { gains = (1, record { low = 1; high = 1 }) ∷ []; missing = 0 } ∷ [] })
 root_has_no_key_1 candidates =
     let loose : 1 ≡ 0 =
-      (candidates.keyed (node_of root) (record { source = omega arith; dest = omega arith }) 0 1
-        (omega arith)).dest in
+    (candidates.keyed (node_of root) (record { source = omega arith; dest = omega arith }) 0 1
+    (omega arith)).dest in
     omega (arith, loose)
 
 -- nothing is selected from nothing
 none_selected : (threshold : ℕ) (lines : List PrefixValue) (line : Line) → ¬ IsSelected nothing threshold lines line
 none_selected threshold lines line selected =
     let none =
-      subst (λ keys. Contains keys (key_of line.prefix)) (no_candidates (node_of line.prefix)) selected.candidate in
+    subst (λ keys. Contains keys (key_of line.prefix)) (no_candidates (node_of line.prefix)) selected.candidate in
     omega (arith, none.1)
 
 pub nothing_has_no_line_of_level_8 : AreOfLevel nothing 1 [] 8 []

@@ -30,9 +30,9 @@ asked_over merged threshold lines other line same is = record {
     heavy = is.asked.heavy;
     unexplained =
         subst (λ near.
-          pos threshold
-            ≤ℤ (pos (merged_high merged line.prefix + sum_by (merged_high merged) (kept_pairs near))
-              -ℤ pos (sum_by (merged_low merged) near))) same is.asked.unexplained;
+        pos threshold
+        ≤ℤ (pos (merged_high merged line.prefix + sum_by (merged_high merged) (kept_pairs near))
+        -ℤ pos (sum_by (merged_low merged) near))) same is.asked.unexplained;
   };
 }
 
@@ -42,10 +42,10 @@ falls_before line later falls =
     let p = line.prefix in
     let q = later.prefix in
     let less : nat_cmp (level q) (level p) ≡ Less =
-      ap (λ b. cond b Less (cond (eqb (level q) (level p)) Equal Greater)) (lt-ltb (level q) (level p) falls) in
+    ap (λ b. cond b Less (cond (eqb (level q) (level p)) Equal Greater)) (lt-ltb (level q) (level p) falls) in
     ap (λ o. ordering_then o (ordering_then (nat_cmp (address_of p.source) (address_of q.source))
     (ordering_then (nat_cmp (length p.source) (length q.source))
-      (nat_cmp (address_of p.dest) (address_of q.dest))))) less
+    (nat_cmp (address_of p.dest) (address_of q.dest))))) less
 
 -- two lists in order, where each of the first stands before each of the second
 pairs-append : {X : Type 0} (R : X → X → Type 0) (xs ys : List X) → AllPairs R xs → AllPairs R ys
@@ -64,12 +64,12 @@ pairs-append {X} R xs ys first second across = λ i j d before below.
             | inl i_in ↦
                 subst (λ x. R x (get_or (xs ++ ys) j d)) (sym (get_or_append_left xs ys d i i_in))
                 (subst (R (get_or xs i d)) (sym at_j)
-                  (across (get_or xs i d) (get_or ys (j - length xs) d) (Contains-get_or xs i d i_in)
-                    (Contains-get_or ys (j - length xs) d j_in)))
+                (across (get_or xs i d) (get_or ys (j - length xs) d) (Contains-get_or xs i d i_in)
+                (Contains-get_or ys (j - length xs) d j_in)))
             | inr i_past ↦
                 subst (λ x. R x (get_or (xs ++ ys) j d)) (sym (get_or-append_right xs ys (length xs) i d refl i_past))
                 (subst (R (get_or ys (i - length xs) d)) (sym at_j)
-                  (second (i - length xs) (j - length xs) d (omega arith) j_in))
+                (second (i - length xs) (j - length xs) d (omega arith) j_in))
           ]
     ]
 
@@ -81,7 +81,7 @@ down_none merged threshold = record {
     λ there. absurd (no_line line there),
     λ selected.
         let few : level line.prefix ≤ 8 =
-          omega (arith, selected.is_prefix.source.few, selected.is_prefix.dest.few) in
+        omega (arith, selected.is_prefix.source.few, selected.is_prefix.dest.few) in
         absurd (omega arith),
   );
   rising = λ i j d before below. absurd (omega arith);
@@ -106,7 +106,7 @@ module _ (merged : MergedValue) (threshold levels : ℕ) (lines found : List Lin
       ∙ closest-append line.prefix (prefixes_of lines) (prefixes_of found) law
       (All-map (λ p. level p ≤ level line.prefix) (λ (l : Line). l.prefix) found
       (All-weaker (Contains found) (λ (l : Line). level l.prefix ≤ level line.prefix)
-        (λ other there. omega (arith, its_level other there, high)) found (All-contains_itself found)))
+      (λ other there. omega (arith, its_level other there, high)) found (All-contains_itself found)))
 
   pub down_more : AreDownTo merged threshold (levels + 1) (lines ++ found)
   down_more = record {
@@ -116,14 +116,14 @@ module _ (merged : MergedValue) (threshold levels : ℕ) (lines found : List Lin
     ];
     members = λ line high. (
       λ there. asked_over merged threshold (prefixes_of lines) (prefixes_of (lines ++ found)) line
-        (sym (unchanged line high)) (elim (Contains-append_cases lines found line there) [
-        | inl earlier ↦ (down.members line (down.above line earlier)).0 earlier
-        | inr new ↦ ((of_level.members line).0 new).1
-      ]),
+          (sym (unchanged line high)) (elim (Contains-append_cases lines found line there) [
+            | inl earlier ↦ (down.members line (down.above line earlier)).0 earlier
+            | inr new ↦ ((of_level.members line).0 new).1
+          ]),
       λ selected.
           let before =
-            asked_over merged threshold (prefixes_of (lines ++ found)) (prefixes_of lines) line
-              (unchanged line high) selected in
+          asked_over merged threshold (prefixes_of (lines ++ found)) (prefixes_of lines) line
+          (unchanged line high) selected in
           elim (cases_lt 8 (level line.prefix + levels)) [
             | inl above ↦ Contains-append_left lines found line ((down.members line above).1 before)
             | inr not_above ↦ let here : level line.prefix ≡ 8 - levels = omega arith in
@@ -136,6 +136,6 @@ module _ (merged : MergedValue) (threshold levels : ℕ) (lines found : List Lin
         falls_before line later (omega (arith, its_level later new)));
     few =
         let more : nodes_down (levels + 1) ≡ nodes_down levels + nodes_before (8 - levels) 25 =
-          ap nodes_down (add-one levels) in
+        ap nodes_down (add-one levels) in
         omega (arith, more, down.few, of_level.few, length-append lines found);
   }

@@ -32,7 +32,7 @@ none_under : (prefix : PrefixValue) (lines : List PrefixValue) → LevelsFall
 none_under prefix [] law low = refl
 none_under prefix (line ∷ lines) law low =
     ap (λ b. cond b (line ∷ lines_under prefix lines) (lines_under prefix lines))
-      (not_under line prefix law (All-head (λ l. level l ≤ level prefix) line lines low))
+    (not_under line prefix law (All-head (λ l. level l ≤ level prefix) line lines low))
     ∙ none_under prefix lines law (All-tail (λ l. level l ≤ level prefix) line lines low)
 
 -- lines of no greater level than a prefix don't change which lines are closest to it
@@ -42,7 +42,7 @@ pub closest-append : (prefix : PrefixValue) (lines more : List PrefixValue) → 
 closest-append prefix lines more law low =
     ap greatest (filter-append (λ line. strictly_under line prefix) lines more
     ∙ ap (λ rest. lines_under prefix lines ++ rest) (none_under prefix more law low)
-      ∙ append-nil (lines_under prefix lines))
+    ∙ append-nil (lines_under prefix lines))
 
 -- the lines of a greater level than this
 abbrev pub lines_above : ℕ → List Line → List Line
@@ -54,25 +54,25 @@ under_above : (prefix : PrefixValue) (lines : List Line) → LevelsFall
 under_above prefix [] law = refl
 under_above prefix (line ∷ lines) law =
     by (strictly_under line.prefix prefix) refl (ltb (level prefix) (level line.prefix)) refl
-      (under_above prefix lines law)
+    (under_above prefix lines law)
   where
     by : (b : Bool) → strictly_under line.prefix prefix ≡ b → (c : Bool) → ltb (level prefix) (level line.prefix) ≡ c
         → lines_under prefix (prefixes_of (lines_above (level prefix) lines)) ≡ lines_under prefix (prefixes_of lines)
         → lines_under prefix
-          (prefixes_of (cond c (line ∷ lines_above (level prefix) lines) (lines_above (level prefix) lines)))
+        (prefixes_of (cond c (line ∷ lines_above (level prefix) lines) (lines_above (level prefix) lines)))
         ≡ cond b (line.prefix ∷ lines_under prefix (prefixes_of lines)) (lines_under prefix (prefixes_of lines))
     by true is true above rest =
         ap (λ b.
-          cond b (line.prefix ∷ lines_under prefix (prefixes_of (lines_above (level prefix) lines)))
-            (lines_under prefix (prefixes_of (lines_above (level prefix) lines)))) is
+        cond b (line.prefix ∷ lines_under prefix (prefixes_of (lines_above (level prefix) lines)))
+        (lines_under prefix (prefixes_of (lines_above (level prefix) lines)))) is
         ∙ ap (λ l. line.prefix ∷ l) rest
     by true is false above rest =
         absurd
-          (false≢true (sym above ∙ lt-ltb (level prefix) (level line.prefix) (law.falls line.prefix prefix is)))
+        (false≢true (sym above ∙ lt-ltb (level prefix) (level line.prefix) (law.falls line.prefix prefix is)))
     by false is true above rest =
         ap (λ b.
-          cond b (line.prefix ∷ lines_under prefix (prefixes_of (lines_above (level prefix) lines)))
-            (lines_under prefix (prefixes_of (lines_above (level prefix) lines)))) is
+        cond b (line.prefix ∷ lines_under prefix (prefixes_of (lines_above (level prefix) lines)))
+        (lines_under prefix (prefixes_of (lines_above (level prefix) lines)))) is
         ∙ rest
     by false is false above rest = rest
 
@@ -92,7 +92,7 @@ line_over cut threshold lines other line same is = record {
   heavy = is.heavy;
   unexplained =
       subst (λ near.
-        pos threshold
-          ≤ℤ (pos (high_in cut line.prefix + sum_by (high_in cut) (kept_pairs near))
-            -ℤ pos (sum_by (low_in cut) near))) same is.unexplained;
+      pos threshold
+      ≤ℤ (pos (high_in cut line.prefix + sum_by (high_in cut) (kept_pairs near))
+      -ℤ pos (sum_by (low_in cut) near))) same is.unexplained;
 }

@@ -59,7 +59,7 @@ not_earlier keys place key distinct within read (k, below, at) =
     distinct k place key before within (sym (get_or-take place keys k key before) ∙ at ∙ read)
 
 module _ (merged : MergedValue) (threshold : ℕ) (reported : List PrefixValue) (node : NodeValue) (keys : List ℕ)
-  (old now : List Line) (place key : ℕ) (prefix : PrefixValue) (found : Option Line)
+    (old now : List Line) (place key : ℕ) (prefix : PrefixValue) (found : Option Line)
     (judged : Judged merged threshold reported node keys old now place)
     (elsewhere : All (λ (line : Line). node_of line.prefix ≢ node) old)
     (distinct : AllPairs (λ k other. k ≢ other) keys) (within : place < length keys)
@@ -75,11 +75,11 @@ module _ (merged : MergedValue) (threshold : ℕ) (reported : List PrefixValue) 
       → IsAmong merged threshold reported node (take place keys) line ⊎ (found ≡ Some line)
   among_more line among =
       elim (Contains-push_cases (take place keys) key (key_of line.prefix)
-        (subst (λ ks. Contains ks (key_of line.prefix)) (more_keys keys place key within read) among.key)) [
+      (subst (λ ks. Contains ks (key_of line.prefix)) (more_keys keys place key within read) among.key)) [
         | inl earlier ↦ inl (record { has_key = among.has_key; key = earlier; asked = among.asked })
         | inr same ↦
             let its : Some prefix ≡ Some line.prefix =
-              (only line.prefix).1 (subst (λ k. HasKey node k line.prefix) (sym same) among.has_key) in
+            (only line.prefix).1 (subst (λ k. HasKey node k line.prefix) (sym same) among.has_key) in
             let is : line.prefix ≡ prefix = cc in
             inr ((asked line is).1 among.asked)
       ]
@@ -91,7 +91,7 @@ module _ (merged : MergedValue) (threshold : ℕ) (reported : List PrefixValue) 
     has_key = among.has_key;
     key =
         subst (λ ks. Contains ks (key_of line.prefix)) (sym (more_keys keys place key within read))
-          (Contains-append_left (take place keys) (key ∷ []) (key_of line.prefix) among.key);
+        (Contains-append_left (take place keys) (key ∷ []) (key_of line.prefix) among.key);
     asked = among.asked;
   }
 
@@ -100,7 +100,7 @@ module _ (merged : MergedValue) (threshold : ℕ) (reported : List PrefixValue) 
   judged_missing missing = record {
     members = λ line. (
       λ there.
-        elim ((judged.members line).0 there)
+          elim ((judged.members line).0 there)
           [ inl old_one ↦ inl old_one | inr among ↦ inr (among_earlier line among) ],
       λ either. elim either [
         | inl old_one ↦ (judged.members line).1 (inl old_one)
@@ -123,7 +123,7 @@ module _ (merged : MergedValue) (threshold : ℕ) (reported : List PrefixValue) 
       let new_among : IsAmong merged threshold reported node (take (place + 1) keys) new = record {
         has_key =
             subst (λ p. HasKey node (key_of p) p) (sym new_prefix)
-              (subst (λ k. HasKey node k prefix) (sym is_its.of_key) is_its);
+            (subst (λ k. HasKey node k prefix) (sym is_its.of_key) is_its);
         key = subst (λ ks. Contains ks (key_of new.prefix)) (sym (more_keys keys place key within read))
             (subst (Contains (take place keys ++ key ∷ [])) (sym new_key) (Contains-push (take place keys) key));
         asked = (asked new new_prefix).0 is;
@@ -132,17 +132,17 @@ module _ (merged : MergedValue) (threshold : ℕ) (reported : List PrefixValue) 
       elim ((judged.members (get_or now k d)).0 (Contains-get_or now k d below)) [
         | inl old_one ↦
             All-contains (λ (l : Line). node_of l.prefix ≢ node) old (get_or now k d) elsewhere old_one
-              (ap node_of (same ∙ new_prefix) ∙ is_its.of_node)
+            (ap node_of (same ∙ new_prefix) ∙ is_its.of_node)
         | inr among ↦
             not_earlier keys place key distinct within read
-              (subst (Contains (take place keys)) (ap key_of same ∙ new_key) among.key)
+            (subst (Contains (take place keys)) (ap key_of same ∙ new_key) among.key)
       ] in
       record {
         members = λ line. (
           λ there. elim (Contains-push_cases now new line there) [
             | inl earlier ↦
                 elim ((judged.members line).0 earlier)
-                  [ inl old_one ↦ inl old_one | inr among ↦ inr (among_earlier line among) ]
+                [ inl old_one ↦ inl old_one | inr among ↦ inr (among_earlier line among) ]
             | inr same ↦ inr (subst (IsAmong merged threshold reported node (take (place + 1) keys)) same new_among)
           ],
           λ either. elim either [
@@ -168,7 +168,7 @@ pub judged_all : (merged : MergedValue) (threshold : ℕ) (reported : List Prefi
     ↔ (Contains old line ⊎ ((node_of line.prefix ≡ node) × IsSelected merged threshold reported line))
 judged_all merged threshold reported node old now place done judged line =
     let all : take place (candidates_at merged node) ≡ candidates_at merged node =
-      take_all place (candidates_at merged node) done in (
+    take_all place (candidates_at merged node) done in (
       λ there. elim ((judged.members line).0 there) [
         | inl old_one ↦ inl old_one
         | inr among ↦ inr (
@@ -177,7 +177,7 @@ judged_all merged threshold reported node old now place done judged line =
             is_prefix = among.has_key.is_prefix;
             candidate =
                 subst (λ n. Contains (candidates_at merged n) (key_of line.prefix)) (sym among.has_key.of_node)
-                  (subst (λ ks. Contains ks (key_of line.prefix)) all among.key);
+                (subst (λ ks. Contains ks (key_of line.prefix)) all among.key);
             asked = among.asked;
           },
         )
@@ -188,8 +188,8 @@ judged_all merged threshold reported node old now place done judged line =
           has_key = record { is_prefix = selected.1.is_prefix; of_node = selected.0; of_key = refl };
           key =
               subst (λ ks. Contains ks (key_of line.prefix)) (sym all)
-                (subst (λ n. Contains (candidates_at merged n) (key_of line.prefix)) selected.0
-                  selected.1.candidate);
+              (subst (λ n. Contains (candidates_at merged n) (key_of line.prefix)) selected.0
+              selected.1.candidate);
           asked = selected.1.asked;
         }))
       ],
@@ -197,7 +197,7 @@ judged_all merged threshold reported node old now place done judged line =
 
 -- the next key is judged, whether it has a line or not
 module _ (merged : MergedValue) (threshold : ℕ) (reported : List PrefixValue) (node : NodeValue) (keys : List ℕ)
-  (old now : List Line) (place key : ℕ) (prefix : PrefixValue)
+    (old now : List Line) (place key : ℕ) (prefix : PrefixValue)
     (judged : Judged merged threshold reported node keys old now place)
     (elsewhere : All (λ (line : Line). node_of line.prefix ≢ node) old)
     (distinct : AllPairs (λ k other. k ≢ other) keys) (within : place < length keys)
@@ -210,7 +210,7 @@ module _ (merged : MergedValue) (threshold : ℕ) (reported : List PrefixValue) 
   judged_more None asked its_prefix =
       subst (λ lines. Judged merged threshold reported node keys old lines (place + 1)) (sym (append-nil now))
       (judged_missing merged threshold reported node keys old now place key prefix None judged elsewhere distinct
-        within read only asked its_prefix refl)
+      within read only asked its_prefix refl)
   judged_more (Some line) asked its_prefix =
       judged_line merged threshold reported node keys old now place key prefix (Some line) judged elsewhere distinct
-        within read only asked its_prefix line refl
+      within read only asked its_prefix line refl

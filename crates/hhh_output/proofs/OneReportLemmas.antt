@@ -65,7 +65,7 @@ same_above : IsTotalOrder report_order → (least : ℕ) (lines other : List Lin
 same_above order least lines other kept other_kept there back =
     let above : Line → Bool = λ line. ltb least (level line.prefix) in
     let one_way : (xs ys : List Line) → AreThere (suc least) xs ys → (line : Line) → Contains (filter above xs) line
-      → Contains (filter above ys) line =
+    → Contains (filter above ys) line =
     λ xs ys to line is.
     let parts = filtered-there above xs line is in
     let high : least < level line.prefix = ltb-true least (level line.prefix) parts.1 in
@@ -89,12 +89,13 @@ same_from : (cut : CutValue) (threshold : ℕ) (lines other : List Line) → IsT
     → (steps least : ℕ) → 9 ≤ least + steps → AreThere least lines other × AreThere least other lines
 same_from cut threshold lines other order law makes other_makes zero least done =
     let none : (xs : List Line) → MakesLines cut threshold xs → (line : Line) → least ≤ level line.prefix
-      → Contains xs line → ⊥ =
+    → Contains xs line → ⊥ =
     λ xs made line high there.
     let is : IsLineOf cut threshold (prefixes_of xs) line = (made.asked line).0 there in
-    let few : level line.prefix ≤ 8 = level-few line.prefix is.is_prefix in omega arith in
-    (λ line high there. absurd (none lines makes line high there),
-      λ line high there. absurd (none other other_makes line high there))
+    let few : level line.prefix ≤ 8 = level-few line.prefix is.is_prefix in omega arith in (
+      λ line high there. absurd (none lines makes line high there),
+      λ line high there. absurd (none other other_makes line high there),
+    )
 same_from cut threshold lines other order law makes other_makes (suc steps) least done =
     let one_way : (xs ys : List Line) → MakesLines cut threshold xs → MakesLines cut threshold ys
     → ((least : ℕ) → 9 ≤ least + steps → AreThere least xs ys × AreThere least ys xs) → AreThere least xs ys =
@@ -104,14 +105,15 @@ same_from cut threshold lines other order law makes other_makes (suc steps) leas
     let is : IsLineOf cut threshold (prefixes_of xs) line = (made.asked line).0 there in
     let same : closest line.prefix (prefixes_of xs) ≡ closest line.prefix (prefixes_of ys) =
     sym (closest-above line.prefix xs law)
-      ∙ ap (λ l. closest line.prefix (prefixes_of l))
-        (same_above order here xs ys made.kept other_made.kept above.0 above.1)
+    ∙ ap (λ l. closest line.prefix (prefixes_of l))
+    (same_above order here xs ys made.kept other_made.kept above.0 above.1)
     ∙ closest-above line.prefix ys law in
     (other_made.asked line).1 (line_over cut threshold (prefixes_of xs) (prefixes_of ys) line same is) in
     let rest : (least : ℕ) → 9 ≤ least + steps → AreThere least lines other × AreThere least other lines =
-    λ above enough. same_from cut threshold lines other order law makes other_makes steps above enough in
-    (one_way lines other makes other_makes rest,
-      one_way other lines other_makes makes (λ above enough. ((rest above enough).1, (rest above enough).0)))
+    λ above enough. same_from cut threshold lines other order law makes other_makes steps above enough in (
+      one_way lines other makes other_makes rest,
+      one_way other lines other_makes makes (λ above enough. ((rest above enough).1, (rest above enough).0)),
+    )
 
 -- a cut and a threshold make one list of lines
 pub one_list : (cut : CutValue) (threshold : ℕ) (lines other : List Line) → IsTotalOrder report_order → LevelsFall

@@ -30,7 +30,7 @@ candidates_of_cut merged cut kept stands law = record {
       subst (AllPairs (λ (key : ℕ) other. key ≢ other)) (sym (stands.candidates node is_node)) (law.distinct node);
   few = λ node is_node.
       let wide : length cut.shards * cut.capacity ≤ length cut.shards * 4096 =
-        mul-le-mul_left (length cut.shards) kept.most in
+      mul-le-mul_left (length cut.shards) kept.most in
       omega (arith, law.few node is_node, ap length (stands.candidates node is_node), wide, kept.few);
 }
 
@@ -51,7 +51,7 @@ all_right P xs ys all = λ k d below.
 
 module _ (merged : MergedValue) (cut : CutValue) (stands : StandsForCut merged cut)
     (asked : (prefix : PrefixValue) (lines : List PrefixValue) → IsPrefix prefix → All IsPrefix lines
-      → All IsPrefix (asked_of prefix lines)) where
+    → All IsPrefix (asked_of prefix lines)) where
   same_low : (prefix : PrefixValue) → IsPrefix prefix → merged_low merged prefix ≡ low_in cut prefix
   same_low prefix is_prefix = ap (λ (i : Interval). i.low) (stands.intervals prefix is_prefix)
 
@@ -61,21 +61,21 @@ module _ (merged : MergedValue) (cut : CutValue) (stands : StandsForCut merged c
   -- a bound from merged tables is that from the cut
   same_bound : (prefix : PrefixValue) (lines : List PrefixValue) → IsPrefix prefix → All IsPrefix lines
       → bound_of (merged_low merged) (merged_high merged) prefix lines
-        ≡ bound_of (low_in cut) (high_in cut) prefix lines
+      ≡ bound_of (low_in cut) (high_in cut) prefix lines
   same_bound prefix lines is_prefix are_prefixes =
       let near = closest prefix lines in
       let parts : All IsPrefix (near ++ kept_pairs near) =
-        All-tail IsPrefix prefix (near ++ kept_pairs near) (asked prefix lines is_prefix are_prefixes) in
+      All-tail IsPrefix prefix (near ++ kept_pairs near) (asked prefix lines is_prefix are_prefixes) in
       let lows : sum_by (merged_low merged) near ≡ sum_by (low_in cut) near =
       sum_by-agree (merged_low merged) (low_in cut) near
-        (All-weaker IsPrefix (λ p. merged_low merged p ≡ low_in cut p) same_low near
-          (all_left IsPrefix near (kept_pairs near) parts)) in
+      (All-weaker IsPrefix (λ p. merged_low merged p ≡ low_in cut p) same_low near
+      (all_left IsPrefix near (kept_pairs near) parts)) in
       let highs : sum_by (merged_high merged) (kept_pairs near) ≡ sum_by (high_in cut) (kept_pairs near) =
       sum_by-agree (merged_high merged) (high_in cut) (kept_pairs near)
       (All-weaker IsPrefix (λ p. merged_high merged p ≡ high_in cut p) same_high (kept_pairs near)
-        (all_right IsPrefix near (kept_pairs near) parts)) in
+      (all_right IsPrefix near (kept_pairs near) parts)) in
       ap (λ n. pos (n + sum_by (merged_high merged) (kept_pairs near)) -ℤ pos (sum_by (merged_low merged) near))
-        (same_high prefix is_prefix)
+      (same_high prefix is_prefix)
       ∙ ap (λ n. pos (high_in cut prefix + n) -ℤ pos (sum_by (merged_low merged) near)) highs
       ∙ ap (λ n. pos (high_in cut prefix + sum_by (high_in cut) (kept_pairs near)) -ℤ pos n) lows
 
@@ -88,12 +88,12 @@ module _ (merged : MergedValue) (cut : CutValue) (stands : StandsForCut merged c
     high = is.asked.high ∙ same_high line.prefix is.is_prefix;
     monitored =
         subst (λ keys. Contains keys (key_of line.prefix))
-          (stands.candidates (node_of line.prefix)
-            (record { source = is.is_prefix.source.few; dest = is.is_prefix.dest.few })) is.candidate;
+        (stands.candidates (node_of line.prefix)
+        (record { source = is.is_prefix.source.few; dest = is.is_prefix.dest.few })) is.candidate;
     heavy = is.asked.heavy;
     unexplained =
         subst (λ bound. pos threshold ≤ℤ bound) (same_bound line.prefix lines is.is_prefix are_prefixes)
-          is.asked.unexplained;
+        is.asked.unexplained;
   }
 
   selected_line : (threshold : ℕ) (lines : List PrefixValue) (line : Line) → All IsPrefix lines
@@ -102,15 +102,15 @@ module _ (merged : MergedValue) (cut : CutValue) (stands : StandsForCut merged c
     is_prefix = is.is_prefix;
     candidate =
         subst (λ keys. Contains keys (key_of line.prefix))
-          (sym (stands.candidates (node_of line.prefix)
-            (record { source = is.is_prefix.source.few; dest = is.is_prefix.dest.few }))) is.monitored;
+        (sym (stands.candidates (node_of line.prefix)
+        (record { source = is.is_prefix.source.few; dest = is.is_prefix.dest.few }))) is.monitored;
     asked = record {
       low = is.low ∙ sym (same_low line.prefix is.is_prefix);
       high = is.high ∙ sym (same_high line.prefix is.is_prefix);
       heavy = is.heavy;
       unexplained =
           subst (λ bound. pos threshold ≤ℤ bound) (sym (same_bound line.prefix lines is.is_prefix are_prefixes))
-            is.unexplained;
+          is.unexplained;
     };
   }
 
@@ -120,12 +120,12 @@ module _ (merged : MergedValue) (cut : CutValue) (stands : StandsForCut merged c
     all_prefixes =
         All-map IsPrefix (λ (l : Line). l.prefix) lines
         (All-weaker (Contains lines) (λ (l : Line). IsPrefix l.prefix)
-          (λ line there. ((down.members line (omega arith)).0 there).is_prefix) lines (All-contains_itself lines))
+        (λ line there. ((down.members line (omega arith)).0 there).is_prefix) lines (All-contains_itself lines))
 
     pub lines_of_cut : (line : Line) → Contains lines line ↔ IsLineOf cut threshold (prefixes_of lines) line
     lines_of_cut line = (
       λ there.
-        line_selected threshold (prefixes_of lines) line all_prefixes ((down.members line (omega arith)).0 there),
+          line_selected threshold (prefixes_of lines) line all_prefixes ((down.members line (omega arith)).0 there),
       λ is. (down.members line (omega arith)).1 (selected_line threshold (prefixes_of lines) line all_prefixes is),
     )
 

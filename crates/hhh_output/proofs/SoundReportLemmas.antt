@@ -34,7 +34,7 @@ pub record CutHolds (cut : CutValue) (lists : List (List RecordValue)) : Type 0 
   pub stands : CutStandsFor cut lists
   pub spans : (prefix : PrefixValue) → IsPrefix prefix
       → Holds (span cut prefix) cut.capacity (weight_of prefix (records_before lists (positions_of cut)))
-        (total_of_cut cut)
+      (total_of_cut cut)
   pub light : (prefix : PrefixValue) → IsPrefix prefix → ¬ IsMonitored cut prefix
       → (span cut prefix).high * cut.capacity ≤ total_of_cut cut
   pub total : total_of_cut cut ≡ total_weight (records_before lists (positions_of cut))
@@ -49,8 +49,8 @@ pub record CutHolds (cut : CutValue) (lists : List (List RecordValue)) : Type 0 
       → AllPairs (λ line other. line ≢ other) lines → HoldWeights low high records (asked_of prefix lines)
       → AreNarrow low high times whole (asked_of prefix lines) → pos least ≤ℤ bound_of low high prefix lines
       → times * least
-        ≤ times * conditioned_weight prefix lines records
-          + (1 + length (closest prefix lines) + length (kept_pairs (closest prefix lines))) * whole
+      ≤ times * conditioned_weight prefix lines records
+      + (1 + length (closest prefix lines) + length (kept_pairs (closest prefix lines))) * whole
 
 -- positions of a cut that stands for lists are within them
 within_lists : (shards : List SnapshotValue) (lists : List (List RecordValue)) → AllZip SnapshotStandsFor shards lists
@@ -70,8 +70,8 @@ distinct_prefixes order (line ∷ lines) rising =
     (All-weaker (Before line) (λ (other : Line). line.prefix ≢ other.prefix)
     (λ other before same.
     let back : Before other line =
-      subst (λ p. report_order p line.prefix ≡ Less) same
-        (subst (λ p. report_order line.prefix p ≡ Less) (sym same) before) in
+    subst (λ p. report_order p line.prefix ≡ Less) same
+    (subst (λ p. report_order line.prefix p ≡ Less) (sym same) before) in
     before-apart order line other before back)
     lines (AllPairs-head Before line lines rising)))
     (distinct_prefixes order lines (AllPairs-tail Before line lines rising))
@@ -95,11 +95,15 @@ conditioned-le-weight prefix lines (rec ∷ records) =
 
     by : (b c : Bool) → sum_by (λ (r : RecordValue). r.weight) kept ≤ sum_by (λ (r : RecordValue). r.weight) covered
         → sum_by (λ (r : RecordValue). r.weight) (cond (b && not c) (rec ∷ kept) kept)
-          ≤ sum_by (λ (r : RecordValue). r.weight) (cond b (rec ∷ covered) covered)
+        ≤ sum_by (λ (r : RecordValue). r.weight) (cond b (rec ∷ covered) covered)
     by true true rest = omega (arith, rest, sum_by-cons (λ (r : RecordValue). r.weight) rec covered)
     by true false rest =
-        omega (arith, rest, sum_by-cons (λ (r : RecordValue). r.weight) rec covered,
-          sum_by-cons (λ (r : RecordValue). r.weight) rec kept)
+        omega (
+          arith,
+          rest,
+          sum_by-cons (λ (r : RecordValue). r.weight) rec covered,
+          sum_by-cons (λ (r : RecordValue). r.weight) rec kept,
+        )
     by false c rest = rest
 
 -- a prefix whose high is at most the total over the capacity isn't heavy
@@ -109,12 +113,12 @@ light_below phi capacity total threshold high wide is light = elim (cases_lt hig
   | inl below ↦ below
   | inr above ↦
       let more : threshold * capacity ≤ high * capacity =
-        subst (λ n. n ≤ high * capacity) (mul_comm capacity threshold)
-          (subst (λ n. capacity * threshold ≤ n) (mul_comm capacity high) (mul-le-mul_left capacity above)) in
+      subst (λ n. n ≤ high * capacity) (mul_comm capacity threshold)
+      (subst (λ n. capacity * threshold ≤ n) (mul_comm capacity high) (mul-le-mul_left capacity above)) in
       let share : phi * (threshold * capacity) ≤ phi * total = mul-le-mul_left phi (omega (arith, more, light)) in
       let turned : phi * (threshold * capacity) ≡ threshold * (phi * capacity) =
       sym (mul_assoc phi threshold capacity) ∙ ap (λ n. n * capacity) (mul_comm phi threshold)
-        ∙ mul_assoc threshold phi capacity in
+      ∙ mul_assoc threshold phi capacity in
       let many : threshold * 2000000 ≤ threshold * (phi * capacity) = mul-le-mul_left threshold wide in
       absurd (omega (arith, is.heavy.some, is.heavy.share, share, turned, many))
 ]
@@ -146,10 +150,10 @@ hold_asked cut lists holds prefix lines is_prefix are_prefixes =
 narrow_asked : (cut : CutValue) (lists : List (List RecordValue)) → CutHolds cut lists
     → (prefix : PrefixValue) (lines : List PrefixValue) → IsPrefix prefix → All IsPrefix lines
     → AreNarrow (low_in cut) (high_in cut) cut.capacity (total_weight (records_before lists (positions_of cut)))
-      (asked_of prefix lines)
+    (asked_of prefix lines)
 narrow_asked cut lists holds prefix lines is_prefix are_prefixes =
     All-weaker IsPrefix
-      (λ p. (high_in cut p - low_in cut p) * cut.capacity ≤ total_weight (records_before lists (positions_of cut)))
+    (λ p. (high_in cut p - low_in cut p) * cut.capacity ≤ total_weight (records_before lists (positions_of cut)))
     (λ p is. subst (λ n. (high_in cut p - low_in cut p) * cut.capacity ≤ n) holds.total (holds.spans p is).width)
     (asked_of prefix lines) (holds.asked prefix lines is_prefix are_prefixes)
 
@@ -172,37 +176,37 @@ left_out : (cut : CutValue) (lists : List (List RecordValue)) (phi : ℕ) (repor
     → Reports cut lists phi report → (prefix : PrefixValue) → IsPrefix prefix
     → ¬ Contains (prefixes_of report.lines) prefix
     → conditioned_weight prefix (prefixes_of report.lines) (records_before lists (positions_of cut))
-      < report.threshold
+    < report.threshold
 left_out cut lists phi report reports prefix is_prefix missing =
     elim (among (key_of prefix) (monitored_at cut (node_of prefix))) [
       | inr unknown ↦
           let light : high_in cut prefix < report.threshold =
           light_below phi cut.capacity report.total report.threshold (high_in cut prefix) reports.wide
-            reports.is_report.threshold
+          reports.is_report.threshold
           (subst (λ n. high_in cut prefix * cut.capacity ≤ n) (sym reports.is_report.total)
-            (holds.light prefix is_prefix unknown)) in
+          (holds.light prefix is_prefix unknown)) in
           omega (arith, light, few, span_holds.high)
       | inl monitored ↦ elim (cases_lt (high_in cut prefix) report.threshold) [
         | inl light ↦ omega (arith, light, few, span_holds.high)
         | inr heavy ↦ elim (cases_lt (high_in cut prefix + sum_by (high_in cut) (kept_pairs (closest prefix lines)))
-          (report.threshold + sum_by (low_in cut) (closest prefix lines))) [
-          | inl explained ↦
-              let least = holds.at_least (low_in cut) (high_in cut) prefix lines records
-                (distinct_prefixes holds.order report.lines reports.kept.rising)
-              (hold_asked cut lists holds prefix lines is_prefix (report_prefixes cut lists phi report reports)) in
-              omega (arith, ints, least, explained)
-          | inr unexplained ↦
-              let line : Line = record { prefix = prefix; lo = low_in cut prefix; hi = high_in cut prefix } in
-              let is : IsLineOf cut report.threshold lines line = record {
-                is_prefix = is_prefix;
-                low = refl;
-                high = refl;
-                monitored = monitored;
-                heavy = heavy;
-                unexplained = omega (arith, ints, unexplained);
-              } in
-              absurd (missing (contains_prefix report.lines line ((reports.is_report.lines line).1 is)))
-        ]
+            (report.threshold + sum_by (low_in cut) (closest prefix lines))) [
+              | inl explained ↦
+                  let least = holds.at_least (low_in cut) (high_in cut) prefix lines records
+                  (distinct_prefixes holds.order report.lines reports.kept.rising)
+                  (hold_asked cut lists holds prefix lines is_prefix (report_prefixes cut lists phi report reports)) in
+                  omega (arith, ints, least, explained)
+              | inr unexplained ↦
+                  let line : Line = record { prefix = prefix; lo = low_in cut prefix; hi = high_in cut prefix } in
+                  let is : IsLineOf cut report.threshold lines line = record {
+                    is_prefix = is_prefix;
+                    low = refl;
+                    high = refl;
+                    monitored = monitored;
+                    heavy = heavy;
+                    unexplained = omega (arith, ints, unexplained);
+                  } in
+                  absurd (missing (contains_prefix report.lines line ((reports.is_report.lines line).1 is)))
+            ]
       ]
     ]
   where
@@ -226,7 +230,7 @@ left_out cut lists phi report reports prefix is_prefix missing =
     contains_prefix (l ∷ ls) line there = elim (Contains-cons l ls line there) [
       | inl same ↦
           subst (λ (x : Line). Contains (l.prefix ∷ prefixes_of ls) x.prefix) same
-            (Contains-head l.prefix (prefixes_of ls))
+          (Contains-head l.prefix (prefixes_of ls))
       | inr later ↦ Contains-tail l.prefix (prefixes_of ls) line.prefix (contains_prefix ls line later)
     ]
 
@@ -240,12 +244,12 @@ report_is_sound cut lists phi report reports =
     let at : records_before lists report.positions ≡ records = ap (records_before lists) is.positions in
     let prefixes = report_prefixes cut lists phi report reports in
     let line_of : (line : Line) → Contains report.lines line
-        → IsLineOf cut report.threshold (prefixes_of report.lines) line =
-      λ line there. (is.lines line).0 there in
+    → IsLineOf cut report.threshold (prefixes_of report.lines) line =
+    λ line there. (is.lines line).0 there in
     record {
       positions =
           subst (λ positions. AllZip (λ position list. position ≤ length list) positions lists) (sym is.positions)
-            (within_lists cut.shards lists holds.stands.shards);
+          (within_lists cut.shards lists holds.stands.shards);
       total = is.total ∙ holds.total ∙ ap total_weight (sym at);
       threshold = is.threshold;
       interval = subst (λ rs. All (HoldsWeight rs) report.lines) (sym at)
@@ -258,21 +262,21 @@ report_is_sound cut lists phi report reports =
           subst (λ n. (n - line.lo) * cut.capacity ≤ report.total) (sym l.high)
           (subst (λ n. (high_in cut line.prefix - n) * cut.capacity ≤ report.total) (sym l.low)
           (subst (λ n. (high_in cut line.prefix - low_in cut line.prefix) * cut.capacity ≤ n) (sym is.total)
-            (holds.spans line.prefix l.is_prefix).width)));
+          (holds.spans line.prefix l.is_prefix).width)));
       heavy = each_line (λ line. report.threshold ≤ line.hi) report.lines (λ line there. (line_of line there).heavy);
       justified =
           subst (λ rs. All (IsJustified cut.capacity report.threshold (prefixes_of report.lines) rs) report.lines)
-            (sym at)
+          (sym at)
           (each_line (IsJustified cut.capacity report.threshold (prefixes_of report.lines) records) report.lines
-            (λ line there.
+          (λ line there.
           let l = line_of line there in
           holds.reached (low_in cut) (high_in cut) line.prefix (prefixes_of report.lines) records cut.capacity
-            (total_weight records) report.threshold
+          (total_weight records) report.threshold
           (distinct_prefixes holds.order report.lines reports.kept.rising)
           (hold_asked cut lists holds line.prefix (prefixes_of report.lines) l.is_prefix prefixes)
           (narrow_asked cut lists holds line.prefix (prefixes_of report.lines) l.is_prefix prefixes)
           l.unexplained));
       complete = λ prefix is_prefix missing.
           subst (λ rs. conditioned_weight prefix (prefixes_of report.lines) rs < report.threshold) (sym at)
-            (left_out cut lists phi report reports prefix is_prefix missing);
+          (left_out cut lists phi report reports prefix is_prefix missing);
     }

@@ -15,8 +15,8 @@ same_in_order {X} R apart (x ∷ xs) (y ∷ ys) xs_rise ys_rise there back =
     let after_x : All (R x) xs = AllPairs-head R x xs xs_rise in
     let after_y : All (R y) ys = AllPairs-head R y ys ys_rise in
     let heads : x ≡ y =
-      by_place (Contains-cons y ys x (there x (Contains-head x xs)))
-        (Contains-cons x xs y (back y (Contains-head y ys))) after_x after_y in
+    by_place (Contains-cons y ys x (there x (Contains-head x xs)))
+    (Contains-cons x xs y (back y (Contains-head y ys))) after_x after_y in
     let tail_there : (z : X) → Contains xs z → Contains ys z = λ z in_xs.
     elim (Contains-cons y ys z (there z (Contains-tail x xs z in_xs))) [
       | inl same ↦
@@ -32,9 +32,9 @@ same_in_order {X} R apart (x ∷ xs) (y ∷ ys) xs_rise ys_rise there back =
       | inr in_xs ↦ in_xs
     ] in
     ap (λ h. h ∷ xs) heads
-      ∙ ap (λ t. y ∷ t)
-        (same_in_order R apart xs ys (AllPairs-tail R x xs xs_rise) (AllPairs-tail R y ys ys_rise) tail_there
-          tail_back)
+    ∙ ap (λ t. y ∷ t)
+    (same_in_order R apart xs ys (AllPairs-tail R x xs xs_rise) (AllPairs-tail R y ys ys_rise) tail_there
+    tail_back)
   where
     by_place : (y ≡ x) ⊎ Contains ys x → (x ≡ y) ⊎ Contains xs y → All (R x) xs → All (R y) ys → x ≡ y
     by_place (inl same) _ _ _ = sym same

@@ -9,9 +9,9 @@ pub given_then_left : (left room filled after : List ℕ) (count : ℕ) → coun
     → filled ≡ take count left ++ drop count room → after ≡ drop count left → left ≡ take count filled ++ after
 given_then_left left room filled after count fits is_filled is_after =
     let front : take count (take count left ++ drop count room) ≡ take count left =
-      take_at (take count left) (drop count room) count (length-take-le count left fits) in
+    take_at (take count left) (drop count room) count (length-take-le count left fits) in
     sym (ap (λ l. take count l ++ after) is_filled ∙ ap (λ l. l ++ after) front
-      ∙ ap (λ l. take count left ++ l) is_after ∙ take-append-drop count left)
+    ∙ ap (λ l. take count left ++ l) is_after ∙ take-append-drop count left)
 
 -- a call with room that gives nothing meets the end
 pub none_at_end : (left after : List ℕ) (step room count : ℕ) → 1 ≤ step → 0 < room

@@ -23,7 +23,7 @@ more_sent old mid new text rest count sent took after is_after = subst (IsSent o
   front = sent.front ++ take count rest;
   joined =
       sent.joined ∙ ap (λ l. sent.front ++ l) (sym (take-append-drop count rest))
-        ∙ sym (append_assoc sent.front (take count rest) (drop count rest));
+      ∙ sym (append_assoc sent.front (take count rest) (drop count rest));
   appended = Appends-trans old mid new sent.front (take count rest) sent.appended took;
 })
 

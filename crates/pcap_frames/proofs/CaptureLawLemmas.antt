@@ -43,26 +43,33 @@ begins_is_frame order bytes frame are begins =
     let captured : frame.captured ≡ number_at order 4 8 bytes = ap (λ f. f.captured) begins.is_frame in
     let original : frame.original ≡ number_at order 4 12 bytes = ap (λ f. f.original) begins.is_frame in
     let head : frame.head ≡ take 42 (take (number_at order 4 8 bytes) (drop 16 bytes)) =
-      ap (λ f. f.head) begins.is_frame in
+    ap (λ f. f.head) begins.is_frame in
     let fits : number_at order 4 12 bytes < 256 ^ 4 = number_at-lt order 4 12 bytes are in record {
       captured = begins.limit;
       original = omega (arith, fits);
       head =
-          omega (arith, ap length head, length-take 42 (take (number_at order 4 8 bytes) (drop 16 bytes)),
-            length-take (number_at order 4 8 bytes) (drop 16 bytes), length-drop 16 bytes, begins.room,
-            begins.header);
+          omega (
+            arith,
+            ap length head,
+            length-take 42 (take (number_at order 4 8 bytes) (drop 16 bytes)),
+            length-take (number_at order 4 8 bytes) (drop 16 bytes),
+            length-drop 16 bytes,
+            begins.room,
+            begins.header,
+          );
       head_bytes = λ place.
           rw head
-            (AreBytes-take 42 _ (AreBytes-take (number_at order 4 8 bytes) _ (AreBytes-drop 16 bytes are)) place);
+          (AreBytes-take 42 _ (AreBytes-take (number_at order 4 8 bytes) _ (AreBytes-drop 16 bytes are)) place);
     }
 
 begins_are_frames : (order : FileOrder) (bytes : List ℕ) (frames : List FrameValue) (rest : List ℕ) → AreBytes bytes
     → BeginsFrames order bytes frames rest → AreFrames frames
 begins_are_frames order bytes [] rest are begins = tt
-begins_are_frames order bytes (frame ∷ frames) rest are begins =
-    (begins_is_frame order bytes frame are begins.0,
-      begins_are_frames order (drop (16 + frame.captured) bytes) frames rest
-        (AreBytes-drop (16 + frame.captured) bytes are) begins.1)
+begins_are_frames order bytes (frame ∷ frames) rest are begins = (
+  begins_is_frame order bytes frame are begins.0,
+  begins_are_frames order (drop (16 + frame.captured) bytes) frames rest
+      (AreBytes-drop (16 + frame.captured) bytes are) begins.1,
+)
 
 capture_are_frames : (file : List ℕ) (frames : List FrameValue) → AreBytes file → IsCapture file frames
     → AreFrames frames
@@ -75,7 +82,7 @@ pub files_decided : FilesAreDecided
 files_decided = record {
   either = λ file. let fed = completes_total file in
       elim (file_ends fed.1.0 file fed.0 fed.1.1)
-        [ inl capture ↦ inl (fed.0, capture) | inr fault ↦ inr (fault.0, (fed.0, fault.1)) ];
+      [ inl capture ↦ inl (fed.0, capture) | inr fault ↦ inr (fault.0, (fed.0, fault.1)) ];
   never_both = never_both;
   one_list = λ file frames others here there.
       ends_one file frames others (capture_ends file frames here) (capture_ends file others there);
@@ -90,15 +97,15 @@ fronts_decided = record {
   some = completes_total;
   one = λ front frames others here there.
       ends_one front frames others (stands_ends here.0 front frames here.1)
-        (stands_ends there.0 front others there.1);
+      (stands_ends there.0 front others there.1);
   longer = λ front more frames others here there.
       ends_begin front more frames others (stands_ends here.0 front frames here.1)
-        (stands_ends there.0 (front ++ more) others there.1);
+      (stands_ends there.0 (front ++ more) others there.1);
   of_capture = λ front more frames all here capture.
       ends_begin front more frames all (stands_ends here.0 front frames here.1)
-        (capture_ends (front ++ more) all capture);
+      (capture_ends (front ++ more) all capture);
   before_fault = λ front more frames all fault here first.
       ends_begin front more frames all (stands_ends here.0 front frames here.1)
-        (fault_ends (front ++ more) all fault first);
+      (fault_ends (front ++ more) all fault first);
   shown = λ front more frames fault shows. inl (ShowsFault-append front more frames fault shows);
 }

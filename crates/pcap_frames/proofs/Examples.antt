@@ -1,6 +1,6 @@
 -- Worked examples of captures, of their headers and frames, and of first faults.
 use Rattle.std.proofs.Common.{inl, inr, ℕ, zero, suc, ◌≡◌, ◌<◌, ◌≤◌, true, false, List, [], ◌∷◌, ◌++◌, length, take}
-use Rattle.std.proofs.Common.{replicate, slice_index, Some, None, refl, arith}
+use Rattle.std.proofs.Common.{replicate, slice_index, Some, None, refl, arith, ◌+◌, ◌^◌}
 use Rattle.pcap_frames.specs.declared.file_order.FileOrder.TheVariants.{Big, Little}
 use Rattle.pcap_frames.specs.declared.fault.CaptureFault.{CaptureFault}
 use Rattle.pcap_frames.specs.declared.fault.FaultKind.TheVariants.{ShortHeader, NotCapture, Version, Link}
@@ -13,6 +13,7 @@ use Rattle.pcap_frames.specs.Frames.{frame_at, BeginsFrame, BeginsFrames, needed
 use Rattle.pcap_frames.specs.Capture.{Splits, IsCapture, ShowsInHeader, ShowsInFrames, ShowsFault, EndsInHeader}
 use Rattle.pcap_frames.specs.Capture.{EndsInFrame, EndsInside, HasFaultAfter, HasFault}
 use Rattle.pcap_frames.proofs.CaptureLawLemmas.{files_decided}
+use Rattle.pcap_frames.specs.FileFormat.{file_header_length, frame_header_length, head_length, kept_length, most_captured, most_frames}
 
 -- the header of a little-endian capture
 abbrev pub header : List ℕ
@@ -31,6 +32,28 @@ capture = header ++ frame_bytes
 
 abbrev pub cut_file : List ℕ
 cut_file = header ++ take 18 frame_bytes
+
+-- ---- sizes and limits
+
+pub length_of_the_file_header : length header ≡ file_header_length
+length_of_the_file_header = refl
+
+-- three captured bytes come after the header of their frame
+pub length_of_a_frame_header : length frame_bytes ≡ frame_header_length + 3
+length_of_a_frame_header = refl
+
+-- two hardware addresses, two tags, the type and an IPv4 header
+pub length_of_a_head : 6 + 6 + 4 + 4 + 2 + 20 ≡ head_length
+length_of_a_head = refl
+
+pub length_of_what_is_kept : kept_length ≡ 58
+length_of_what_is_kept = refl
+
+pub most_bytes_of_a_frame : most_captured ≡ 2 ^ 18
+most_bytes_of_a_frame = refl
+
+pub most_frames_of_a_capture : most_frames ≡ 2 ^ 24
+most_frames_of_a_capture = refl
 
 -- ---- the file header
 
@@ -158,13 +181,14 @@ header_a_frame_and_a_rest = record {
 }
 
 pub header_and_frame : IsCapture capture (frame ∷ [])
-header_and_frame =
-    (Little,
-      record {
-        header = header_and_more frame_bytes (omega arith);
-        begins = (whole_frame, refl);
-        limit = omega arith;
-      })
+header_and_frame = (
+  Little,
+  record {
+    header = header_and_more frame_bytes (omega arith);
+    begins = (whole_frame, refl);
+    limit = omega arith;
+  },
+)
 
 pub empty_header : EndsInHeader [] [] (fault_at ShortHeader 0)
 unfolding header_fault

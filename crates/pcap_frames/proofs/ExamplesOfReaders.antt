@@ -102,7 +102,7 @@ cut_file_completes_no_frame = (InFrames at, reader_stands_for_the_cut_file)
 pub cut_file_completes_not_its_frame : Completes cut_file (frame ∷ []) → ⊥
 cut_file_completes_not_its_frame completes =
     absurd (let same : frame ∷ []
-      ≡ [] = fronts_decided.one cut_file [] (frame ∷ []) cut_file_completes_no_frame completes in cc)
+    ≡ [] = fronts_decided.one cut_file [] (frame ∷ []) cut_file_completes_no_frame completes in cc)
 
 pub reader_in_a_frame_goes_on : HasStopped (InFrames at) → ⊥
 reader_in_a_frame_goes_on stopped = stopped
@@ -114,7 +114,7 @@ reader_in_a_frame_answers_ok = refl
 pub cut_file_is_not_refused : IsAnswerTo {T = ℕ} cut_file (Ok 1)
 cut_file_is_not_refused frames fault shows =
     files_decided.never_both capture (frame ∷ []) fault header_and_frame
-      (frames, fronts_decided.shown cut_file (9 ∷ []) frames fault shows)
+    (frames, fronts_decided.shown cut_file (9 ∷ []) frames fault shows)
 
 pub cut_file_ends_with_a_fault : IsEndOf cut_file [] (Err (Refused (fault_at CutFrame 24)))
 cut_file_ends_with_a_fault = fault_of_a_cut_file

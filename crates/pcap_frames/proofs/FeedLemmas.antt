@@ -61,7 +61,7 @@ module _ {V : Type 0} (stands_for : V → List FrameValue → Type 0) where
           given = before.given ++ shows.given;
           advances =
               Advances-trans old now new fed.done takes.front before.given shows.given before.advances
-                takes.advances;
+              takes.advances;
           are_frames = AreFrames-append before.given shows.given before.are_frames shows.are_frames;
           sees = Sees-trans seen mid saw before.given shows.given before.sees shows.sees;
         };
@@ -76,7 +76,7 @@ module _ {V : Type 0} (stands_for : V → List FrameValue → Type 0) where
       → rest ≡ [] → Feeds stands_for seen saw old new piece
   all_fed seen saw old new piece rest fed none =
       subst (Feeds stands_for seen saw old new)
-        (sym (fed.joined ∙ ap (λ l. fed.done ++ l) none ∙ append-nil fed.done)) fed.feeds
+      (sym (fed.joined ∙ ap (λ l. fed.done ++ l) none ∙ append-nil fed.done)) fed.feeds
 
   pub begun : (seen mid saw : V) (old now : ReaderState) (piece rest : List ℕ) → IsFed seen mid old now piece rest
       → LacksRoom stands_for mid saw now rest → SeesBeginning stands_for seen saw old piece
@@ -84,23 +84,23 @@ module _ {V : Type 0} (stands_for : V → List FrameValue → Type 0) where
       let before = fed.feeds in
       let takes = lacks.takes in
       let step =
-        Advances-trans old now lacks.after fed.done takes.front before.given (lacks.frame ∷ []) before.advances
-          takes.advances in
+      Advances-trans old now lacks.after fed.done takes.front before.given (lacks.frame ∷ []) before.advances
+      takes.advances in
       let joined : piece ≡ (fed.done ++ takes.front) ++ lacks.rest = fed.joined
-        ∙ ap (λ l. fed.done ++ l) takes.joined ∙ sym (append_assoc fed.done takes.front lacks.rest) in record {
+      ∙ ap (λ l. fed.done ++ l) takes.joined ∙ sym (append_assoc fed.done takes.front lacks.rest) in record {
         given = before.given;
         are_frames = before.are_frames;
         sees = Sees-alike seen mid saw before.given before.sees lacks.alike;
         begins = λ bytes frames more stands completes.
             let front = bytes ++ (fed.done ++ takes.front) in
             let whole : bytes ++ piece ≡ front ++ lacks.rest =
-              ap (λ l. bytes ++ l) joined ∙ sym (append_assoc bytes (fed.done ++ takes.front) lacks.rest) in
+            ap (λ l. bytes ++ l) joined ∙ sym (append_assoc bytes (fed.done ++ takes.front) lacks.rest) in
             let here = stands_ends lacks.after front _ (step.reads bytes frames stands) in
             let there = stands_ends completes.0 (bytes ++ piece) (frames ++ more) completes.1 in
             let found = ends_begin front lacks.rest _ (frames ++ more) here (rw whole at there) in
             let rejoined : frames ++ more ≡ frames ++ (before.given ++ (lacks.frame ∷ found.0)) =
             found.1 ∙ append_assoc frames (before.given ++ lacks.frame ∷ []) found.0
-              ∙ ap (λ l. frames ++ l) (append_assoc before.given (lacks.frame ∷ []) found.0) in
+            ∙ ap (λ l. frames ++ l) (append_assoc before.given (lacks.frame ∷ []) found.0) in
             (lacks.frame ∷ found.0, append_cancel_left frames more _ rejoined);
       }
 
@@ -108,18 +108,18 @@ module _ {V : Type 0} (stands_for : V → List FrameValue → Type 0) where
   pub stopped_fed : {T : Type 0} (state : ReaderState) (visitor : V) (piece : List ℕ) (result : Result T FeedFault)
       → HasStopped state → IsAnswerOf state result
       → IfMemory result (Feeds stands_for visitor visitor state state piece)
-        (SeesBeginning stands_for visitor visitor state piece)
+      (SeesBeginning stands_for visitor visitor state piece)
   stopped_fed (InHeader kept) visitor piece result stopped answer = absurd stopped
   stopped_fed (InFrames at) visitor piece result stopped answer = absurd stopped
   stopped_fed (AtFault fault) visitor piece result stopped answer =
       subst (λ r.
-        IfMemory r (Feeds stands_for visitor visitor (AtFault fault) (AtFault fault) piece)
-          (SeesBeginning stands_for visitor visitor (AtFault fault) piece)) (sym answer)
+      IfMemory r (Feeds stands_for visitor visitor (AtFault fault) (AtFault fault) piece)
+      (SeesBeginning stands_for visitor visitor (AtFault fault) piece)) (sym answer)
       (record { given = []; advances = stays_at_fault fault piece; are_frames = tt; sees = Sees-nil visitor })
   stopped_fed LacksMemory visitor piece result stopped answer =
       subst (λ r.
-        IfMemory r (Feeds stands_for visitor visitor LacksMemory LacksMemory piece)
-          (SeesBeginning stands_for visitor visitor LacksMemory piece)) (sym answer)
+      IfMemory r (Feeds stands_for visitor visitor LacksMemory LacksMemory piece)
+      (SeesBeginning stands_for visitor visitor LacksMemory piece)) (sym answer)
       (record {
         given = [];
         are_frames = tt;

@@ -19,9 +19,15 @@ magic_order-append bytes more fits =
 pub header_fault-whole : (order : FileOrder) (bytes : List ℕ) → IsHeader order bytes → header_fault bytes ≡ None
 unfolding header_fault
 header_fault-whole order bytes header =
-    rw (le-ltb (length bytes) 4 (omega arith), header.magic, le-ltb (length bytes) 8 (omega arith),
-      eq-eqb _ 2 header.major, eq-eqb _ 4 header.minor, le-ltb (length bytes) 24 header.whole,
-      eq-eqb _ 1 header.link) refl
+    rw (
+      le-ltb (length bytes) 4 (omega arith),
+      header.magic,
+      le-ltb (length bytes) 8 (omega arith),
+      eq-eqb _ 2 header.major,
+      eq-eqb _ 4 header.minor,
+      le-ltb (length bytes) 24 header.whole,
+      eq-eqb _ 1 header.link,
+    ) refl
 
 -- 24 bytes whose magic shows an order and whose fields show nothing wrong are a whole header
 fields_right : (order : FileOrder) (bytes : List ℕ) → magic_order bytes ≡ Some order → 24 ≤ length bytes
@@ -97,17 +103,17 @@ fields_fault-append (Some order) bytes more fault shown = elim (cases_Bool (ltb 
       elim (cases_Bool (eqb (number_at order 2 4 bytes) 2)) [
         | inr major ↦ rw major (rw major at first)
         | inl major ↦ let second = rw major at first in
-          rw major (elim (cases_Bool (eqb (number_at order 2 6 bytes) 4)) [
-          | inr minor ↦ rw minor (rw minor at second)
-          | inl minor ↦ let third = rw minor at second in rw minor (elim (cases_Bool (ltb (length bytes) 24)) [
-            | inl part ↦ absurd (let wrong = rw part at third in cc)
-            | inr all ↦
-                let whole : 24 ≤ length bytes = ltb-false (length bytes) 24 all in
-                let long : ltb (length (bytes ++ more)) 24 ≡ false =
-                  le-ltb _ 24 (omega (arith, length-append bytes more)) in
-                rw (long, number_at-append order 4 20 bytes more whole) (rw all at third)
-          ])
-        ])
+            rw major (elim (cases_Bool (eqb (number_at order 2 6 bytes) 4)) [
+              | inr minor ↦ rw minor (rw minor at second)
+              | inl minor ↦ let third = rw minor at second in rw minor (elim (cases_Bool (ltb (length bytes) 24)) [
+                | inl part ↦ absurd (let wrong = rw part at third in cc)
+                | inr all ↦
+                    let whole : 24 ≤ length bytes = ltb-false (length bytes) 24 all in
+                    let long : ltb (length (bytes ++ more)) 24 ≡ false =
+                    le-ltb _ 24 (omega (arith, length-append bytes more)) in
+                    rw (long, number_at-append order 4 20 bytes more whole) (rw all at third)
+              ])
+            ])
       ])
 ]
 
@@ -121,5 +127,5 @@ header_fault-append bytes more fault shown = elim (cases_Bool (ltb (length bytes
       let four : 4 ≤ length bytes = ltb-false (length bytes) 4 past in
       let longer : ltb (length (bytes ++ more)) 4 ≡ false = le-ltb _ 4 (omega (arith, length-append bytes more)) in
       rw (longer, magic_order-append bytes more four)
-        (fields_fault-append (magic_order bytes) bytes more fault (rw past at shown))
+      (fields_fault-append (magic_order bytes) bytes more fault (rw past at shown))
 ]

@@ -54,7 +54,7 @@ fault_is_last order count place rest fault shown = elim (cases_Bool (ltb 0 (leng
         | inr fits ↦ absurd (let wrong = rw fits at third in cc)
         | inl long ↦
             inl (λ frame begins.
-              omega (arith, ltb-true 262144 _ long, begins.limit, ap (λ f. f.captured) begins.is_frame))
+            omega (arith, ltb-true 262144 _ long, begins.limit, ap (λ f. f.captured) begins.is_frame))
       ]
     ]
   ]
@@ -109,9 +109,9 @@ ends_begin front more frames others (inr here) (inl none) =
 ends_begin front more frames others (inr here) (inr there) =
     let longer = Splits-append front more here.order frames here.rest here.splits in
     let same : there.order ≡ here.order =
-      one_order (front ++ more) here.order there.order longer.header there.splits.header in
+    one_order (front ++ more) here.order there.order longer.header there.splits.header in
     let begins = last_begins here.order (drop 24 (front ++ more)) 16777216 frames others (here.rest ++ more)
-      there.rest longer.begins
+    there.rest longer.begins
     (subst (λ order. BeginsFrames order (drop 24 (front ++ more)) others there.rest) same there.splits.begins)
     longer.limit
     (subst (λ order. IsLast order 16777216 others there.rest) same there.is_last) in
@@ -146,17 +146,20 @@ Verdict : List ℕ → List FrameValue → Option CaptureFault → Type 0
 Verdict file frames verdict =
     (NoHeader file frames × (verdict ≡ Some (header_end file)))
     ⊎ ((last : LastFrames file frames)
-      × (verdict ≡ rest_end last.order (length frames) (length file - length last.rest) last.rest))
+    × (verdict ≡ rest_end last.order (length frames) (length file - length last.rest) last.rest))
 
 capture_verdict : (file : List ℕ) (frames : List FrameValue) → IsCapture file frames → Verdict file frames None
 unfolding Verdict rest_end or_else
 capture_verdict file frames (order, splits) =
-    inr (record {
-      order = order;
-      rest = [];
-      splits = splits;
-      is_last = inl (λ frame begins. omega (arith, begins.header));
-    }, rw (frame_fault-nil order (length frames) (length file - 0)) refl)
+    inr (
+      record {
+        order = order;
+        rest = [];
+        splits = splits;
+        is_last = inl (λ frame begins. omega (arith, begins.header));
+      },
+      rw (frame_fault-nil order (length frames) (length file - 0)) refl,
+    )
 
 fault_verdict : (file : List ℕ) (frames : List FrameValue) (fault : CaptureFault) → HasFaultAfter file frames fault
     → Verdict file frames (Some fault)
@@ -164,15 +167,20 @@ unfolding Verdict rest_end or_else header_end
 fault_verdict file frames fault (inl (inl shows)) =
     inl (record { none = faulty_is_none file fault shows.shown; no_frame = shows.none_before }, rw shows.shown refl)
 fault_verdict file frames fault (inl (inr shows)) =
-    inr (record {
-      order = shows.order;
-      rest = shows.rest;
-      splits = shows.splits;
-      is_last = fault_is_last shows.order (length frames) _ shows.rest fault shows.shown;
-    }, rw shows.shown refl)
+    inr (
+      record {
+        order = shows.order;
+        rest = shows.rest;
+        splits = shows.splits;
+        is_last = fault_is_last shows.order (length frames) _ shows.rest fault shows.shown;
+      },
+      rw shows.shown refl,
+    )
 fault_verdict file frames fault (inr (inl ends)) =
-    inl (record { none = λ order header. omega (arith, ends.short, header.whole); no_frame = ends.none_before },
-      rw ends.none_shown (ap Some ends.is_fault))
+    inl (
+      record { none = λ order header. omega (arith, ends.short, header.whole); no_frame = ends.none_before },
+      rw ends.none_shown (ap Some ends.is_fault),
+    )
 fault_verdict file frames fault (inr (inr ends)) =
     inr (
       record {
@@ -188,7 +196,7 @@ rest_one : (file : List ℕ) (frames others : List FrameValue) (here : LastFrame
     (there : LastFrames file others) → others ≡ frames → (there.order ≡ here.order) × (there.rest ≡ here.rest)
 rest_one file frames others here there same =
     let order : there.order ≡ here.order =
-      one_order file here.order there.order here.splits.header there.splits.header in
+    one_order file here.order there.order here.splits.header there.splits.header in
     let one = last_is_one here.order (drop 24 file) 16777216 frames others here.rest there.rest here.splits.begins
     (subst (λ o. BeginsFrames o (drop 24 file) others there.rest) order there.splits.begins) here.splits.limit
     there.splits.limit here.is_last
@@ -278,9 +286,10 @@ one_more order limit bytes begins behind = record {
   begins = (begins, behind.begins);
   within = omega (arith, behind.within);
   stuck =
-      elim behind.stuck
-        [ inl cut ↦ inl cut
-          | inr other ↦ elim other [ inl long ↦ inr (inl long) | inr full ↦ inr (inr (ap suc full)) ] ];
+      elim behind.stuck [
+        | inl cut ↦ inl cut
+        | inr other ↦ elim other [ inl long ↦ inr (inl long) | inr full ↦ inr (inr (ap suc full)) ]
+      ];
 }
 
 frontal : (order : FileOrder) (limit : ℕ) (bytes : List ℕ) → Frontal order limit bytes
@@ -305,12 +314,12 @@ frontal order (suc limit) bytes = elim (cases_lt (length bytes) (needed order by
       }
       | inr fits ↦
           one_more order limit bytes
-            (record {
-              header = header;
-              is_frame = refl;
-              limit = fits;
-              room = omega (arith, needed-header order bytes header);
-            }) (frontal order limit (drop (16 + number_at order 4 8 bytes) bytes))
+          (record {
+            header = header;
+            is_frame = refl;
+            limit = fits;
+            room = omega (arith, needed-header order bytes header);
+          }) (frontal order limit (drop (16 + number_at order 4 8 bytes) bytes))
     ]
   ]
 ]
@@ -318,7 +327,7 @@ frontal order (suc limit) bytes = elim (cases_lt (length bytes) (needed order by
 -- a rest at which the frames are stuck and that shows no fault is less than a frame
 stuck_is_cut : (order : FileOrder) (count place : ℕ) (rest : List ℕ) → frame_fault order count place rest ≡ None
     → (length rest < needed order rest)
-      ⊎ (((16 ≤ length rest) × (262144 < number_at order 4 8 rest)) ⊎ (count ≡ 16777216))
+    ⊎ (((16 ≤ length rest) × (262144 < number_at order 4 8 rest)) ⊎ (count ≡ 16777216))
     → length rest < needed order rest
 stuck_is_cut order count place rest none (inl cut) = cut
 stuck_is_cut order count place rest none (inr (inl long)) =
@@ -335,14 +344,18 @@ completes_total bytes = by_header (header_fault bytes) refl where
       → (front : Frontal order 16777216 (drop 24 bytes)) (found : Option CaptureFault)
       → frame_fault order (length front.frames) (length bytes - length front.rest) front.rest ≡ found
       → (frames : List FrameValue) × Completes bytes frames
-  behind order header front (Some fault) is =
-      (front.frames, (AtFault fault,
-        inr (record {
-          order = order;
-          rest = front.rest;
-          splits = record { header = header; begins = front.begins; limit = front.within };
-          shown = is;
-        })))
+  behind order header front (Some fault) is = (
+    front.frames,
+    (
+      AtFault fault,
+      inr (record {
+        order = order;
+        rest = front.rest;
+        splits = record { header = header; begins = front.begins; limit = front.within };
+        shown = is;
+      }),
+    ),
+  )
   behind order header front None is =
       let shorter = BeginsFrames-shorter order (drop 24 bytes) front.frames front.rest front.begins in (
         front.frames,
@@ -381,13 +394,15 @@ completes_total bytes = by_header (header_fault bytes) refl where
 pub file_ends : (state : ReaderState) (file : List ℕ) (frames : List FrameValue) → ReaderStandsFor state file frames
     → IsCapture file frames ⊎ ((fault : CaptureFault) × HasFaultAfter file frames fault)
 file_ends (InHeader kept) file frames stands =
-    inr (fault_at ShortHeader (length file),
+    inr (
+      fault_at ShortHeader (length file),
       inr (inl (record {
         none_shown = stands.none_shown;
         short = stands.short;
         none_before = stands.no_frame;
         is_fault = refl;
-      })))
+      })),
+    )
 file_ends (InFrames at) file frames stands = elim (cases_lt 0 (length stands.rest)) [
   | inr empty ↦
       inl (at.order, subst (Splits file at.order frames) (nil_from_length stands.rest (omega arith)) stands.splits)
@@ -401,7 +416,7 @@ file_ends (InFrames at) file frames stands = elim (cases_lt 0 (length stands.res
           splits = stands.splits;
           none_shown =
               subst (λ p. frame_fault at.order (length frames) p stands.rest ≡ None) place
-                (subst (λ n. frame_fault at.order n at.place stands.rest ≡ None) stands.count_is stands.none_shown);
+              (subst (λ n. frame_fault at.order n at.place stands.rest ≡ None) stands.count_is stands.none_shown);
           some_left = some;
           cut = stands.cut;
           is_fault = refl;
@@ -425,14 +440,14 @@ pub never_both : (file : List ℕ) (frames : List FrameValue) (fault : CaptureFa
     → HasFault file fault → ⊥
 never_both file frames fault capture (before, first) =
     let same =
-      verdict_one file frames before None (Some fault) (capture_verdict file frames capture)
-        (fault_verdict file before fault first) in
+    verdict_one file frames before None (Some fault) (capture_verdict file frames capture)
+    (fault_verdict file before fault first) in
     cc
 
 -- a file has one first fault
 pub one_fault : (file : List ℕ) (fault other : CaptureFault) → HasFault file fault → HasFault file other → other ≡ fault
 one_fault file fault other (before, first) (before_too, first_too) =
     let same =
-      verdict_one file before before_too (Some fault) (Some other) (fault_verdict file before fault first)
-        (fault_verdict file before_too other first_too) in
+    verdict_one file before before_too (Some fault) (Some other) (fault_verdict file before fault first)
+    (fault_verdict file before_too other first_too) in
     cc

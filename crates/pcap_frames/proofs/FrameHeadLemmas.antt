@@ -8,6 +8,6 @@ pub take_of_take : (n m : ℕ) (xs : List ℕ) → take (min n m) xs ≡ take m 
 take_of_take n m xs = elim (cases_lt n m) [
   | inl below ↦
       ap (λ k. take k xs) (let e : min n m ≡ n = omega arith in e)
-        ∙ sym (take_all m (take n xs) (omega (arith, length-take n xs)))
+      ∙ sym (take_all m (take n xs) (omega (arith, length-take n xs)))
   | inr above ↦ ap (λ k. take k xs) (let e : min n m ≡ m = omega arith in e) ∙ sym (take-take m n xs above)
 ]

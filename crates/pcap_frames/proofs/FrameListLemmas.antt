@@ -111,7 +111,7 @@ frame_fault-append order count place rest more fault shown = elim (cases_Bool (l
           | inr past ↦
               let header : 16 ≤ length rest = ltb-false (length rest) 16 past in
               let longer : ltb (length (rest ++ more)) 16 ≡ false =
-                le-ltb _ 16 (omega (arith, length-append rest more)) in
+              le-ltb _ 16 (omega (arith, length-append rest more)) in
               rw (longer, number_at-append order 4 8 rest more (omega arith)) (rw past at second)
         ])
       ])

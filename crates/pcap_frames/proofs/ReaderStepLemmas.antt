@@ -27,7 +27,7 @@ take-take_append n xs ys = elim (cases_lt n (length xs)) [
   | inl longer ↦
       let room : length (take n xs) ≡ n = omega (arith, length-take n xs) in
       take-append-le n (take n xs) ys (omega arith) ∙ take-take n n xs (omega arith)
-        ∙ sym (take-append-le n xs ys (omega arith))
+      ∙ sym (take-append-le n xs ys (omega arith))
   | inr short ↦ ap (λ l. take n (l ++ ys)) (take_all n xs short)
 ]
 
@@ -36,7 +36,7 @@ pub take-take_take : (n m : ℕ) (xs : List ℕ) → take n (take m (take n xs))
 take-take_take n m xs = elim (cases_lt n m) [
   | inl longer ↦
       ap (take n) (take_all m (take n xs) (omega (arith, length-take n xs))) ∙ take-take n n xs (omega arith)
-        ∙ sym (take-take n m xs (omega arith))
+      ∙ sym (take-take n m xs (omega arith))
   | inr short ↦ ap (take n) (take-take m n xs short)
 ]
 
@@ -64,14 +64,21 @@ pub frame_fault-take : (order : FileOrder) (count place : ℕ) (rest : List ℕ)
     → frame_fault order count place (take 58 rest) ≡ frame_fault order count place rest
 unfolding frame_fault
 frame_fault-take order count place rest =
-    rw (some_test-take 58 rest (omega arith), length_test-take 16 58 rest (omega arith),
-      number_at-take order 4 8 58 rest (omega arith)) refl
+    rw (
+      some_test-take 58 rest (omega arith),
+      length_test-take 16 58 rest (omega arith),
+      number_at-take order 4 8 58 rest (omega arith),
+    ) refl
 
 -- the first 58 bytes hold what a frame says
 pub frame_at-take : (order : FileOrder) (rest : List ℕ) → frame_at order (take 58 rest) ≡ frame_at order rest
 frame_at-take order rest =
-    rw (number_at-take order 4 8 58 rest (omega arith), number_at-take order 4 12 58 rest (omega arith),
-      drop-take 16 42 rest, take-take_take 42 (number_at order 4 8 rest) (drop 16 rest)) refl
+    rw (
+      number_at-take order 4 8 58 rest (omega arith),
+      number_at-take order 4 12 58 rest (omega arith),
+      drop-take 16 42 rest,
+      take-take_take 42 (number_at order 4 8 rest) (drop 16 rest),
+    ) refl
 
 -- ---- a rest that shows no fault
 
@@ -115,13 +122,17 @@ pub needed_more : (order : FileOrder) (kept front now : List ℕ) → now ≡ ta
     → needed order kept ≤ needed order now
 needed_more order kept front now is =
     let same : needed order now ≡ needed order (kept ++ front) =
-      ap (needed order) is ∙ needed-take order (kept ++ front) in
+    ap (needed order) is ∙ needed-take order (kept ++ front) in
     elim (cases_lt (length kept) 16) [
       | inl short ↦ omega (arith, needed-part order kept short, needed_least order now)
       | inr past ↦
           let longer : 16 ≤ length (kept ++ front) = omega (arith, length-append kept front) in
-          omega (arith, needed-header order kept past, needed-header order (kept ++ front) longer,
-            number_at-append order 4 8 kept front (omega arith))
+          omega (
+            arith,
+            needed-header order kept past,
+            needed-header order (kept ++ front) longer,
+            number_at-append order 4 8 kept front (omega arith),
+          )
     ]
 
 -- the kept bytes of a whole frame have its header and its head
@@ -192,10 +203,10 @@ whole_header kept front now order is whole none magic =
       reads = λ before frames stands.
           let same : now ≡ before ++ front = all ∙ ap (λ l. l ++ front) stands.kept_is in
           let size : length (before ++ front) ≡ 24 =
-            omega (arith, ap length stands.kept_is, length-append before front) in
+          omega (arith, ap length stands.kept_is, length-append before front) in
           let header : IsHeader order (before ++ front) =
-            header_of_order order (before ++ front) (omega arith) (subst (λ l. header_fault l ≡ None) same none)
-              (subst (λ l. magic_order l ≡ Some order) same magic) in
+          header_of_order order (before ++ front) (omega arith) (subst (λ l. header_fault l ≡ None) same none)
+          (subst (λ l. magic_order l ≡ Some order) same magic) in
           subst (IsBehind (first_place order) (before ++ front)) (sym (append-nil frames ∙ stands.no_frame)) (record {
             rest = [];
             splits = record {
@@ -228,15 +239,21 @@ part_so_far at front now is none cut = record {
   reads = λ before frames stands.
       let same : now ≡ take 58 (stands.rest ++ front) = kept_more at before front now frames stands is in
       subst (IsBehind (record at { kept = now; came = at.came + length front }) (before ++ front))
-        (sym (append-nil frames)) (record {
+      (sym (append-nil frames)) (record {
         rest = stands.rest ++ front;
         splits = Splits-append before front at.order frames stands.rest stands.splits;
         none_shown =
             sym (frame_fault-take at.order at.count at.place (stands.rest ++ front))
-              ∙ sym (ap (frame_fault at.order at.count at.place) same) ∙ none;
+            ∙ sym (ap (frame_fault at.order at.count at.place) same) ∙ none;
         cut =
-            omega (arith, cut, ap (needed at.order) same, needed-take at.order (stands.rest ++ front),
-              stands.came_is, length-append stands.rest front);
+            omega (
+              arith,
+              cut,
+              ap (needed at.order) same,
+              needed-take at.order (stands.rest ++ front),
+              stands.came_is,
+              length-append stands.rest front,
+            );
         count_is = stands.count_is;
         place_is = omega (arith, stands.place_is, length-append stands.rest front, length-append before front);
         kept_is = same;
@@ -251,7 +268,7 @@ pub part_of_frame : (at : FramePlace) (front now : List ℕ) (total : ℕ) → n
     → Advances (InFrames at) (InFrames (record at { kept = now; came = total })) front []
 part_of_frame at front now total is sum none cut =
     subst (λ n. Advances (InFrames at) (InFrames (record at { kept = now; came = n })) front []) (sym sum)
-      (part_so_far at front now is none (omega arith))
+    (part_so_far at front now is none (omega arith))
 
 -- the rest shows a fault
 pub faulty_frame : (at : FramePlace) (front now : List ℕ) (fault : CaptureFault) → now ≡ take 58 (at.kept ++ front)
@@ -260,18 +277,18 @@ faulty_frame at front now fault is shown = record {
   reads = λ before frames stands.
       let same : now ≡ take 58 (stands.rest ++ front) = kept_more at before front now frames stands is in
       let place : at.place ≡ length (before ++ front) - length (stands.rest ++ front) =
-        omega (arith, stands.place_is, length-append stands.rest front, length-append before front) in
+      omega (arith, stands.place_is, length-append stands.rest front, length-append before front) in
       let here : frame_fault at.order at.count at.place (stands.rest ++ front) ≡ Some fault =
-        sym (frame_fault-take at.order at.count at.place (stands.rest ++ front))
-          ∙ sym (ap (frame_fault at.order at.count at.place) same) ∙ shown in
+      sym (frame_fault-take at.order at.count at.place (stands.rest ++ front))
+      ∙ sym (ap (frame_fault at.order at.count at.place) same) ∙ shown in
       subst (λ l. ShowsFault (before ++ front) l fault) (sym (append-nil frames)) (inr (record {
         order = at.order;
         rest = stands.rest ++ front;
         splits = Splits-append before front at.order frames stands.rest stands.splits;
         shown =
             subst (λ p. frame_fault at.order (length frames) p (stands.rest ++ front) ≡ Some fault) place
-              (subst (λ n. frame_fault at.order n at.place (stands.rest ++ front) ≡ Some fault) stands.count_is
-                here);
+            (subst (λ n. frame_fault at.order n at.place (stands.rest ++ front) ≡ Some fault) stands.count_is
+            here);
       }));
 }
 
@@ -285,23 +302,27 @@ one_frame : (at : FramePlace) (before front : List ℕ) (frames : List FrameValu
     → BeginsFrame at.order (stands.rest ++ front) (frame_at at.order (stands.rest ++ front))
     → length (stands.rest ++ front) ≡ 16 + number_at at.order 4 8 (stands.rest ++ front) → (at.count ≡ 16777216 → ⊥)
     → IsBehind (next_place at (length (stands.rest ++ front))) (before ++ front)
-      (frames ++ frame_at at.order (stands.rest ++ front) ∷ [])
+    (frames ++ frame_at at.order (stands.rest ++ front) ∷ [])
 one_frame at before front frames stands begins size room =
     let rest = stands.rest ++ front in
     let splits = Splits-append before front at.order frames stands.rest stands.splits in
     let none : drop (16 + number_at at.order 4 8 (stands.rest ++ front)) (stands.rest ++ front) ≡ [] =
-      drop_all _ (stands.rest ++ front) (omega arith) in record {
+    drop_all _ (stands.rest ++ front) (omega arith) in record {
       rest = [];
       splits = record {
         header = splits.header;
         begins =
             subst (BeginsFrames at.order (drop 24 (before ++ front))
-              (frames ++ frame_at at.order (stands.rest ++ front) ∷ [])) none
+            (frames ++ frame_at at.order (stands.rest ++ front) ∷ [])) none
             (BeginsFrames-more at.order (drop 24 (before ++ front)) frames (stands.rest ++ front) _ splits.begins
-              begins);
+            begins);
         limit =
-            omega (arith, stands.splits.limit, stands.count_is,
-              length-append frames (frame_at at.order (stands.rest ++ front) ∷ []));
+            omega (
+              arith,
+              stands.splits.limit,
+              stands.count_is,
+              length-append frames (frame_at at.order (stands.rest ++ front) ∷ []),
+            );
       };
       none_shown = frame_fault-nil at.order _ _;
       cut = omega (arith, needed_least at.order []);
@@ -320,15 +341,15 @@ whole_so_far at front now is none header size = record {
   reads = λ before frames stands.
       let same : now ≡ take 58 (stands.rest ++ front) = kept_more at before front now frames stands is in
       let here : frame_fault at.order at.count at.place (stands.rest ++ front) ≡ None =
-        sym (frame_fault-take at.order at.count at.place (stands.rest ++ front))
-          ∙ sym (ap (frame_fault at.order at.count at.place) same) ∙ none in
+      sym (frame_fault-take at.order at.count at.place (stands.rest ++ front))
+      ∙ sym (ap (frame_fault at.order at.count at.place) same) ∙ none in
       let came : at.came + length front ≡ length (stands.rest ++ front) =
-        omega (arith, stands.came_is, length-append stands.rest front) in
+      omega (arith, stands.came_is, length-append stands.rest front) in
       let past : 16 ≤ length (stands.rest ++ front) = omega arith in
       let right = right_frame at.order at.count at.place (stands.rest ++ front) here past in
       let whole : length (stands.rest ++ front) ≡ 16 + number_at at.order 4 8 (stands.rest ++ front) =
       sym came ∙ size ∙ ap (needed at.order) same ∙ needed-take at.order (stands.rest ++ front)
-        ∙ needed-header at.order (stands.rest ++ front) past in
+      ∙ needed-header at.order (stands.rest ++ front) past in
       let begins : BeginsFrame at.order (stands.rest ++ front) (frame_at at.order (stands.rest ++ front)) = record {
         header = past;
         is_frame = refl;
@@ -336,10 +357,10 @@ whole_so_far at front now is none header size = record {
         room = omega (arith, whole);
       } in
       let frame_is : frame_at at.order now ≡ frame_at at.order (stands.rest ++ front) =
-        ap (frame_at at.order) same ∙ frame_at-take at.order (stands.rest ++ front) in
+      ap (frame_at at.order) same ∙ frame_at-take at.order (stands.rest ++ front) in
       subst (λ n. IsBehind (next_place at n) (before ++ front) (frames ++ frame_at at.order now ∷ [])) (sym came)
       (subst (λ f. IsBehind (next_place at (length (stands.rest ++ front))) (before ++ front) (frames ++ f ∷ []))
-        (sym frame_is)
+      (sym frame_is)
       (one_frame at before front frames stands begins whole right.0));
 }
 
@@ -350,7 +371,7 @@ pub whole_frame : (at : FramePlace) (front now : List ℕ) (total size : ℕ) �
     → Advances (InFrames at) (InFrames (next_place at size)) front (frame_at at.order now ∷ [])
 whole_frame at front now total size is sum none whole is_size =
     subst (λ n. Advances (InFrames at) (InFrames (next_place at n)) front (frame_at at.order now ∷ []))
-      (sym sum ∙ whole ∙ sym is_size)
+    (sym sum ∙ whole ∙ sym is_size)
     (whole_so_far at front now is none (omega (arith, needed_least at.order now)) (sym sum ∙ whole))
 
 -- a frame stands whole in the piece, and nothing of it came before
@@ -369,7 +390,7 @@ frame_in_piece at front none empty room past fits whole = record {
       } in
       subst (λ l. IsBehind (next_place at (length l)) (before ++ front) (frames ++ frame_at at.order l ∷ [])) same
       (one_frame at before front frames stands
-        (subst (λ l. BeginsFrame at.order l (frame_at at.order l)) (sym same) begins)
+      (subst (λ l. BeginsFrame at.order l (frame_at at.order l)) (sym same) begins)
       (subst (λ l. length l ≡ 16 + number_at at.order 4 8 l) (sym same) whole) (λ full. omega arith));
 }
 
@@ -378,41 +399,41 @@ pub frame_at_front : (at : FramePlace) (piece rest : List ℕ) (frame : FrameVal
     → SplitsFrame at.order piece rest frame → at.came ≡ 0 → at.kept ≡ [] → at.count < 16777216
     → size ≡ length piece - length rest
     → Takes (InFrames at) (InFrames (record at { count = at.count + 1; place = at.place + size })) piece rest
-      (frame ∷ [])
+    (frame ∷ [])
 frame_at_front at piece rest frame size splits none empty room is_size =
     let front_is : length splits.front ≡ size =
-      omega (arith, ap length splits.joined, length-append splits.front rest) in
+    omega (arith, ap length splits.joined, length-append splits.front rest) in
     let step = frame_in_piece at splits.front none empty room splits.header splits.limit splits.whole in
     let kept =
-      subst (λ l.
-        Advances (InFrames at)
-          (InFrames (record {
-            order = at.order;
-            count = at.count + 1;
-            place = at.place + length splits.front;
-            kept = l;
-            came = 0;
-          })) splits.front (frame_at at.order splits.front ∷ [])) (sym empty) step in
+    subst (λ l.
+    Advances (InFrames at)
+    (InFrames (record {
+      order = at.order;
+      count = at.count + 1;
+      place = at.place + length splits.front;
+      kept = l;
+      came = 0;
+    })) splits.front (frame_at at.order splits.front ∷ [])) (sym empty) step in
     let came =
-      subst (λ n.
-        Advances (InFrames at)
-          (InFrames (record {
-            order = at.order;
-            count = at.count + 1;
-            place = at.place + length splits.front;
-            kept = at.kept;
-            came = n;
-          })) splits.front (frame_at at.order splits.front ∷ [])) (sym none) kept in
+    subst (λ n.
+    Advances (InFrames at)
+    (InFrames (record {
+      order = at.order;
+      count = at.count + 1;
+      place = at.place + length splits.front;
+      kept = at.kept;
+      came = n;
+    })) splits.front (frame_at at.order splits.front ∷ [])) (sym none) kept in
     let shown = subst (λ f. Advances (InFrames at)
-      (InFrames (record at { count = at.count + 1; place = at.place + length splits.front })) splits.front (f ∷ []))
-      (sym splits.frame_is) came in record {
+    (InFrames (record at { count = at.count + 1; place = at.place + length splits.front })) splits.front (f ∷ []))
+    (sym splits.frame_is) came in record {
       front = splits.front;
       joined = splits.joined;
       some = omega (arith, splits.header);
       advances =
           subst (λ n.
-            Advances (InFrames at) (InFrames (record at { count = at.count + 1; place = at.place + n }))
-              splits.front (frame ∷ [])) front_is shown;
+          Advances (InFrames at) (InFrames (record at { count = at.count + 1; place = at.place + n }))
+          splits.front (frame ∷ [])) front_is shown;
     }
 
 -- ---- steps of a reader that has stopped, and steps one after another
@@ -422,7 +443,7 @@ pub stays_at_fault : (fault : CaptureFault) (front : List ℕ) → Advances (AtF
 stays_at_fault fault front = record {
   reads = λ before frames stands.
       subst (λ l. ShowsFault (before ++ front) l fault) (sym (append-nil frames))
-        (ShowsFault-append before front frames fault stands);
+      (ShowsFault-append before front frames fault stands);
 }
 
 -- a reader without memory stands for nothing
@@ -434,7 +455,7 @@ pub Advances-nil : (state : ReaderState) → Advances state state [] []
 Advances-nil state = record {
   reads = λ before frames stands.
       subst (λ l. ReaderStandsFor state l (frames ++ [])) (sym (append-nil before))
-        (subst (ReaderStandsFor state before) (sym (append-nil frames)) stands);
+      (subst (ReaderStandsFor state before) (sym (append-nil frames)) stands);
 }
 
 -- one step after another

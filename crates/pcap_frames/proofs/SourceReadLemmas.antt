@@ -47,8 +47,15 @@ extent_bound (InFrames at) bytes frames stands goes =
     let splits = stands.splits in
     let header = splits.header in
     let sizes = BeginsFrames-length at.order (drop 24 bytes) frames stands.rest splits.begins in
-    omega (arith, sizes, splits.limit, stands.cut,
-      needed_bound at.order at.count at.place stands.rest stands.none_shown, length-drop 24 bytes, header.whole)
+    omega (
+      arith,
+      sizes,
+      splits.limit,
+      stands.cut,
+      needed_bound at.order at.count at.place stands.rest stands.none_shown,
+      length-drop 24 bytes,
+      header.whole,
+    )
 extent_bound (AtFault fault) bytes frames stands goes = absurd (goes tt)
 extent_bound LacksMemory bytes frames stands goes = absurd stands
 
@@ -166,13 +173,13 @@ module _ {V : Type 0} (stands_for : V → List FrameValue → Type 0) where
   read_cut_short seen mid saw left now after old piece read consumed cut =
       let fed = completes_total (read.bytes ++ piece) in
       let more =
-        ends_begin read.bytes piece read.frames fed.0 (stands_ends old read.bytes read.frames read.stands)
-          (stands_ends fed.1.0 (read.bytes ++ piece) fed.0 fed.1.1) in
+      ends_begin read.bytes piece read.frames fed.0 (stands_ends old read.bytes read.frames read.stands)
+      (stands_ends fed.1.0 (read.bytes ++ piece) fed.0 fed.1.1) in
       let given =
-        cut.begins read.bytes read.frames more.0 read.stands
-          (subst (Completes (read.bytes ++ piece)) more.1 fed.1) in
+      cut.begins read.bytes read.frames more.0 read.stands
+      (subst (Completes (read.bytes ++ piece)) more.1 fed.1) in
       let joined : fed.0 ≡ (read.frames ++ cut.given) ++ given.0 = more.1 ∙ ap (λ l. read.frames ++ l) given.1
-        ∙ sym (append_assoc read.frames cut.given given.0) in record {
+      ∙ sym (append_assoc read.frames cut.given given.0) in record {
         front = read.bytes ++ piece;
         all = fed.0;
         frames = read.frames ++ cut.given;
@@ -193,11 +200,11 @@ module _ {V : Type 0} (stands_for : V → List FrameValue → Type 0) where
       let whole = Consumes-trans left now after read.bytes piece read.consumed consumed in
       let fed = feeds.advances in
       let shows =
-        answer_shows T new (read.bytes ++ piece) (read.frames ++ feeds.given) fault
-          (fed.reads read.bytes read.frames read.stands) answer in
+      answer_shows T new (read.bytes ++ piece) (read.frames ++ feeds.given) fault
+      (fed.reads read.bytes read.frames read.stands) answer in
       let first : (rest : List ℕ)
-        → HasFaultAfter ((read.bytes ++ piece) ++ rest) (read.frames ++ feeds.given) fault =
-        λ rest. inl (ShowsFault-append (read.bytes ++ piece) rest _ fault shows) in (
+      → HasFaultAfter ((read.bytes ++ piece) ++ rest) (read.frames ++ feeds.given) fault =
+      λ rest. inl (ShowsFault-append (read.bytes ++ piece) rest _ fault shows) in (
         record {
           front = read.bytes ++ piece;
           frames = read.frames ++ feeds.given;
@@ -210,7 +217,7 @@ module _ {V : Type 0} (stands_for : V → List FrameValue → Type 0) where
           at_end = λ ends. absurd (shown_before_the_end (read.bytes ++ piece) _ fault shows ends);
         },
         consumed_front left after (read.bytes ++ piece) _ whole
-          (λ rest. ((_, first rest), λ frames capture. never_both _ frames fault capture (_, first rest))),
+            (λ rest. ((_, first rest), λ frames capture. never_both _ frames fault capture (_, first rest))),
       )
 
   -- the answer to a piece that ends the reading
@@ -218,9 +225,9 @@ module _ {V : Type 0} (stands_for : V → List FrameValue → Type 0) where
       (piece : List ℕ) (fault : FeedFault)
       → HasRead seen mid left now old → Consumes now after piece
       → IfMemory {T = T} (Err fault) (Feeds stands_for mid saw old new piece)
-        (SeesBeginning stands_for mid saw old piece) → IsAnswerOf {T = T} new (Err fault)
+      (SeesBeginning stands_for mid saw old piece) → IsAnswerOf {T = T} new (Err fault)
       → IsSeen stands_for seen saw left after (Err (refusal_of fault))
-        × IfSome left (λ file. IsReadOf file (Err (refusal_of fault)))
+      × IfSome left (λ file. IsReadOf file (Err (refusal_of fault)))
   read_stopped T seen mid saw left now after old new piece (feed.Refused fault) read consumed fed answer =
       read_refused T seen mid saw left now after old new piece fault read consumed fed answer
   read_stopped T seen mid saw left now after old new piece feed.OutOfMemory read consumed cut answer =
@@ -230,13 +237,13 @@ module _ {V : Type 0} (stands_for : V → List FrameValue → Type 0) where
   pub read_whole : (seen saw : V) (left now after : Option (List ℕ)) (state : ReaderState) (count : ℕ)
       → HasRead seen saw left now state → Consumes now after [] → IsAtEnd after
       → ((file : List ℕ) (frames : List FrameValue) → ReaderStandsFor state file frames
-        → IsEndOf file frames (Ok count))
+      → IsEndOf file frames (Ok count))
       → SeesCapture stands_for seen saw left after count × IfSome left (λ file. IsReadOf file (Ok count))
   read_whole seen saw left now after state count read consumed end finish =
       let answer = finish read.bytes read.frames read.stands in
       let whole : Consumes left after read.bytes =
-        subst (Consumes left after) (append-nil read.bytes)
-          (Consumes-trans left now after read.bytes [] read.consumed consumed) in
+      subst (Consumes left after) (append-nil read.bytes)
+      (Consumes-trans left now after read.bytes [] read.consumed consumed) in
       let splits = answer.0.1 in (
         record {
           frames = read.frames;
@@ -248,20 +255,20 @@ module _ {V : Type 0} (stands_for : V → List FrameValue → Type 0) where
           at_end = end;
         },
         Consumes-whole left after read.bytes (λ file. IsReadOf file (Ok count)) whole end
-          ((read.frames, answer.0, sym answer.1), λ fault. never_both read.bytes read.frames fault answer.0),
+            ((read.frames, answer.0, sym answer.1), λ fault. never_both read.bytes read.frames fault answer.0),
       )
 
   pub read_ended : (seen saw : V) (left now after : Option (List ℕ)) (state : ReaderState) (fault : FeedFault)
       → HasRead seen saw left now state → Consumes now after [] → IsAtEnd after
       → ((file : List ℕ) (frames : List FrameValue) → ReaderStandsFor state file frames
-        → IsEndOf file frames (Err fault))
+      → IsEndOf file frames (Err fault))
       → IsSeen stands_for seen saw left after (Err (refusal_of fault))
-        × IfSome left (λ file. IsReadOf file (Err (refusal_of fault)))
+      × IfSome left (λ file. IsReadOf file (Err (refusal_of fault)))
   read_ended seen saw left now after state (feed.Refused fault) read consumed end finish =
       let first = finish read.bytes read.frames read.stands in
       let whole : Consumes left after read.bytes =
-        subst (Consumes left after) (append-nil read.bytes)
-        (Consumes-trans left now after read.bytes [] read.consumed consumed) in (
+      subst (Consumes left after) (append-nil read.bytes)
+      (Consumes-trans left now after read.bytes [] read.consumed consumed) in (
         record {
           front = read.bytes;
           frames = read.frames;
@@ -274,7 +281,7 @@ module _ {V : Type 0} (stands_for : V → List FrameValue → Type 0) where
           at_end = λ ends. end;
         },
         Consumes-whole left after read.bytes (λ file. IsReadOf file (Err (Capture fault))) whole end
-          ((read.frames, first), λ frames capture. never_both read.bytes frames fault capture (read.frames, first)),
+            ((read.frames, first), λ frames capture. never_both read.bytes frames fault capture (read.frames, first)),
       )
   read_ended seen saw left now after state feed.OutOfMemory read consumed end finish =
       absurd (finish read.bytes read.frames read.stands)

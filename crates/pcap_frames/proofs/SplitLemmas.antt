@@ -17,7 +17,7 @@ Splits-append bytes more order frames rest splits = record {
   header = IsHeader-append order bytes more splits.header;
   begins =
       rw (drop-append-le 24 bytes more splits.header.whole)
-        (BeginsFrames-append order (drop 24 bytes) frames rest more splits.begins);
+      (BeginsFrames-append order (drop 24 bytes) frames rest more splits.begins);
   limit = splits.limit;
 }
 
@@ -39,7 +39,7 @@ ShowsFault-append bytes more frames fault (inr shows) = inr (record {
   splits = Splits-append bytes more shows.order frames shows.rest shows.splits;
   shown =
       subst (λ place. frame_fault shows.order (length frames) place (shows.rest ++ more) ≡ Some fault)
-        (sym (place-append bytes shows.rest more))
+      (sym (place-append bytes shows.rest more))
       (frame_fault-append shows.order (length frames) _ shows.rest more fault shows.shown);
 })
 
@@ -65,7 +65,7 @@ last_begins order bytes limit (frame ∷ frames) (other ∷ others) rest last he
     (omega arith)
     (elim is_last [ inl none ↦ inl none | inr full ↦ inr (omega arith) ]) in
     let joined : other ∷ others ≡ (frame ∷ frames) ++ behind.0 =
-      ap (λ f. f ∷ others) same ∙ ap (λ l. frame ∷ l) behind.1 in
+    ap (λ f. f ∷ others) same ∙ ap (λ l. frame ∷ l) behind.1 in
     (behind.0, joined, behind.2)
 
 -- two lists that are the last and begin the same bytes are one, and so are their rests

@@ -25,7 +25,7 @@ leading_bytes n address few = record {
   few = omega (arith, length-leading n address few);
   bytes = λ place.
       subst (λ l. get_or l place 0 < 256) (sym (leading_digits n address few))
-        (digits_small 256 n (address / 256 ^ (4 - n)) place (omega arith));
+      (digits_small 256 n (address / 256 ^ (4 - n)) place (omega arith));
 }
 
 -- the two parts of an address together have four bytes
@@ -50,7 +50,7 @@ address_of-leading n address few small =
     let high = address / 256 ^ (4 - n) in
     let spelled : number_from 256 0 (take n (address_bytes address)) ≡ high =
     ap (number_from 256 0) (leading_digits n address few)
-      ∙ number_from-digits 256 n high (omega arith) (high_small n address few small) in
+    ∙ number_from-digits 256 n high (omega arith) (high_small n address few small) in
     ap (λ m. number_from 256 0 (take n (address_bytes address)) * 256 ^ (4 - m)) (length-leading n address few)
     ∙ ap (λ m. m * 256 ^ (4 - n)) spelled
 
@@ -71,7 +71,7 @@ same_leading xs ys xs_leading ys_leading same_length same =
     let has_unit : 0 < unit = some_unit (4 - length xs) in
     let spelled : number_from 256 0 xs ≡ number_from 256 0 ys =
     sym (mul-div_cancel (number_from 256 0 xs) has_unit) ∙ ap (λ m. m / unit) numbers
-      ∙ mul-div_cancel (number_from 256 0 ys) has_unit in
+    ∙ mul-div_cancel (number_from 256 0 ys) has_unit in
     (same_digits 256 0 0 xs ys same_length xs_leading.bytes ys_leading.bytes spelled).1
 
 -- two tests that hold together are one
@@ -95,9 +95,9 @@ take-begins_with bytes [] begins = refl
 take-begins_with [] (b ∷ front) begins = absurd (false≢true begins)
 take-begins_with (x ∷ bytes) (b ∷ front) begins =
     let both : (eqb x b ≡ true) × (begins_with bytes front ≡ true) =
-      and_parts (eqb x b) (begins_with bytes front) begins in
+    and_parts (eqb x b) (begins_with bytes front) begins in
     ap (λ d. d ∷ take (length front) bytes) (eqb-true x b both.0)
-      ∙ ap (λ l. b ∷ l) (take-begins_with bytes front both.1)
+    ∙ ap (λ l. b ∷ l) (take-begins_with bytes front both.1)
 
 -- setting the last bytes to zero leaves the first ones
 pub leading-masked : (n address : ℕ) → n ≤ 4
@@ -115,7 +115,7 @@ masked_small n address small = omega (arith, div-mul-le_self address (256 ^ (4 -
 -- the address of its own first bytes, once the last ones are zero
 pub address_of-masked : (n address : ℕ) → n ≤ 4 → address < 2 ^ 32
     → address_of (take n (address_bytes (address / 256 ^ (4 - n) * 256 ^ (4 - n))))
-      ≡ address / 256 ^ (4 - n) * 256 ^ (4 - n)
+    ≡ address / 256 ^ (4 - n) * 256 ^ (4 - n)
 address_of-masked n address few small =
     ap address_of (leading-masked n address few) ∙ address_of-leading n address few small
 
@@ -124,7 +124,7 @@ address_of-masked n address few small =
 pub begins_with-leading : (n address other : ℕ) → n ≤ 4 → address < 2 ^ 32 → other < 2 ^ 32
     → address_of (take n (address_bytes other)) ≡ other
     → begins_with (address_bytes address) (take n (address_bytes other))
-      ≡ eqb (address / 256 ^ (4 - n) * 256 ^ (4 - n)) other
+    ≡ eqb (address / 256 ^ (4 - n) * 256 ^ (4 - n)) other
 begins_with-leading n address other few small other_small masked =
     let unit = 256 ^ (4 - n) in
     let front = take n (address_bytes other) in
@@ -137,15 +137,15 @@ begins_with-leading n address other few small other_small masked =
     ∙ masked))
     (λ same. begins_with-take (address_bytes address) front
     (as_many ∙ sym (leading-masked n address few)
-      ∙ ap (λ m. take n (address_bytes m)) (eqb-true (address / unit * unit) other same)))
+    ∙ ap (λ m. take n (address_bytes m)) (eqb-true (address / unit * unit) other same)))
 
 -- the first bytes of an address begin with those of another that are as many at most, where the address does
 pub kept-begins_with : (n m address other : ℕ) → m ≤ n → n ≤ 4
     → begins_with (take n (address_bytes address)) (take m (address_bytes other))
-      ≡ begins_with (address_bytes address) (take m (address_bytes other))
+    ≡ begins_with (address_bytes address) (take m (address_bytes other))
 kept-begins_with n m address other fewer few =
     begins_with-front (address_bytes address) (take m (address_bytes other)) n
-      (omega (arith, length-leading m other (omega arith)))
+    (omega (arith, length-leading m other (omega arith)))
 
 -- the first bytes of an address don't begin with more of another's
 pub kept-begins_with_no_more : (n m address other : ℕ) → n < m → m ≤ 4

@@ -30,19 +30,19 @@ pub first_number : (text before after : List ℕ) (address : ℕ) → IsCut text
     → (before ≡ decimal (address / 256 / 256 / 256 % 256)) × (after ≡ behind_first address)
 first_number text before after address cut spelled =
     next_number text before after (behind_first address) (address / 256 / 256 / 256 % 256) (omega arith)
-      cut.is_before cut.joined spelled
+    cut.is_before cut.joined spelled
 
 pub second_number : (text before after : List ℕ) (address : ℕ) → IsCut text before after → text ≡ behind_first address
     → (before ≡ decimal (address / 256 / 256 % 256)) × (after ≡ behind_second address)
 second_number text before after address cut spelled =
     next_number text before after (behind_second address) (address / 256 / 256 % 256) (omega arith) cut.is_before
-      cut.joined spelled
+    cut.joined spelled
 
 pub third_number : (text before after : List ℕ) (address : ℕ) → IsCut text before after → text ≡ behind_second address
     → (before ≡ decimal (address / 256 % 256)) × (after ≡ decimal (address % 256))
 third_number text before after address cut spelled =
     next_number text before after (decimal (address % 256)) (address / 256 % 256) (omega arith) cut.is_before
-      cut.joined spelled
+    cut.joined spelled
 
 -- the four numbers of an address, once its text is cut at three dots
 pub record AreNumbers (address : ℕ) (first second third fourth : List ℕ) : Type 0 where
@@ -67,9 +67,9 @@ address_lacks byte address low no_dot =
     let number : (n : ℕ) → n < 256 → Lacks byte (decimal n) = λ n small. decimal_lacks byte n low (omega arith) in
     let joined : (n : ℕ) (rest : List ℕ) → n < 256 → Lacks byte rest → Lacks byte (decimal n ++ 46 ∷ rest) =
     λ n rest small lacks.
-      lacks-append byte (decimal n) (46 ∷ rest) (number n small) (lacks-cons byte 46 rest no_dot lacks) in
+    lacks-append byte (decimal n) (46 ∷ rest) (number n small) (lacks-cons byte 46 rest no_dot lacks) in
     joined _ _ (omega arith)
-      (joined _ _ (omega arith) (joined _ _ (omega arith) (number (address % 256) (omega arith))))
+    (joined _ _ (omega arith) (joined _ _ (omega arith) (number (address % 256) (omega arith))))
 
 -- an address has no slash
 pub address_lacks_slash : (address : ℕ) → Lacks 47 (address_text address)
@@ -87,14 +87,14 @@ pub one_address : (address other : ℕ) → address < 2 ^ 32 → other < 2 ^ 32
     → address_text address ≡ address_text other → address ≡ other
 one_address address other small other_small same =
     let one =
-      first_number (address_text address) (decimal (address / 256 / 256 / 256 % 256)) (behind_first address)
-        other (own_cut _ _ (omega arith)) same in
+    first_number (address_text address) (decimal (address / 256 / 256 / 256 % 256)) (behind_first address)
+    other (own_cut _ _ (omega arith)) same in
     let two =
-      second_number (behind_first address) (decimal (address / 256 / 256 % 256)) (behind_second address) other
-        (own_cut _ _ (omega arith)) one.1 in
+    second_number (behind_first address) (decimal (address / 256 / 256 % 256)) (behind_second address) other
+    (own_cut _ _ (omega arith)) one.1 in
     let three =
-      third_number (behind_second address) (decimal (address / 256 % 256)) (decimal (address % 256)) other
-        (own_cut _ _ (omega arith)) two.1 in
+    third_number (behind_second address) (decimal (address / 256 % 256)) (decimal (address % 256)) other
+    (own_cut _ _ (omega arith)) two.1 in
     same_numbers address other small other_small
     (decimal_injective _ _ (omega arith) (omega arith) one.0) (decimal_injective _ _ (omega arith) (omega arith) two.0)
     (decimal_injective _ _ (omega arith) (omega arith) three.0)

@@ -49,7 +49,7 @@ pub one_under : (members : List PrefixValue) (prefix other : PrefixValue) → Ar
     → Among prefix members → Among other members → under prefix other ≡ true → prefix ≡ other
 one_under members prefix other incomparable among other_among is_under =
     either (pairs-among (λ x y. (strictly_under x y ≡ false) × (strictly_under y x ≡ false))
-      (λ x y both. (both.1, both.0)) prefix other members incomparable.none_under among other_among)
+    (λ x y both. (both.1, both.0)) prefix other members incomparable.none_under among other_among)
   where
     either : ((prefix ≡ other) ⊎ ((strictly_under prefix other ≡ false) × (strictly_under other prefix ≡ false)))
         → prefix ≡ other
@@ -67,18 +67,18 @@ pub descends-either : (members : List PrefixValue) (rec : RecordValue) (prefix o
     → Descends prefix other ⊎ Descends other prefix
 descends-either members rec prefix other incomparable step other_step differ =
     by_lengths (cases_lt (kept_source prefix) (kept_source other))
-      (cases_lt (kept_source other) (kept_source prefix)) (cases_lt (kept_dest prefix) (kept_dest other))
-      (cases_lt (kept_dest other) (kept_dest prefix))
+    (cases_lt (kept_source other) (kept_source prefix)) (cases_lt (kept_dest prefix) (kept_dest other))
+    (cases_lt (kept_dest other) (kept_dest prefix))
   where
     not_under : kept_source other ≤ kept_source prefix → kept_dest other ≤ kept_dest prefix → ⊥
     not_under sources dests =
         differ (one_under members prefix other incomparable step.among other_step.among
-          (under-by_lengths rec prefix other step.covered other_step.covered sources dests))
+        (under-by_lengths rec prefix other step.covered other_step.covered sources dests))
 
     not_over : kept_source prefix ≤ kept_source other → kept_dest prefix ≤ kept_dest other → ⊥
     not_over sources dests =
         differ (sym (one_under members other prefix incomparable other_step.among step.among
-          (under-by_lengths rec other prefix other_step.covered step.covered sources dests)))
+        (under-by_lengths rec other prefix other_step.covered step.covered sources dests)))
 
     by_lengths : (kept_source prefix < kept_source other) ⊎ (kept_source other ≤ kept_source prefix)
         → (kept_source other < kept_source prefix) ⊎ (kept_source prefix ≤ kept_source other)
@@ -104,7 +104,7 @@ pub chain-put : (prefix : PrefixValue) (chain : List PrefixValue) → IsChain ch
 chain-put prefix [] is_chain apart = (λ next among. absurd among, tt)
 chain-put prefix (first ∷ rest) is_chain apart =
     by_test (chain-put prefix rest is_chain.1 (λ other among. apart other (inr among)))
-      (ltb (kept_source first) (kept_source prefix)) refl
+    (ltb (kept_source first) (kept_source prefix)) refl
   where
     before : (Descends prefix first ⊎ Descends first prefix) → kept_source first < kept_source prefix
         → Descends first prefix
@@ -149,11 +149,11 @@ in_order-chain members rec [] incomparable distinct are_steps = tt
 in_order-chain members rec (first ∷ rest) incomparable distinct are_steps =
     chain-put first (in_order kept_source rest)
     (in_order-chain members rec rest incomparable
-      (AllPairs-tail (λ prefix other. prefix ≢ other) first rest distinct)
-      (λ prefix among. are_steps prefix (inr among)))
+    (AllPairs-tail (λ prefix other. prefix ≢ other) first rest distinct)
+    (λ prefix among. are_steps prefix (inr among)))
     (λ other among.
     let other_among = among-in_order kept_source other rest among in
     descends-either members rec first other incomparable (are_steps first (inl refl))
-      (are_steps other (inr other_among))
+    (are_steps other (inr other_among))
     (among-All (λ later. first ≢ later) other rest
-      (AllPairs-head (λ prefix other. prefix ≢ other) first rest distinct) other_among))
+    (AllPairs-head (λ prefix other. prefix ≢ other) first rest distinct) other_among))

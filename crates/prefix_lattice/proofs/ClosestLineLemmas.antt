@@ -42,15 +42,15 @@ climb members rec (suc bound) member among covered low =
       found = member;
       among =
           filter-among (λ p. not (list_any (λ other. strictly_under p other) members)) member members among
-            (not_from_false _ is);
+          (not_from_false _ is);
       passes = covered;
     }
     by_test from true is =
         let above = list_any-found (λ other. strictly_under member other) members is in
         let level = strictly-level member above.found above.passes in
         from above.found above.among
-          (covers-up member above.found rec ((strictly-differs member above.found).0 above.passes).0 covered)
-          (omega arith)
+        (covers-up member above.found rec ((strictly-differs member above.found).0 above.passes).0 covered)
+        (omega arith)
 
 -- some member covers a record exactly where some greatest one does
 greatest-covers : (members : List PrefixValue) (rec : RecordValue)
@@ -74,7 +74,7 @@ pub closest-strictly : (prefix : PrefixValue) (lines : List PrefixValue)
     → All (λ line. strictly_under line prefix ≡ true) (closest prefix lines)
 closest-strictly prefix lines = All-from_among (λ line. strictly_under line prefix ≡ true) (closest prefix lines)
     (λ line among. (among-filter (λ p. strictly_under p prefix) line lines
-      (among-greatest line (lines_under prefix lines) among).0).1)
+    (among-greatest line (lines_under prefix lines) among).0).1)
 
 -- the closest of distinct lines are incomparable
 pub closest-incomparable : (prefix : PrefixValue) (lines : List PrefixValue)
@@ -82,10 +82,10 @@ pub closest-incomparable : (prefix : PrefixValue) (lines : List PrefixValue)
 closest-incomparable prefix lines distinct = record {
   distinct =
       AllPairs-filter Differ (λ p. not (list_any (λ other. strictly_under p other) nearer)) nearer
-        (AllPairs-filter Differ (λ p. strictly_under p prefix) lines distinct);
+      (AllPairs-filter Differ (λ p. strictly_under p prefix) lines distinct);
   none_under =
       AllPairs-from_among (λ line other. (strictly_under line other ≡ false) × (strictly_under other line ≡ false))
-        (greatest nearer)
+      (greatest nearer)
       (λ line other among other_among. (none line other among other_among, none other line other_among among));
 }
   where
@@ -99,7 +99,7 @@ closest-incomparable prefix lines distinct = record {
         → strictly_under line other ≡ false
     none line other among other_among =
         list_any-fails (λ p. strictly_under line p) other nearer (among-greatest line nearer among).1
-          (among-greatest other nearer other_among).0
+        (among-greatest other nearer other_among).0
 
 -- a kept meet is a meet
 kept-is_meet : (members : List PrefixValue) (first second lowest : PrefixValue)
@@ -124,7 +124,7 @@ All-kept P members (first ∷ rest) of_meet all =
     All-append P (filter_map (kept_meet members first) rest) (kept_among members rest)
     (All-filter_map P (kept_meet members first) rest
     (λ second lowest among kept. of_meet first second lowest (All-head P first rest all)
-      (among-All P second rest (All-tail P first rest all) among)
+    (among-All P second rest (All-tail P first rest all) among)
     (kept-is_meet members first second lowest kept)))
     (All-kept P members rest of_meet (All-tail P first rest all))
 
@@ -134,7 +134,7 @@ pub kept-strictly : (prefix : PrefixValue) (members : List PrefixValue)
     → All (λ lowest. strictly_under lowest prefix ≡ true) (kept_pairs members)
 kept-strictly prefix members all = All-kept (λ p. strictly_under p prefix ≡ true) members members
     (λ first second lowest strictly other found.
-      strictly-trans lowest first prefix (meet-under first second lowest found).0 strictly) all
+    strictly-trans lowest first prefix (meet-under first second lowest found).0 strictly) all
 
 -- the kept meets of prefixes are prefixes
 pub kept-prefixes : (members : List PrefixValue) → All IsPrefix members → All IsPrefix (kept_pairs members)

@@ -19,8 +19,12 @@ pub count_by-none : {X : Type 0} (test : X → Bool) (xs : List X) → ((x : X) 
     → count_by test xs ≡ 0
 count_by-none test [] fails = refl
 count_by-none test (x ∷ xs) fails =
-    omega (arith, count_by-cons test x xs, ap tally (fails x (inl refl)),
-      count_by-none test xs (λ y among. fails y (inr among)))
+    omega (
+      arith,
+      count_by-cons test x xs,
+      ap tally (fails x (inl refl)),
+      count_by-none test xs (λ y among. fails y (inr among)),
+    )
 
 -- the test of what an option holds
 abbrev pub passes_some : {Y : Type 0} → (Y → Bool) → Option Y → Bool
@@ -33,11 +37,11 @@ pub count_by-filter_map : {X Y : Type 0} (test : Y → Bool) (made : X → Optio
 count_by-filter_map test made [] = refl
 count_by-filter_map {X} {Y} test made (x ∷ xs) =
     by_option (made x) ∙ ap (λ n. tally (passes_some test (made x)) + n) (count_by-filter_map test made xs)
-      ∙ sym (count_by-cons (λ z. passes_some test (made z)) x xs)
+    ∙ sym (count_by-cons (λ z. passes_some test (made z)) x xs)
   where
     by_option : (o : Option Y)
         → count_by test (cons_option o (filter_map made xs))
-          ≡ tally (passes_some test o) + count_by test (filter_map made xs)
+        ≡ tally (passes_some test o) + count_by test (filter_map made xs)
     by_option None = omega arith
     by_option (Some y) = count_by-cons test y (filter_map made xs)
 
@@ -72,7 +76,7 @@ pair_count-filter test other (x ∷ xs) implies = by_test (pair_count-filter tes
     by_test rest false is =
         let none : count_by (test x) xs ≡ 0 =
         count_by-none (test x) xs
-          (λ y among. false_from_ne_true (test x y) (λ passes. false≢true (sym is ∙ (implies x y passes).0))) in
+        (λ y among. false_from_ne_true (test x y) (λ passes. false≢true (sym is ∙ (implies x y passes).0))) in
         omega (arith, none, rest)
 
 -- puts an element before the first one that is no smaller
@@ -141,7 +145,7 @@ pub count_by-in_order : {X : Type 0} (size : X → ℕ) (test : X → Bool) (xs 
 count_by-in_order size test [] = refl
 count_by-in_order size test (x ∷ xs) =
     omega
-      (arith, count_by-put size test x (in_order size xs), count_by-in_order size test xs, count_by-cons test x xs)
+    (arith, count_by-put size test x (in_order size xs), count_by-in_order size test xs, count_by-cons test x xs)
 
 pub length-put : {X : Type 0} (size : X → ℕ) (x : X) (xs : List X) → length (put size x xs) ≡ suc (length xs)
 length-put size x [] = refl
@@ -165,7 +169,7 @@ pair_count-put size test turned x (y ∷ ys) = by_test (pair_count-put size test
   where
     by_test : pair_count test (put size x ys) ≡ count_by (test x) ys + pair_count test ys → (b : Bool)
         → pair_count test (cond b (y ∷ put size x ys) (x ∷ y ∷ ys))
-          ≡ count_by (test x) (y ∷ ys) + (count_by (test y) ys + pair_count test ys)
+        ≡ count_by (test x) (y ∷ ys) + (count_by (test y) ys + pair_count test ys)
     by_test rest true =
         omega (arith, count_by-put size (test y) x ys, ap tally (turned y x), rest, count_by-cons (test x) y ys)
     by_test rest false = refl

@@ -11,8 +11,11 @@ use Rattle.prefix_lattice.specs.KeptBytes.{digits, number_from}
 pub length-digits : (base count number : ℕ) → length (digits base count number) ≡ count
 length-digits base zero number = refl
 length-digits base (suc count) number =
-    omega (arith, length-append (digits base count (number / base)) (number % base ∷ []),
-      length-digits base count (number / base))
+    omega (
+      arith,
+      length-append (digits base count (number / base)) (number % base ∷ []),
+      length-digits base count (number / base),
+    )
 
 -- one more digit at the end
 number_from-append : (base high digit : ℕ) (front : List ℕ)
@@ -26,7 +29,7 @@ pub number_from-digits : (base count number : ℕ) → 0 < base → number < bas
 number_from-digits base zero number has_base small = omega (arith, pow-zero base)
 number_from-digits base (suc count) number has_base small =
     let smaller : number / base < base ^ count =
-      (div-lt_iff_lt-mul has_base).1 (subst (λ bound. number < bound) (pow-suc base count) small) in
+    (div-lt_iff_lt-mul has_base).1 (subst (λ bound. number < bound) (pow-suc base count) small) in
     number_from-append base 0 (number % base) (digits base count (number / base))
     ∙ ap (λ high. high * base + number % base) (number_from-digits base count (number / base) has_base smaller)
     ∙ div-add-mod' number base
@@ -37,15 +40,15 @@ take-digits base n zero number =
     let all : n + 0 ≡ n = omega arith in
     let whole : number / base ^ 0 ≡ number = ap (λ unit. number / unit) (pow-zero base) ∙ div-one number in
     ap (λ m. take n (digits base m number)) all
-      ∙ take_all n (digits base n number) (omega (arith, length-digits base n number))
-      ∙ ap (digits base n) (sym whole)
+    ∙ take_all n (digits base n number) (omega (arith, length-digits base n number))
+    ∙ ap (digits base n) (sym whole)
 take-digits base n (suc k) number =
     let one_more : n + suc k ≡ suc (n + k) = omega arith in
     let higher : number / base / base ^ k ≡ number / base ^ suc k =
-      div-div-eq-div-mul number base (base ^ k) ∙ ap (λ m. number / m) (sym (pow-succ' base k)) in
+    div-div-eq-div-mul number base (base ^ k) ∙ ap (λ m. number / m) (sym (pow-succ' base k)) in
     ap (λ m. take n (digits base m number)) one_more
     ∙ take-append-le n (digits base (n + k) (number / base)) (number % base ∷ [])
-      (omega (arith, length-digits base (n + k) (number / base)))
+    (omega (arith, length-digits base (n + k) (number / base)))
     ∙ take-digits base n k (number / base)
     ∙ ap (digits base n) higher
 
@@ -63,7 +66,7 @@ pub digits_small : (base count number place : ℕ) → 0 < base → get_or (digi
 digits_small base zero number place has_base = has_base
 digits_small base (suc count) number place has_base =
     push_small base (number % base) (digits base count (number / base)) place has_base
-      (λ k. digits_small base count (number / base) k has_base) (omega arith)
+    (λ k. digits_small base count (number / base) k has_base) (omega arith)
 
 -- digits below the base, as many of them, spell one number in one way
 pub same_digits : (base high other : ℕ) (xs ys : List ℕ) → length xs ≡ length ys
@@ -75,11 +78,11 @@ same_digits base high other (x ∷ xs) [] same_length xs_small ys_small same = a
 same_digits base high other (x ∷ xs) (y ∷ ys) same_length xs_small ys_small same =
     let rest : (high * base + x ≡ other * base + y) × (xs ≡ ys) =
     same_digits base (high * base + x) (other * base + y) xs ys (omega arith) (λ place. xs_small (suc place))
-      (λ place. ys_small (suc place)) same in
+    (λ place. ys_small (suc place)) same in
     let x_small : x < base = xs_small 0 in
     let y_small : y < base = ys_small 0 in
     let same_high : high ≡ other =
-      sym (div-mul-add high base x x_small) ∙ ap (λ n. n / base) rest.0 ∙ div-mul-add other base y y_small in
+    sym (div-mul-add high base x x_small) ∙ ap (λ n. n / base) rest.0 ∙ div-mul-add other base y y_small in
     let same_first : x ≡ y = omega (arith, rest.0, ap (λ h. h * base) same_high) in
     (same_high, ap (λ d. d ∷ xs) same_first ∙ ap (λ l. y ∷ l) rest.1)
 
@@ -89,11 +92,11 @@ pub number_small : (base high : ℕ) (xs : List ℕ) → ((place : ℕ) → get_
 number_small base high [] small = subst (λ unit. high < (high + 1) * unit) (sym (pow-zero base)) (omega arith)
 number_small base high (x ∷ xs) small =
     let rest : number_from base (high * base + x) xs < (high * base + x + 1) * base ^ length xs =
-      number_small base (high * base + x) xs (λ place. small (suc place)) in
+    number_small base (high * base + x) xs (λ place. small (suc place)) in
     let x_small : x < base = small 0 in
     let step : high * base + x + 1 ≤ (high + 1) * base = omega arith in
     let wider : (high * base + x + 1) * base ^ length xs ≤ (high + 1) * base * base ^ length xs =
-      mul-le-mul_right (base ^ length xs) step in
+    mul-le-mul_right (base ^ length xs) step in
     let regrouped : (high + 1) * base ^ suc (length xs) ≡ (high + 1) * base * base ^ length xs =
     ap (λ p. (high + 1) * p) (pow-succ' base (length xs)) ∙ sym (mul_assoc (high + 1) base (base ^ length xs)) in
     omega (arith, rest, wider, regrouped)

@@ -30,7 +30,7 @@ pub list_any-false : {X : Type 0} (test : X → Bool) (xs : List X) → ((x : X)
 list_any-false test [] fails = refl
 list_any-false test (x ∷ xs) fails =
     or_from (test x) (list_any test xs) (fails x (inl refl))
-      (list_any-false test xs (λ y among. fails y (inr among)))
+    (list_any-false test xs (λ y among. fails y (inr among)))
 
 -- a test that passes at an element finds one
 pub list_any-true : {X : Type 0} (test : X → Bool) (x : X) (xs : List X) → Among x xs → test x ≡ true

@@ -1,14 +1,17 @@
 -- Worked examples of addresses, records, nodes, prefixes and keys, and of the lattice.
 use Rattle.std.proofs.Common.{◌≡◌, ℕ, ◌<◌, zero, suc, [], ◌∷◌, slice_index, ap, true, false, None, Some, refl, arith}
+use Rattle.std.proofs.Common.{◌+◌, ◌*◌, ◌^◌, length}
 use Rattle.std.specs.declared.cmp.Ordering.TheVariants.{Less, Equal, Greater}
 use Rattle.prefix_lattice.specs.Record.{RecordValue}
-use Rattle.prefix_lattice.specs.Node.{NodeValue, IsNode, index_of, node_at, level_of}
+use Rattle.prefix_lattice.specs.Node.{NodeValue, IsNode, index_of, node_at, level_of, node_count, deepest_level}
 use Rattle.prefix_lattice.specs.Prefix.{IsKeyOf, HasKey, PrefixValue, IsPrefix, covers, weight_of, total_weight}
 use Rattle.prefix_lattice.specs.Prefix.{node_of, prefix_at, key_of}
 use Rattle.prefix_lattice.specs.KeptBytes.{digits, number_from, address_bytes, address_of, begins_with, AreLeadingBytes}
+use Rattle.prefix_lattice.specs.KeptBytes.{address_length}
 use Rattle.prefix_lattice.specs.Lattice.{under, same_prefix, strictly_under, longer_side, prefix_of_sides, meet}
 use Rattle.prefix_lattice.specs.Lattice.{ShareAddresses, report_order}
 use Rattle.prefix_lattice.proofs.MeetLemmas.{meet-some}
+use Rattle.prefix_lattice.specs.Limits.{most_records, most_shards, total_limit}
 
 -- 100 bytes from 10.1.2.3 to 20.1.2.3
 abbrev pub packet : RecordValue
@@ -227,3 +230,22 @@ destinations_rise_last = refl
 
 pub each_stands_where_it_is : report_order prefix prefix ≡ Equal
 each_stands_where_it_is = refl
+
+-- ---- sizes and limits
+
+pub length_of_an_address : length (address_bytes 0x0a010203) ≡ address_length
+length_of_an_address = refl
+
+-- the node of whole addresses is the last one, and of the deepest level
+pub nodes_up_to_whole_addresses : index_of (record { source_bytes = 4; dest_bytes = 4 }) + 1 ≡ node_count
+nodes_up_to_whole_addresses = refl
+
+pub level_of_whole_addresses : level_of (record { source_bytes = 4; dest_bytes = 4 }) ≡ deepest_level
+level_of_whole_addresses = refl
+
+pub records_are_few : most_records ≡ 2 ^ 24
+records_are_few = refl
+
+-- the least that the records of all shards stay below
+pub limit_of_a_total : most_shards * (most_records * 2 ^ 32) ≡ total_limit
+limit_of_a_total = refl

@@ -105,21 +105,21 @@ pub stairs_are_incomparable : AreIncomparable stairs
 stairs_are_incomparable = record {
   distinct =
       pairs (λ line other. line ≢ other) (λ same. omega (arith, ap (λ p. length p.dest) same))
-        (λ same. omega (arith, ap (λ p. length p.dest) same))
+      (λ same. omega (arith, ap (λ p. length p.dest) same))
       (λ same. omega (arith, ap (λ p. length p.dest) same));
   none_under =
       pairs (λ line other. (strictly_under line other ≡ false) × (strictly_under other line ≡ false)) (refl, refl)
-        (refl, refl) (refl, refl);
+      (refl, refl) (refl, refl);
 }
   where
     pairs : (R : PrefixValue → PrefixValue → Type 0) → R lowest_step middle_step → R lowest_step highest_step
         → R middle_step highest_step → AllPairs R stairs
     pairs R one two three =
         AllPairs-cons R lowest_step (middle_step ∷ highest_step ∷ [])
-          (All-cons (R lowest_step) middle_step (highest_step ∷ []) one
-            (All-cons (R lowest_step) highest_step [] two (All-nil (R lowest_step))))
+        (All-cons (R lowest_step) middle_step (highest_step ∷ []) one
+        (All-cons (R lowest_step) highest_step [] two (All-nil (R lowest_step))))
         (AllPairs-cons R middle_step (highest_step ∷ [])
-          (All-cons (R middle_step) highest_step [] three (All-nil (R middle_step)))
+        (All-cons (R middle_step) highest_step [] three (All-nil (R middle_step)))
         (AllPairs-cons R highest_step [] (All-nil (R highest_step)) (λ i j d before within. absurd (omega arith))))
 
 pub lines_under_one_another_are_comparable : AreIncomparable lines → ⊥

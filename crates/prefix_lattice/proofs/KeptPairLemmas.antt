@@ -22,9 +22,9 @@ pub kept-count : (members : List PrefixValue) (rec : RecordValue) (some : List P
 kept-count members rec [] = refl
 kept-count members rec (first ∷ rest) =
     sum_by-append (λ prefix. cond (covers prefix rec) 1 0) (filter_map (kept_meet members first) rest)
-      (kept_among members rest)
+    (kept_among members rest)
     ∙ ap (λ n. n + covering_count rec (kept_among members rest))
-      (count_by-filter_map (λ prefix. covers prefix rec) (kept_meet members first) rest)
+    (count_by-filter_map (λ prefix. covers prefix rec) (kept_meet members first) rest)
     ∙ ap (λ n. count_by (keeps members rec first) rest + n) (kept-count members rec rest)
 
 -- a pair is kept whichever member is named first
@@ -46,7 +46,7 @@ pub keeps-turned : (members : List PrefixValue) (rec : RecordValue) (first secon
     → keeps members rec first second ≡ keeps members rec second first
 keeps-turned members rec first second =
     ap (λ o. passes_some (λ prefix. covers prefix rec) (unless_under_third members first second o))
-      (meet-turned first second)
+    (meet-turned first second)
     ∙ ap (passes_some (λ prefix. covers prefix rec)) (by_meet (meet second first))
   where
     by_meet : (o : Option PrefixValue)

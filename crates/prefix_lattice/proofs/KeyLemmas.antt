@@ -18,24 +18,24 @@ pub covers-prefix_at : (node : NodeValue) (rec : RecordValue) → node.source_by
     → covers (prefix_at node rec) rec ≡ true
 covers-prefix_at node rec few_source few_dest =
     and_from _ _ (begins_with-own node.source_bytes rec.src few_source)
-      (begins_with-own node.dest_bytes rec.dst few_dest)
+    (begins_with-own node.dest_bytes rec.dst few_dest)
 
 -- no other prefix of the node covers it
 pub only_prefix_at : (node : NodeValue) (rec : RecordValue) (other : PrefixValue) → node_of other ≡ node
     → covers other rec ≡ true → other ≡ prefix_at node rec
 only_prefix_at node rec other of_node covered =
     let both : (begins_with (address_bytes rec.src) other.source ≡ true)
-      × (begins_with (address_bytes rec.dst) other.dest ≡ true) =
+    × (begins_with (address_bytes rec.dst) other.dest ≡ true) =
     and_parts _ _ covered in
     let source : other.source ≡ take node.source_bytes (address_bytes rec.src) =
     sym (take-begins_with (address_bytes rec.src) other.source both.0)
-      ∙ ap (λ (n : NodeValue). take n.source_bytes (address_bytes rec.src)) of_node in
+    ∙ ap (λ (n : NodeValue). take n.source_bytes (address_bytes rec.src)) of_node in
     let dest : other.dest ≡ take node.dest_bytes (address_bytes rec.dst) =
     sym (take-begins_with (address_bytes rec.dst) other.dest both.1)
-      ∙ ap (λ (n : NodeValue). take n.dest_bytes (address_bytes rec.dst)) of_node in
+    ∙ ap (λ (n : NodeValue). take n.dest_bytes (address_bytes rec.dst)) of_node in
     let with_source : _ → PrefixValue = λ s. record { source = s; dest = other.dest } in
     let with_dest : _ → PrefixValue =
-      λ d. record { source = take node.source_bytes (address_bytes rec.src); dest = d } in
+    λ d. record { source = take node.source_bytes (address_bytes rec.src); dest = d } in
     ap with_source source ∙ ap with_dest dest
 
 -- two prefixes of one node with one key are one
@@ -47,9 +47,9 @@ same_key prefix other valid other_valid of_node same =
     let sources : address_of prefix.source ≡ address_of other.source = omega arith in
     let dests : address_of prefix.dest ≡ address_of other.dest = omega arith in
     let source : prefix.source ≡ other.source =
-      same_leading _ _ valid.source other_valid.source (ap (λ (n : NodeValue). n.source_bytes) of_node) sources in
+    same_leading _ _ valid.source other_valid.source (ap (λ (n : NodeValue). n.source_bytes) of_node) sources in
     let dest : prefix.dest ≡ other.dest =
-      same_leading _ _ valid.dest other_valid.dest (ap (λ (n : NodeValue). n.dest_bytes) of_node) dests in
+    same_leading _ _ valid.dest other_valid.dest (ap (λ (n : NodeValue). n.dest_bytes) of_node) dests in
     let with_source : _ → PrefixValue = λ s. record { source = s; dest = prefix.dest } in
     let with_dest : _ → PrefixValue = λ d. record { source = other.source; dest = d } in
     ap with_source source ∙ ap with_dest dest
@@ -71,9 +71,9 @@ covers-by_key prefix rec valid =
     same_truth (covers prefix rec) (eqb (key_of own) (key_of prefix))
     (λ covered. eq-eqb (key_of own) (key_of prefix) (ap key_of (sym (only_prefix_at node rec prefix refl covered))))
     (λ same.
-      subst (λ p. covers p rec ≡ true)
-        (same_key own prefix own_valid valid own_node (eqb-true (key_of own) (key_of prefix) same))
-        (covers-prefix_at node rec valid.source.few valid.dest.few))
+    subst (λ p. covers p rec ≡ true)
+    (same_key own prefix own_valid valid own_node (eqb-true (key_of own) (key_of prefix) same))
+    (covers-prefix_at node rec valid.source.few valid.dest.few))
 
 -- what is made of a record's first bytes is its prefix at the node
 pub made_at : (node : NodeValue) (rec : RecordValue) (m n : ℕ) (source dest : List ℕ) → m ≡ node.source_bytes
@@ -83,6 +83,6 @@ pub made_at : (node : NodeValue) (rec : RecordValue) (m n : ℕ) (source dest : 
 made_at node rec m n source dest of_m of_n from_source from_dest made is_source is_dest =
     let with_source : _ → PrefixValue = λ s. record { source = s; dest = made.dest } in
     let with_dest : _ → PrefixValue =
-      λ d. record { source = take node.source_bytes (address_bytes rec.src); dest = d } in
+    λ d. record { source = take node.source_bytes (address_bytes rec.src); dest = d } in
     ap with_source (is_source ∙ from_source ∙ ap (λ k. take k (address_bytes rec.src)) of_m)
-      ∙ ap with_dest (is_dest ∙ from_dest ∙ ap (λ k. take k (address_bytes rec.dst)) of_n)
+    ∙ ap with_dest (is_dest ∙ from_dest ∙ ap (λ k. take k (address_bytes rec.dst)) of_n)

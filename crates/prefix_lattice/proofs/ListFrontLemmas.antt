@@ -19,7 +19,7 @@ begins_with-trans (x ∷ xs) (y ∷ ys) (z ∷ zs) first second =
     let firsts : (eqb x y ≡ true) × (begins_with xs ys ≡ true) = and_parts (eqb x y) (begins_with xs ys) first in
     let seconds : (eqb y z ≡ true) × (begins_with ys zs ≡ true) = and_parts (eqb y z) (begins_with ys zs) second in
     and_from (eqb x z) (begins_with xs zs) (eq-eqb x z (eqb-true x y firsts.0 ∙ eqb-true y z seconds.0))
-      (begins_with-trans xs ys zs firsts.1 seconds.1)
+    (begins_with-trans xs ys zs firsts.1 seconds.1)
 
 -- two lists that begin each other are the same
 pub begins_with-antisym : (xs ys : List ℕ) → begins_with xs ys ≡ true → begins_with ys xs ≡ true → xs ≡ ys
@@ -49,7 +49,7 @@ begins_with-shorter (x ∷ xs) (y ∷ ys) (z ∷ zs) first second shorter =
     let firsts : (eqb x y ≡ true) × (begins_with xs ys ≡ true) = and_parts (eqb x y) (begins_with xs ys) first in
     let seconds : (eqb x z ≡ true) × (begins_with xs zs ≡ true) = and_parts (eqb x z) (begins_with xs zs) second in
     and_from (eqb y z) (begins_with ys zs) (eq-eqb y z (sym (eqb-true x y firsts.0) ∙ eqb-true x z seconds.0))
-      (begins_with-shorter xs ys zs firsts.1 seconds.1 (omega arith))
+    (begins_with-shorter xs ys zs firsts.1 seconds.1 (omega arith))
 
 -- the front of a list begins with what begins the list and is no longer
 pub begins_with-front : (xs ys : List ℕ) (n : ℕ) → length ys ≤ n → begins_with (take n xs) ys ≡ begins_with xs ys
@@ -119,7 +119,7 @@ longer_of bytes front other begins begins_other = by_length (cases_lt (length fr
       record {
         is =
             ap (λ test. cond test (Some front) (cond (begins_with other front) (Some other) None))
-              (begins_with-shorter bytes front other begins begins_other longer);
+            (begins_with-shorter bytes front other begins begins_other longer);
         begins = begins;
         is_length = omega arith;
       },
@@ -141,7 +141,7 @@ longer_side-turned front other = by_tests (begins_with front other) (begins_with
   where
     by_tests : (first second : Bool) → begins_with front other ≡ first → begins_with other front ≡ second
         → cond first (Some front) (cond second (Some other) None)
-          ≡ cond second (Some other) (cond first (Some front) None)
+        ≡ cond second (Some other) (cond first (Some front) None)
     by_tests true true is_first is_second = ap Some (begins_with-antisym front other is_first is_second)
     by_tests true false is_first is_second = refl
     by_tests false true is_first is_second = refl

@@ -23,10 +23,10 @@ under_parts lower upper is_under =
 
 pub covers_parts : (prefix : PrefixValue) (rec : RecordValue) → covers prefix rec ≡ true
     → (begins_with (address_bytes rec.src) prefix.source ≡ true)
-      × (begins_with (address_bytes rec.dst) prefix.dest ≡ true)
+    × (begins_with (address_bytes rec.dst) prefix.dest ≡ true)
 covers_parts prefix rec covered =
     and_parts (begins_with (address_bytes rec.src) prefix.source) (begins_with (address_bytes rec.dst) prefix.dest)
-      covered
+    covered
 
 -- each prefix is under itself
 pub under-refl : (prefix : PrefixValue) → under prefix prefix ≡ true
@@ -39,7 +39,7 @@ under-trans lower middle upper first second =
     let firsts = under_parts lower middle first in
     let seconds = under_parts middle upper second in
     and_from _ _ (begins_with-trans lower.source middle.source upper.source firsts.0 seconds.0)
-      (begins_with-trans lower.dest middle.dest upper.dest firsts.1 seconds.1)
+    (begins_with-trans lower.dest middle.dest upper.dest firsts.1 seconds.1)
 
 -- two prefixes with the same sides are the same
 pub same_sides : (prefix other : PrefixValue) → prefix.source ≡ other.source → prefix.dest ≡ other.dest → prefix ≡ other
@@ -55,14 +55,15 @@ under-antisym prefix other first second =
     let firsts = under_parts prefix other first in
     let seconds = under_parts other prefix second in
     same_sides prefix other (begins_with-antisym prefix.source other.source firsts.0 seconds.0)
-      (begins_with-antisym prefix.dest other.dest firsts.1 seconds.1)
+    (begins_with-antisym prefix.dest other.dest firsts.1 seconds.1)
 
 -- strictly under is under and not equal
 pub strictly-differs : (lower upper : PrefixValue)
     → (strictly_under lower upper ≡ true) ↔ ((under lower upper ≡ true) × (lower ≢ upper))
-strictly-differs lower upper =
-    (apart (under lower upper) (under upper lower) refl refl,
-      together (under lower upper) (under upper lower) refl refl)
+strictly-differs lower upper = (
+  apart (under lower upper) (under upper lower) refl refl,
+  together (under lower upper) (under upper lower) refl refl,
+)
   where
     apart : (first second : Bool) → under lower upper ≡ first → under upper lower ≡ second
         → (first && not (first && second)) ≡ true → (first ≡ true) × (lower ≢ upper)
@@ -82,7 +83,7 @@ pub strictly-is : (lower upper : PrefixValue) (first second : Bool) → first �
     → second ≡ under upper lower → (first && not second) ≡ strictly_under lower upper
 strictly-is lower upper first second is_first is_second =
     by_first first second ∙ ap (λ b. b && not (b && second)) is_first
-      ∙ ap (λ b. under lower upper && not (under lower upper && b)) is_second
+    ∙ ap (λ b. under lower upper && not (under lower upper && b)) is_second
   where
     by_first : (first second : Bool) → (first && not second) ≡ (first && not (first && second))
     by_first true second = refl
@@ -93,9 +94,9 @@ pub strictly_by_tests : (lower upper : PrefixValue) (back : Bool) → under lowe
     → (not back ≡ true) ↔ ((under lower upper ≡ true) × (lower ≢ upper))
 strictly_by_tests lower upper back is_under is_back =
     let is_strictly : not back ≡ strictly_under lower upper =
-      strictly-is lower upper true back (sym is_under) is_back in
+    strictly-is lower upper true back (sym is_under) is_back in
     subst (λ (test : Bool). (test ≡ true) ↔ ((under lower upper ≡ true) × (lower ≢ upper))) (sym is_strictly)
-      (strictly-differs lower upper)
+    (strictly-differs lower upper)
 
 -- what is under a prefix, and not strictly, is that prefix
 pub same_unless_strictly : (lower upper : PrefixValue) → under lower upper ≡ true
@@ -106,7 +107,7 @@ same_unless_strictly lower upper is_under not_strictly = by_test (under upper lo
     by_test true is_second = under-antisym lower upper is_under is_second
     by_test false is_second =
         absurd
-          (false≢true (sym not_strictly ∙ sym (strictly-is lower upper true false (sym is_under) (sym is_second))))
+        (false≢true (sym not_strictly ∙ sym (strictly-is lower upper true false (sym is_under) (sym is_second))))
 
 -- going up strictly the level falls
 pub strictly-level : (lower upper : PrefixValue) → strictly_under lower upper ≡ true
@@ -123,12 +124,12 @@ strictly-level lower upper strictly = by_level (cases_lt (level_of (node_of uppe
     by_level (inr no_fall) =
         let sides = under_parts lower upper parts.0 in
         let sources : length upper.source ≤ length lower.source =
-          begins_with-length lower.source upper.source sides.0 in
+        begins_with-length lower.source upper.source sides.0 in
         let dests : length upper.dest ≤ length lower.dest = begins_with-length lower.dest upper.dest sides.1 in
         let back : under upper lower ≡ true =
         and_from _ _
-          (begins_with-shorter lower.source upper.source lower.source sides.0 (begins_with-refl lower.source)
-            (omega arith))
+        (begins_with-shorter lower.source upper.source lower.source sides.0 (begins_with-refl lower.source)
+        (omega arith))
         (begins_with-shorter lower.dest upper.dest lower.dest sides.1 (begins_with-refl lower.dest) (omega arith)) in
         absurd (parts.1 (under-antisym lower upper parts.0 back))
 
@@ -152,7 +153,7 @@ covers-up lower upper rec is_under covered =
     let sides = under_parts lower upper is_under in
     let covers_sides = covers_parts lower rec covered in
     and_from _ _ (begins_with-trans (address_bytes rec.src) lower.source upper.source covers_sides.0 sides.0)
-      (begins_with-trans (address_bytes rec.dst) lower.dest upper.dest covers_sides.1 sides.1)
+    (begins_with-trans (address_bytes rec.dst) lower.dest upper.dest covers_sides.1 sides.1)
 
 -- the sides of a meet are the longer of the two lists on each side
 pub record HasLongerSides (prefix other lowest : PrefixValue) : Type 0 where
@@ -210,7 +211,7 @@ meet_of prefix other source dest source_begins source_other dest_begins dest_oth
       record {
         is =
             ap (λ s. prefix_of_sides s (longer_side prefix.dest other.dest)) on_source.1.is
-              ∙ ap (λ d. prefix_of_sides (Some on_source.0) d) on_dest.1.is;
+            ∙ ap (λ d. prefix_of_sides (Some on_source.0) d) on_dest.1.is;
         source_begins = on_source.1.begins;
         dest_begins = on_dest.1.begins;
         source_length = on_source.1.is_length;
@@ -240,7 +241,7 @@ meet-greatest prefix other lower is_under under_other =
     let others = under_parts lower other under_other in
     let found = meet_of prefix other lower.source lower.dest sides.0 others.0 sides.1 others.1 in
     subst (λ o. IsSomeAnd o (λ lowest. under lower lowest ≡ true)) (sym found.1.is)
-      (and_from _ _ found.1.source_begins found.1.dest_begins)
+    (and_from _ _ found.1.source_begins found.1.dest_begins)
 
 -- the meet of two prefixes is a prefix
 pub meet-IsPrefix : (prefix other lowest : PrefixValue) → IsPrefix prefix → IsPrefix other
@@ -250,7 +251,7 @@ meet-IsPrefix prefix other lowest valid other_valid found =
     record {
       source =
           longer-either AreLeadingBytes prefix.source other.source lowest.source sides.source valid.source
-            other_valid.source;
+          other_valid.source;
       dest = longer-either AreLeadingBytes prefix.dest other.dest lowest.dest sides.dest valid.dest other_valid.dest;
     }
 
@@ -270,7 +271,7 @@ begins_with-address_of front leading =
     let small = address_of-small front leading in
     begins_with-take (address_bytes (address_of front)) front
     (same_leading own front (leading_bytes n (address_of front) leading.few) leading
-      (length-leading n (address_of front) leading.few)
+    (length-leading n (address_of front) leading.few)
     (address_of-leading n (address_of front) leading.few small ∙ whole_address front))
 
 -- two prefixes share a pair of addresses exactly where they meet
@@ -284,8 +285,8 @@ meet-some prefix other valid other_valid = (shared (meet prefix other) refl, fou
         let lowest_valid = meet-IsPrefix prefix other lowest valid other_valid is in
         let own : RecordValue = record { src = address_of lowest.source; dst = address_of lowest.dest; weight = 1 } in
         let covered : covers lowest own ≡ true =
-          and_from _ _ (begins_with-address_of lowest.source lowest_valid.source)
-            (begins_with-address_of lowest.dest lowest_valid.dest) in
+        and_from _ _ (begins_with-address_of lowest.source lowest_valid.source)
+        (begins_with-address_of lowest.dest lowest_valid.dest) in
         let both = meet-under prefix other lowest is in
         record {
           pair = own;

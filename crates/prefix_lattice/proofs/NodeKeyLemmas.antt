@@ -18,17 +18,17 @@ IsKeyOf-prefix prefix valid =
     record {
       source =
           ap (λ m. m % 256 ^ (4 - length prefix.source)) high
-            ∙ mul-mod_left (number_from 256 0 prefix.source) (256 ^ (4 - length prefix.source));
+          ∙ mul-mod_left (number_from 256 0 prefix.source) (256 ^ (4 - length prefix.source));
       dest =
           ap (λ m. m % 256 ^ (4 - length prefix.dest)) low
-            ∙ mul-mod_left (number_from 256 0 prefix.dest) (256 ^ (4 - length prefix.dest));
+          ∙ mul-mod_left (number_from 256 0 prefix.dest) (256 ^ (4 - length prefix.dest));
     }
 
 -- the key of a prefix of a node is a key of the node
 pub IsKeyOf-had : (node : NodeValue) (key : ℕ) (prefix : PrefixValue) → HasKey node key prefix → IsKeyOf node key
 IsKeyOf-had node key prefix has =
     subst (IsKeyOf node) has.of_key
-      (subst (λ n. IsKeyOf n (key_of prefix)) has.of_node (IsKeyOf-prefix prefix has.is_prefix))
+    (subst (λ n. IsKeyOf n (key_of prefix)) has.of_node (IsKeyOf-prefix prefix has.is_prefix))
 
 -- the prefix of a record at a node is a prefix of that node
 pub HasKey-record : (node : NodeValue) (rec : RecordValue) → IsNode node
@@ -42,7 +42,7 @@ HasKey-record node rec valid =
       };
       of_node =
           ap (λ m. lengths m (length (take node.dest_bytes (address_bytes rec.dst))))
-            (length-leading node.source_bytes rec.src valid.source)
+          (length-leading node.source_bytes rec.src valid.source)
           ∙ ap (λ m. lengths node.source_bytes m) (length-leading node.dest_bytes rec.dst valid.dest);
       of_key = refl;
     }
@@ -56,7 +56,7 @@ one_with_key : (node : NodeValue) (key : ℕ) (prefix other : PrefixValue) → H
     → HasKey node key other → prefix ≡ other
 one_with_key node key prefix other has other_has =
     same_key prefix other has.is_prefix other_has.is_prefix (has.of_node ∙ sym other_has.of_node)
-      (has.of_key ∙ sym other_has.of_key)
+    (has.of_key ∙ sym other_has.of_key)
 
 -- an answer that has the key, or comes where no prefix of the node has it, is the one answer
 pub accepts_keys : (node : NodeValue) (key : ℕ) (result : Option PrefixValue) → IfSome result (HasKey node key)

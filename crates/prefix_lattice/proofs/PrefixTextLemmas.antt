@@ -39,10 +39,11 @@ pub exactly_prefix : (source dest : List ℕ) (result : Result PrefixValue Prefi
     → IfOk result (SpellsPrefix source dest) → IfErr result (HasPrefixFault source dest)
     → (prefix : PrefixValue)
     → (result ≡ Ok prefix → SpellsPrefix source dest prefix)
-      × (SpellsPrefix source dest prefix → result ≡ Ok prefix)
-exactly_prefix source dest (Ok found) ok fault prefix =
-    (λ same. subst (SpellsPrefix source dest) (cc same) ok,
-      λ spells. ap Ok (one_prefix source dest found prefix ok spells))
+    × (SpellsPrefix source dest prefix → result ≡ Ok prefix)
+exactly_prefix source dest (Ok found) ok fault prefix = (
+  λ same. subst (SpellsPrefix source dest) (cc same) ok,
+  λ spells. ap Ok (one_prefix source dest found prefix ok spells),
+)
 exactly_prefix source dest (Err found) ok fault prefix =
     (λ same. cc same, λ spells. absurd (no_prefix_fault source dest prefix found spells fault))
 
@@ -50,9 +51,10 @@ pub exactly_fault : (source dest : List ℕ) (result : Result PrefixValue Prefix
     → IfOk result (SpellsPrefix source dest) → IfErr result (HasPrefixFault source dest)
     → (other : PrefixFault)
     → (result ≡ Err other → HasPrefixFault source dest other)
-      × (HasPrefixFault source dest other → result ≡ Err other)
+    × (HasPrefixFault source dest other → result ≡ Err other)
 exactly_fault source dest (Ok found) ok fault other =
     (λ same. cc same, λ has. absurd (no_prefix_fault source dest found other ok has))
-exactly_fault source dest (Err found) ok fault other =
-    (λ same. subst (HasPrefixFault source dest) (cc same) fault,
-      λ has. ap Err (one_prefix_fault source dest found other fault has))
+exactly_fault source dest (Err found) ok fault other = (
+  λ same. subst (HasPrefixFault source dest) (cc same) fault,
+  λ has. ap Err (one_prefix_fault source dest found other fault has),
+)

@@ -35,7 +35,7 @@ tied_prefixes prefix other valid other_valid tied =
     let by_source = then_parts (nat_cmp (address_of prefix.source) (address_of other.source)) _ by_level.1 in
     let by_length = then_parts (nat_cmp (length prefix.source) (length other.source)) _ by_source.1 in
     let levels : length other.source + length other.dest ≡ length prefix.source + length prefix.dest =
-      same_number _ _ by_level.0 in
+    same_number _ _ by_level.0 in
     let lengths : length prefix.source ≡ length other.source = same_number _ _ by_length.0 in
     same_sides prefix other
     (same_leading prefix.source other.source valid.source other_valid.source lengths (same_number _ _ by_source.0))
@@ -43,6 +43,7 @@ tied_prefixes prefix other valid other_valid tied =
 
 pub report_order-apart : (prefix other : PrefixValue) → IsPrefix prefix → IsPrefix other
     → (report_order prefix other ≡ Equal) ↔ (prefix ≡ other)
-report_order-apart prefix other valid other_valid =
-    (tied_prefixes prefix other valid other_valid,
-      λ same. ap (report_order prefix) (sym same) ∙ tied_itself report_order-total prefix)
+report_order-apart prefix other valid other_valid = (
+  tied_prefixes prefix other valid other_valid,
+  λ same. ap (report_order prefix) (sym same) ∙ tied_itself report_order-total prefix,
+)

@@ -18,7 +18,7 @@ pub before_length : (text : List ℕ) (address bytes : ℕ) → text ≡ side_te
     → before_slash text ≡ address_text address
 before_length text address bytes spelled =
     ap before_slash spelled
-      ∙ first_cut 47 (address_text address) (decimal (8 * bytes)) (address_lacks_slash address)
+    ∙ first_cut 47 (address_text address) (decimal (8 * bytes)) (address_lacks_slash address)
 
 -- an address and a length have an address
 pub has_address : (text : List ℕ) (address bytes : ℕ) → address < 2 ^ 32 → text ≡ side_text_of address bytes
@@ -35,11 +35,11 @@ pub one_side_text : (address bytes other others : ℕ) → address < 2 ^ 32 → 
     → side_text_of address bytes ≡ side_text_of other others → (address ≡ other) × (bytes ≡ others)
 one_side_text address bytes other others small other_small few few_others same =
     let cut = same_cut 47 (side_text_of address bytes) (address_text address) (decimal (8 * bytes))
-      (address_text other) (decimal (8 * others))
+    (address_text other) (decimal (8 * others))
     (sym (first_cut 47 (address_text address) (decimal (8 * bytes)) (address_lacks_slash address))) refl same
     (address_lacks_slash other) in
     let lengths : 8 * bytes ≡ 8 * others =
-      decimal_injective (8 * bytes) (8 * others) (omega arith) (omega arith) cut.1 in
+    decimal_injective (8 * bytes) (8 * others) (omega arith) (omega arith) cut.1 in
     (one_address address other small other_small cut.0, omega arith)
 
 -- a text spells one side at most
@@ -65,10 +65,10 @@ no_side_fault side text front (BadLength at) spells has =
 no_side_fault side text front (LooseBits at) spells has =
     let loose = has.1 in
     let same = one_side_text loose.address loose.bytes (address_of front) (length front) loose.is_address
-      (address_of-small front spells.leading) loose.is_length spells.leading.few
+    (address_of-small front spells.leading) loose.is_length spells.leading.few
     (sym loose.spelled ∙ spells.spelled) in
     loose.loose (ap (λ a. a % 256 ^ (4 - loose.bytes)) same.0 ∙ ap (λ n. address_of front % 256 ^ (4 - n)) same.1
-      ∙ nothing_loose front)
+    ∙ nothing_loose front)
 
 -- a text has one fault at most
 pub one_side_fault : (side : Side) (text : List ℕ) (fault other : PrefixFault) → HasSideFault side text fault

@@ -77,8 +77,8 @@ no_third members rec step next lowest later incomparable rest found =
         let first_step = rest.steps step (inl refl) in
         let dests : kept_dest third ≤ kept_dest step = omega (arith, found.dest_length, descends.dest, lengths.1) in
         let same =
-          one_under members step third incomparable first_step.among is_step.among
-            (under-by_lengths rec step third first_step.covered is_step.covered less dests) in
+        one_under members step third incomparable first_step.among is_step.among
+        (under-by_lengths rec step third first_step.covered is_step.covered less dests) in
         is_first third (sym same) not_step
     is_one third is_step is_under not_step not_next (inr (inl same)) =
         false≢true (sym not_next ∙ subst (λ p. same_prefix third p ≡ true) same (same_prefix-refl third))
@@ -93,9 +93,9 @@ next-kept : (members : List PrefixValue) (rec : RecordValue) (step next : Prefix
     → keeps members rec step next ≡ true
 next-kept members rec step next later incomparable rest =
     let found =
-      meet-covers step next rec (rest.steps step (inl refl)).covered (rest.steps next (inr (inl refl))).covered in
+    meet-covers step next rec (rest.steps step (inl refl)).covered (rest.steps next (inr (inl refl))).covered in
     keeps-is members rec step next found.0 false found.1.is
-      (no_third members rec step next found.0 later incomparable rest found.1)
+    (no_third members rec step next found.0 later incomparable rest found.1)
     ∙ and_from _ _ found.1.source_begins found.1.dest_begins
 
 -- a step and one behind the next are no kept pair: their meet is under the next
@@ -116,7 +116,7 @@ later-not_kept members rec step next later rest last among =
     let not_first = false_from_ne_true (same_prefix next step) (λ same. other next step descends.source same) in
     let not_last = false_from_ne_true (same_prefix next last) (λ same. turned next last further.source same) in
     let third = list_any-true (λ p. under found.0 p && not (same_prefix p step || same_prefix p last)) next members
-      next_step.among
+    next_step.among
     (and_from _ _ is_under (not_from_false _ (or_from _ _ not_first not_last))) in
     keeps-is members rec step last found.0 true found.1.is third
   where
@@ -162,7 +162,7 @@ staircase members rec incomparable some =
     let steps : length (chain_of members rec) ≡ covering_count rec members =
     length-in_order kept_source (covering members rec) ∙ length-filter (λ prefix. covers prefix rec) members in
     let whole : pair_count (keeps members rec) (chain_of members rec) + 1 ≡ length (chain_of members rec) =
-      by_chain (chain_of members rec) is_chain are_steps all (omega arith) in
+    by_chain (chain_of members rec) is_chain are_steps all (omega arith) in
     omega arith
   where
     is_step : (prefix : PrefixValue) → Among prefix (covering members rec) → IsStep members rec prefix
@@ -173,8 +173,8 @@ staircase members rec incomparable some =
     is_chain : IsChain (chain_of members rec)
     is_chain =
         in_order-chain members rec (covering members rec) incomparable
-          (AllPairs-filter (λ prefix other. prefix ≢ other) (λ prefix. covers prefix rec) members
-            incomparable.distinct) is_step
+        (AllPairs-filter (λ prefix other. prefix ≢ other) (λ prefix. covers prefix rec) members
+        incomparable.distinct) is_step
 
     are_steps : (prefix : PrefixValue) → Among prefix (chain_of members rec) → IsStep members rec prefix
     are_steps prefix among = is_step prefix (among-in_order kept_source prefix (covering members rec) among)
@@ -182,7 +182,7 @@ staircase members rec incomparable some =
     all : (prefix : PrefixValue) → IsStep members rec prefix → Among prefix (chain_of members rec)
     all prefix step =
         in_order-among kept_source prefix (covering members rec)
-          (filter-among (λ p. covers p rec) prefix members step.among step.covered)
+        (filter-among (λ p. covers p rec) prefix members step.among step.covered)
 
     first_or_later : (prefix step : PrefixValue) (later : List PrefixValue) → Among prefix (step ∷ later)
         → (kept_source prefix ≤ kept_source step) ⊎ Among prefix later

@@ -25,17 +25,17 @@ cut_joined byte place text found =
     let within : place < length text = at.0 in
     let one_more : suc place ≡ place + 1 = omega arith in
     let behind : drop (suc place) text ≡ drop 1 (drop place text) =
-      ap (λ k. drop k text) one_more ∙ sym (drop-drop 1 place text) in
+    ap (λ k. drop k text) one_more ∙ sym (drop-drop 1 place text) in
     sym (take-append-drop place text)
     ∙ ap (λ l. take place text ++ l)
-      (drop-cons text place 0 within ∙ ap (λ b. b ∷ drop (suc place) text) byte_is ∙ ap (λ l. byte ∷ l) behind)
+    (drop-cons text place 0 within ∙ ap (λ b. b ∷ drop (suc place) text) byte_is ∙ ap (λ l. byte ∷ l) behind)
 
 -- the first such byte is the one behind a text that lacks it
 first_place : (byte : ℕ) (front rest : List ℕ) → Lacks byte front
     → position_or_len (λ b. eqb b byte) (front ++ byte ∷ rest) ≡ length front
 first_place byte front rest lacks =
     position_or_len_is (λ b. eqb b byte) (front ++ byte ∷ rest) (length front) 0
-      (omega (arith, length-append front (byte ∷ rest)))
+    (omega (arith, length-append front (byte ∷ rest)))
     (λ k before. ap (λ b. eqb b byte) (get_or-append front (byte ∷ rest) 0 k before) ∙ lacks.each k before)
     (λ _. ap (λ b. eqb b byte) (get_or-append_seam front byte rest 0) ∙ eq-eqb byte byte refl)
 
@@ -52,7 +52,7 @@ first_cut_behind byte front rest lacks =
     let place : position_or_len (λ b. eqb b byte) (front ++ byte ∷ rest) + 1 ≡ length (front ++ byte ∷ []) =
     omega (arith, first_place byte front rest lacks, length-append front (byte ∷ [])) in
     ap (λ k. drop k (front ++ byte ∷ rest)) place
-      ∙ ap (drop (length (front ++ byte ∷ []))) (sym (append_assoc front (byte ∷ []) rest))
+    ∙ ap (drop (length (front ++ byte ∷ []))) (sym (append_assoc front (byte ∷ []) rest))
     ∙ drop_at (front ++ byte ∷ []) rest (length (front ++ byte ∷ [])) refl
 
 -- there is one way to cut a text at its first such byte
@@ -61,9 +61,9 @@ pub same_cut : (byte : ℕ) (text before after front rest : List ℕ) → before
     → text ≡ front ++ byte ∷ rest → Lacks byte front → (before ≡ front) × (after ≡ rest)
 same_cut byte text before after front rest is_before joined spelled lacks =
     let same_front : before ≡ front =
-      is_before ∙ ap (before_first (λ b. eqb b byte)) spelled ∙ first_cut byte front rest lacks in
+    is_before ∙ ap (before_first (λ b. eqb b byte)) spelled ∙ first_cut byte front rest lacks in
     let same_rest : front ++ byte ∷ after ≡ front ++ byte ∷ rest =
-      ap (λ l. l ++ byte ∷ after) (sym same_front) ∙ sym joined ∙ spelled in
+    ap (λ l. l ++ byte ∷ after) (sym same_front) ∙ sym joined ∙ spelled in
     let same_behind : byte ∷ after ≡ byte ∷ rest = append_cancel_left front (byte ∷ after) (byte ∷ rest) same_rest in
     (same_front, cc)
 
@@ -72,7 +72,7 @@ pub no_cut : (byte : ℕ) (text front rest : List ℕ) → before_first (λ b. e
     → text ≡ front ++ byte ∷ rest → Lacks byte front → ⊥
 no_cut byte text front rest whole spelled lacks =
     let same_front : text ≡ front =
-      sym whole ∙ ap (before_first (λ b. eqb b byte)) spelled ∙ first_cut byte front rest lacks in
+    sym whole ∙ ap (before_first (λ b. eqb b byte)) spelled ∙ first_cut byte front rest lacks in
     absurd (omega (arith, ap length same_front, ap length spelled, length-append front (byte ∷ rest)))
 
 -- a number in decimal has digits alone
@@ -95,7 +95,7 @@ pub next_number : (text before after rest : List ℕ) (number : ℕ) → number 
     → text ≡ decimal number ++ 46 ∷ rest → (before ≡ decimal number) × (after ≡ rest)
 next_number text before after rest number small is_before joined spelled =
     same_cut 46 text before after (decimal number) rest is_before joined spelled
-      (decimal_lacks 46 number (omega arith) (omega arith))
+    (decimal_lacks 46 number (omega arith) (omega arith))
 
 -- a text with no dot isn't such a text
 pub no_next_number : (text rest : List ℕ) (number : ℕ) → number < 256 → before_first (λ b. eqb b 46) text ≡ text
@@ -122,5 +122,5 @@ pub same_behind : (byte : ℕ) (text front after rest : List ℕ) → text ≡ f
     → text ≡ front ++ byte ∷ rest → after ≡ rest
 same_behind byte text front after rest spelled respelled =
     let both : byte ∷ after ≡ byte ∷ rest =
-      append_cancel_left front (byte ∷ after) (byte ∷ rest) (sym spelled ∙ respelled) in
+    append_cancel_left front (byte ∷ after) (byte ∷ rest) (sym spelled ∙ respelled) in
     cc

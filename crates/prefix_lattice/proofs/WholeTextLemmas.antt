@@ -13,9 +13,9 @@ side_lacks_space : (front : List ℕ) → AreLeadingBytes front → Lacks 32 (si
 side_lacks_space front leading =
     let few = leading.few in
     lacks-append 32 (address_text (address_of front)) (47 ∷ decimal (8 * length front))
-      (address_lacks 32 (address_of front) (omega arith) refl)
+    (address_lacks 32 (address_of front) (omega arith) refl)
     (lacks-cons 32 47 (decimal (8 * length front)) refl
-      (decimal_lacks 32 (8 * length front) (omega arith) (omega arith)))
+    (decimal_lacks 32 (8 * length front) (omega arith) (omega arith)))
 
 pub source_part-prefix_text : (prefix : PrefixValue) → IsPrefix prefix
     → source_part (prefix_text prefix) ≡ side_text prefix.source
@@ -26,7 +26,7 @@ pub dest_part-prefix_text : (prefix : PrefixValue) → IsPrefix prefix
     → dest_part (prefix_text prefix) ≡ side_text prefix.dest
 dest_part-prefix_text prefix valid =
     first_cut_behind 32 (side_text prefix.source) (side_text prefix.dest)
-      (side_lacks_space prefix.source valid.source)
+    (side_lacks_space prefix.source valid.source)
 
 -- a prefix that is written is read back
 pub text-spells : (prefix : PrefixValue) → IsPrefix prefix
@@ -41,13 +41,13 @@ pub spelled-text : (source dest : List ℕ) (prefix : PrefixValue) → SpellsPre
     → prefix_text prefix ≡ source ++ 32 ∷ dest
 spelled-text source dest prefix spells =
     ap (λ (l : List ℕ). l ++ 32 ∷ side_text prefix.dest) (sym spells.source.spelled)
-      ∙ ap (λ (l : List ℕ). source ++ 32 ∷ l) (sym spells.dest.spelled)
+    ∙ ap (λ (l : List ℕ). source ++ 32 ∷ l) (sym spells.dest.spelled)
 
 -- two prefixes have two texts
 pub same_text : (prefix other : PrefixValue) → IsPrefix prefix → IsPrefix other
     → prefix_text prefix ≡ prefix_text other → prefix ≡ other
 same_text prefix other valid other_valid same =
     one_prefix (source_part (prefix_text prefix)) (dest_part (prefix_text prefix)) prefix other
-      (text-spells prefix valid)
+    (text-spells prefix valid)
     (subst (λ (text : List ℕ). SpellsPrefix (source_part text) (dest_part text) other) (sym same)
-      (text-spells other other_valid))
+    (text-spells other other_valid))

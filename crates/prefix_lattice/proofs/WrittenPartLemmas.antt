@@ -12,12 +12,12 @@ pub writes-then : (old middle new : List ℕ) (start between end : ℕ) (part ot
 writes-then old middle new start between end part other within first second =
     let front = take start old ++ part in
     let front_length : length front ≡ between =
-      omega (arith, length-append (take start old) part, length-take start old, first.ends) in
+    omega (arith, length-append (take start old) part, length-take start old, first.ends) in
     let kept : take between middle ≡ front =
-      ap (take between) first.written ∙ take_at front (drop between old) between front_length in
+    ap (take between) first.written ∙ take_at front (drop between old) between front_length in
     let ends : between ≤ end = omega (arith, second.ends) in
     let behind : drop end middle ≡ drop end old =
-      ap (drop end) first.written ∙ drop-append-drop between old front end ends front_length in
+    ap (drop end) first.written ∙ drop-append-drop between old front end ends front_length in
     record {
       ends = omega (arith, first.ends, second.ends, length-append part other);
       written = second.written ∙ ap (λ l. l ++ other ++ drop end middle) kept ∙ ap (λ l. front ++ other ++ l) behind
@@ -33,7 +33,7 @@ writes-byte text at byte within =
       ends = refl;
       written =
           set_split text at byte within ∙ ap (λ k. take at text ++ byte ∷ drop k text) next
-            ∙ sym (append_assoc (take at text) (byte ∷ []) (drop (at + 1) text));
+          ∙ sym (append_assoc (take at text) (byte ∷ []) (drop (at + 1) text));
     }
 
 -- two sides with a byte between them, from the front of a text
@@ -44,8 +44,8 @@ pub writes-sides : (old middle new : List ℕ) (byte between end : ℕ) (part ot
 writes-sides old middle new byte between end part other within same_length first second =
     let marked = writes-byte middle between byte (omega arith) in
     let both =
-      writes-then middle (set middle between byte) new between (between + 1) end (byte ∷ []) other (omega arith)
-        marked second in
+    writes-then middle (set middle between byte) new between (between + 1) end (byte ∷ []) other (omega arith)
+    marked second in
     (writes-then old middle new 0 between end part (byte ∷ other) (omega arith) first both).written
 
 -- a part under another name
@@ -62,19 +62,30 @@ pub writes-numbers : (old one two three new : List ℕ) (mark start first second
     → WritesPart old new start end (decimal a ++ mark ∷ (decimal b ++ mark ∷ (decimal c ++ mark ∷ decimal d)))
 writes-numbers old one two three new mark start first second third end a b c d same_one same_two room writes_a
     writes_b writes_c writes_d =
-
     let behind_c = mark ∷ decimal d in
     let behind_b = mark ∷ (decimal c ++ behind_c) in
     let behind_a = mark ∷ (decimal b ++ behind_b) in
     let lengths : (first ≤ length old) × (second ≤ length old) × (third ≤ length old) = (
       omega (arith, writes_a.ends, length-append (decimal a) behind_a),
-      omega (arith, writes_a.ends, writes_b.ends, length-append (decimal a) behind_a,
-        length-append (decimal b) behind_b),
-      omega (arith, writes_a.ends, writes_b.ends, writes_c.ends, length-append (decimal a) behind_a,
-        length-append (decimal b) behind_b, length-append (decimal c) behind_c),
+      omega (
+        arith,
+        writes_a.ends,
+        writes_b.ends,
+        length-append (decimal a) behind_a,
+        length-append (decimal b) behind_b,
+      ),
+      omega (
+        arith,
+        writes_a.ends,
+        writes_b.ends,
+        writes_c.ends,
+        length-append (decimal a) behind_a,
+        length-append (decimal b) behind_b,
+        length-append (decimal c) behind_c,
+      ),
     ) in
     let writes_cd =
-      writes-then two three new second third end (mark ∷ decimal c) behind_c (omega arith) writes_c writes_d in
+    writes-then two three new second third end (mark ∷ decimal c) behind_c (omega arith) writes_c writes_d in
     let writes_bd =
-      writes-then one two new first second end (mark ∷ decimal b) behind_b (omega arith) writes_b writes_cd in
+    writes-then one two new first second end (mark ∷ decimal b) behind_b (omega arith) writes_b writes_cd in
     writes-then old one new start first end (decimal a) behind_a lengths.0 writes_a writes_bd

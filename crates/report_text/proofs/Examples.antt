@@ -1,16 +1,18 @@
 -- Worked examples of the texts, most by computing.
 use Rattle.std.proofs.Common.{◌≡◌, ℕ, zero, suc, ◌^◌, ◌<◌, ◌≤◌, [], ◌∷◌, codes, refl, arith}
+use Rattle.std.proofs.Common.{◌-◌, ◌+◌, length, decimal}
 use Rattle.std.proofs.Math.ListN.{replicate}
 use Rattle.std.proofs.lemmas.List.Elements.{All-nil, All-cons, All-from_recursion}
 use Rattle.std.specs.Fmt.{digits}
 use Rattle.std.specs.Prelude.{slice_index}
-use Rattle.prefix_lattice.specs.{IsPrefix}
+use Rattle.prefix_lattice.specs.{IsPrefix, longest_prefix_text}
 use Rattle.frame_records.specs.declared.records.Records.{Records}
 use Rattle.hhh_output.specs.declared.line.Line.{Line}
 use Rattle.hhh_output.specs.declared.report.Report.{Report}
 use Rattle.report_text.specs.declared.mark.Mark.TheVariants.{Opened, Saved}
 use Rattle.report_text.specs.ReportText.{ArePositions, IsTold, IsTellable, text_line, number_line, positions_line}
 use Rattle.report_text.specs.ReportText.{mark_name, line_text, lines_text, mark_text, report_text, tail_text}
+use Rattle.report_text.specs.ReportText.{longest_number, longest_line}
 use Rattle.report_text.proofs.OrderedListLemmas.{one_line_in_order}
 
 -- 100 bytes from 10.1.2.3 to 20.1.2.3
@@ -24,6 +26,22 @@ wide = record { prefix = record { source = 10 ∷ []; dest = [] }; lo = 60; hi =
 pub text_of_a_line : line_text line ≡ codes "line 10.1.2.3/32 20.1.2.3/32 100 100\n"
 unfolding digits
 text_of_a_line = refl
+
+-- the greatest number of 64 bits
+pub longest_number_of_64_bits : length (decimal (2 ^ 64 - 1)) ≡ longest_number
+unfolding digits
+longest_number_of_64_bits = refl
+
+-- the line of the widest prefix with the greatest numbers
+pub longest_line_of_a_report :
+    length (line_text (record {
+      prefix = record { source = 255 ∷ 255 ∷ 255 ∷ 255 ∷ []; dest = 255 ∷ 255 ∷ 255 ∷ 255 ∷ [] };
+      lo = 2 ^ 64 - 1;
+      hi = 2 ^ 64 - 1;
+    }))
+    ≡ longest_line
+unfolding digits
+longest_line_of_a_report = refl
 
 pub text_of_zero : number_line (codes "total") 0 ≡ codes "total 0\n"
 unfolding digits
@@ -48,7 +66,7 @@ positions_of_three_shards = record {
   few = omega arith;
   within =
       All-from_recursion (λ (position : ℕ). position ≤ 16777216) (0 ∷ 7 ∷ 16777216 ∷ [])
-        (omega arith, (omega arith, (omega arith, tt)));
+      (omega arith, (omega arith, (omega arith, tt)));
 }
 
 pub no_position_is_past_the_frames_of_a_capture : ¬ ArePositions (16777217 ∷ [])
@@ -123,7 +141,7 @@ pub report_that_can_be_told : IsTellable report
 report_that_can_be_told = record {
   positions =
       All-cons (λ (position : ℕ). position < 2 ^ 64) 1 [] (omega arith)
-        (All-nil (λ (position : ℕ). position < 2 ^ 64));
+      (All-nil (λ (position : ℕ). position < 2 ^ 64));
   total = omega arith;
   threshold = omega arith;
   lines = All-cons IsTold line [] line_of_a_prefix_and_two_numbers (All-nil IsTold);

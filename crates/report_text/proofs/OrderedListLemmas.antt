@@ -34,7 +34,7 @@ two_lines_in_order line later ordered later_ordered less =
       ordered = All-cons IsOrdered line (later ∷ []) ordered last.ordered;
       rising =
           AllPairs-cons Precedes line (later ∷ [])
-            (All-cons (Precedes line) later [] less (λ place other within. absurd (omega arith))) last.rising;
+          (All-cons (Precedes line) later [] less (λ place other within. absurd (omega arith))) last.rising;
     }
 
 -- two places of records are positions

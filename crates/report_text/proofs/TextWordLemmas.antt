@@ -52,8 +52,8 @@ pub number-apart : (number another : ℕ) (rest other : List ℕ) → number < 2
     → decimal number ++ rest ≡ decimal another ++ other → (number ≡ another) × (rest ≡ other)
 number-apart number another rest other small another_small ends other_ends same =
     let both =
-      word-apart (decimal number) (decimal another) rest other (decimal-word number small)
-        (decimal-word another another_small) ends other_ends same in
+    word-apart (decimal number) (decimal another) rest other (decimal-word number small)
+    (decimal-word another another_small) ends other_ends same in
     (decimal_injective number another small another_small both.0, both.1)
 
 address-word : (address : ℕ) → IsWord (address_text address)
@@ -64,10 +64,10 @@ address-word address =
     let d = address % 256 in
     let behind : (word : List ℕ) → IsWord word → IsWord (46 ∷ word) = λ word is. (omega arith, is) in
     word-append (decimal a) (46 ∷ (decimal b ++ 46 ∷ (decimal c ++ 46 ∷ decimal d))) (decimal-word a (omega arith))
-      (behind _
+    (behind _
     (word-append (decimal b) (46 ∷ (decimal c ++ 46 ∷ decimal d)) (decimal-word b (omega arith)) (behind _
     (word-append (decimal c) (46 ∷ decimal d) (decimal-word c (omega arith))
-      (behind _ (decimal-word d (omega arith)))))))
+    (behind _ (decimal-word d (omega arith)))))))
 
 -- a side of a prefix is a word
 pub side-word : (front : List ℕ) → AreLeadingBytes front → IsWord (side_text front)
@@ -91,11 +91,11 @@ positions-apart (m ∷ numbers) [] rest other small others_small same =
     absurd (unlike 10 32 other _ (omega arith) (sym same))
 positions-apart (m ∷ numbers) (n ∷ others) rest other small others_small same =
     let behind : decimal m ++ (flat_map spaced numbers ++ 10 ∷ rest)
-      ≡ decimal n ++ (flat_map spaced others ++ 10 ∷ other) =
+    ≡ decimal n ++ (flat_map spaced others ++ 10 ∷ other) =
     sym (append_assoc (decimal m) (flat_map spaced numbers) (10 ∷ rest)) ∙ ap (drop 1) same
-      ∙ append_assoc (decimal n) (flat_map spaced others) (10 ∷ other) in
+    ∙ append_assoc (decimal n) (flat_map spaced others) (10 ∷ other) in
     let first =
-      number-apart m n _ _ small.0 others_small.0 (positions-end numbers rest) (positions-end others other)
-        behind in
+    number-apart m n _ _ small.0 others_small.0 (positions-end numbers rest) (positions-end others other)
+    behind in
     let others_same = positions-apart numbers others rest other small.1 others_small.1 first.1 in
     (ap (λ k. k ∷ numbers) first.0 ∙ ap (λ l. n ∷ l) others_same.0, others_same.1)

@@ -67,7 +67,7 @@ made_empty capacity tables are least most =
     record {
       alike =
           subst (All (λ (t : TableValue). t.capacity ≡ capacity)) (sym are)
-            (All-replicate (λ (t : TableValue). t.capacity ≡ capacity) 25 (empty_table capacity) refl);
+          (All-replicate (λ (t : TableValue). t.capacity ≡ capacity) 25 (empty_table capacity) refl);
       entries = entries;
       is_snapshot = subst (λ ts. IsSnapshot (record { capacity = capacity; position = 0; tables = ts })) (sym entries) (IsSnapshot-empty capacity least most);
     }

@@ -34,7 +34,7 @@ stands_after core (Fold at block) shard state is within =
         position = min (length state.list) (state.position + block);
         is =
             subst (λ k. slice_get (changed (folded block) k core.shards) shard ≡ Some (folded block state))
-              (sym same) (changed_here (folded block) shard core.shards state is);
+            (sym same) (changed_here (folded block) shard core.shards state is);
         later = omega arith;
         within = min-le_left (length state.list) (state.position + block);
       }
@@ -68,7 +68,7 @@ with_read_there at shard (Some state) cut apart = set_there at shard cut.shards 
 read_after : (core : CoreValue) (by at caller shard : ℕ) (state : ShardValue) (before : SnapshotValue) → slice_get core.shards shard ≡ Some state
     → snapshot_in caller shard core.cuts ≡ Some before
     → snapshot_in caller shard (after core (Read by at)).cuts
-      ≡ Some (latest state before (met caller shard core.shards (Read by at)))
+    ≡ Some (latest state before (met caller shard core.shards (Read by at)))
 read_after core by at caller shard state before is holds =
     let change = with_read at (slice_get core.shards at) in
     let cut_before : CutAt caller shard core.cuts before = cut_at caller shard core.cuts before holds in
@@ -76,7 +76,7 @@ read_after core by at caller shard state before is holds =
     elim (cases_eq by caller) [
       | inr apart ↦
           let none : met caller shard core.shards (Read by at) ≡ [] =
-            unmet by caller at shard core.shards (ap (λ b. b && eqb at shard) (ne_eqb by caller apart)) in
+          unmet by caller at shard core.shards (ap (λ b. b && eqb at shard) (ne_eqb by caller apart)) in
           ap (shard_in shard) (changed_there change by caller core.cuts apart) ∙ holds ∙ ap (λ ps. Some (latest state before ps)) (sym none)
       | inl same ↦
           let here : slice_get (changed change by core.cuts) caller ≡ Some (change cut) =
@@ -85,10 +85,10 @@ read_after core by at caller shard state before is holds =
           elim (cases_eq at shard) [
             | inr other ↦
                 let none : met caller shard core.shards (Read by at) ≡ [] =
-                  unmet by caller at shard core.shards
-                    (ap (λ b. b && eqb at shard) by_is ∙ ne_eqb at shard other) in
+                unmet by caller at shard core.shards
+                (ap (λ b. b && eqb at shard) by_is ∙ ne_eqb at shard other) in
                 ap (shard_in shard) here ∙ with_read_there at shard (slice_get core.shards at) cut other
-                  ∙ cut_before.holds ∙ ap (λ ps. Some (latest state before ps)) (sym none)
+                ∙ cut_before.holds ∙ ap (λ ps. Some (latest state before ps)) (sym none)
             | inl here_too ↦
                 let at_is : eqb at shard ≡ true = eq-eqb at shard here_too in
                 let both : (eqb by caller && eqb at shard) ≡ true = ap (λ b. b && eqb at shard) by_is ∙ at_is in
@@ -99,7 +99,7 @@ read_after core by at caller shard state before is holds =
                 subst (λ k. slice_get (slice_set cut.shards k (snapshot_of state)) shard ≡ Some (snapshot_of state)) (sym here_too)
                 (set_here shard cut.shards (snapshot_of state) before cut_before.holds) in
                 ap (shard_in shard) here ∙ ap (λ o. slice_get (with_read at o cut).shards shard) read ∙ written
-                  ∙ ap (λ ps. Some (latest state before ps)) (sym one)
+                ∙ ap (λ ps. Some (latest state before ps)) (sym one)
           ]
     ]
 
@@ -108,7 +108,7 @@ pub snapshot_after : (core : CoreValue) (event : Event) (caller shard : ℕ) (st
     (before : SnapshotValue) → slice_get core.shards shard ≡ Some state
     → snapshot_in caller shard core.cuts ≡ Some before
     → snapshot_in caller shard (after core event).cuts
-      ≡ Some (latest state before (met caller shard core.shards event))
+    ≡ Some (latest state before (met caller shard core.shards event))
 snapshot_after core (Fold at block) caller shard state before is holds = holds
 snapshot_after core (Read by at) caller shard state before is holds = read_after core by at caller shard state before is holds
 
@@ -126,7 +126,7 @@ pub shapes_after : (core : CoreValue) (event : Event) (shards capacity : ℕ)
 shapes_after core (Fold at block) shards capacity shapes = shapes
 shapes_after core (Read by at) shards capacity shapes =
     All-changed (HasShape shards capacity) (with_read at (slice_get core.shards at)) by core.cuts
-      (has_shape-read shards capacity at (slice_get core.shards at)) shapes
+    (has_shape-read shards capacity at (slice_get core.shards at)) shapes
 
 pub many_after : (core : CoreValue) (event : Event) → length (after core event).shards ≡ length core.shards
 many_after core (Fold at block) = length-changed (folded block) at core.shards

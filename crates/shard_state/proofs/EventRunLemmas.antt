@@ -66,8 +66,8 @@ never_fall (event ∷ rest) core caller shard state is within =
     let later = reads_of caller shard (after core event) rest in
     let rise : NeverFall state.position later =
     lower state.position moved.position later moved.later
-      (never_fall rest (after core event) caller shard (record state { position = moved.position }) moved.is
-        moved.within) in
+    (never_fall rest (after core event) caller shard (record state { position = moved.position }) moved.is
+    moved.within) in
     met_is (λ ps. NeverFall state.position (ps ++ later)) caller shard core.shards event state is rise (omega arith, rise)
 
 -- and are within its list
@@ -78,10 +78,10 @@ reads_within (event ∷ rest) core caller shard state is within =
     let moved : StandsAt (after core event).shards shard state = stands_after core event shard state is within in
     let later = reads_of caller shard (after core event) rest in
     let all : All (λ p. p ≤ length state.list) later =
-      reads_within rest (after core event) caller shard (record state { position = moved.position }) moved.is
-        moved.within in
+    reads_within rest (after core event) caller shard (record state { position = moved.position }) moved.is
+    moved.within in
     met_is (λ ps. All (λ p. p ≤ length state.list) (ps ++ later)) caller shard core.shards event state is all
-      (All-cons (λ p. p ≤ length state.list) state.position later within all)
+    (All-cons (λ p. p ≤ length state.list) state.position later within all)
 
 -- the snapshot of the last read
 pub latest_is_last : (state : ShardValue) (before : SnapshotValue) (reads : List ℕ) (position : ℕ) → last_of reads ≡ Some position
@@ -208,7 +208,7 @@ stands_run events core caller cut is_core shapes bases is_cut reads =
     let in_run : caller < length (run core events).cuts = slice_get_within (run core events).cuts caller cut is_cut in
     let shape : HasShape (length core.shards) (capacity_of core.shards) (get_or (run core events).cuts caller cut) =
     All-get_or (HasShape (length core.shards) (capacity_of core.shards)) (run core events).cuts caller cut in_run
-      (shapes_run events core (length core.shards) (capacity_of core.shards) shapes) in
+    (shapes_run events core (length core.shards) (capacity_of core.shards) shapes) in
     let many : length cut.shards ≡ length core.shards =
     ap (λ (c : CutValue). length c.shards) (sym (get_or_from_slice_get (run core events).cuts caller cut cut is_cut)) ∙ shape.as_many in
     let list_of : ShardValue → List RecordValue = λ s. s.list in
@@ -240,10 +240,10 @@ stands_run events core caller cut is_core shapes bases is_cut reads =
           read_stands state here.before met_here state.position base here.is_shard.begun (never_fall events core caller k state here.is here.is_shard.within)
           (reads_within events core caller k state here.is here.is_shard.within) (reads k in_shards) in
           let same_snapshot : latest state here.before met_here ≡ snapshot =
-            same_Some (latest state here.before met_here) snapshot (sym here.holds ∙ is_snapshot) in
+          same_Some (latest state here.before met_here) snapshot (sym here.holds ∙ is_snapshot) in
           let same_list : state.list ≡ list =
-            same_Some state.list list
-              (sym (slice_get-map list_of core.shards k ∙ ap (option_map list_of) here.is) ∙ is_list) in
+          same_Some state.list list
+          (sym (slice_get-map list_of core.shards k ∙ ap (option_map list_of) here.is) ∙ is_list) in
           subst (λ s. SnapshotStandsFor s list) same_snapshot (subst (SnapshotStandsFor (latest state here.before met_here)) same_list stands));
     }
 
@@ -264,6 +264,6 @@ pub shard_within : (core : CoreValue) (shard : ℕ) (state : ShardValue) → All
 shard_within core shard state kept is =
     let in_shards : shard < length core.shards = slice_get_within core.shards shard state is in
     let is_shard : IsShard state =
-      subst IsShard (get_or_from_slice_get core.shards shard state no_shard is)
-        (All-get_or IsShard core.shards shard no_shard in_shards kept) in
+    subst IsShard (get_or_from_slice_get core.shards shard state no_shard is)
+    (All-get_or IsShard core.shards shard no_shard in_shards kept) in
     is_shard.within

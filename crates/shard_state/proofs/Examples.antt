@@ -56,7 +56,7 @@ row_of_one_table = refl
 pub key_of_three_bytes : HasKeysOf (node_at 23) (entry 0x0100000165000000 1 0 ∷ [])
 key_of_three_bytes =
     All-from_recursion (λ (e : Entry). IsKeyOf (node_at 23) e.key) (entry 0x0100000165000000 1 0 ∷ [])
-      (record { source = refl; dest = refl }, tt)
+    (record { source = refl; dest = refl }, tt)
 
 -- the last byte of the destination isn't kept
 pub key_with_a_loose_bit : HasKeysOf (node_at 23) (entry 0x0100000165000001 1 0 ∷ []) → ⊥
@@ -105,11 +105,11 @@ pub begun_shard : IsShard shard
 unfolding no_entries
 begun_shard =
     let weighed =
-      All-from_recursion (λ (r : RecordValue). 1 ≤ r.weight) first
-        (omega arith, (omega arith, (omega arith, (omega arith, (omega arith, (omega arith, tt)))))) in
+    All-from_recursion (λ (r : RecordValue). 1 ≤ r.weight) first
+    (omega arith, (omega arith, (omega arith, (omega arith, (omega arith, (omega arith, tt)))))) in
     let bounded =
-      All-from_recursion (λ (r : RecordValue). r.weight < 2 ^ 32) first
-        (omega arith, (omega arith, (omega arith, (omega arith, (omega arith, (omega arith, tt)))))) in
+    All-from_recursion (λ (r : RecordValue). r.weight < 2 ^ 32) first
+    (omega arith, (omega arith, (omega arith, (omega arith, (omega arith, (omega arith, tt)))))) in
     (begun first (empty_snapshot 4) 0 refl (IsSnapshot-empty 4 (omega arith) (omega arith)) (omega arith) (omega arith) weighed bounded refl).is_shard
 
 -- a shard counts no more than its records

@@ -1,8 +1,8 @@
 -- Worked examples of events, and of what reads leave.
-use Rattle.std.proofs.Common.{◌≡◌, zero, suc, ◌+◌, List, [], ◌∷◌, None, Some, refl, arith}
+use Rattle.std.proofs.Common.{◌≡◌, zero, suc, ◌+◌, List, [], ◌∷◌, None, Some, refl, arith, ◌*◌}
 use Rattle.std.proofs.lemmas.List.Elements.{All-from_recursion}
 use Rattle.shard_state.specs.Snapshot.{empty_snapshot, SnapshotStandsFor}
-use Rattle.shard_state.specs.Cut.{empty_cut}
+use Rattle.shard_state.specs.Cut.{empty_cut, most_snapshots}
 use Rattle.shard_state.specs.ShardState.{ShardValue, IsShard, folded, snapshot_of}
 use Rattle.shard_state.specs.ShardCore.{CoreValue, changed, with_read, after, run, capacity_of, AreShards, IsCore}
 use Rattle.shard_state.specs.ShardCore.{HasShape, IsEventFor, position_in, met, reads_of, last_of, NeverFall}
@@ -11,6 +11,7 @@ use Rattle.shard_state.specs.declared.event.Event.{Event}
 use Rattle.shard_state.specs.declared.event.Event.TheVariants.{Fold, Read}
 use Rattle.shard_state.proofs.RepresentationLemmas.{stands-empty}
 use Rattle.shard_state.proofs.Examples.{first, shard, begun_shard}
+use Rattle.prefix_lattice.specs.{most_shards}
 
 pub second_changed : changed (λ n. n + 10) 1 (1 ∷ 2 ∷ 3 ∷ []) ≡ 1 ∷ 12 ∷ 3 ∷ []
 second_changed = refl
@@ -144,3 +145,6 @@ both_callers_read_each (suc place) below = absurd (omega (arith, below))
 
 pub third_caller_reads_none : ReadsEach 2 core events → ⊥
 third_caller_reads_none each = let one = each 0 (omega arith) in omega (arith, one)
+
+pub snapshots_of_eight_times_the_shards : most_snapshots ≡ 8 * most_shards
+snapshots_of_eight_times_the_shards = refl

@@ -115,8 +115,8 @@ pub stands_for_two_lists : CutStandsFor cut (first ∷ (u ∷ u ∷ []) ∷ [])
 stands_for_two_lists = record {
   alike =
       All-cons (λ (s : SnapshotValue). s.capacity ≡ 4) at_the_end (empty_snapshot 4 ∷ []) refl
-        (All-cons (λ (s : SnapshotValue). s.capacity ≡ 4) (empty_snapshot 4) [] refl
-          (All-nil (λ (s : SnapshotValue). s.capacity ≡ 4)));
+      (All-cons (λ (s : SnapshotValue). s.capacity ≡ 4) (empty_snapshot 4) [] refl
+      (All-nil (λ (s : SnapshotValue). s.capacity ≡ 4)));
   shards = (stands_for_the_first, (stands-empty 4 (u ∷ u ∷ []), tt));
 }
 

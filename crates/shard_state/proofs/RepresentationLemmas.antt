@@ -60,7 +60,7 @@ weight_stands snapshot list prefix hold stands some valid weighed =
     let interval : List Entry → Interval = λ entries. interval_in (record { capacity = capacity; entries = entries }) (key_of prefix) in
     subst (λ entries. Holds (interval entries) capacity (weight_of prefix records) (total_of snapshot)) (sym (stands.tables (node_of prefix) is_node))
     (subst (Holds (interval (records_table capacity (node_of prefix) records)) capacity (weight_of prefix records))
-      (sym (total_stands snapshot list hold stands some)) over)
+    (sym (total_stands snapshot list hold stands some)) over)
 
 -- the totals of snapshots that stand for lists
 totals_before : (snapshots : List SnapshotValue) (lists : List (List RecordValue)) → TablesHold
@@ -89,7 +89,7 @@ one_snapshot snapshot other list capacity position stands other_stands =
     let table : (place : ℕ) → place < length snapshot.tables → get_or snapshot.tables place [] ≡ get_or other.tables place [] = λ place within.
     let is_node : IsNode (node_at place) = IsNode-node_at place (omega (arith, within, stands.shape)) in
     let at_place : (of : SnapshotValue) → entries_at (node_at place) of ≡ get_or of.tables place [] =
-      λ of. ap (λ p. get_or of.tables p []) (index_of-node_at place) in
+    λ of. ap (λ p. get_or of.tables p []) (index_of-node_at place) in
     sym (at_place snapshot)
     ∙ stands.tables (node_at place) is_node
     ∙ (λ i. records_table (capacity i) (node_at place) (take (position i) list))
@@ -115,11 +115,11 @@ one_row (snapshot ∷ snapshots) (other ∷ others) (list ∷ lists) capacity al
     let later_positions : map position_of snapshots ≡ map position_of others = cc in
     let first : snapshot ≡ other =
     one_snapshot snapshot other list
-      (All-head IsAlike snapshot snapshots alike ∙ sym (All-head IsAlike other others other_alike)) same_position
-      stand.0 other_stand.0 in
+    (All-head IsAlike snapshot snapshots alike ∙ sym (All-head IsAlike other others other_alike)) same_position
+    stand.0 other_stand.0 in
     let rest : snapshots ≡ others =
     one_row snapshots others lists capacity (All-tail IsAlike snapshot snapshots alike)
-      (All-tail IsAlike other others other_alike) later_positions stand.1 other_stand.1 in
+    (All-tail IsAlike other others other_alike) later_positions stand.1 other_stand.1 in
     λ i. first i ∷ rest i
 
 -- cuts of one capacity at the same positions that stand for the same lists are equal
@@ -129,6 +129,6 @@ one_cut cut other lists capacity positions stands other_stands =
     let other_alike : All (λ (s : SnapshotValue). s.capacity ≡ cut.capacity) other.shards =
     subst (λ c. All (λ (s : SnapshotValue). s.capacity ≡ c) other.shards) (sym capacity) other_stands.alike in
     let shards : cut.shards ≡ other.shards =
-      one_row cut.shards other.shards lists cut.capacity stands.alike other_alike positions stands.shards
-        other_stands.shards in
+    one_row cut.shards other.shards lists cut.capacity stands.alike other_alike positions stands.shards
+    other_stands.shards in
     λ i. record { capacity = capacity i; shards = shards i }

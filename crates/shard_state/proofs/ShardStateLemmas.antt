@@ -58,7 +58,7 @@ further_tables : (shard : ShardValue) (to : ℕ) → IsShard shard → shard.pos
 further_tables shard to is later =
     ap (fold_from 0 shard.base.capacity shard.base.tables) (range_further shard.list shard.base.position shard.position to is.begun later)
     ∙ fold_from-append 0 shard.base.capacity shard.base.tables
-      (slice_range shard.list shard.base.position shard.position) (slice_range shard.list shard.position to)
+    (slice_range shard.list shard.base.position shard.position) (slice_range shard.list shard.position to)
 
 -- the weight up to a later position
 further_weight : (shard : ShardValue) (to : ℕ) → IsShard shard → shard.position ≤ to
@@ -106,9 +106,9 @@ has_room shard to is later within =
     (λ k in_tables.
     let place : k < 25 = omega (arith, is.tables.shape) in
     let at : total_count (get_or tables (index_of (node_at k)) []) ≡ total_of (snapshot_of shard) =
-      (is.tables.tables (node_at k) (IsNode-node_at k place)).counted in
+    (is.tables.tables (node_at k) (IsNode-node_at k place)).counted in
     let here : total_count (get_or tables k []) ≡ total_of (snapshot_of shard) =
-      subst (λ n. total_count (get_or tables n []) ≡ total_of (snapshot_of shard)) (index_of-node_at k) at in
+    subst (λ n. total_count (get_or tables n []) ≡ total_of (snapshot_of shard)) (index_of-node_at k) at in
     omega arith))
 
 -- the tables of a shard at a later position
@@ -131,8 +131,8 @@ pub begun : (list : List RecordValue) (base : SnapshotValue) (position : ℕ) �
 begun list base position at_base is few within weighed bounded counted =
     let shard : ShardValue = record { list = list; base = base; position = position } in
     let none : slice_range list base.position position ≡ [] =
-      let nothing : position - base.position ≡ 0 = omega arith in
-      ap (λ n. take n (drop base.position list)) nothing in
+    let nothing : position - base.position ≡ 0 = omega arith in
+    ap (λ n. take n (drop base.position list)) nothing in
     let tables : (snapshot_of shard).tables ≡ base.tables = ap (fold_from 0 base.capacity base.tables) none ∙ fold_from-none 0 base.capacity base.tables in
     let with_tables : List (List Entry) → SnapshotValue = λ ts. record { capacity = base.capacity; position = position; tables = ts } in
     let with_position : ℕ → SnapshotValue = λ p. record { capacity = base.capacity; position = p; tables = base.tables } in

@@ -27,7 +27,7 @@ fold_from-append place capacity [] front rest = refl
 fold_from-append place capacity (entries ∷ tables) front rest =
     ap (λ es. es ∷ fold_from (place + 1) capacity tables (front ++ rest)) (fold_at-append capacity (node_at place) entries front rest)
     ∙ ap (λ ts. fold_at capacity (node_at place) (fold_at capacity (node_at place) entries front) rest ∷ ts)
-      (fold_from-append (place + 1) capacity tables front rest)
+    (fold_from-append (place + 1) capacity tables front rest)
 
 -- no record changes nothing
 pub fold_from-none : (place capacity : ℕ) (tables : List (List Entry)) → fold_from place capacity tables [] ≡ tables
@@ -128,7 +128,7 @@ advances snapshot position records keep is placed weighed fits =
         shape = length-fold_from 0 snapshot.capacity snapshot.tables records ∙ is.shape;
         tables = λ node is_node.
             subst (λ n. IsTableAt snapshot.capacity n node (entries_at node (advanced snapshot position records)))
-              (sym grew) (at node is_node);
+            (sym grew) (at node is_node);
       };
       total = grew;
     }

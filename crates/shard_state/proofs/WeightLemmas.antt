@@ -60,5 +60,5 @@ weight_held capacity prefix records keys laws some weighed =
       high = subst (λ x. x ≤ interval.high) (weights prefix records keys) (laws.high capacity adds (key_of prefix) some are_weighed);
       width =
           subst (λ n. (interval.high - interval.low) * capacity ≤ n) (totals (node_of prefix) records)
-            (laws.width capacity adds (key_of prefix) some are_weighed);
+          (laws.width capacity adds (key_of prefix) some are_weighed);
     }

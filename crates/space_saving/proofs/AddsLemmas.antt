@@ -23,7 +23,7 @@ weight_of_key-cons : (key : ℕ) (a : Add) (adds : List Add)
     → weight_of_key key (a ∷ adds) ≡ cond (eqb a.key key) a.weight 0 + weight_of_key key adds
 weight_of_key-cons key a adds =
     elim (eqb a.key key) as
-      (λ b. total_added (cond b (a ∷ of_key) of_key) ≡ cond b a.weight 0 + weight_of_key key adds) [
+    (λ b. total_added (cond b (a ∷ of_key) of_key) ≡ cond b a.weight 0 + weight_of_key key adds) [
       | true ↦ total_added-cons a of_key
       | false ↦ omega arith
     ]
@@ -35,8 +35,12 @@ total_from : (capacity : ℕ) (adds : List Add) (es : List Entry) → 1 ≤ capa
     → total_count (fold (step capacity) es adds) ≡ total_count es + total_added adds
 total_from capacity [] es some = omega arith
 total_from capacity (a ∷ adds) es some =
-    omega (arith, total_from capacity adds (step capacity es a) some, total_count-step capacity es a some,
-      total_added-cons a adds)
+    omega (
+      arith,
+      total_from capacity adds (step capacity es a) some,
+      total_count-step capacity es a some,
+      total_added-cons a adds,
+    )
 
 table_from : (capacity : ℕ) (adds : List Add) (es : List Entry) → 1 ≤ capacity → AllByRecursion IsWeighed adds
     → IsTable capacity es
@@ -53,10 +57,10 @@ holds_from capacity [] es key x some weighed table held =
 holds_from capacity (a ∷ adds) es key x some weighed table held =
     let more = cond (eqb a.key key) a.weight 0 in
     let same : (x + more) + weight_of_key key adds ≡ x + weight_of_key key (a ∷ adds) =
-      omega (arith, weight_of_key-cons key a adds) in
+    omega (arith, weight_of_key-cons key a adds) in
     subst (Holds capacity (fold (step capacity) es (a ∷ adds)) key) same
     (holds_from capacity adds (step capacity es a) key (x + more) some weighed.1
-      (IsTable-step capacity es a some weighed.0 table) (Holds-step capacity es a key x some table held))
+    (IsTable-step capacity es a some weighed.0 table) (Holds-step capacity es a key x some table held))
 
 -- the counts add up to the weight that was added
 pub total_count-table_of : (capacity : ℕ) (adds : List Add) → 1 ≤ capacity
@@ -76,16 +80,16 @@ pub Holds-table_of : (capacity : ℕ) (adds : List Add) (key : ℕ) → 1 ≤ ca
     → Holds capacity (table_of capacity adds) key (weight_of_key key adds)
 Holds-table_of capacity adds key some weighed =
     subst (Holds capacity (table_of capacity adds) key)
-      (let e : 0 + weight_of_key key adds ≡ weight_of_key key adds = omega arith in e)
+    (let e : 0 + weight_of_key key adds ≡ weight_of_key key adds = omega arith in e)
     (holds_from capacity adds [] key 0 some (recursion_from_All IsWeighed adds weighed) (IsTable-nil capacity)
-      (Holds-nil capacity key))
+    (Holds-nil capacity key))
 
 -- the width of an interval times the capacity is at most the weight that was added
 pub width_after : (capacity : ℕ) (adds : List Add) (key : ℕ) → 1 ≤ capacity → AreWeighed adds
     → ((interval_after capacity adds key).high - (interval_after capacity adds key).low) * capacity ≤ total_added adds
 width_after capacity adds key some weighed =
     subst (λ n. ((interval_after capacity adds key).high - (interval_after capacity adds key).low) * capacity ≤ n)
-      (total_count-table_of capacity adds some)
+    (total_count-table_of capacity adds some)
     (interval_is_narrow capacity (table_of capacity adds) key (IsTable-table_of capacity adds some weighed)).narrow
 
 -- a key that is missing in a full table has at most the least count as its weight
@@ -97,9 +101,9 @@ weight_of_missing capacity adds key some weighed missing full =
     let held = Holds-table_of capacity adds key some weighed in
     let high : weight_of_key key adds ≤ (interval_from None (record { capacity = capacity; entries = es })).high =
     subst (λ o. weight_of_key key adds ≤ (interval_from o (record { capacity = capacity; entries = es })).high)
-      missing held.high in
+    missing held.high in
     subst (λ n. weight_of_key key adds ≤ n)
-      (cond-false (ltb (length es) capacity) 0 (least_count es) (le-ltb (length es) capacity (omega arith))) high
+    (cond-false (ltb (length es) capacity) 0 (least_count es) (le-ltb (length es) capacity (omega arith))) high
 
 -- the least count of a full table times the capacity is at most the weight that was added
 pub least_after : (capacity : ℕ) (adds : List Add) → 1 ≤ capacity → AreWeighed adds
@@ -108,7 +112,7 @@ pub least_after : (capacity : ℕ) (adds : List Add) → 1 ≤ capacity → AreW
 least_after capacity adds some weighed full =
     subst (λ n. least_count (table_of capacity adds) * capacity ≤ n) (total_count-table_of capacity adds some)
     (least_count-times-capacity capacity (table_of capacity adds) (IsTable-table_of capacity adds some weighed)
-      (omega arith))
+    (omega arith))
 
 -- adds may come in two parts
 pub table_of-append : (capacity : ℕ) (adds more : List Add)

@@ -13,7 +13,7 @@ other_key : (key : ℕ) (es : List Entry) (place : ℕ) (e : Entry) → entry_of
 other_key key [] place e missing at = cc
 other_key key (f ∷ fs) zero e missing at =
     (elim (eqb f.key key) as
-      (λ b. eqb f.key key ≡ b → cond b (Some f) (entry_of key fs) ≡ None → eqb e.key key ≡ false) [
+    (λ b. eqb f.key key ≡ b → cond b (Some f) (entry_of key fs) ≡ None → eqb e.key key ≡ false) [
       | true ↦ λ _ is. cc
       | false ↦ λ differs _. let same : f ≡ e = cc in subst (λ (g : Entry). eqb g.key key ≡ false) same differs
     ]) refl missing
@@ -31,7 +31,7 @@ apart_at [] (suc place) e apart at = refl
 apart_at (f ∷ fs) (suc place) e apart at =
     (elim (eqb f.key e.key) as (λ b. eqb f.key e.key ≡ b → cond b (Some f) (entry_of e.key (take place fs)) ≡ None) [
       | true ↦ λ same.
-        absurd (false≢true
+          absurd (false≢true
           (sym (other_key f.key fs place e apart.0 at) ∙ eq-eqb e.key f.key (sym (eqb-true f.key e.key same))))
       | false ↦ λ _. apart_at fs place e apart.1 at
     ]) refl

@@ -15,7 +15,7 @@ use Rattle.space_saving.proofs.StepLemmas.{raised, fresh, heir, step_cases}
 abbrev HoldsFrom : Option Entry → ℕ → List Entry → ℕ → Type 0
 HoldsFrom o capacity es x =
     ((interval_from o (record { capacity = capacity; entries = es })).low ≤ x)
-      × (x ≤ (interval_from o (record { capacity = capacity; entries = es })).high)
+    × (x ≤ (interval_from o (record { capacity = capacity; entries = es })).high)
 
 -- the weight is within the interval of the key
 pub record Holds (capacity : ℕ) (es : List Entry) (key x : ℕ) : Type 0 where
@@ -32,7 +32,7 @@ from_holds : (capacity : ℕ) (es : List Entry) (key x : ℕ) (o : Option Entry)
     → Holds capacity es key x → HoldsFrom o capacity es x
 from_holds capacity es key x o is held =
     subst (λ p. HoldsFrom p capacity es x) is
-      (let at : HoldsFrom (entry_of key es) capacity es x = (held.low, held.high) in at)
+    (let at : HoldsFrom (entry_of key es) capacity es x = (held.low, held.high) in at)
 
 -- the greatest weight of a missing key
 abbrev high_of_missing : ℕ → List Entry → ℕ
@@ -41,7 +41,7 @@ high_of_missing capacity es = cond (ltb (length es) capacity) 0 (least_count es)
 high_of_missing-le-least : (capacity : ℕ) (es : List Entry) → high_of_missing capacity es ≤ least_count es
 high_of_missing-le-least capacity es =
     cond_both (ltb (length es) capacity) 0 (least_count es) (λ n. n ≤ least_count es) (λ _. omega arith)
-      (λ _. omega arith)
+    (λ _. omega arith)
 
 -- a table that is as long, with a least count that hasn't fallen, allows a missing key no less
 missing_grows : (capacity : ℕ) (es after : List Entry) → length after ≡ length es → least_count es ≤ least_count after
@@ -49,9 +49,9 @@ missing_grows : (capacity : ℕ) (es after : List Entry) → length after ≡ le
 missing_grows capacity es after same least =
     cond_both (ltb (length after) capacity) 0 (least_count after) (λ n. high_of_missing capacity es ≤ n)
     (λ less. let room : length after < capacity = ltb-true (length after) capacity less in
-      cond_both (ltb (length es) capacity) 0 (least_count es) (λ n. n ≤ 0)
+    cond_both (ltb (length es) capacity) 0 (least_count es) (λ n. n ≤ 0)
     (λ _. omega arith) (λ more. let full : capacity ≤ length es = ltb-false (length es) capacity more in
-      absurd (omega arith)))
+    absurd (omega arith)))
     (λ _. omega (arith, high_of_missing-le-least capacity es))
 
 -- rising counts rise from the least
@@ -87,29 +87,29 @@ same_step capacity es a x some table held =
     let low : e.count - e.error ≤ x = before.0 in
     let high : x ≤ e.count = before.1 in
     holds_from capacity _ a.key _ (Some (raised e a.weight))
-      (entry_of-put_at a.key (raised e a.weight) (without a.key es) (key-entry_of a.key e es found)
-      (entry_of-without_same a.key es table.distinct)) (omega arith, omega arith))
+    (entry_of-put_at a.key (raised e a.weight) (without a.key es) (key-entry_of a.key e es found)
+    (entry_of-without_same a.key es table.distinct)) (omega arith, omega arith))
     (λ missing room.
     let before = from_holds capacity es a.key x None missing held in
     let high : x ≤ high_of_missing capacity es = before.1 in
     let none : high_of_missing capacity es ≡ 0 =
-      cond_both (ltb (length es) capacity) 0 (least_count es) (λ n. n ≡ 0) (λ _. refl)
-        (λ more. absurd (omega (arith, ltb-false (length es) capacity more))) in
+    cond_both (ltb (length es) capacity) 0 (least_count es) (λ n. n ≡ 0) (λ _. refl)
+    (λ more. absurd (omega (arith, ltb-false (length es) capacity more))) in
     holds_from capacity _ a.key _ (Some (fresh a)) (entry_of-put_at a.key (fresh a) es refl missing)
-      (omega arith, omega arith))
+    (omega arith, omega arith))
     (λ h rest is missing full.
     let before = from_holds capacity es a.key x None missing held in
     let high : x ≤ high_of_missing capacity es = before.1 in
     let least : least_count es ≡ h.count = ap least_count is in
     let gone : entry_of a.key rest ≡ None = missing_from_first' a.key h rest (ap (entry_of a.key) (sym is) ∙ missing) in
     holds_from capacity _ a.key _ (Some (heir h a)) (entry_of-put_at a.key (heir h a) rest refl gone)
-      (omega arith, omega (arith, high_of_missing-le-least capacity es)))
+    (omega arith, omega (arith, high_of_missing-le-least capacity es)))
   where
     missing_from_first' : (key : ℕ) (f : Entry) (fs : List Entry) → entry_of key (f ∷ fs) ≡ None
         → entry_of key fs ≡ None
     missing_from_first' key f fs gone =
         (elim (eqb f.key key) as (λ b. cond b (Some f) (entry_of key fs) ≡ None → entry_of key fs ≡ None)
-          [ true ↦ λ is. cc | false ↦ λ is. is ]) gone
+        [ true ↦ λ is. cc | false ↦ λ is. is ]) gone
 
 -- what holds of a key by its entry, where the entry stays, or is missing before and after
 kept_from : (capacity : ℕ) (es after : List Entry) (x : ℕ) (o : Option Entry)
@@ -140,16 +140,16 @@ replaced_head capacity h rest a key x other table full held =
     (λ same.
     let gone : entry_of key rest ≡ None = ap (λ k. entry_of k rest) (sym same) ∙ table.distinct.0 in
     let found : entry_of key (h ∷ rest) ≡ Some h =
-      cond-true (eqb h.key key) (Some h) (entry_of key rest) (eq-eqb h.key key same) in
+    cond-true (eqb h.key key) (Some h) (entry_of key rest) (eq-eqb h.key key same) in
     let before = from_holds capacity (h ∷ rest) key x (Some h) found held in
     let high : x ≤ h.count = before.1 in
     let is_full : h.count ≤ high_of_missing capacity after =
     cond_both (ltb (length after) capacity) 0 (least_count after) (λ n. h.count ≤ n)
-      (λ less. absurd (omega (arith, ltb-true (length after) capacity less))) (λ _. least) in
+    (λ less. absurd (omega (arith, ltb-true (length after) capacity less))) (λ _. least) in
     holds_from capacity after key x None (stays ∙ gone) (omega arith, omega arith))
     (λ apart.
-      kept capacity (h ∷ rest) after key x
-        (stays ∙ sym (cond-false (eqb h.key key) (Some h) (entry_of key rest) (ne_eqb h.key key apart))) grows held)
+    kept capacity (h ∷ rest) after key x
+    (stays ∙ sym (cond-false (eqb h.key key) (Some h) (entry_of key rest) (ne_eqb h.key key apart))) grows held)
     (cases_eq h.key key)
 
 -- the interval holds the weight after a step with another key
@@ -165,20 +165,20 @@ other_step capacity es a key x other some table held =
     let rises = RisesFrom-least es table.ascending in
     let above : least_count es ≤ e.count = count-entry_of (least_count es) a.key e es rises found in
     let least : least_count es ≤ least_count after =
-      least_count-put (least_count es) new rest (RisesFrom-without (least_count es) a.key es rises) (omega arith) in
+    least_count-put (least_count es) new rest (RisesFrom-without (least_count es) a.key es rises) (omega arith) in
     let same_length : length after ≡ length es = omega (arith, length-put new rest, length-without a.key e es found) in
     kept capacity es after key x
     (entry_of-put_other key new rest (λ same. other (sym (key-entry_of a.key e es found) ∙ same))
-      ∙ entry_of-without_other key a.key es other)
+    ∙ entry_of-without_other key a.key es other)
     (missing_grows capacity es after same_length least) held)
     (λ _ room.
     let none : high_of_missing capacity es ≡ 0 =
-      cond_both (ltb (length es) capacity) 0 (least_count es) (λ n. n ≡ 0) (λ _. refl)
-        (λ more. absurd (omega (arith, ltb-false (length es) capacity more))) in
+    cond_both (ltb (length es) capacity) 0 (least_count es) (λ n. n ≡ 0) (λ _. refl)
+    (λ more. absurd (omega (arith, ltb-false (length es) capacity more))) in
     kept capacity es (put (fresh a) es) key x (entry_of-put_other key (fresh a) es other) (omega arith) held)
     (λ h rest is _ full. (subst
-      (λ l. IsTable capacity l → capacity ≤ length l → Holds capacity l key x
-      → Holds capacity (put (heir h a) rest) key x)
+    (λ l. IsTable capacity l → capacity ≤ length l → Holds capacity l key x
+    → Holds capacity (put (heir h a) rest) key x)
     (sym is) (replaced_head capacity h rest a key x other)) table full held)
 
 -- the interval holds the weight after a step
@@ -188,11 +188,11 @@ pub Holds-step : (capacity : ℕ) (es : List Entry) (a : Add) (key x : ℕ) → 
 Holds-step capacity es a key x some table held =
     cond_both (eqb a.key key) a.weight 0 (λ n. Holds capacity (step capacity es a) key (x + n))
     (λ yes.
-      subst (λ k. Holds capacity es k x → Holds capacity (step capacity es a) k (x + a.weight))
-        (eqb-true a.key key yes) (same_step capacity es a x some table) held)
+    subst (λ k. Holds capacity es k x → Holds capacity (step capacity es a) k (x + a.weight))
+    (eqb-true a.key key yes) (same_step capacity es a x some table) held)
     (λ no.
-      subst (Holds capacity (step capacity es a) key) (let e : x ≡ x + 0 = omega arith in e)
-        (other_step capacity es a key x (eqb-false a.key key no) some table held))
+    subst (Holds capacity (step capacity es a) key) (let e : x ≡ x + 0 = omega arith in e)
+    (other_step capacity es a key x (eqb-false a.key key no) some table held))
 
 -- nothing was added
 pub Holds-nil : (capacity key : ℕ) → Holds capacity [] key 0

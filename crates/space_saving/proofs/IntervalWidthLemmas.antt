@@ -23,8 +23,8 @@ count-le-total key e [] found = cc
 count-le-total key e (f ∷ fs) found =
     (elim (eqb f.key key) as (λ b. cond b (Some f) (entry_of key fs) ≡ Some e → e.count ≤ total_count (f ∷ fs)) [
       | true ↦ λ is.
-        let same : f ≡ e = cc in
-        subst (λ (g : Entry). g.count ≤ total_count (f ∷ fs)) same (omega (arith, total_count-cons f fs))
+          let same : f ≡ e = cc in
+          subst (λ (g : Entry). g.count ≤ total_count (f ∷ fs)) same (omega (arith, total_count-cons f fs))
       | false ↦ λ is. omega (arith, total_count-cons f fs, count-le-total key e fs is)
     ]) found
 
@@ -36,8 +36,8 @@ narrow_found : (capacity : ℕ) (es : List Entry) (key : ℕ) (e : Entry) → Is
     → IsNarrow capacity (total_count es) (record { low = e.count - e.error; high = e.count })
 narrow_found capacity es key e table found =
     let small =
-      all-entry_of (HasSmallError capacity (total_count es)) key e es
-        (recursion_from_All (HasSmallError capacity (total_count es)) es table.small_errors) found in
+    all-entry_of (HasSmallError capacity (total_count es)) key e es
+    (recursion_from_All (HasSmallError capacity (total_count es)) es table.small_errors) found in
     let below : e.error < e.count = small.0 in
     let width : e.count - (e.count - e.error) ≡ e.error = omega arith in
     record {
@@ -52,20 +52,20 @@ pub least_count-times-capacity : (capacity : ℕ) (es : List Entry) → IsTable 
 least_count-times-capacity capacity es table full =
     let same : length es ≡ capacity = omega (arith, table.fits) in
     subst (λ n. least_count es * n ≤ total_count es) same
-      (least-times-length (least_count es) es (RisesFrom-least es table.ascending))
+    (least-times-length (least_count es) es (RisesFrom-least es table.ascending))
 
 narrow_missing : (capacity : ℕ) (es : List Entry) → IsTable capacity es
     → IsNarrow capacity (total_count es) (record { low = 0; high = cond (ltb (length es) capacity) 0 (least_count es) })
 narrow_missing capacity es table =
     cond_both (ltb (length es) capacity) 0 (least_count es)
-      (λ n. IsNarrow capacity (total_count es) (record { low = 0; high = n }))
+    (λ n. IsNarrow capacity (total_count es) (record { low = 0; high = n }))
     (λ _. record { ordered = omega arith; within_total = omega arith; narrow = omega arith })
     (λ more. record {
       ordered = omega arith;
       within_total = least_count-le-total es;
       narrow = let all : least_count es ≡ least_count es - 0 = omega arith in
           subst (λ n. n * capacity ≤ total_count es) all
-            (least_count-times-capacity capacity es table (ltb-false (length es) capacity more));
+          (least_count-times-capacity capacity es table (ltb-false (length es) capacity more));
     })
 
 -- every interval of a table is narrow
@@ -73,8 +73,8 @@ pub interval_is_narrow : (capacity : ℕ) (es : List Entry) (key : ℕ) → IsTa
     → IsNarrow capacity (total_count es) (interval_in (record { capacity = capacity; entries = es }) key)
 interval_is_narrow capacity es key table =
     (elim (entry_of key es) as
-      (λ o. entry_of key es ≡ o
-      → IsNarrow capacity (total_count es) (interval_from o (record { capacity = capacity; entries = es }))) [
+    (λ o. entry_of key es ≡ o
+    → IsNarrow capacity (total_count es) (interval_from o (record { capacity = capacity; entries = es }))) [
       | None ↦ λ _. narrow_missing capacity es table
       | Some e ↦ λ found. narrow_found capacity es key e table found
     ]) refl
@@ -82,15 +82,15 @@ interval_is_narrow capacity es key table =
 -- no key has a lesser high than a missing one
 pub missing_high-le-high : (capacity : ℕ) (es : List Entry) (key : ℕ) → IsTable capacity es
     → (interval_from None (record { capacity = capacity; entries = es })).high
-      ≤ (interval_in (record { capacity = capacity; entries = es }) key).high
+    ≤ (interval_in (record { capacity = capacity; entries = es }) key).high
 missing_high-le-high capacity es key table =
     (elim (entry_of key es) as
-      (λ o. entry_of key es ≡ o → cond (ltb (length es) capacity) 0 (least_count es)
-      ≤ (interval_from o (record { capacity = capacity; entries = es })).high) [
+    (λ o. entry_of key es ≡ o → cond (ltb (length es) capacity) 0 (least_count es)
+    ≤ (interval_from o (record { capacity = capacity; entries = es })).high) [
       | None ↦ λ _. omega arith
       | Some e ↦ λ found.
           let least : least_count es ≤ e.count =
-            count-entry_of (least_count es) key e es (RisesFrom-least es table.ascending) found in
+          count-entry_of (least_count es) key e es (RisesFrom-least es table.ascending) found in
           cond_both (ltb (length es) capacity) 0 (least_count es) (λ n. n ≤ e.count) (λ _. omega arith) (λ _. least)
     ]) refl
 
@@ -101,5 +101,5 @@ pub narrow_of_head : (capacity : ℕ) (es : List Entry) (head : Entry) → IsTab
 narrow_of_head capacity [] head table some full read = absurd (omega arith)
 narrow_of_head capacity (f ∷ fs) head table some full read =
     let same : f.count ≡ head.count - 0 =
-      let e : f.count ≡ head.count = ap (λ (x : Entry). x.count) (sym read) in omega arith in
+    let e : f.count ≡ head.count = ap (λ (x : Entry). x.count) (sym read) in omega arith in
     subst (λ n. n * capacity ≤ total_count (f ∷ fs)) same (least_count-times-capacity capacity (f ∷ fs) table full)

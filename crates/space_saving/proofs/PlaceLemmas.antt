@@ -23,10 +23,10 @@ placed key es place d within has still passed =
       within = within;
       found =
           sym still ∙ ap (entry_of key) split ∙ cond-true (eqb e.key key) (Some e) (entry_of key rest) yes
-            ∙ sym (slice_get-get_or es place d within);
+          ∙ sym (slice_get-get_or es place d within);
       rest =
           sym passed ∙ ap (λ l. take place es ++ without key l) split
-            ∙ ap (λ l. take place es ++ l) (cond-true (eqb e.key key) rest (e ∷ without key rest) yes);
+          ∙ ap (λ l. take place es ++ l) (cond-true (eqb e.key key) rest (e ∷ without key rest) yes);
     }
 
 -- an entry is put first where the list is at its end
@@ -45,8 +45,8 @@ put-greater new es place d within greater =
     let rest = drop (place + 1) es in
     let split : drop place es ≡ f ∷ rest = drop_more es place d within in
     ap (put new) split
-      ∙ cond-false (leb f.count new.count) (f ∷ put new rest) (new ∷ f ∷ rest) (lt-leb f.count new.count greater)
-      ∙ ap (λ l. new ∷ l) (sym split)
+    ∙ cond-false (leb f.count new.count) (f ∷ put new rest) (new ∷ f ∷ rest) (lt-leb f.count new.count greater)
+    ∙ ap (λ l. new ∷ l) (sym split)
 
 -- the entry written at its place
 pub settled : (new : Entry) (es goal : List Entry) (place : ℕ) → place < length es
@@ -55,7 +55,7 @@ pub settled : (new : Entry) (es goal : List Entry) (place : ℕ) → place < len
 settled new es goal place within first still =
     let next : suc place ≡ place + 1 = omega arith in
     set_split es place new within ∙ ap (λ n. take place es ++ new ∷ drop n es) next
-      ∙ ap (λ l. take place es ++ l) (sym first) ∙ still
+    ∙ ap (λ l. take place es ++ l) (sym first) ∙ still
 
 -- each count is at least the number that the counts rise from
 pub count-at : (least : ℕ) (es : List Entry) (place : ℕ) (d : Entry) → RisesFrom least es → place < length es
@@ -76,7 +76,7 @@ put-passes least e (f ∷ fs) rest (suc place) d rises within at_most =
     let above : f.count ≤ (get_or fs place d).count = count-at f.count fs place d rises.1 inside in
     let passed : f.count ≤ e.count = omega arith in
     cond-true (leb f.count e.count) (f ∷ put e (take place fs ++ rest)) (e ∷ f ∷ (take place fs ++ rest))
-      (le-leb f.count e.count passed)
+    (le-leb f.count e.count passed)
     ∙ ap (λ l. f ∷ l) (put-passes f.count e fs rest place d rises.1 inside at_most)
 
 -- an entry that settles from its place on makes the step of its key
@@ -87,9 +87,9 @@ settled_is_step capacity es after a place e rises is_place read is_after =
     let new = raised e a.weight in
     let next : place + 1 ≡ suc place = omega arith in
     let found : entry_of a.key es ≡ Some e =
-      is_place.found ∙ slice_get-get_or es place e is_place.within ∙ ap (λ x. Some x) (sym read) in
+    is_place.found ∙ slice_get-get_or es place e is_place.within ∙ ap (λ x. Some x) (sym read) in
     let at_most : (get_or es place e).count ≤ new.count =
-      subst (λ (x : Entry). x.count ≤ new.count) read (omega arith) in
+    subst (λ (x : Entry). x.count ≤ new.count) read (omega arith) in
     is_after ∙ ap (λ n. take place es ++ put new (drop n es)) next
-      ∙ sym (put-passes 0 new es (drop (suc place) es) place e rises is_place.within at_most)
+    ∙ sym (put-passes 0 new es (drop (suc place) es) place e rises is_place.within at_most)
     ∙ ap (put new) (sym is_place.rest) ∙ ap (λ o. step_from o capacity es a) (sym found)

@@ -39,7 +39,7 @@ entry_of-put_same e [] missing = cond-true (eqb e.key e.key) (Some e) None (eq-e
 entry_of-put_same e (f ∷ fs) missing =
     cond_both (leb f.count e.count) (f ∷ put e fs) (e ∷ f ∷ fs) (λ es. entry_of e.key es ≡ Some e)
     (λ _. (elim (eqb f.key e.key) as
-      (λ b. cond b (Some f) (entry_of e.key fs) ≡ None → cond b (Some f) (entry_of e.key (put e fs)) ≡ Some e) [
+    (λ b. cond b (Some f) (entry_of e.key fs) ≡ None → cond b (Some f) (entry_of e.key (put e fs)) ≡ Some e) [
       | true ↦ λ is. cc
       | false ↦ λ is. entry_of-put_same e fs is
     ]) missing)
@@ -59,8 +59,8 @@ pub missing_from_first : (key : ℕ) (f : Entry) (fs : List Entry) → entry_of 
     → (f.key ≡ key → ⊥) × (entry_of key fs ≡ None)
 missing_from_first key f fs missing =
     (elim (eqb f.key key) as
-      (λ b. eqb f.key key ≡ b → cond b (Some f) (entry_of key fs) ≡ None → (f.key ≡ key → ⊥)
-      × (entry_of key fs ≡ None)) [
+    (λ b. eqb f.key key ≡ b → cond b (Some f) (entry_of key fs) ≡ None → (f.key ≡ key → ⊥)
+    × (entry_of key fs ≡ None)) [
       | true ↦ λ _ is. cc
       | false ↦ λ no is. (eqb-false f.key key no, is)
     ]) refl missing

@@ -55,7 +55,7 @@ distinct_from_rising : (ks : List ℕ) → IsStrictlyIncreasing ks → IsDistinc
 distinct_from_rising ks rise =
     IsDistinct-from_apart eqb ks (λ i j d before within.
     ne_eqb _ _ (λ same. omega
-      (arith, below_from_sorted ks i j d (sorted_from_strictly_increasing ks rise) before within)))
+    (arith, below_from_sorted ks i j d (sorted_from_strictly_increasing ks rise) before within)))
 
 -- the keys rise once they are sorted exactly where no two entries have one
 pub rise_where_apart : (es : List Entry) (sorted : List ℕ) → IsPermutation (keys_of es) sorted → IsSorted nat_cmp sorted
@@ -63,7 +63,7 @@ pub rise_where_apart : (es : List Entry) (sorted : List ℕ) → IsPermutation (
 rise_where_apart es sorted moved in_order = (
   λ rise. apart_from_distinct_keys es
       (IsDistinct-IsPermutation eqb eqb-flip sorted (keys_of es) (IsPermutation-sym (keys_of es) sorted moved)
-        (distinct_from_rising sorted rise)),
+      (distinct_from_rising sorted rise)),
   λ apart. IsStrictlyIncreasing-from_distinct sorted (IsNonDecreasingBy-from_sort (λ k. k) sorted in_order)
       (IsDistinct-IsPermutation eqb eqb-flip (keys_of es) sorted moved (distinct_from_apart es apart)),
 )

@@ -30,17 +30,17 @@ pub step_cases : (P : List Entry → Type 0) (capacity : ℕ) (es : List Entry) 
     → ((e : Entry) → entry_of a.key es ≡ Some e → P (put (raised e a.weight) (without a.key es)))
     → (entry_of a.key es ≡ None → length es < capacity → P (put (fresh a) es))
     → ((h : Entry) (rest : List Entry) → es ≡ h ∷ rest → entry_of a.key es ≡ None → capacity ≤ length es
-      → P (put (heir h a) rest))
+    → P (put (heir h a) rest))
     → P (step capacity es a)
 step_cases P capacity es a some there room full =
     (elim (entry_of a.key es) as (λ o. entry_of a.key es ≡ o → P (step_from o capacity es a)) [
       | None ↦ λ missing. cond_both (ltb (length es) capacity) (put (fresh a) es) (replace_head es a) P
           (λ less. room missing (ltb-true (length es) capacity less))
           (λ more.
-            replaced es (λ h rest is. full h rest is missing (ltb-false (length es) capacity more))
-              (λ none. let big : capacity
-                ≤ length es = ltb-false (length es) capacity more in
-                  let zero_length : length es ≡ 0 = ap length none in absurd (omega arith)))
+          replaced es (λ h rest is. full h rest is missing (ltb-false (length es) capacity more))
+          (λ none. let big : capacity
+          ≤ length es = ltb-false (length es) capacity more in
+          let zero_length : length es ≡ 0 = ap length none in absurd (omega arith)))
       | Some e ↦ λ found. there e found
     ]) refl
   where
@@ -55,7 +55,7 @@ pub total_count-step : (capacity : ℕ) (es : List Entry) (a : Add) → 1 ≤ ca
 total_count-step capacity es a some =
     step_cases (λ after. total_count after ≡ total_count es + a.weight) capacity es a some
     (λ e found.
-      omega (arith, total_count-put (raised e a.weight) (without a.key es), total_count-without a.key e es found))
+    omega (arith, total_count-put (raised e a.weight) (without a.key es), total_count-without a.key e es found))
     (λ _ _. omega (arith, total_count-put (fresh a) es))
     (λ h rest is _ _. omega (arith, total_count-put (heir h a) rest, total_count-cons h rest, ap total_count is))
 
@@ -94,11 +94,11 @@ facts_there capacity es a e facts found =
       ascending = RisesFrom-put 0 new rest (RisesFrom-without 0 a.key es facts.ascending) (omega arith);
       distinct =
           AreApart-put new rest (AreApart-without a.key es facts.distinct)
-            (ap (λ k. entry_of k rest) (key-entry_of a.key e es found)
-              ∙ entry_of-without_same a.key es facts.distinct);
+          (ap (λ k. entry_of k rest) (key-entry_of a.key e es found)
+          ∙ entry_of-without_same a.key es facts.distinct);
       small_errors =
           all-put (HasSmallError capacity (total_count es + a.weight)) new rest
-            (all-without _ a.key es facts.small_errors) (omega arith, small.1);
+          (all-without _ a.key es facts.small_errors) (omega arith, small.1);
     }
 
 facts_room : (capacity total : ℕ) (es : List Entry) (a : Add) → 1 ≤ a.weight → HasFacts capacity total es
@@ -119,12 +119,12 @@ facts_full capacity h rest a weighs facts missing full =
     let is_length : length (h ∷ rest) ≡ capacity = omega (arith, facts.fits) in
     let rises : RisesFrom h.count (h ∷ rest) = (omega arith, facts.ascending.1) in
     let product : h.count * capacity ≤ total_count (h ∷ rest) =
-      subst (λ n. h.count * n ≤ total_count (h ∷ rest)) is_length (least-times-length h.count (h ∷ rest) rises) in
+    subst (λ n. h.count * n ≤ total_count (h ∷ rest)) is_length (least-times-length h.count (h ∷ rest) rises) in
     record {
       fits = omega (arith, facts.fits, length-put (heir h a) rest);
       ascending =
           RisesFrom-put 0 (heir h a) rest (RisesFrom-less 0 h.count rest facts.ascending.1 (omega arith))
-            (omega arith);
+          (omega arith);
       distinct = AreApart-put (heir h a) rest facts.distinct.1 (missing_from_first a.key h rest missing).1;
       small_errors =
           all-put (HasSmallError capacity total) (heir h a) rest facts.small_errors.1 (omega arith, omega arith);
@@ -138,7 +138,7 @@ facts_step capacity es a some weighs facts =
     (λ e found. facts_there capacity es a e facts found)
     (λ missing room. facts_room capacity _ es a weighs facts missing room)
     (λ h rest is. (subst (λ l. HasFacts capacity (total_count l + a.weight) l → entry_of a.key l ≡ None → capacity
-      ≤ length l → HasFacts capacity (total_count l + a.weight) (put (heir h a) rest))
+    ≤ length l → HasFacts capacity (total_count l + a.weight) (put (heir h a) rest))
     (sym is) (facts_full capacity h rest a weighs)) facts)
 
 -- a step leaves a table
@@ -147,16 +147,16 @@ pub IsTable-step : (capacity : ℕ) (es : List Entry) (a : Add) → 1 ≤ capaci
 IsTable-step capacity es a some weighs table =
     let total = total_count es + a.weight in
     let grown =
-      small_error-grows capacity (total_count es) a.weight es
-        (recursion_from_All (HasSmallError capacity (total_count es)) es table.small_errors) in
+    small_error-grows capacity (total_count es) a.weight es
+    (recursion_from_All (HasSmallError capacity (total_count es)) es table.small_errors) in
     let facts =
-      facts_step capacity es a some weighs
-        (record {
-          fits = table.fits;
-          ascending = table.ascending;
-          distinct = table.distinct;
-          small_errors = grown;
-        }) in
+    facts_step capacity es a some weighs
+    (record {
+      fits = table.fits;
+      ascending = table.ascending;
+      distinct = table.distinct;
+      small_errors = grown;
+    }) in
     let errors = All-from_recursion (HasSmallError capacity total) (step capacity es a) facts.small_errors in
     record {
       fits = facts.fits;
@@ -164,7 +164,7 @@ IsTable-step capacity es a some weighs table =
       distinct = facts.distinct;
       small_errors =
           subst (λ n. All (HasSmallError capacity n) (step capacity es a))
-            (sym (total_count-step capacity es a some)) errors;
+          (sym (total_count-step capacity es a some)) errors;
     }
 
 -- no entries are a table
@@ -184,7 +184,7 @@ pub IsKept-step : (capacity room wider total : ℕ) (es after : List Entry) (a :
 IsKept-step capacity room wider total es after a kept weighs fits has_room is =
     let some : 1 ≤ capacity = omega (arith, kept.least) in
     let grew : total_count after ≡ total_count es + a.weight =
-      ap total_count is ∙ total_count-step capacity es a some in
+    ap total_count is ∙ total_count-step capacity es a some in
     record {
       least = kept.least;
       most = kept.most;

@@ -12,8 +12,8 @@ pub length-without : (key : ℕ) (e : Entry) (es : List Entry) → entry_of key 
 length-without key e [] found = cc
 length-without key e (f ∷ fs) found =
     (elim (eqb f.key key) as
-      (λ b. cond b (Some f) (entry_of key fs) ≡ Some e → length (cond b fs (f ∷ without key fs)) + 1
-      ≡ length (f ∷ fs)) [
+    (λ b. cond b (Some f) (entry_of key fs) ≡ Some e → length (cond b fs (f ∷ without key fs)) + 1
+    ≡ length (f ∷ fs)) [
       | true ↦ λ _. omega arith
       | false ↦ λ is. omega (arith, length-without key e fs is)
     ]) found
@@ -23,13 +23,13 @@ pub total_count-without : (key : ℕ) (e : Entry) (es : List Entry) → entry_of
 total_count-without key e [] found = cc
 total_count-without key e (f ∷ fs) found =
     (elim (eqb f.key key) as
-      (λ b. cond b (Some f) (entry_of key fs) ≡ Some e → e.count + total_count (cond b fs (f ∷ without key fs))
-      ≡ total_count (f ∷ fs)) [
+    (λ b. cond b (Some f) (entry_of key fs) ≡ Some e → e.count + total_count (cond b fs (f ∷ without key fs))
+    ≡ total_count (f ∷ fs)) [
       | true ↦ λ is.
-        let same : f ≡ e = cc in
-        ap (λ (g : Entry). g.count + total_count fs) (sym same) ∙ sym (total_count-cons f fs)
+          let same : f ≡ e = cc in
+          ap (λ (g : Entry). g.count + total_count fs) (sym same) ∙ sym (total_count-cons f fs)
       | false ↦ λ is.
-        omega (arith, total_count-cons f (without key fs), total_count-cons f fs, total_count-without key e fs is)
+          omega (arith, total_count-cons f (without key fs), total_count-cons f fs, total_count-without key e fs is)
     ]) found
 
 -- what is true of each entry is true of the one found
@@ -79,8 +79,8 @@ entry_of-without_other other key [] apart = refl
 entry_of-without_other other key (f ∷ fs) apart =
     cond_both (eqb f.key key) fs (f ∷ without key fs) (λ es. entry_of other es ≡ entry_of other (f ∷ fs))
     (λ yes.
-      sym (cond-false (eqb f.key other) (Some f) (entry_of other fs)
-        (ne_eqb f.key other (λ same. apart (sym (eqb-true f.key key yes) ∙ same)))))
+    sym (cond-false (eqb f.key other) (Some f) (entry_of other fs)
+    (ne_eqb f.key other (λ same. apart (sym (eqb-true f.key key yes) ∙ same)))))
     (λ _. ap (λ o. cond (eqb f.key other) (Some f) o) (entry_of-without_other other key fs apart))
 
 -- a key that was missing is still missing
@@ -89,14 +89,14 @@ pub missing-without : (other key : ℕ) (es : List Entry) → entry_of other es 
 missing-without other key [] missing = refl
 missing-without other key (f ∷ fs) missing =
     (elim (eqb f.key other) as
-      (λ b. eqb f.key other ≡ b → cond b (Some f) (entry_of other fs) ≡ None → entry_of other (without key (f ∷ fs))
-      ≡ None) [
+    (λ b. eqb f.key other ≡ b → cond b (Some f) (entry_of other fs) ≡ None → entry_of other (without key (f ∷ fs))
+    ≡ None) [
       | true ↦ λ _ is. cc
       | false ↦ λ no is. cond_both (eqb f.key key) fs (f ∷ without key fs) (λ es. entry_of other es ≡ None)
           (λ _. is)
           (λ _.
-            cond-false (eqb f.key other) (Some f) (entry_of other (without key fs)) no
-              ∙ missing-without other key fs is)
+          cond-false (eqb f.key other) (Some f) (entry_of other (without key fs)) no
+          ∙ missing-without other key fs is)
     ]) refl missing
 
 -- the key that was taken out is missing
@@ -106,7 +106,7 @@ entry_of-without_same key (f ∷ fs) apart =
     (elim (eqb f.key key) as (λ b. eqb f.key key ≡ b → entry_of key (cond b fs (f ∷ without key fs)) ≡ None) [
       | true ↦ λ yes. ap (λ k. entry_of k fs) (sym (eqb-true f.key key yes)) ∙ apart.0
       | false ↦ λ no.
-        cond-false (eqb f.key key) (Some f) (entry_of key (without key fs)) no
+          cond-false (eqb f.key key) (Some f) (entry_of key (without key fs)) no
           ∙ entry_of-without_same key fs apart.1
     ]) refl
 

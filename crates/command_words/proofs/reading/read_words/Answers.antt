@@ -24,11 +24,11 @@ returns-clause-exact c =
       one_fault = law.one_fault;
     } in
     tells_all reading (texts c.args.words.now) c.command_in.result
-      (IfOk-weaker c.command_in.result (AskFor (texts c.args.words.now)) _ (λ asked asks. (asked, asks))
-        c.command_in.ensures.ok)
+    (IfOk-weaker c.command_in.result (AskFor (texts c.args.words.now)) _ (λ asked asks. (asked, asks))
+    c.command_in.ensures.ok)
     c.command_in.ensures.bad
 
 pub returns-clause-limited : goal.returns-clause-limited
 returns-clause-limited c =
     IfOk-weaker c.command_in.result (AskFor (texts c.args.words.now)) IsLimited
-      (λ asked asks. asked_is_limited (texts c.args.words.now) asked asks) c.command_in.ensures.ok
+    (λ asked asks. asked_is_limited (texts c.args.words.now) asked asks) c.command_in.ensures.ok

@@ -22,10 +22,10 @@ returns-else-is_empty t c =
     let form = form_of c.args.command in let n = c.args.positionals in let words = c.args.words.now in (
       λ yes. absurd (false≢true (sym c.if-is_empty.false ∙ yes)),
       λ fits.
-        absurd (false≢true
+          absurd (false≢true
           (c.if-is_empty.ensures
-            ∙ (Decides-eqb _ 0).1
-              (no_words words (fit_none form n (texts words) c.in_default.ensures.none fits).0))),
+          ∙ (Decides-eqb _ 0).1
+          (no_words words (fit_none form n (texts words) c.in_default.ensures.none fits).0))),
     )
 
 pub returns-then-positionals-gt0 : goal.returns-then-positionals-gt0
@@ -53,7 +53,7 @@ returns-then-not-has_option t c =
     let is = sym (ap text_at c.in-Some-option.is) ∙ front.2 in (
       λ yes. absurd (false≢true yes),
       λ fits.
-        let behind = fit_option form n _ _ front.0 _ front.1 is fits in c.if-not-has_option.ensures.1 behind.known,
+          let behind = fit_option form n _ _ front.0 _ front.1 is fits in c.if-not-has_option.ensures.1 behind.known,
     )
 
 pub returns-then-stands : goal.returns-then-stands
@@ -63,8 +63,8 @@ returns-then-stands t c =
     let is = sym (ap text_at c.in-Some-option.is) ∙ front.2 in (
       λ yes. absurd (false≢true yes),
       λ fits.
-        let behind = fit_option form n _ _ front.0 _ front.1 is fits in
-        absurd (behind.apart ((c.if-stands.ensures behind.rest behind.fits.spelled).0 refl)),
+          let behind = fit_option form n _ _ front.0 _ front.1 is fits in
+          absurd (behind.apart ((c.if-stands.ensures behind.rest behind.fits.spelled).0 refl)),
     )
 
 pub returns : goal.returns
@@ -73,9 +73,9 @@ returns t c =
     let front = begins_range c.args.words.now c.in-Some.front.words _ c.in-Some.ensures.some in
     let is = sym (ap text_at c.in-Some-option.is) ∙ front.2 in (
       λ yes.
-        option_fits form n _ _ front.0 _ front.1 is (c.if-not-has_option.ensures.0 refl)
+          option_fits form n _ _ front.0 _ front.1 is (c.if-not-has_option.ensures.0 refl)
           (λ list spelled stands. false≢true ((c.if-stands.ensures list spelled).1 stands)) (c.fit-2.ensures.0 yes),
       λ fits.
-        let behind = fit_option form n _ _ front.0 _ front.1 is fits in
-        c.fit-2.ensures.1 (behind.rest, behind.fits),
+          let behind = fit_option form n _ _ front.0 _ front.1 is fits in
+          c.fit-2.ensures.1 (behind.rest, behind.fits),
     )

@@ -11,29 +11,32 @@ use Rattle.command_words.proofs.scanning.front_of.Goals as goal
 pub returns-in_default-clause-some : goal.returns-in_default-clause-some
 returns-in_default-clause-some c =
     given_if _ _ _ _ c.then_some.ensures
-    (λ test. (positional c.in_ok-word.word.now.now,
-      begins_positional _ _ _ c.in_ok-word.ensures.cases.0 (c.is_value.ensures.0 test), refl))
+    (λ test. (
+      positional c.in_ok-word.word.now.now,
+      begins_positional _ _ _ c.in_ok-word.ensures.cases.0 (c.is_value.ensures.0 test),
+      refl,
+    ))
 
 pub returns-in_default-clause-none : goal.returns-in_default-clause-none
 returns-in_default-clause-none c =
     none_unless _ _ _ _ c.then_some.ensures
     (λ fails.
-      no_positional_begins _ _ _ c.in_ok-word.ensures.cases.0 c.in_default.ensures.cases
-        (λ is_value. fails (c.is_value.ensures.1 is_value)))
+    no_positional_begins _ _ _ c.in_ok-word.ensures.cases.0 c.in_default.ensures.cases
+    (λ is_value. fails (c.is_value.ensures.1 is_value)))
 
 pub returns-in-Some-split_once-clause-some : goal.returns-in-Some-split_once-clause-some
 returns-in-Some-split_once-clause-some c =
     let name = c.in-Some-split_once.name.now in let value = c.in-Some-split_once.value.now in
     let stripped = c.in-Some.ensures.cases in
     let parts =
-      split_parts equals_sign c.in-Some.text.now (Some (c.in-Some-split_once.name, c.in-Some-split_once.value))
-        c.in-Some-split_once.ensures.cases (omega arith) in
+    split_parts equals_sign c.in-Some.text.now (Some (c.in-Some-split_once.name, c.in-Some-split_once.value))
+    c.in-Some-split_once.ensures.cases (omega arith) in
     given_if _ _ _ _ c.then_some-in-Some-split_once.ensures
     (λ test. (
       option name value,
       begins_joined _ _ _ name value c.in_ok-word.ensures.cases.0
-        (is_long _ _ _ stripped.1.1 stripped.2 ∙ ap long parts.0) (is_name name parts.1)
-        (c.is_value-in-Some-split_once.ensures.0 test),
+          (is_long _ _ _ stripped.1.1 stripped.2 ∙ ap long parts.0) (is_name name parts.1)
+          (c.is_value-in-Some-split_once.ensures.0 test),
       refl,
     ))
 
@@ -42,11 +45,11 @@ returns-in-Some-split_once-clause-none c =
     let name = c.in-Some-split_once.name.now in let value = c.in-Some-split_once.value.now in
     let stripped = c.in-Some.ensures.cases in
     let parts =
-      split_parts equals_sign c.in-Some.text.now (Some (c.in-Some-split_once.name, c.in-Some-split_once.value))
-        c.in-Some-split_once.ensures.cases (omega arith) in
+    split_parts equals_sign c.in-Some.text.now (Some (c.in-Some-split_once.name, c.in-Some-split_once.value))
+    c.in-Some-split_once.ensures.cases (omega arith) in
     none_unless _ _ _ _ c.then_some-in-Some-split_once.ensures
     (λ fails. no_joined_begins _ _ _ name value c.in_ok-word.ensures.cases.0
-      (is_long _ _ _ stripped.1.1 stripped.2 ∙ ap long parts.0) (is_name name parts.1)
+    (is_long _ _ _ stripped.1.1 stripped.2 ∙ ap long parts.0) (is_name name parts.1)
     (λ is_value. fails (c.is_value-in-Some-split_once.ensures.1 is_value)))
 
 pub returns-in_err-value-clause-none : goal.returns-in_err-value-clause-none
@@ -55,7 +58,7 @@ returns-in_err-value-clause-none c =
     let lacks = split_parts equals_sign c.in-Some.text.now None c.in_default-split_once.ensures.cases (omega arith) in
     none_given _ _ c.from_residual-in_err-value.ensures
     (no_apart_begins _ _ _ c.in-Some.text.now c.in_ok-word.ensures.cases.0 (is_long _ _ _ stripped.1.1 stripped.2)
-      (is_name _ lacks)
+    (is_name _ lacks)
     (λ value rest are is_value. none_behind _ c.in_err-value.ensures.cases value rest are))
 
 pub returns-clause-some : goal.returns-clause-some
@@ -66,7 +69,7 @@ returns-clause-some c =
     (λ test. (
       option c.in-Some.text.now c.in_ok-value.value.now.now,
       begins_apart _ _ _ _ _ c.in-Some.text.now c.in_ok-word.ensures.cases.0 c.in_ok-value.ensures.cases.0
-        (is_long _ _ _ stripped.1.1 stripped.2) (is_name _ lacks) (c.is_value-2.ensures.0 test),
+          (is_long _ _ _ stripped.1.1 stripped.2) (is_name _ lacks) (c.is_value-2.ensures.0 test),
       refl,
     ))
 
@@ -76,7 +79,7 @@ returns-clause-none c =
     let lacks = split_parts equals_sign c.in-Some.text.now None c.in_default-split_once.ensures.cases (omega arith) in
     none_unless _ _ _ _ c.then_some-2.ensures
     (λ fails. no_apart_begins _ _ _ c.in-Some.text.now c.in_ok-word.ensures.cases.0
-      (is_long _ _ _ stripped.1.1 stripped.2) (is_name _ lacks)
+    (is_long _ _ _ stripped.1.1 stripped.2) (is_name _ lacks)
     (λ value rest are is_value. fails
-      (c.is_value-2.ensures.1
-      (subst IsValue (sym (same_head _ _ _ _ (sym (ap texts c.in_ok-value.ensures.cases.0) ∙ are))) is_value))))
+    (c.is_value-2.ensures.1
+    (subst IsValue (sym (same_head _ _ _ _ (sym (ap texts c.in_ok-value.ensures.cases.0) ∙ are))) is_value))))

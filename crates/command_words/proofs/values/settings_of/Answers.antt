@@ -12,44 +12,44 @@ returns-in_err-weigh-clause-err c =
     let values = values_told c.args.matches.now in
     let p = err_from_is_err_and c.from_residual.result c.from_residual.ensures.1 in
     rw (p.1, p.2)
-      (choice_is_first values Weigh _ _ (sym c.text_of.ensures) (good_before_first values)
-        c.in_err-weigh.ensures.err)
+    (choice_is_first values Weigh _ _ (sym c.text_of.ensures) (good_before_first values)
+    c.in_err-weigh.ensures.err)
 
 pub returns-in_err-shards-clause-err : goal.returns-in_err-shards-clause-err
 returns-in_err-shards-clause-err c =
     let values = values_told c.args.matches.now in
     let before_shards =
-      good_before_next values Weigh _ (sym c.text_of.ensures) (good_before_first values)
-        (weigh_is_good _ _ c.in_ok-weigh.ensures.ok) in
+    good_before_next values Weigh _ (sym c.text_of.ensures) (good_before_first values)
+    (weigh_is_good _ _ c.in_ok-weigh.ensures.ok) in
     let p = err_from_is_err_and c.from_residual-in_err-shards.result c.from_residual-in_err-shards.ensures.1 in
     rw (p.1, p.2)
-      (number_is_first values Shards _ _ (sym c.text_of-2.ensures) before_shards c.in_err-shards.ensures.err)
+    (number_is_first values Shards _ _ (sym c.text_of-2.ensures) before_shards c.in_err-shards.ensures.err)
 
 pub returns-in_err-capacity-clause-err : goal.returns-in_err-capacity-clause-err
 returns-in_err-capacity-clause-err c =
     let values = values_told c.args.matches.now in
     let before_shards =
-      good_before_next values Weigh _ (sym c.text_of.ensures) (good_before_first values)
-        (weigh_is_good _ _ c.in_ok-weigh.ensures.ok) in
+    good_before_next values Weigh _ (sym c.text_of.ensures) (good_before_first values)
+    (weigh_is_good _ _ c.in_ok-weigh.ensures.ok) in
     let before_capacity =
-      good_before_next values Shards _ (sym c.text_of-2.ensures) before_shards
-        (number_is_good Shards 4 _ _ c.in_ok-shards.ensures.ok) in
+    good_before_next values Shards _ (sym c.text_of-2.ensures) before_shards
+    (number_is_good Shards 4 _ _ c.in_ok-shards.ensures.ok) in
     let p = err_from_is_err_and c.from_residual-in_err-capacity.result c.from_residual-in_err-capacity.ensures.1 in
     rw (p.1, p.2)
-      (number_is_first values Capacity _ _ (sym c.text_of-3.ensures) before_capacity c.in_err-capacity.ensures.err)
+    (number_is_first values Capacity _ _ (sym c.text_of-3.ensures) before_capacity c.in_err-capacity.ensures.err)
 
 pub returns-in_err-phi-clause-err : goal.returns-in_err-phi-clause-err
 returns-in_err-phi-clause-err c =
     let values = values_told c.args.matches.now in
     let before_shards =
-      good_before_next values Weigh _ (sym c.text_of.ensures) (good_before_first values)
-        (weigh_is_good _ _ c.in_ok-weigh.ensures.ok) in
+    good_before_next values Weigh _ (sym c.text_of.ensures) (good_before_first values)
+    (weigh_is_good _ _ c.in_ok-weigh.ensures.ok) in
     let before_capacity =
-      good_before_next values Shards _ (sym c.text_of-2.ensures) before_shards
-        (number_is_good Shards 4 _ _ c.in_ok-shards.ensures.ok) in
+    good_before_next values Shards _ (sym c.text_of-2.ensures) before_shards
+    (number_is_good Shards 4 _ _ c.in_ok-shards.ensures.ok) in
     let before_phi =
-      good_before_next values Capacity _ (sym c.text_of-3.ensures) before_capacity
-        (number_is_good Capacity 512 _ _ c.in_ok-capacity.ensures.ok) in
+    good_before_next values Capacity _ (sym c.text_of-3.ensures) before_capacity
+    (number_is_good Capacity 512 _ _ c.in_ok-capacity.ensures.ok) in
     let p = err_from_is_err_and c.from_residual-in_err-phi.result c.from_residual-in_err-phi.ensures.1 in
     rw (p.1, p.2) (number_is_first values Phi _ _ (sym c.text_of-4.ensures) before_phi c.in_err-phi.ensures.err)
 
@@ -57,16 +57,16 @@ pub returns-in_err-deal-clause-err : goal.returns-in_err-deal-clause-err
 returns-in_err-deal-clause-err c =
     let values = values_told c.args.matches.now in
     let before_shards =
-      good_before_next values Weigh _ (sym c.text_of.ensures) (good_before_first values)
-        (weigh_is_good _ _ c.in_ok-weigh.ensures.ok) in
+    good_before_next values Weigh _ (sym c.text_of.ensures) (good_before_first values)
+    (weigh_is_good _ _ c.in_ok-weigh.ensures.ok) in
     let before_capacity =
-      good_before_next values Shards _ (sym c.text_of-2.ensures) before_shards
-        (number_is_good Shards 4 _ _ c.in_ok-shards.ensures.ok) in
+    good_before_next values Shards _ (sym c.text_of-2.ensures) before_shards
+    (number_is_good Shards 4 _ _ c.in_ok-shards.ensures.ok) in
     let before_phi =
-      good_before_next values Capacity _ (sym c.text_of-3.ensures) before_capacity
-        (number_is_good Capacity 512 _ _ c.in_ok-capacity.ensures.ok) in
+    good_before_next values Capacity _ (sym c.text_of-3.ensures) before_capacity
+    (number_is_good Capacity 512 _ _ c.in_ok-capacity.ensures.ok) in
     let before_deal =
-      good_before_next values Phi _ (sym c.text_of-4.ensures) before_phi
-        (number_is_good Phi 10000 _ _ c.in_ok-phi.ensures.ok) in
+    good_before_next values Phi _ (sym c.text_of-4.ensures) before_phi
+    (number_is_good Phi 10000 _ _ c.in_ok-phi.ensures.ok) in
     let p = err_from_is_err_and c.from_residual-in_err-deal.result c.from_residual-in_err-deal.ensures.1 in
     rw (p.1, p.2) (choice_is_first values Deal _ _ (sym c.text_of-5.ensures) before_deal c.in_err-deal.ensures.err)

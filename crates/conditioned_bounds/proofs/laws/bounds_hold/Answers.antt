@@ -10,7 +10,7 @@ returns-clause-at_least c = λ low high prefix lines records distinct holds.
 pub returns-clause-at_most : goal.returns-clause-at_most
 returns-clause-at_most c = λ low high prefix lines records times whole distinct holds narrow.
     bound_of-most low high prefix lines records times whole
-      (c.weights_balance.ensures prefix lines records distinct) holds narrow
+    (c.weights_balance.ensures prefix lines records distinct) holds narrow
 
 pub returns-clause-exact : goal.returns-clause-exact
 returns-clause-exact c = λ low high prefix lines records distinct exact.
@@ -20,4 +20,4 @@ pub returns-clause-reached : goal.returns-clause-reached
 returns-clause-reached c = λ low high prefix lines records times whole least distinct holds narrow reached.
     times_reached times _ least (bound_of low high prefix lines) reached
     (bound_of-most low high prefix lines records times whole
-      (c.weights_balance.ensures prefix lines records distinct) holds narrow)
+    (c.weights_balance.ensures prefix lines records distinct) holds narrow)

@@ -32,17 +32,17 @@ pub loop-member-preserved : goal.loop-member-preserved
 loop-member-preserved c =
     let test = λ (member : PrefixValue). not (list_any (λ other. strictly_under member other) c.args.members.now) in
     let answer : list_any (λ other. strictly_under c.member-item.result other) c.args.members.now
-        ≡ c.is_under_another.result =
-      sym c.is_under_another.ensures in
+    ≡ c.is_under_another.result =
+    sym c.is_under_another.ensures in
     elim c.if-not-is_under_another.branch [
       | then-not-is_under_another+in_ok-push w ↦
           let passes : test c.member-item.result ≡ true = ap not (answer ∙ w.if-not-is_under_another.true) in
           w.tops-is ∙ w.in_ok-push.ensures.ok
           ∙ filter_more_yes test c.args.members.now c.loop-member.tops c.loop-member.member-index
-            c.member-item.result c.loop-member-test.true c.member-item.is passes c.loop-member.invariant
+          c.member-item.result c.loop-member-test.true c.member-item.is passes c.loop-member.invariant
       | else-not-is_under_another w ↦
           let fails : test c.member-item.result ≡ false = ap not (answer ∙ w.if-not-is_under_another.false) in
           w.tops-is
           ∙ filter_more_no test c.args.members.now c.loop-member.tops c.loop-member.member-index
-            c.member-item.result c.loop-member-test.true c.member-item.is fails c.loop-member.invariant
+          c.member-item.result c.loop-member-test.true c.member-item.is fails c.loop-member.invariant
     ]

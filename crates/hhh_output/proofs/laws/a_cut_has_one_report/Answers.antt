@@ -17,6 +17,6 @@ returns c = λ cut phi report other kept other_kept is other_is.
       threshold = threshold;
       lines =
           one_list cut report.threshold report.lines other.lines c.report_order_is_total.ensures.total
-            (record { falls = c.prefixes_are_ordered.ensures.level })
+          (record { falls = c.prefixes_are_ordered.ensures.level })
           (record { kept = kept; asked = is.lines }) other_makes;
     }

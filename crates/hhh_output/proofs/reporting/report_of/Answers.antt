@@ -19,7 +19,7 @@ invariant_of-result c =
     record {
       are_lines =
           lines_kept c.in_ok-merged.merged cut c.in_ok-merged.ensures c.only_prefixes_are_asked.ensures
-            c.threshold-threshold.result c.in_ok-lines.lines c.in_ok-lines.ensures
+          c.threshold-threshold.result c.in_ok-lines.lines c.in_ok-lines.ensures
           (λ prefix is_prefix. c.spans_are_narrow.ensures.within cut prefix c.positions.ensures.kept is_prefix);
     }
 
@@ -31,8 +31,8 @@ returns-clause-report c =
       threshold = c.threshold-threshold.ensures;
       lines =
           lines_of_cut c.in_ok-merged.merged c.args.cut.now c.in_ok-merged.ensures
-            c.only_prefixes_are_asked.ensures c.threshold-threshold.result c.in_ok-lines.lines
-            c.in_ok-lines.ensures;
+          c.only_prefixes_are_asked.ensures c.threshold-threshold.result c.in_ok-lines.lines
+          c.in_ok-lines.ensures;
     }
 
 pub returns-clause-sound : goal.returns-clause-sound
@@ -40,7 +40,7 @@ returns-clause-sound c = λ lists stands weighed.
     let cut = c.args.cut.now in
     c.reports_are_sound.ensures cut lists c.args.phi _ c.positions.ensures.kept stands weighed c.requires.wide
     (lines_kept c.in_ok-merged.merged cut c.in_ok-merged.ensures c.only_prefixes_are_asked.ensures
-      c.threshold-threshold.result c.in_ok-lines.lines c.in_ok-lines.ensures
+    c.threshold-threshold.result c.in_ok-lines.lines c.in_ok-lines.ensures
     (λ prefix is_prefix. c.spans_are_narrow.ensures.within cut prefix c.positions.ensures.kept is_prefix))
     (record {
       positions = c.in_ok-positions.ensures.positions;
@@ -48,5 +48,5 @@ returns-clause-sound c = λ lists stands weighed.
       threshold = c.threshold-threshold.ensures;
       lines =
           lines_of_cut c.in_ok-merged.merged cut c.in_ok-merged.ensures c.only_prefixes_are_asked.ensures
-            c.threshold-threshold.result c.in_ok-lines.lines c.in_ok-lines.ensures;
+          c.threshold-threshold.result c.in_ok-lines.lines c.in_ok-lines.ensures;
     })

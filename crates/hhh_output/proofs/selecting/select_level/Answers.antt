@@ -12,7 +12,7 @@ loop-place-preserved-then-level c =
     let node : NodeValue = c.unwrap-node.result in
     let place = c.loop-place.place in
     looks_past c.args.merged.now c.args.threshold c.args.reported.now c.args.level c.loop-place.found.items place
-      node c.loop-place.invariant
+    node c.loop-place.invariant
     (subst (λ found. IfSome found (λ n. n ≡ node_at place)) c.unwrap-node.ensures c.from_index.ensures.some)
     (subst (λ found. IfSome found (λ n. index_of n ≡ place)) c.unwrap-node.ensures c.from_index.ensures.back)
     (λ same. c.if-level.true (c.level.ensures.value ∙ same))
@@ -22,9 +22,9 @@ loop-place-preserved c =
     let node : NodeValue = c.unwrap-node.result in
     let place = c.loop-place.place in
     let is_node : IsNode node =
-      subst (λ found. IfSome found IsNode) c.unwrap-node.ensures c.from_index.ensures.is_node in
+    subst (λ found. IfSome found IsNode) c.unwrap-node.ensures c.from_index.ensures.is_node in
     looks_at c.args.merged.now c.args.threshold c.args.reported.now c.args.level c.loop-place.found.items place node
-      c.loop-place.invariant
+    c.loop-place.invariant
     (subst (λ found. IfSome found (λ n. n ≡ node_at place)) c.unwrap-node.ensures c.from_index.ensures.some)
     (subst (λ found. IfSome found (λ n. index_of n ≡ place)) c.unwrap-node.ensures c.from_index.ensures.back)
     (sym c.level.ensures.value ∙ c.if-level.false) c.select_at.new.found.items
@@ -41,11 +41,11 @@ returns c =
     } in
     let end : c.loop-place.place ≡ 25 = omega arith in
     level_sorted c.args.merged.now c.args.threshold c.args.reported.now c.args.level c.loop-place.found.items
-      c.sort_by.new.self.items order
+    c.sort_by.new.self.items order
     (subst
-      (LooksThrough c.args.merged.now c.args.threshold c.args.reported.now c.args.level c.loop-place.found.items)
-      end c.loop-place.invariant)
+    (LooksThrough c.args.merged.now c.args.threshold c.args.reported.now c.args.level c.loop-place.found.items)
+    end c.loop-place.invariant)
     c.sort_by.ensures.permutation
     (c.in_ok-sort_by.ensures.sorted (λ line other. is_lt (report_order line.prefix other.prefix))
-      (ranks_by order.total (λ (line : Line). line.prefix))
+    (ranks_by order.total (λ (line : Line). line.prefix))
     (answers_always _ _ _ (λ f a r after called. search rules)))

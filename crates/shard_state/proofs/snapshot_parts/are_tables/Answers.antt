@@ -16,7 +16,7 @@ loop-place-preserved c =
           (c.is_like.ensures.like.0 c.if-not-is_like.false) c.loop-place.invariant.alike;
       kept =
           more_places (λ _ t. AreEntries t.capacity t.entries) tables c.loop-place.place here (omega arith) read
-            c.is_like.ensures.kept c.loop-place.invariant.kept;
+          c.is_like.ensures.kept c.loop-place.invariant.kept;
     }
 
 pub returns-clause-tables : goal.returns-clause-tables

@@ -5,4 +5,4 @@ use Rattle.space_saving.proofs.places.place_of.Goals as goal
 pub returns-then-entry-key : goal.returns-then-entry-key
 returns-then-entry-key c =
     placed c.args.key c.args.entries.now c.loop-place.place _ (omega arith) c.if-entry-key.true
-      c.loop-place.invariant.still c.loop-place.invariant.passed
+    c.loop-place.invariant.still c.loop-place.invariant.passed

@@ -11,6 +11,6 @@ returns-clause-within c = λ key.
       nodes = c.self.inside.nodes.items;
     } in
     let within : c.from.result < length merged.nodes =
-      omega (arith, c.self.invariant.shape, c.index.ensures.few, c.from.ensures) in
+    omega (arith, c.self.invariant.shape, c.index.ensures.few, c.from.ensures) in
     rw (← c.self.view_is)
-      (within_merged merged c.from.result key c.index-2.result.now c.self.invariant within c.index-2.ensures)
+    (within_merged merged c.from.result key c.index-2.result.now c.self.invariant within c.index-2.ensures)

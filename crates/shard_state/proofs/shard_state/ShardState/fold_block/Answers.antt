@@ -18,8 +18,8 @@ count_in_tables-requires-clause-room c =
     let later : shard.position ≤ to = omega (arith, c.self.invariant.0.within) in
     let within : to ≤ length shard.list = omega arith in
     let HasRoom : List RecordValue → TableValue → Type 0 =
-      λ list t.
-        total_count t.entries + total_weight (take (to - inside.position) (drop inside.position list)) < 2 ^ 56 in
+    λ list t.
+    total_count t.entries + total_weight (take (to - inside.position) (drop inside.position list)) < 2 ^ 56 in
     subst (λ list. All (HasRoom list) c.deref_mut.result.now) (sym c.as_slice.ensures.value)
     (All-same (HasRoom inside.list) c.deref_mut.result.now (tables_of (snapshot_of shard)) (c.deref_mut.ensures.value ∙ c.self.invariant.1)
     (has_room shard to c.self.invariant.0 later within))

@@ -8,5 +8,5 @@ returns-clause-takes c = record {
   some = omega arith;
   advances =
       c.leave_header-stage.ensures.advances c.args.self.now.kept.first c.split_at.result.0.now c.add.ensures.first
-        (omega arith);
+      (omega arith);
 }
