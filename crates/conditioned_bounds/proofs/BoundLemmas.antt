@@ -6,6 +6,7 @@ use Rattle.std.proofs.lemmas.Int.{ints}
 use Rattle.std.proofs.lemmas.List.Elements.{All-nil, All-cons, All-head, All-tail, All-weaker}
 use Rattle.std.proofs.Math.Nat.{add-mul, mul_comm}
 use Rattle.prefix_lattice.specs.{RecordValue, PrefixValue, weight_of, closest, kept_pairs, conditioned_weight}
+use Rattle.prefix_lattice.specs.{Holds, IsNarrow}
 use Rattle.conditioned_bounds.specs.Bounds.{bound_of, asked_of, HoldWeights, AreNarrow, AreWeights}
 use Rattle.conditioned_bounds.proofs.WeightLemmas.{weights}
 use Rattle.conditioned_bounds.proofs.IntervalSumLemmas.{sum_by-mono, sum_by-same, sum_by-slack, high-slack}
@@ -44,8 +45,8 @@ each_part P p near meets all =
     }
 
 -- what one interval says of the weight
-abbrev Holds : (PrefixValue → ℕ) → (PrefixValue → ℕ) → List RecordValue → PrefixValue → Type 0
-Holds low high rs q = (low q ≤ weight_of q rs) × (weight_of q rs ≤ high q)
+abbrev HoldsAt : (PrefixValue → ℕ) → (PrefixValue → ℕ) → List RecordValue → PrefixValue → Type 0
+HoldsAt low high rs q = Holds (low q) (high q) (weight_of q rs)
 
 -- the bound is at least what is left
 pub bound_of-least : (low high : PrefixValue → ℕ) (p : PrefixValue) (lines : List PrefixValue) (rs : List RecordValue)
@@ -54,14 +55,14 @@ pub bound_of-least : (low high : PrefixValue → ℕ) (p : PrefixValue) (lines :
 bound_of-least low high p lines rs balance holds =
     let near = closest p lines in
     let meets = kept_pairs near in
-    let held = each_part (Holds low high rs) p near meets holds in
-    let top : weight_of p rs ≤ high p = held.top.1 in
+    let held = each_part (HoldsAt low high rs) p near meets holds in
+    let top : weight_of p rs ≤ high p = held.top.high in
     let ups : weights meets rs ≤ sum_by high meets =
     sum_by-mono (λ q. weight_of q rs) high meets
-    (All-weaker (Holds low high rs) (λ q. weight_of q rs ≤ high q) (λ q h. h.1) meets held.meets) in
+    (All-weaker (HoldsAt low high rs) (λ q. weight_of q rs ≤ high q) (λ q h. h.high) meets held.meets) in
     let downs : sum_by low near ≤ weights near rs =
     sum_by-mono low (λ q. weight_of q rs) near
-    (All-weaker (Holds low high rs) (λ q. low q ≤ weight_of q rs) (λ q h. h.0) near held.lines) in
+    (All-weaker (HoldsAt low high rs) (λ q. low q ≤ weight_of q rs) (λ q h. h.low) near held.lines) in
     omega (arith, ints)
 
 -- the bound over exact intervals is what is left
@@ -84,7 +85,7 @@ bound_of-exact low high p lines rs balance exact =
 
 -- what one narrow interval says of the weight
 abbrev HoldsNarrowly : (PrefixValue → ℕ) → (PrefixValue → ℕ) → ℕ → ℕ → List RecordValue → PrefixValue → Type 0
-HoldsNarrowly low high times whole rs q = (Holds low high rs q) × ((high q - low q) * times ≤ whole)
+HoldsNarrowly low high times whole rs q = HoldsAt low high rs q × IsNarrow (low q) (high q) times whole
 
 all_both : (P Q : PrefixValue → Type 0) (qs : List PrefixValue) → All P qs → All Q qs → All (λ q. P q × Q q) qs
 all_both P Q [] ps qs = All-nil (λ q. P q × Q q)
@@ -107,17 +108,17 @@ bound_of-most low high p lines rs times whole balance holds narrow =
     let narrowly = HoldsNarrowly low high times whole rs in
     let parts =
     each_part narrowly p near meets
-    (all_both (Holds low high rs) (λ q. (high q - low q) * times ≤ whole) (asked_of p lines) holds narrow) in
+    (all_both (HoldsAt low high rs) (λ q. IsNarrow (low q) (high q) times whole) (asked_of p lines) holds narrow) in
     let top : high p * times ≤ weight_of p rs * times + whole =
-    high-slack (low p) (high p) (weight_of p rs) times whole parts.top.0.0 parts.top.0.1 parts.top.1 in
+    high-slack (low p) (high p) (weight_of p rs) times whole parts.top.0.low parts.top.0.high parts.top.1 in
     let ups : sum_by high meets * times ≤ weights meets rs * times + length meets * whole =
     sum_by-slack high (λ q. weight_of q rs) times whole meets
     (All-weaker narrowly (λ q. high q * times ≤ weight_of q rs * times + whole)
-    (λ q h. high-slack (low q) (high q) (weight_of q rs) times whole h.0.0 h.0.1 h.1) meets parts.meets) in
+    (λ q h. high-slack (low q) (high q) (weight_of q rs) times whole h.0.low h.0.high h.1) meets parts.meets) in
     let downs : weights near rs * times ≤ sum_by low near * times + length near * whole =
     sum_by-slack (λ q. weight_of q rs) low times whole near
     (All-weaker narrowly (λ q. weight_of q rs * times ≤ low q * times + whole)
-    (λ q h. low-slack (low q) (high q) (weight_of q rs) times whole h.0.0 h.0.1 h.1) near parts.lines) in
+    (λ q h. low-slack (low q) (high q) (weight_of q rs) times whole h.0.low h.0.high h.1) near parts.lines) in
     let scaled : weight_of p rs * times + weights meets rs * times ≡ weights near rs * times + left * times =
     sym (add-mul (weight_of p rs) (weights meets rs) times) ∙ ap (λ n. n * times) balance
     ∙ add-mul (weights near rs) left times in

@@ -1,7 +1,7 @@
 -- Worked examples of the definitions, most by computing.
 use Rattle.std.proofs.Common.{◌≡◌, ℕ, ◌-◌, ◌*◌, ◌≤◌, cond, List, [], ◌∷◌, refl, pos, negsuc, arith}
 use Rattle.std.proofs.lemmas.List.Elements.{All-from_recursion}
-use Rattle.prefix_lattice.specs.{RecordValue, PrefixValue, covers, weight_of, conditioned_weight}
+use Rattle.prefix_lattice.specs.{RecordValue, PrefixValue, covers, weight_of, conditioned_weight, Holds, IsNarrow}
 use Rattle.conditioned_bounds.specs.Bounds.{bound_of, asked_of, HoldWeights, AreNarrow, AreWeights}
 
 -- 9 bytes from 10.1.1.1 to 20.1.1.1
@@ -49,23 +49,21 @@ asks_the_prefix_and_its_line = refl
 pub wide_intervals_hold_the_weights : HoldWeights (where_covered 7) (where_covered 11) (packet ∷ [])
     (asked_of root stairs)
 wide_intervals_hold_the_weights =
-    let within : (7 ≤ 9) × (9 ≤ 11) = (omega arith, omega arith) in
+    let within : Holds 7 11 9 = record { low = omega arith; high = omega arith } in
     All-from_recursion
-    (λ prefix.
-    (where_covered 7 prefix ≤ weight_of prefix (packet ∷ []))
-    × (weight_of prefix (packet ∷ []) ≤ where_covered 11 prefix))
+    (λ prefix. Holds (where_covered 7 prefix) (where_covered 11 prefix) (weight_of prefix (packet ∷ [])))
     (asked_of root stairs) (within, (within, (within, (within, (within, (within, tt))))))
 
 pub intervals_up_to_8_do_not_hold_a_weight_of_9 : ¬ HoldWeights (where_covered 7) (where_covered 8) (packet ∷ [])
     (root ∷ [])
 intervals_up_to_8_do_not_hold_a_weight_of_9 held =
-    let most : 9 ≤ 8 = (held 0 root (omega arith)).1 in omega (arith, most)
+    let most : 9 ≤ 8 = (held 0 root (omega arith)).high in omega (arith, most)
 
 -- four wide, twice, is at most nine
 pub wide_intervals_are_narrow_for_two_entries : AreNarrow (where_covered 7) (where_covered 11) 2 9 (root ∷ stairs)
 wide_intervals_are_narrow_for_two_entries =
     let narrow : 8 ≤ 9 = omega arith in
-    All-from_recursion (λ prefix. (where_covered 11 prefix - where_covered 7 prefix) * 2 ≤ 9) (root ∷ stairs)
+    All-from_recursion (λ prefix. IsNarrow (where_covered 7 prefix) (where_covered 11 prefix) 2 9) (root ∷ stairs)
     (narrow, (narrow, (narrow, (narrow, tt))))
 
 pub and_too_wide_for_three : ¬ AreNarrow (where_covered 7) (where_covered 11) 3 9 (root ∷ stairs)

@@ -1,6 +1,6 @@
 -- Bounds on conditioned weights, from intervals that hold weights (Mitzenmacher, Steinke, Thaler 2012).
-use Rattle.std.specs.Prelude.{ℕ, ◌≡◌, ◌+◌, ◌-◌, ◌*◌, ◌≤◌, List, ◌∷◌, ◌++◌, All, sum_by, ℤ, pos, ◌-ℤ◌}
-use Rattle.prefix_lattice.specs.{RecordValue, PrefixValue, weight_of, closest, kept_pairs}
+use Rattle.std.specs.Prelude.{ℕ, ◌≡◌, ◌+◌, List, ◌∷◌, ◌++◌, All, sum_by, ℤ, pos, ◌-ℤ◌}
+use Rattle.prefix_lattice.specs.{RecordValue, PrefixValue, weight_of, closest, kept_pairs, Holds, IsNarrow}
 
 -- the bound of a prefix over some lines: its high and the highs of the meets of its closest lines' kept pairs,
 -- less the lows of those lines
@@ -15,11 +15,11 @@ asked_of prefix lines = prefix ∷ (closest prefix lines ++ kept_pairs (closest 
 -- the weight of each of these prefixes over some records is between its low and its high
 abbrev pub HoldWeights : (PrefixValue → ℕ) → (PrefixValue → ℕ) → List RecordValue → List PrefixValue → Type 0
 HoldWeights low high records asked =
-    All (λ prefix. (low prefix ≤ weight_of prefix records) × (weight_of prefix records ≤ high prefix)) asked
+    All (λ prefix. Holds (low prefix) (high prefix) (weight_of prefix records)) asked
 
 -- for each of these prefixes, the width of its interval times this number is at most this whole
 abbrev pub AreNarrow : (PrefixValue → ℕ) → (PrefixValue → ℕ) → ℕ → ℕ → List PrefixValue → Type 0
-AreNarrow low high times whole asked = All (λ prefix. (high prefix - low prefix) * times ≤ whole) asked
+AreNarrow low high times whole asked = All (λ prefix. IsNarrow (low prefix) (high prefix) times whole) asked
 
 -- the low and the high of each of these prefixes are its weight over some records
 abbrev pub AreWeights : (PrefixValue → ℕ) → (PrefixValue → ℕ) → List RecordValue → List PrefixValue → Type 0

@@ -12,7 +12,7 @@ use Rattle.prefix_lattice.specs.{weight_of}
 use Rattle.space_saving.specs.declared.entry.Entry.{Entry}
 use Rattle.space_saving.specs.{TableValue, entry_of, interval_in, interval_from, total_count, IsTable}
 use Rattle.shard_state.specs.{SnapshotValue, IsSnapshot, table_at, total_of, SnapshotStandsFor, CutValue, IsCut}
-use Rattle.shard_state.specs.{positions_of, total_of_cut, CutStandsFor, records_before, Holds, interval_of}
+use Rattle.shard_state.specs.{positions_of, total_of_cut, CutStandsFor, records_before, HoldsNarrowly, interval_of}
 use Rattle.cut_merge.specs.Tables.{merged_interval, table_keys}
 use Rattle.cut_merge.specs.Span.{node_tables, span, monitored_at, IsWithinTotal}
 use Rattle.prefix_lattice.proofs.ListLemmas.{Contains-head, Contains-tail}
@@ -32,7 +32,7 @@ pub record SnapshotsHold : Type 0 where
   pub weight : (snapshot : SnapshotValue) (list : List RecordValue) (prefix : PrefixValue)
       → SnapshotStandsFor snapshot list → 1 ≤ snapshot.capacity
       → IsPrefix prefix → All (λ (rec : RecordValue). 1 ≤ rec.weight) list
-      → Holds (interval_of prefix snapshot) snapshot.capacity (weight_of prefix (take snapshot.position list))
+      → HoldsNarrowly (interval_of prefix snapshot) snapshot.capacity (weight_of prefix (take snapshot.position list))
       (total_of snapshot)
 
 -- each record has a weight
@@ -44,20 +44,19 @@ shards_hold : SnapshotsHold → (capacity : ℕ) (prefix : PrefixValue) → 1 �
     → (shards : List SnapshotValue) (lists : List (List RecordValue))
     → All (λ (s : SnapshotValue). s.capacity ≡ capacity) shards → AllZip SnapshotStandsFor shards lists
     → All Weighed lists
-    → Holds (merged_interval (map (table_at (node_of prefix)) shards) (key_of prefix)) capacity
+    → HoldsNarrowly (merged_interval (map (table_at (node_of prefix)) shards) (key_of prefix)) capacity
     (weight_of prefix (records_before lists (map (λ (s : SnapshotValue). s.position) shards))) (sum_by total_of shards)
 shards_hold law capacity prefix some is_prefix [] [] alike stand weighed = record {
-  low = omega arith;
-  high = omega arith;
-  width = omega arith;
+  holds = record { low = omega arith; high = omega arith };
+  narrow = omega arith;
 }
 shards_hold law capacity prefix some is_prefix [] (list ∷ lists) alike stand weighed = absurd stand
 shards_hold law capacity prefix some is_prefix (shard ∷ shards) [] alike stand weighed = absurd stand
 shards_hold law capacity prefix some is_prefix (shard ∷ shards) (list ∷ lists) alike stand weighed =
     let same : shard.capacity ≡ capacity = All-head (λ (s : SnapshotValue). s.capacity ≡ capacity) shard shards alike in
-    let first : Holds (interval_of prefix shard) capacity (weight_of prefix (take shard.position list))
+    let first : HoldsNarrowly (interval_of prefix shard) capacity (weight_of prefix (take shard.position list))
     (total_of shard) =
-    subst (λ m. Holds (interval_of prefix shard) m (weight_of prefix (take shard.position list)) (total_of shard)) same
+    subst (λ m. HoldsNarrowly (interval_of prefix shard) m (weight_of prefix (take shard.position list)) (total_of shard)) same
     (law.weight shard list prefix stand.0 (omega (arith, same)) is_prefix (All-head Weighed list lists weighed)) in
     let rest =
     shards_hold law capacity prefix some is_prefix shards lists
@@ -75,19 +74,18 @@ shards_hold law capacity prefix some is_prefix (shard ∷ shards) (list ∷ list
     let least : (merged_interval (table ∷ tables) key).low
     ≤ weight_of prefix
     (take shard.position list ++ records_before lists (map (λ (s : SnapshotValue). s.position) shards)) =
-    omega (arith, low, weight, first.low, rest.low) in
+    omega (arith, low, weight, first.holds.low, rest.holds.low) in
     let most : weight_of prefix
     (take shard.position list ++ records_before lists (map (λ (s : SnapshotValue). s.position) shards))
     ≤ (merged_interval (table ∷ tables) key).high =
-    omega (arith, high, weight, first.high, rest.high) in
+    omega (arith, high, weight, first.holds.high, rest.holds.high) in
     let first_ordered : (interval_of prefix shard).low ≤ (interval_of prefix shard).high =
-    omega (arith, first.low, first.high) in
+    omega (arith, first.holds.low, first.holds.high) in
     let rest_ordered : (merged_interval tables key).low ≤ (merged_interval tables key).high =
-    omega (arith, rest.low, rest.high) in
+    omega (arith, rest.holds.low, rest.holds.high) in
     record {
-      low = least;
-      high = most;
-      width =
+      holds = record { low = least; high = most };
+      narrow =
           let apart : (merged_interval (table ∷ tables) key).high - (merged_interval (table ∷ tables) key).low
           ≡ ((interval_of prefix shard).high - (interval_of prefix shard).low)
           + ((merged_interval tables key).high - (merged_interval tables key).low) =
@@ -96,8 +94,8 @@ shards_hold law capacity prefix some is_prefix (shard ∷ shards) (list ∷ list
           (omega (
             arith,
             total,
-            first.width,
-            rest.width,
+            first.narrow,
+            rest.narrow,
             add-mul ((interval_of prefix shard).high - (interval_of prefix shard).low)
                 ((merged_interval tables key).high - (merged_interval tables key).low) capacity,
           ));
@@ -106,7 +104,7 @@ shards_hold law capacity prefix some is_prefix (shard ∷ shards) (list ∷ list
 -- where a cut stands for lists, the span of each prefix holds its weight
 pub span_holds : SnapshotsHold → (cut : CutValue) (lists : List (List RecordValue)) (prefix : PrefixValue)
     → IsCut cut → CutStandsFor cut lists → All Weighed lists → IsPrefix prefix
-    → Holds (span cut prefix) cut.capacity (weight_of prefix (records_before lists (positions_of cut)))
+    → HoldsNarrowly (span cut prefix) cut.capacity (weight_of prefix (records_before lists (positions_of cut)))
     (total_of_cut cut)
 span_holds law cut lists prefix kept stands weighed is_prefix =
     shards_hold law cut.capacity prefix (omega (arith, kept.least)) is_prefix cut.shards lists kept.alike

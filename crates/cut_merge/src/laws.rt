@@ -2,7 +2,7 @@
 
 ghost use Rattle.std.specs.Prelude.{◌≡◌, ◌≢◌, ℕ, ◌*◌, ◌^◌, ◌<◌, ◌≤◌, List, length, All, AllPairs, Contains};
 ghost use Rattle.prefix_lattice.specs.{RecordValue, NodeValue, IsNode, PrefixValue, IsPrefix, node_of, key_of, weight_of, total_weight, IsKeyOf};
-ghost use Rattle.shard_state.specs.{CutValue, IsCut, positions_of, total_of_cut, CutStandsFor, records_before, Holds};
+ghost use Rattle.shard_state.specs.{CutValue, IsCut, positions_of, total_of_cut, CutStandsFor, records_before, HoldsNarrowly};
 ghost use Rattle.cut_merge.specs.Span.{node_tables, span, monitored_at, IsWithinTotal};
 ghost use Rattle.cut_merge.specs.Merged.{IsBounded};
 
@@ -14,7 +14,7 @@ use space_saving::intervals_are_narrow;
 pub fn spans_hold_weights()
     ensures { (cut : CutValue) (lists : List (List RecordValue)) (prefix : PrefixValue) → IsCut cut → CutStandsFor cut lists
         → All (λ list. All (λ rec. 1 ≤ rec.weight) list) lists → IsPrefix prefix
-        → Holds (span cut prefix) cut.capacity (weight_of prefix (records_before lists (positions_of cut))) (total_of_cut cut) }
+        → HoldsNarrowly (span cut prefix) cut.capacity (weight_of prefix (records_before lists (positions_of cut))) (total_of_cut cut) }
 {
     snapshots_hold_weights();
 }

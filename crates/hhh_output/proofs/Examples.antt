@@ -15,7 +15,7 @@ use Rattle.shard_state.specs.{fold_from, no_entries, empty_snapshot, CutValue}
 use Rattle.cut_merge.specs.{monitored_keys}
 use Rattle.hhh_output.specs.Lines.{prefixes_of, AreLines}
 use Rattle.hhh_output.specs.Report.{IsMonitored, low_in, high_in, IsUnexplained, IsLineOf, IsReportOf, AreSame}
-use Rattle.hhh_output.specs.SoundReport.{HoldsWeight, IsNarrow, IsJustified, IsSound}
+use Rattle.hhh_output.specs.SoundReport.{HoldsWeight, IsNarrowLine, IsJustified, IsSound}
 use Rattle.hhh_output.specs.Threshold.{IsHeavy, IsThreshold, million, IsWideShare}
 use Rattle.hhh_output.specs.declared.line.Line.{Line}
 use Rattle.hhh_output.specs.declared.report.Report.{Report}
@@ -78,7 +78,7 @@ weight_that_is_held =
     let weight : weight_of prefix (packet ∷ []) ≡ 100 = refl in
     record { low = omega (arith, weight); high = omega (arith, weight) }
 
-pub narrow_line : IsNarrow 512 100 line
+pub narrow_line : IsNarrowLine 512 100 line
 narrow_line = omega arith
 
 -- what the line explains is no longer told of its ancestors
@@ -312,7 +312,7 @@ told_is_sound = record {
       All-cons (HoldsWeight (packet ∷ [])) own []
       (record { low = omega (arith, weight); high = omega (arith, weight) })
       (All-nil (HoldsWeight (packet ∷ [])));
-  width = All-cons (IsNarrow 4 100) own [] (omega arith) (All-nil (IsNarrow 4 100));
+  width = All-cons (IsNarrowLine 4 100) own [] (omega arith) (All-nil (IsNarrowLine 4 100));
   heavy = All-cons (λ (line : Line). 1 ≤ line.hi) own [] (omega arith) (All-nil (λ (line : Line). 1 ≤ line.hi));
   justified =
       All-cons (IsJustified 4 1 (whole ∷ []) (packet ∷ [])) own [] justified_by_its_weight

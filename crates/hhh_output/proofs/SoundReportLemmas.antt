@@ -13,9 +13,9 @@ use Rattle.std.specs.declared.cmp.Ordering.TheVariants.{Less}
 use Rattle.std.specs.Cmp.{IsTotalOrder}
 use Rattle.prefix_lattice.specs.{RecordValue, PrefixValue, IsPrefix, covers, node_of, key_of, weight_of}
 use Rattle.prefix_lattice.specs.{total_weight, report_order, lines_under, one_covers, conditioned_weight, closest}
-use Rattle.prefix_lattice.specs.{kept_pairs}
+use Rattle.prefix_lattice.specs.{kept_pairs, Holds, IsNarrow}
 use Rattle.shard_state.specs.{SnapshotValue, SnapshotStandsFor, CutValue, positions_of, total_of_cut, CutStandsFor}
-use Rattle.shard_state.specs.{records_before, Holds}
+use Rattle.shard_state.specs.{records_before, HoldsNarrowly}
 use Rattle.cut_merge.specs.{span, monitored_at}
 use Rattle.conditioned_bounds.specs.{bound_of, asked_of, HoldWeights, AreNarrow}
 use Rattle.hhh_output.specs.declared.line.Line.{Line}
@@ -23,7 +23,7 @@ use Rattle.hhh_output.specs.declared.report.Report.{Report}
 use Rattle.hhh_output.specs.Threshold.{IsThreshold}
 use Rattle.hhh_output.specs.Lines.{prefixes_of, AreLines}
 use Rattle.hhh_output.specs.Report.{IsMonitored, low_in, high_in, IsLineOf, IsReportOf}
-use Rattle.hhh_output.specs.SoundReport.{HoldsWeight, IsNarrow, IsJustified, IsSound}
+use Rattle.hhh_output.specs.SoundReport.{HoldsWeight, IsNarrowLine, IsJustified, IsSound}
 use Rattle.prefix_lattice.proofs.ListLemmas.{AllPairs-head, AllPairs-tail, Contains-head, Contains-tail}
 use Rattle.prefix_lattice.proofs.ListLemmas.{Contains-cons, Contains-nil}
 use Rattle.hhh_output.proofs.OneReportLemmas.{Before, before-apart}
@@ -33,7 +33,7 @@ pub record CutHolds (cut : CutValue) (lists : List (List RecordValue)) : Type 0 
   pub order : IsTotalOrder report_order
   pub stands : CutStandsFor cut lists
   pub spans : (prefix : PrefixValue) → IsPrefix prefix
-      → Holds (span cut prefix) cut.capacity (weight_of prefix (records_before lists (positions_of cut)))
+      → HoldsNarrowly (span cut prefix) cut.capacity (weight_of prefix (records_before lists (positions_of cut)))
       (total_of_cut cut)
   pub light : (prefix : PrefixValue) → IsPrefix prefix → ¬ IsMonitored cut prefix
       → (span cut prefix).high * cut.capacity ≤ total_of_cut cut
@@ -143,8 +143,8 @@ hold_asked : (cut : CutValue) (lists : List (List RecordValue)) → CutHolds cut
     → HoldWeights (low_in cut) (high_in cut) (records_before lists (positions_of cut)) (asked_of prefix lines)
 hold_asked cut lists holds prefix lines is_prefix are_prefixes =
     let records = records_before lists (positions_of cut) in
-    All-weaker IsPrefix (λ p. (low_in cut p ≤ weight_of p records) × (weight_of p records ≤ high_in cut p))
-    (λ p is. ((holds.spans p is).low, (holds.spans p is).high)) (asked_of prefix lines)
+    All-weaker IsPrefix (λ p. Holds (low_in cut p) (high_in cut p) (weight_of p records))
+    (λ p is. (holds.spans p is).holds) (asked_of prefix lines)
     (holds.asked prefix lines is_prefix are_prefixes)
 
 narrow_asked : (cut : CutValue) (lists : List (List RecordValue)) → CutHolds cut lists
@@ -153,8 +153,8 @@ narrow_asked : (cut : CutValue) (lists : List (List RecordValue)) → CutHolds c
     (asked_of prefix lines)
 narrow_asked cut lists holds prefix lines is_prefix are_prefixes =
     All-weaker IsPrefix
-    (λ p. (high_in cut p - low_in cut p) * cut.capacity ≤ total_weight (records_before lists (positions_of cut)))
-    (λ p is. subst (λ n. (high_in cut p - low_in cut p) * cut.capacity ≤ n) holds.total (holds.spans p is).width)
+    (λ p. IsNarrow (low_in cut p) (high_in cut p) cut.capacity (total_weight (records_before lists (positions_of cut))))
+    (λ p is. subst (IsNarrow (low_in cut p) (high_in cut p) cut.capacity) holds.total (holds.spans p is).narrow)
     (asked_of prefix lines) (holds.asked prefix lines is_prefix are_prefixes)
 
 -- the report of a cut, the lists that it stands for, and what holds of both
@@ -185,9 +185,9 @@ left_out cut lists phi report reports prefix is_prefix missing =
           reports.is_report.threshold
           (subst (λ n. high_in cut prefix * cut.capacity ≤ n) (sym reports.is_report.total)
           (holds.light prefix is_prefix unknown)) in
-          omega (arith, light, few, span_holds.high)
+          omega (arith, light, few, span_holds.holds.high)
       | inl monitored ↦ elim (cases_lt (high_in cut prefix) report.threshold) [
-        | inl light ↦ omega (arith, light, few, span_holds.high)
+        | inl light ↦ omega (arith, light, few, span_holds.holds.high)
         | inr heavy ↦ elim (cases_lt (high_in cut prefix + sum_by (high_in cut) (kept_pairs (closest prefix lines)))
             (report.threshold + sum_by (low_in cut) (closest prefix lines))) [
               | inl explained ↦
@@ -219,7 +219,7 @@ left_out cut lists phi report reports prefix is_prefix missing =
     holds : CutHolds cut lists
     holds = reports.holds
 
-    span_holds : Holds (span cut prefix) cut.capacity (weight_of prefix records) (total_of_cut cut)
+    span_holds : HoldsNarrowly (span cut prefix) cut.capacity (weight_of prefix records) (total_of_cut cut)
     span_holds = holds.spans prefix is_prefix
 
     few : conditioned_weight prefix lines records ≤ weight_of prefix records
@@ -256,13 +256,13 @@ report_is_sound cut lists phi report reports =
           (each_line (HoldsWeight records) report.lines (λ line there.
           let l = line_of line there in
           let span_holds = holds.spans line.prefix l.is_prefix in
-          record { low = omega (arith, l.low, span_holds.low); high = omega (arith, l.high, span_holds.high) }));
-      width = each_line (IsNarrow cut.capacity report.total) report.lines (λ line there.
+          record { low = omega (arith, l.low, span_holds.holds.low); high = omega (arith, l.high, span_holds.holds.high) }));
+      width = each_line (IsNarrowLine cut.capacity report.total) report.lines (λ line there.
           let l = line_of line there in
           subst (λ n. (n - line.lo) * cut.capacity ≤ report.total) (sym l.high)
           (subst (λ n. (high_in cut line.prefix - n) * cut.capacity ≤ report.total) (sym l.low)
           (subst (λ n. (high_in cut line.prefix - low_in cut line.prefix) * cut.capacity ≤ n) (sym is.total)
-          (holds.spans line.prefix l.is_prefix).width)));
+          (holds.spans line.prefix l.is_prefix).narrow)));
       heavy = each_line (λ line. report.threshold ≤ line.hi) report.lines (λ line there. (line_of line there).heavy);
       justified =
           subst (λ rs. All (IsJustified cut.capacity report.threshold (prefixes_of report.lines) rs) report.lines)

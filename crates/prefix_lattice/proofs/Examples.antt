@@ -12,6 +12,7 @@ use Rattle.prefix_lattice.specs.Lattice.{under, same_prefix, strictly_under, lon
 use Rattle.prefix_lattice.specs.Lattice.{ShareAddresses, report_order}
 use Rattle.prefix_lattice.proofs.MeetLemmas.{meet-some}
 use Rattle.prefix_lattice.specs.Limits.{most_records, most_shards, total_limit}
+use Rattle.prefix_lattice.specs.Interval.{Holds, IsNarrow}
 
 -- 100 bytes from 10.1.2.3 to 20.1.2.3
 abbrev pub packet : RecordValue
@@ -249,3 +250,18 @@ records_are_few = refl
 -- the least that the records of all shards stay below
 pub limit_of_a_total : most_shards * (most_records * 2 ^ 32) ≡ total_limit
 limit_of_a_total = refl
+
+-- ---- intervals
+
+pub weight_within : Holds 4 6 5
+weight_within = record { low = omega arith; high = omega arith }
+
+pub weight_above : Holds 4 5 6 → ⊥
+weight_above holds = omega (arith, holds.high)
+
+-- an interval that is 2 wide is narrow for three entries of a table with a total of 6, not for four
+pub width_for_three_entries : IsNarrow 4 6 3 6
+width_for_three_entries = omega arith
+
+pub too_wide_for_four : IsNarrow 4 6 4 6 → ⊥
+too_wide_for_four narrow = omega (arith, narrow)

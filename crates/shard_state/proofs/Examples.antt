@@ -7,7 +7,7 @@ use Rattle.space_saving.specs.{TableValue, HasSmallError}
 use Rattle.shard_state.specs.Snapshot.{adds_of, records_table, fold_at, fold_from, HasKeysOf, IsTableAt, fold_table}
 use Rattle.shard_state.specs.Snapshot.{fold_tables, no_entries, empty_snapshot, entries_at, total_of}
 use Rattle.shard_state.specs.ShardState.{ShardValue, IsShard, folded, snapshot_of}
-use Rattle.shard_state.specs.Weights.{Holds, HoldsWeightOver, interval_over, interval_of}
+use Rattle.shard_state.specs.Weights.{HoldsNarrowly, HoldsWeightOver, interval_over, interval_of}
 use Rattle.shard_state.proofs.EmptyTableLemmas.{IsSnapshot-empty}
 use Rattle.shard_state.proofs.ShardStateLemmas.{begun}
 
@@ -128,11 +128,11 @@ unfolding no_entries
 interval_in_a_snapshot = refl
 
 pub five_are_held : HoldsWeightOver 4 from_one first
-five_are_held = record { low = omega arith; high = omega arith; width = omega arith }
+five_are_held = record { holds = record { low = omega arith; high = omega arith }; narrow = omega arith }
 
 -- 2 times 4 is more than 6
-pub interval_that_is_too_wide : Holds (record { low = 4; high = 6 }) 4 5 6 → ⊥
-interval_that_is_too_wide holds = omega (arith, holds.width)
+pub interval_that_is_too_wide : HoldsNarrowly (record { low = 4; high = 6 }) 4 5 6 → ⊥
+interval_that_is_too_wide holds = omega (arith, holds.narrow)
 
-pub interval_beside_the_weight : Holds (record { low = 4; high = 5 }) 4 6 6 → ⊥
-interval_beside_the_weight holds = omega (arith, holds.high)
+pub interval_beside_the_weight : HoldsNarrowly (record { low = 4; high = 5 }) 4 6 6 → ⊥
+interval_beside_the_weight holds = omega (arith, holds.holds.high)

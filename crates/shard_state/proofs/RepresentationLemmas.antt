@@ -10,7 +10,7 @@ use Rattle.space_saving.specs.{Interval, interval_in, total_count}
 use Rattle.shard_state.specs.Snapshot.{records_table, fold_at, SnapshotValue, IsSnapshot, empty_snapshot, entries_at, total_of, SnapshotStandsFor}
 use Rattle.shard_state.specs.Cut.{CutValue, IsCut, positions_of, total_of_cut, CutStandsFor, records_before}
 use Rattle.shard_state.specs.ShardState.{ShardValue, snapshot_of}
-use Rattle.shard_state.specs.Weights.{Holds, HoldsWeightOver, interval_of}
+use Rattle.shard_state.specs.Weights.{HoldsNarrowly, HoldsWeightOver, interval_of}
 use Rattle.prefix_lattice.proofs.NodePlaceLemmas.{IsNode-node_at, index_of-node_at}
 use Rattle.shard_state.proofs.EmptyTableLemmas.{none_at, length-no_entries}
 use Rattle.shard_state.proofs.TableFoldLemmas.{fold_at-append, entries_at-advanced, length-fold_from}
@@ -51,15 +51,15 @@ total_stands snapshot list hold stands some =
 pub weight_stands : (snapshot : SnapshotValue) (list : List RecordValue) (prefix : PrefixValue) → TablesHold
     → SnapshotStandsFor snapshot list → 1 ≤ snapshot.capacity
     → IsPrefix prefix → All (λ (r : RecordValue). 1 ≤ r.weight) list
-    → Holds (interval_of prefix snapshot) snapshot.capacity (weight_of prefix (take snapshot.position list)) (total_of snapshot)
+    → HoldsNarrowly (interval_of prefix snapshot) snapshot.capacity (weight_of prefix (take snapshot.position list)) (total_of snapshot)
 weight_stands snapshot list prefix hold stands some valid weighed =
     let records = take snapshot.position list in
     let capacity = snapshot.capacity in
     let is_node : IsNode (node_of prefix) = record { source = valid.source.few; dest = valid.dest.few } in
     let over = hold.weight capacity prefix records some valid (All-take (λ (r : RecordValue). 1 ≤ r.weight) snapshot.position list weighed) in
     let interval : List Entry → Interval = λ entries. interval_in (record { capacity = capacity; entries = entries }) (key_of prefix) in
-    subst (λ entries. Holds (interval entries) capacity (weight_of prefix records) (total_of snapshot)) (sym (stands.tables (node_of prefix) is_node))
-    (subst (Holds (interval (records_table capacity (node_of prefix) records)) capacity (weight_of prefix records))
+    subst (λ entries. HoldsNarrowly (interval entries) capacity (weight_of prefix records) (total_of snapshot)) (sym (stands.tables (node_of prefix) is_node))
+    (subst (HoldsNarrowly (interval (records_table capacity (node_of prefix) records)) capacity (weight_of prefix records))
     (sym (total_stands snapshot list hold stands some)) over)
 
 -- the totals of snapshots that stand for lists

@@ -11,4 +11,4 @@ pub use Rattle.shard_state.specs.ShardCore.{BasesStand, CoreValue, HasShape, IsC
 pub use Rattle.shard_state.specs.ShardState.{ShardValue, snapshot_of}
 pub use Rattle.shard_state.specs.Snapshot.{IsSnapshot, SnapshotStandsFor, SnapshotValue, empty_snapshot, entries_at, fold_from, records_table, table_at, total_of}
 unfoldable pub use Rattle.shard_state.specs.Snapshot.{no_entries}
-pub use Rattle.shard_state.specs.Weights.{Holds, HoldsWeightOver, interval_of, interval_over}
+pub use Rattle.shard_state.specs.Weights.{HoldsNarrowly, HoldsWeightOver, interval_of, interval_over}
