@@ -3,7 +3,7 @@ use Rattle.std.proofs.Common.{◌≡◌, ◌≢◌, List, ◌∷◌, Bor, Err, R
 use Rattle.clap.specs.declared.parser.matches.ArgMatches.{ArgMatches}
 use Rattle.command_words.specs.Arguments.{Text, Argument, AreWellFormed}
 use Rattle.command_words.specs.Forms.{word_of, form_of}
-use Rattle.command_words.specs.Matches.{Tells, TellsWords}
+use Rattle.command_words.specs.Matches.{AreMatchesOf, AreMatchesOfWords}
 use Rattle.command_words.specs.Words.{texts, HasWordsFault}
 use Rattle.command_words.specs.declared.command_word.CommandWord.{CommandWord}
 use Rattle.command_words.specs.declared.words_kind.WordsKind.{WordsKind}
@@ -36,7 +36,7 @@ pub tells_behind : (words : List (Bor Text)) (first : Bor Text) (others : List (
     (matches : ArgMatches) → words ≡ first ∷ others → first.now ≡ word_of word
     → (arguments : List Argument) × AreWellFormed (form_of word) (texts others) arguments
     → ((arguments : List Argument) → AreWellFormed (form_of word) (texts others) arguments
-    → Tells (form_of word) arguments matches) → TellsWords (texts words) word matches
+    → AreMatchesOf (form_of word) arguments matches) → AreMatchesOfWords (texts words) word matches
 tells_behind words first others word matches are first_is well tells = record {
   arguments = well.0;
   are_words = record {

@@ -10,7 +10,7 @@ use Rattle.command_words.specs.Scanning.{text_at}
 use Rattle.command_words.specs.Forms.{form_of}
 use Rattle.command_words.specs.Options.{name_of}
 use Rattle.command_words.specs.Settings.{values_in}
-use Rattle.command_words.specs.Matches.{Tells, TellsWords, values_told}
+use Rattle.command_words.specs.Matches.{AreMatchesOf, AreMatchesOfWords, values_in_matches}
 use Rattle.command_words.specs.Words.{HasSides, HasGoodPositionals, HasValueFault, HasWordsFault}
 use Rattle.command_words.specs.declared.command_word.CommandWord.{CommandWord}
 use Rattle.command_words.specs.declared.command_word.CommandWord.TheVariants.{Weigh, Report}
@@ -44,14 +44,14 @@ small_name opt.Deal = omega arith
 
 -- the values that are told are those of the arguments
 pub told_values : (word : CommandWord) (arguments : List Argument) (matches : ArgMatches)
-    → Tells (form_of word) arguments matches → values_told matches ≡ values_in arguments
+    → AreMatchesOf (form_of word) arguments matches → values_in_matches matches ≡ values_in arguments
 told_values word arguments matches told =
     fun_ext (λ at. told.options (name_of at) (no_positional word (name_of at) (small_name at)))
 
 -- a value that is bad among those that are told is what is wrong with the words
 pub told_fault : (words : List Text) (word : CommandWord) (matches : ArgMatches)
-    (tells : TellsWords words word matches) (kind : WordsKind) → HasGoodPositionals word tells.arguments
-    → HasValueFault (values_told matches) kind → HasWordsFault words kind
+    (tells : AreMatchesOfWords words word matches) (kind : WordsKind) → HasGoodPositionals word tells.arguments
+    → HasValueFault (values_in_matches matches) kind → HasWordsFault words kind
 told_fault words word matches tells kind good has =
     go kind (subst (λ values. HasValueFault values kind) (told_values word tells.arguments matches tells.told) has)
   where
@@ -89,7 +89,7 @@ pub record TellsSides (arguments : List Argument) (matches : ArgMatches) : Type 
 
 -- both sides of `weigh` are told
 pub told_sides : (arguments : List Argument) (matches : ArgMatches) → length (positionals_in arguments) ≡ 2
-    → Tells (form_of Weigh) arguments matches → TellsSides arguments matches
+    → AreMatchesOf (form_of Weigh) arguments matches → TellsSides arguments matches
 told_sides arguments matches two told = go (positionals_in arguments) refl two
   where
     go : (texts : List Text) → positionals_in arguments ≡ texts → length texts ≡ 2 → TellsSides arguments matches
@@ -120,7 +120,7 @@ found_is_told found told text word is told_is found_is =
     same_some text other same = cc
 
 -- what is found behind `weigh` is its sides
-pub found_sides : (words : List Text) (matches : ArgMatches) (tells : TellsWords words Weigh matches)
+pub found_sides : (words : List Text) (matches : ArgMatches) (tells : AreMatchesOfWords words Weigh matches)
     (found_source found_dest : Option (Bor Text)) (source dest : Bor Text)
     → text_at found_source ≡ first_value (found_of matches) (codes "SRC")
     → text_at found_dest ≡ first_value (found_of matches) (codes "DST")

@@ -18,7 +18,7 @@ use Rattle.clap.specs.declared.builder.value_parser.Reading.{Reading}
 use Rattle.clap.specs.declared.parser.matches.ArgMatches.{ArgMatches}
 use Rattle.command_words.specs.Arguments.{Text, Argument, AreOfForm, AreWellFormed}
 use Rattle.command_words.specs.Forms.{form_of, word_of}
-use Rattle.command_words.specs.Matches.{Tells}
+use Rattle.command_words.specs.Matches.{AreMatchesOf}
 use Rattle.command_words.specs.Parser.{parser_for}
 use Rattle.command_words.specs.declared.command_word.CommandWord.{CommandWord}
 use Rattle.command_words.specs.declared.command_word.CommandWord.TheVariants.{Weigh, Report}
@@ -184,7 +184,7 @@ not_contained texts name never = λ place default within same.
 pub rows_tell : (command : CommandWord) (arguments : List Argument) (matches : ArgMatches)
     → AreOfForm (form_of command) arguments
     → rows_of (found_of matches) ≡ told (form_of command).positionals arguments
-    → Tells (form_of command) arguments matches
+    → AreMatchesOf (form_of command) arguments matches
 rows_tell command arguments matches of_form rows = record {
   options = λ name never. first_value-rows (found_of matches) name ∙ ap (first_of name) rows
       ∙ told_option name (form_of command).positionals arguments

@@ -12,10 +12,10 @@ use Rattle.prefix_lattice.proofs.NodePlaceLemmas.{node_at-index_of}
 use Rattle.space_saving.specs.{TableValue, total_count}
 use Rattle.shard_state.specs.{SnapshotValue, table_at, CutValue, IsCut, total_of_cut}
 use Rattle.cut_merge.specs.NodeMerge.{NodeMergeValue}
-use Rattle.cut_merge.specs.Merged.{MergedValue, IsBounded, AddsTable, StandsForTables, nothing_merged, IsMerged}
-use Rattle.cut_merge.specs.Merged.{StandsForCut, interval_for_key}
-use Rattle.cut_merge.specs.Span.{node_tables, IsWithinTotal}
-use Rattle.cut_merge.proofs.TableMergeLemmas.{IsMergedBounded, counted, merged_bounded, stands_for_more}
+use Rattle.cut_merge.specs.Merged.{MergedValue, IsBounded, AddsTable, RepresentsTables, nothing_merged, IsMerged}
+use Rattle.cut_merge.specs.Merged.{RepresentsCut, interval_for_key}
+use Rattle.cut_merge.specs.MergedInterval.{node_tables, IsWithinTotal}
+use Rattle.cut_merge.proofs.TableMergeLemmas.{IsMergedBounded, counted, merged_bounded, represents_more}
 use Rattle.cut_merge.proofs.CutTableLemmas.{TablesAreBounded, counted-at}
 
 -- the table of a shard stands at its place among the tables of the node
@@ -28,7 +28,7 @@ table-place node cut shard snapshot at =
 -- merged tables of some shards say no more than the total of the cut
 pub within_cut : (node : NodeValue) (cut : CutValue) (shards key : ℕ) (merge : NodeMergeValue) → TablesAreBounded
     → IsNode node → IsCut cut
-    → StandsForTables merge (take shards (node_tables node cut))
+    → RepresentsTables merge (take shards (node_tables node cut))
     → IsWithinTotal (total_of_cut cut) (interval_for_key merge key)
 within_cut node cut shards key merge law is_node kept stands =
     let tables = node_tables node cut in
@@ -43,9 +43,9 @@ within_cut node cut shards key merge law is_node kept stands =
 -- one more shard
 pub one_more_shard : (node : NodeValue) (cut : CutValue) (shard : ℕ) (snapshot : SnapshotValue)
     (old new : NodeMergeValue) → TablesAreBounded → IsNode node → IsCut cut
-    → slice_get cut.shards shard ≡ Some snapshot → StandsForTables old (take shard (node_tables node cut))
+    → slice_get cut.shards shard ≡ Some snapshot → RepresentsTables old (take shard (node_tables node cut))
     → AddsTable old (table_at node snapshot) new
-    → StandsForTables new (take (shard + 1) (node_tables node cut))
+    → RepresentsTables new (take (shard + 1) (node_tables node cut))
 one_more_shard node cut shard snapshot old new law is_node kept at stands adds =
     let tables = node_tables node cut in
     let table = table_at node snapshot in
@@ -58,7 +58,7 @@ one_more_shard node cut shard snapshot old new law is_node kept at stands adds =
     λ key.
     subst (IsBounded key) read
     (All-get_or (IsBounded key) tables shard table within (law cut node key kept is_node)) in
-    subst (StandsForTables new) (sym more) (stands_for_more old new (take shard tables) table bounded stands adds)
+    subst (RepresentsTables new) (sym more) (represents_more old new (take shard tables) table bounded stands adds)
 
 -- an interval of merged tables at a place
 pub within_merged : (merged : MergedValue) (place key : ℕ) (merge : NodeMergeValue) → IsMerged merged
@@ -72,7 +72,7 @@ within_merged merged place key merge kept within read =
 pub record MergesNodes (cut : CutValue) (nodes : List NodeMergeValue) (place : ℕ) : Type 0 where
   pub count : length nodes ≡ place
   pub stands : (k : ℕ) → k < place
-      → StandsForTables (slice_index_or nodes k nothing_merged) (node_tables (node_at k) cut)
+      → RepresentsTables (slice_index_or nodes k nothing_merged) (node_tables (node_at k) cut)
   pub within : (k key : ℕ) → k < place
       → IsWithinTotal (total_of_cut cut) (interval_for_key (slice_index_or nodes k nothing_merged) key)
 
@@ -87,7 +87,7 @@ merges_none cut = record {
 -- and one more before the next
 pub merges_more : (cut : CutValue) (nodes : List NodeMergeValue) (place : ℕ) (merge : NodeMergeValue)
     → MergesNodes cut nodes place
-    → StandsForTables merge (node_tables (node_at place) cut)
+    → RepresentsTables merge (node_tables (node_at place) cut)
     → ((key : ℕ) → IsWithinTotal (total_of_cut cut) (interval_for_key merge key))
     → MergesNodes cut (nodes ++ merge ∷ []) (place + 1)
 merges_more cut nodes place merge merges stands within =
@@ -98,7 +98,7 @@ merges_more cut nodes place merge merges stands within =
     λ P below here k less. by_cases P below here k less in
     record {
       count = length_push nodes merge ∙ ap (λ n. n + 1) merges.count;
-      stands = at (λ k m. StandsForTables m (node_tables (node_at k) cut)) merges.stands stands;
+      stands = at (λ k m. RepresentsTables m (node_tables (node_at k) cut)) merges.stands stands;
       within = λ k key less.
           at (λ _ m. IsWithinTotal (total_of_cut cut) (interval_for_key m key)) (λ j. merges.within j key)
           (within key) k less;
@@ -134,12 +134,12 @@ merged_keeps cut nodes capacity bounded merges = record {
 
 -- and stand for the cut
 pub merged_stands : (cut : CutValue) (nodes : List NodeMergeValue) → MergesNodes cut nodes 25
-    → StandsForCut (record { capacity = cut.capacity; total = total_of_cut cut; nodes = nodes }) cut
+    → RepresentsCut (record { capacity = cut.capacity; total = total_of_cut cut; nodes = nodes }) cut
 merged_stands cut nodes merges =
     let at : (node : NodeValue) → IsNode node
-    → StandsForTables (slice_index_or nodes (index_of node) nothing_merged) (node_tables node cut) =
+    → RepresentsTables (slice_index_or nodes (index_of node) nothing_merged) (node_tables node cut) =
     λ node is_node.
-    subst (λ n. StandsForTables (slice_index_or nodes (index_of node) nothing_merged) (node_tables n cut))
+    subst (λ n. RepresentsTables (slice_index_or nodes (index_of node) nothing_merged) (node_tables n cut))
     (node_at-index_of node is_node)
     (merges.stands (index_of node) (omega (arith, is_node.source, is_node.dest))) in
     record {

@@ -6,7 +6,7 @@ use Rattle.prefix_lattice.specs.{NodeValue, IsNode}
 use Rattle.space_saving.specs.declared.entry.Entry.{Entry}
 use Rattle.space_saving.specs.{TableValue, interval_in, interval_from, total_count, IsTable}
 use Rattle.shard_state.specs.{SnapshotValue, IsSnapshot, table_at, total_of, CutValue, IsCut, total_of_cut}
-use Rattle.cut_merge.specs.Span.{node_tables}
+use Rattle.cut_merge.specs.MergedInterval.{node_tables}
 use Rattle.cut_merge.specs.Merged.{IsBounded}
 use Rattle.cut_merge.proofs.TableMergeLemmas.{counted}
 

@@ -7,7 +7,7 @@ use Rattle.prefix_lattice.specs.{NodeValue, IsNode, IsKeyOf}
 use Rattle.space_saving.specs.declared.entry.Entry.{Entry}
 use Rattle.shard_state.specs.{SnapshotValue, IsSnapshot, table_at, CutValue, IsCut}
 use Rattle.cut_merge.specs.Tables.{table_keys}
-use Rattle.cut_merge.specs.Span.{node_tables, monitored_at}
+use Rattle.cut_merge.specs.MergedInterval.{node_tables, monitored_at}
 use Rattle.cut_merge.proofs.FirstSeenLemmas.{first_seen-all, first_seen-length}
 
 -- the keys of all entries at a node, over shards and places

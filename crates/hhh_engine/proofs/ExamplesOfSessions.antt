@@ -24,7 +24,7 @@ use Rattle.command_words.specs.{AskFor}
 use Rattle.command_words.specs.declared.command.Command.{Command}
 use Rattle.command_words.specs.declared.command.Command.TheVariants.{Weigh, Report as report_command}
 use Rattle.command_words.specs.declared.settings.Settings.{Settings}
-use Rattle.hhh_engine.specs.Answer.{IsAnswer, Answers, AnswersInPart, AskSomething, TellsCapture}
+use Rattle.hhh_engine.specs.Answer.{IsAnswer, Answers, AnswersInPart, AskSomething, HasKnownCapture}
 use Rattle.hhh_engine.specs.NoText.{HasNoText}
 use Rattle.hhh_engine.specs.Session.{Rules, IsCutAtEnds, start_of, session_text, IsReportAtEnds, IsSession}
 use Rattle.hhh_engine.specs.declared.status.Status.TheVariants.{Done, BadCapture, ReadFault, OutOfMemory}
@@ -234,10 +234,10 @@ no_words_ask (report_command settings) asked = let begun = asked.are_words.begun
 pub no_words_ask_nothing : AskSomething [] → ⊥
 no_words_ask_nothing asks = no_words_ask asks.command asks.asked
 
-pub source_of_a_header : TellsCapture (Some header)
+pub source_of_a_header : HasKnownCapture (Some header)
 source_of_a_header = record { file = header; told = refl; frames = []; capture = header_is_a_capture }
 
-pub silent_source_tells_no_capture : TellsCapture None → ⊥
+pub silent_source_tells_no_capture : HasKnownCapture None → ⊥
 silent_source_tells_no_capture tells = let told = tells.told in cc
 
 -- the text stands behind what the sink held

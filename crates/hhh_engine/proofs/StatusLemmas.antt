@@ -8,7 +8,7 @@ use Rattle.pcap_frames.specs.declared.fault.CaptureFault.{CaptureFault}
 use Rattle.command_words.specs.{AskFor}
 use Rattle.command_words.specs.declared.command.Command.{Command}
 use Rattle.command_words.specs.declared.command.Command.TheVariants.{Weigh, Report}
-use Rattle.hhh_engine.specs.Answer.{IsAnswer, Answers, AnswersInPart, TellsCapture}
+use Rattle.hhh_engine.specs.Answer.{IsAnswer, Answers, AnswersInPart, HasKnownCapture}
 use Rattle.hhh_engine.specs.NoText.{HasNoText}
 use Rattle.hhh_engine.specs.Session.{Rules}
 use Rattle.hhh_engine.specs.declared.status.Status.{Status}
@@ -44,7 +44,7 @@ refused_for one_fault WriteFault left before now file fault told has none = absu
 refused_for one_fault OutOfMemory left before now file fault told has none = inr (inr refl)
 
 -- over a told capture and with no fault of the source, only want of memory leaves no text
-pub wants_memory : NeverBoth → (status : Status) (left : Option (List ℕ)) (before now : ℕ) → TellsCapture left
+pub wants_memory : NeverBoth → (status : Status) (left : Option (List ℕ)) (before now : ℕ) → HasKnownCapture left
     → (Rose before now → ⊥) → HasNoText left before now status
     → (status ≡ Done) ⊎ (status ≡ OutOfMemory)
 wants_memory never_both Done left before now tells no_fault none = inl refl

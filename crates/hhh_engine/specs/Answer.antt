@@ -16,7 +16,7 @@ pub record AskSomething (words : List (List ℕ)) : Type 0 where
   pub asked : AskFor words command
 
 -- the bytes of a source are known, and they are a capture of some frames
-pub record TellsCapture (left : Option (List ℕ)) : Type 0 where
+pub record HasKnownCapture (left : Option (List ℕ)) : Type 0 where
   pub file : List ℕ
   pub told : left ≡ Some file
   pub frames : List FrameValue

@@ -8,7 +8,7 @@ ghost use Rattle.pcap_frames.specs.declared.fault.CaptureFault.{CaptureFault};
 ghost use Rattle.deal_rules.specs.{dealer_of};
 ghost use Rattle.command_words.specs.{texts, HasWordsFault, IsLimited};
 ghost use Rattle.command_words.specs.declared.words_kind.WordsKind.{WordsKind};
-ghost use Rattle.hhh_engine.specs.Answer.{IsAnswer, AskSomething, TellsCapture};
+ghost use Rattle.hhh_engine.specs.Answer.{IsAnswer, AskSomething, HasKnownCapture};
 ghost use Rattle.hhh_engine.specs.Ending.{WroteAnswer, RefusedWords, RefusedCapture, FailedToRead, FailedToWrite};
 ghost use Rattle.hhh_engine.specs.NoText.{HasNoText};
 ghost use Rattle.hhh_engine.specs.declared.status.Status.TheVariants.{Done, BadWords, BadCapture, ReadFault, WriteFault, OutOfMemory};
@@ -64,7 +64,7 @@ pub fn run<S: Source, K: Sink>(
 
     // With arguments that ask for a command, a valid capture and no fault of source or sink, the run ends in
     // Done unless memory runs out.
-    ensures complete { AskSomething (texts words.now) → TellsCapture (S.left capture.old)
+    ensures complete { AskSomething (texts words.now) → HasKnownCapture (S.left capture.old)
         → (Rose (S.faults capture.old) (S.faults capture.new) → ⊥) → (Rose (K.faults sink.old) (K.faults sink.new) → ⊥)
         → (result ≡ Done) ⊎ (result ≡ OutOfMemory) }
 {

@@ -47,7 +47,7 @@ merged = record {
   total = 100;
   nodes =
       replicate 24 nothing_merged
-      ++ record { gains = (key_of whole, record { low = 100; high = 100 }) ∷ []; missing = 0 } ∷ [];
+      ++ record { excesses = (key_of whole, record { low = 100; high = 100 }) ∷ []; missing = 0 } ∷ [];
 }
 
 -- those that know nothing at all
@@ -79,7 +79,7 @@ selected_line = record {
 }
 
 no_candidates : (node : NodeValue) → candidates_at nothing node ≡ []
-no_candidates node = ap (λ (merge : NodeMergeValue). keys_of merge.gains) (alike nothing_merged 25 (index_of node))
+no_candidates node = ap (λ (merge : NodeMergeValue). keys_of merge.excesses) (alike nothing_merged 25 (index_of node))
 
 pub nothing_has_no_candidates : AreCandidates nothing
 nothing_has_no_candidates = record {
@@ -93,7 +93,7 @@ nothing_has_no_candidates = record {
 
 -- the root keeps no bit, so it has the one key 0
 pub root_has_no_key_1 : ¬ AreCandidates
-    (record nothing { nodes = record { gains = (1, record { low = 1; high = 1 }) ∷ []; missing = 0 } ∷ [] })
+    (record nothing { nodes = record { excesses = (1, record { low = 1; high = 1 }) ∷ []; missing = 0 } ∷ [] })
 root_has_no_key_1 candidates =
     let loose : 1 ≡ 0 =
     (candidates.keyed (node_of root) (record { source = omega arith; dest = omega arith }) 0 1

@@ -8,7 +8,7 @@ use Rattle.std.proofs.Math.Nat.{mul-le-mul_left}
 use Rattle.prefix_lattice.specs.{NodeValue, IsNode, PrefixValue, IsPrefix, node_of, key_of, IsKeyOf, closest}
 use Rattle.prefix_lattice.specs.{kept_pairs}
 use Rattle.shard_state.specs.{CutValue, IsCut, total_of_cut}
-use Rattle.cut_merge.specs.{MergedValue, StandsForCut, span, monitored_at, IsWithinTotal, Interval}
+use Rattle.cut_merge.specs.{MergedValue, RepresentsCut, merged_interval_in, monitored_at, IsWithinTotal, Interval}
 use Rattle.conditioned_bounds.specs.{bound_of, asked_of}
 use Rattle.hhh_output.specs.declared.line.Line.{Line}
 use Rattle.hhh_output.specs.Lines.{prefixes_of, AreLines}
@@ -22,7 +22,7 @@ pub record KeysAreFew (cut : CutValue) : Type 0 where
   pub few : (node : NodeValue) → IsNode node → length (monitored_at cut node) ≤ length cut.shards * cut.capacity
 
 -- so are the candidates of merged tables that stand for a cut
-pub candidates_of_cut : (merged : MergedValue) (cut : CutValue) → IsCut cut → StandsForCut merged cut
+pub candidates_of_cut : (merged : MergedValue) (cut : CutValue) → IsCut cut → RepresentsCut merged cut
     → KeysAreFew cut → AreCandidates merged
 candidates_of_cut merged cut kept stands law = record {
   keyed = λ node is_node. subst (All (IsKeyOf node)) (sym (stands.candidates node is_node)) (law.keyed node is_node);
@@ -49,7 +49,7 @@ all_right : {X : Type 0} (P : X → Type 0) (xs ys : List X) → All P (xs ++ ys
 all_right P xs ys all = λ k d below.
     subst P (get_or-append-add xs ys k d) (all (length xs + k) d (omega (arith, length-append xs ys)))
 
-module _ (merged : MergedValue) (cut : CutValue) (stands : StandsForCut merged cut)
+module _ (merged : MergedValue) (cut : CutValue) (stands : RepresentsCut merged cut)
     (asked : (prefix : PrefixValue) (lines : List PrefixValue) → IsPrefix prefix → All IsPrefix lines
     → All IsPrefix (asked_of prefix lines)) where
   same_low : (prefix : PrefixValue) → IsPrefix prefix → merged_low merged prefix ≡ low_in cut prefix
@@ -130,7 +130,8 @@ module _ (merged : MergedValue) (cut : CutValue) (stands : StandsForCut merged c
     )
 
     -- and they are lines of a report
-    pub lines_kept : ((prefix : PrefixValue) → IsPrefix prefix → IsWithinTotal (total_of_cut cut) (span cut prefix))
+    pub lines_kept : ((prefix : PrefixValue) → IsPrefix prefix
+        → IsWithinTotal (total_of_cut cut) (merged_interval_in cut prefix))
         → AreLines lines
     lines_kept within = record {
       few = omega (arith, down.few);

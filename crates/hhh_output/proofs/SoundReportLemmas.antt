@@ -16,7 +16,7 @@ use Rattle.prefix_lattice.specs.{total_weight, report_order, lines_under, one_co
 use Rattle.prefix_lattice.specs.{kept_pairs, Holds, IsNarrow}
 use Rattle.shard_state.specs.{SnapshotValue, SnapshotStandsFor, CutValue, positions_of, total_of_cut, CutStandsFor}
 use Rattle.shard_state.specs.{records_before, HoldsNarrowly}
-use Rattle.cut_merge.specs.{span, monitored_at}
+use Rattle.cut_merge.specs.{merged_interval_in, monitored_at}
 use Rattle.conditioned_bounds.specs.{bound_of, asked_of, HoldWeights, AreNarrow}
 use Rattle.hhh_output.specs.declared.line.Line.{Line}
 use Rattle.hhh_output.specs.declared.report.Report.{Report}
@@ -32,11 +32,12 @@ use Rattle.hhh_output.proofs.OneReportLemmas.{Before, before-apart}
 pub record CutHolds (cut : CutValue) (lists : List (List RecordValue)) : Type 0 where
   pub order : IsTotalOrder report_order
   pub stands : CutStandsFor cut lists
-  pub spans : (prefix : PrefixValue) → IsPrefix prefix
-      → HoldsNarrowly (span cut prefix) cut.capacity (weight_of prefix (records_before lists (positions_of cut)))
+  pub intervals : (prefix : PrefixValue) → IsPrefix prefix
+      → HoldsNarrowly (merged_interval_in cut prefix) cut.capacity
+        (weight_of prefix (records_before lists (positions_of cut)))
       (total_of_cut cut)
   pub light : (prefix : PrefixValue) → IsPrefix prefix → ¬ IsMonitored cut prefix
-      → (span cut prefix).high * cut.capacity ≤ total_of_cut cut
+      → (merged_interval_in cut prefix).high * cut.capacity ≤ total_of_cut cut
   pub total : total_of_cut cut ≡ total_weight (records_before lists (positions_of cut))
   pub asked : (prefix : PrefixValue) (lines : List PrefixValue) → IsPrefix prefix → All IsPrefix lines
       → All IsPrefix (asked_of prefix lines)
@@ -144,7 +145,7 @@ hold_asked : (cut : CutValue) (lists : List (List RecordValue)) → CutHolds cut
 hold_asked cut lists holds prefix lines is_prefix are_prefixes =
     let records = records_before lists (positions_of cut) in
     All-weaker IsPrefix (λ p. Holds (low_in cut p) (high_in cut p) (weight_of p records))
-    (λ p is. (holds.spans p is).holds) (asked_of prefix lines)
+    (λ p is. (holds.intervals p is).holds) (asked_of prefix lines)
     (holds.asked prefix lines is_prefix are_prefixes)
 
 narrow_asked : (cut : CutValue) (lists : List (List RecordValue)) → CutHolds cut lists
@@ -154,7 +155,7 @@ narrow_asked : (cut : CutValue) (lists : List (List RecordValue)) → CutHolds c
 narrow_asked cut lists holds prefix lines is_prefix are_prefixes =
     All-weaker IsPrefix
     (λ p. IsNarrow (low_in cut p) (high_in cut p) cut.capacity (total_weight (records_before lists (positions_of cut))))
-    (λ p is. subst (IsNarrow (low_in cut p) (high_in cut p) cut.capacity) holds.total (holds.spans p is).narrow)
+    (λ p is. subst (IsNarrow (low_in cut p) (high_in cut p) cut.capacity) holds.total (holds.intervals p is).narrow)
     (asked_of prefix lines) (holds.asked prefix lines is_prefix are_prefixes)
 
 -- the report of a cut, the lists that it stands for, and what holds of both
@@ -185,9 +186,9 @@ left_out cut lists phi report reports prefix is_prefix missing =
           reports.is_report.threshold
           (subst (λ n. high_in cut prefix * cut.capacity ≤ n) (sym reports.is_report.total)
           (holds.light prefix is_prefix unknown)) in
-          omega (arith, light, few, span_holds.holds.high)
+          omega (arith, light, few, interval_holds.holds.high)
       | inl monitored ↦ elim (cases_lt (high_in cut prefix) report.threshold) [
-        | inl light ↦ omega (arith, light, few, span_holds.holds.high)
+        | inl light ↦ omega (arith, light, few, interval_holds.holds.high)
         | inr heavy ↦ elim (cases_lt (high_in cut prefix + sum_by (high_in cut) (kept_pairs (closest prefix lines)))
             (report.threshold + sum_by (low_in cut) (closest prefix lines))) [
               | inl explained ↦
@@ -219,8 +220,9 @@ left_out cut lists phi report reports prefix is_prefix missing =
     holds : CutHolds cut lists
     holds = reports.holds
 
-    span_holds : HoldsNarrowly (span cut prefix) cut.capacity (weight_of prefix records) (total_of_cut cut)
-    span_holds = holds.spans prefix is_prefix
+    interval_holds : HoldsNarrowly (merged_interval_in cut prefix) cut.capacity (weight_of prefix records)
+        (total_of_cut cut)
+    interval_holds = holds.intervals prefix is_prefix
 
     few : conditioned_weight prefix lines records ≤ weight_of prefix records
     few = conditioned-le-weight prefix lines records
@@ -255,14 +257,15 @@ report_is_sound cut lists phi report reports =
       interval = subst (λ rs. All (HoldsWeight rs) report.lines) (sym at)
           (each_line (HoldsWeight records) report.lines (λ line there.
           let l = line_of line there in
-          let span_holds = holds.spans line.prefix l.is_prefix in
-          record { low = omega (arith, l.low, span_holds.holds.low); high = omega (arith, l.high, span_holds.holds.high) }));
+          let interval_holds = holds.intervals line.prefix l.is_prefix in
+          record { low = omega (arith, l.low, interval_holds.holds.low); high =
+            omega (arith, l.high, interval_holds.holds.high) }));
       width = each_line (IsNarrowLine cut.capacity report.total) report.lines (λ line there.
           let l = line_of line there in
           subst (λ n. (n - line.lo) * cut.capacity ≤ report.total) (sym l.high)
           (subst (λ n. (high_in cut line.prefix - n) * cut.capacity ≤ report.total) (sym l.low)
           (subst (λ n. (high_in cut line.prefix - low_in cut line.prefix) * cut.capacity ≤ n) (sym is.total)
-          (holds.spans line.prefix l.is_prefix).narrow)));
+          (holds.intervals line.prefix l.is_prefix).narrow)));
       heavy = each_line (λ line. report.threshold ≤ line.hi) report.lines (λ line there. (line_of line there).heavy);
       justified =
           subst (λ rs. All (IsJustified cut.capacity report.threshold (prefixes_of report.lines) rs) report.lines)

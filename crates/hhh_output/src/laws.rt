@@ -11,7 +11,7 @@ ghost use Rattle.hhh_output.specs.SoundReport.{IsSound};
 ghost use Rattle.hhh_output.specs.Threshold.{IsWideShare};
 
 use conditioned_bounds::{bounds_hold, only_prefixes_are_asked};
-use cut_merge::{spans_are_narrow, spans_hold_weights};
+use cut_merge::{merged_intervals_are_narrow, merged_intervals_hold_weights};
 use prefix_lattice::{prefixes_are_ordered, report_order_is_total};
 use shard_state::{runs_stand, snapshots_hold_weights, standing_cuts_are_equal};
 
@@ -43,8 +43,8 @@ pub fn reports_are_sound()
 {
     report_order_is_total();
     snapshots_hold_weights();
-    spans_hold_weights();
-    spans_are_narrow();
+    merged_intervals_hold_weights();
+    merged_intervals_are_narrow();
     only_prefixes_are_asked();
     bounds_hold();
 }

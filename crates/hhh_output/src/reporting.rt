@@ -10,7 +10,7 @@ ghost use Rattle.hhh_output.specs.Threshold.{million, IsWideShare};
 use crate::selecting::select_lines;
 use crate::{Report, reports_are_sound, threshold};
 use conditioned_bounds::only_prefixes_are_asked;
-use cut_merge::{Merged, monitored_keys_are_few, spans_are_narrow};
+use cut_merge::{Merged, merged_intervals_are_narrow, monitored_keys_are_few};
 use shard_state::Cut;
 use std::alloc::{AllocError, Global};
 
@@ -35,7 +35,7 @@ pub fn report_of(alloc: Global, cut: &Cut, phi: u32) -> Result<Report, AllocErro
 {
     reports_are_sound();
     monitored_keys_are_few();
-    spans_are_narrow();
+    merged_intervals_are_narrow();
     only_prefixes_are_asked();
     let positions = cut.positions(alloc)?;
     let merged = Merged::of(alloc, cut)?;

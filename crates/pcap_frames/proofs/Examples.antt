@@ -13,7 +13,8 @@ use Rattle.pcap_frames.specs.Frames.{frame_at, BeginsFrame, BeginsFrames, needed
 use Rattle.pcap_frames.specs.Capture.{Splits, IsCapture, ShowsInHeader, ShowsInFrames, ShowsFault, EndsInHeader}
 use Rattle.pcap_frames.specs.Capture.{EndsInFrame, EndsInside, HasFaultAfter, HasFault}
 use Rattle.pcap_frames.proofs.CaptureLawLemmas.{files_decided}
-use Rattle.pcap_frames.specs.FileFormat.{file_header_length, frame_header_length, head_length, kept_length, most_captured, most_frames}
+use Rattle.pcap_frames.specs.FileFormat.{file_header_length, frame_header_length, head_length, kept_length}
+use Rattle.pcap_frames.specs.FileFormat.{most_captured, most_frames}
 
 -- the header of a little-endian capture
 abbrev pub header : List ℕ

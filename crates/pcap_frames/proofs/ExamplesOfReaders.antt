@@ -12,7 +12,7 @@ use Rattle.pcap_frames.specs.Frame.{FrameValue}
 use Rattle.pcap_frames.specs.Header.{magic_order, header_fault, fault_at}
 use Rattle.pcap_frames.specs.Frames.{frame_at, needed, frame_fault}
 use Rattle.pcap_frames.specs.ReaderState.{FramePlace, ReaderState, InHeader, InFrames, AtFault, LacksMemory}
-use Rattle.pcap_frames.specs.ReaderState.{IsPartHeader, IsBehind, ReaderStandsFor, Completes, HasStopped, Advances}
+use Rattle.pcap_frames.specs.ReaderState.{IsPartHeader, IsBehind, ReaderRepresents, Completes, HasStopped, Advances}
 use Rattle.pcap_frames.specs.FrontValue.{FrontValue}
 use Rattle.pcap_frames.specs.Part.{frame_place, state_of, IsWithin, IsInStage}
 use Rattle.pcap_frames.specs.Steps.{held_frames, SplitsFrame, Takes, ShowsFront, LacksRoom}
@@ -93,11 +93,11 @@ reader_behind_the_header = record {
   came_is = refl;
 }
 
-pub reader_stands_for_the_cut_file : ReaderStandsFor (InFrames at) cut_file []
-reader_stands_for_the_cut_file = reader_behind_the_header
+pub reader_represents_the_cut_file : ReaderRepresents (InFrames at) cut_file []
+reader_represents_the_cut_file = reader_behind_the_header
 
 pub cut_file_completes_no_frame : Completes cut_file []
-cut_file_completes_no_frame = (InFrames at, reader_stands_for_the_cut_file)
+cut_file_completes_no_frame = (InFrames at, reader_represents_the_cut_file)
 
 pub cut_file_completes_not_its_frame : Completes cut_file (frame ∷ []) → ⊥
 cut_file_completes_not_its_frame completes =
@@ -141,7 +141,7 @@ part_of_a_header = record { kept_is = refl; short = omega arith; none_shown = re
 pub whole_header_is_no_part : IsPartHeader header header [] → ⊥
 whole_header_is_no_part part = omega (arith, part.short)
 
-header_alone_is_passed : ReaderStandsFor (InFrames before_frame) header []
+header_alone_is_passed : ReaderRepresents (InFrames before_frame) header []
 unfolding needed frame_fault
 header_alone_is_passed = record {
   rest = [];
@@ -154,7 +154,7 @@ header_alone_is_passed = record {
   came_is = refl;
 }
 
-pub reader_behind_the_frame : ReaderStandsFor (InFrames behind_frame) capture (frame ∷ [])
+pub reader_behind_the_frame : ReaderRepresents (InFrames behind_frame) capture (frame ∷ [])
 unfolding needed frame_fault
 reader_behind_the_frame = record {
   rest = [];
@@ -176,10 +176,10 @@ capture_completes_the_frame = (InFrames behind_frame, reader_behind_the_frame)
 
 -- a reader in the header knows all its bytes
 in_header_advances : (new : ReaderState) (kept bytes : List ℕ) (given : List FrameValue)
-    → ReaderStandsFor new (kept ++ bytes) given → Advances (InHeader kept) new bytes given
+    → ReaderRepresents new (kept ++ bytes) given → Advances (InHeader kept) new bytes given
 in_header_advances new kept bytes given stands = record {
-  reads = λ before frames part. subst (λ l. ReaderStandsFor new (l ++ bytes) (frames ++ given)) part.kept_is
-      (subst (λ l. ReaderStandsFor new (kept ++ bytes) (l ++ given)) (sym part.no_frame) stands);
+  reads = λ before frames part. subst (λ l. ReaderRepresents new (l ++ bytes) (frames ++ given)) part.kept_is
+      (subst (λ l. ReaderRepresents new (kept ++ bytes) (l ++ given)) (sym part.no_frame) stands);
 }
 
 pub header_advances_by_its_last_byte : Advances (InHeader (take 23 header)) (InFrames before_frame) (0 ∷ []) []
@@ -258,7 +258,7 @@ no_frame_was_held = refl
 pub compressed_file_is_refused : IsAnswerTo {T = ℕ} (0x1f ∷ 0x8b ∷ 8 ∷ 0 ∷ []) (Err (Refused (fault_at NotCapture 0)))
 compressed_file_is_refused = ([], inl compressed_header)
 
-pub reader_of_a_compressed_file : ReaderStandsFor (AtFault (fault_at NotCapture 0)) (0x1f ∷ 0x8b ∷ 8 ∷ 0 ∷ []) []
+pub reader_of_a_compressed_file : ReaderRepresents (AtFault (fault_at NotCapture 0)) (0x1f ∷ 0x8b ∷ 8 ∷ 0 ∷ []) []
 reader_of_a_compressed_file = inl compressed_header
 
 pub reader_at_a_fault_has_stopped : HasStopped (AtFault (fault_at NotCapture 0))
@@ -273,9 +273,9 @@ reader_at_a_fault_answers_nothing_else answer = cc
 
 -- ---- want of memory
 
-pub reader_without_memory_stands_for_nothing : (bytes : List ℕ) (frames : List FrameValue)
-    → ReaderStandsFor LacksMemory bytes frames → ⊥
-reader_without_memory_stands_for_nothing bytes frames stands = stands
+pub reader_without_memory_represents_nothing : (bytes : List ℕ) (frames : List FrameValue)
+    → ReaderRepresents LacksMemory bytes frames → ⊥
+reader_without_memory_represents_nothing bytes frames stands = stands
 
 pub other_fact_where_memory_ran_out : IfMemory {T = ℕ} (Err OutOfMemory) (1 ≤ 0) (0 ≤ 1)
 other_fact_where_memory_ran_out = omega arith

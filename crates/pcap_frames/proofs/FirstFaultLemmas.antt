@@ -14,7 +14,7 @@ use Rattle.pcap_frames.specs.Frames.{frame_at, BeginsFrame, BeginsFrames, needed
 use Rattle.pcap_frames.specs.Capture.{Splits, IsCapture, ShowsFault, HasFaultAfter, HasFault}
 use Rattle.pcap_frames.specs.declared.fault.FeedFault.{FeedFault}
 use Rattle.pcap_frames.specs.ReaderState.{FramePlace, ReaderState, InHeader, InFrames, AtFault, LacksMemory}
-use Rattle.pcap_frames.specs.ReaderState.{IsPartHeader, IsBehind, ReaderStandsFor, Completes}
+use Rattle.pcap_frames.specs.ReaderState.{IsPartHeader, IsBehind, ReaderRepresents, Completes}
 use Rattle.pcap_frames.specs.Feeding.{IsAnswerOf, IsAnswerTo}
 use Rattle.pcap_frames.proofs.FileHeaderLemmas.{header_fault-whole, header_whole, IsHeader-append}
 use Rattle.pcap_frames.proofs.FrameListLemmas.{needed-whole, needed-part, needed-header, needed_least}
@@ -83,7 +83,7 @@ shows_ends bytes frames fault (inr shows) =
     })
 
 pub stands_ends : (state : ReaderState) (bytes : List ℕ) (frames : List FrameValue)
-    → ReaderStandsFor state bytes frames → Ends bytes frames
+    → ReaderRepresents state bytes frames → Ends bytes frames
 stands_ends (InHeader kept) bytes frames stands =
     inl (record { none = λ order header. omega (arith, stands.short, header.whole); no_frame = stands.no_frame })
 stands_ends (InFrames at) bytes frames stands =
@@ -256,7 +256,7 @@ behind_shows_none at bytes frames others fault stands (inr shows) =
 
 -- a reader that goes on stands for bytes that show no fault, and one at a fault for bytes that show it
 pub answer_exact : {T : Type 0} (state : ReaderState) (bytes : List ℕ) (frames : List FrameValue)
-    (result : Result T FeedFault) → ReaderStandsFor state bytes frames → IsAnswerOf state result
+    (result : Result T FeedFault) → ReaderRepresents state bytes frames → IsAnswerOf state result
     → IsAnswerTo bytes result
 answer_exact (InHeader kept) bytes frames (Ok x) stands answer = λ others fault.
     part_shows_none kept bytes frames others fault stands
@@ -391,7 +391,7 @@ completes_total bytes = by_header (header_fault bytes) refl where
   ]
 
 -- a file that a reader stands for to its end is a capture of the frames or has a fault behind them
-pub file_ends : (state : ReaderState) (file : List ℕ) (frames : List FrameValue) → ReaderStandsFor state file frames
+pub file_ends : (state : ReaderState) (file : List ℕ) (frames : List FrameValue) → ReaderRepresents state file frames
     → IsCapture file frames ⊎ ((fault : CaptureFault) × HasFaultAfter file frames fault)
 file_ends (InHeader kept) file frames stands =
     inr (

@@ -12,7 +12,7 @@ use Rattle.pcap_frames.specs.Header.{IsHeader, magic_order, header_fault}
 use Rattle.pcap_frames.specs.Frames.{frame_at, BeginsFrame, BeginsFrames, needed, frame_fault}
 use Rattle.pcap_frames.specs.Capture.{ShowsFault}
 use Rattle.pcap_frames.specs.ReaderState.{FramePlace, ReaderState, InHeader, InFrames, AtFault, LacksMemory}
-use Rattle.pcap_frames.specs.ReaderState.{IsBehind, ReaderStandsFor, Advances}
+use Rattle.pcap_frames.specs.ReaderState.{IsBehind, ReaderRepresents, Advances}
 use Rattle.pcap_frames.specs.Steps.{SplitsFrame, Takes}
 use Rattle.pcap_frames.proofs.NumberLemmas.{number_at-take, number_at-append}
 use Rattle.pcap_frames.proofs.FileHeaderLemmas.{header_of_order}
@@ -152,7 +152,7 @@ frame_fault-nil order count place = refl
 -- ---- steps in the file header
 
 -- a new reader stands for no bytes
-pub new_stands : ReaderStandsFor (InHeader []) [] []
+pub new_stands : ReaderRepresents (InHeader []) [] []
 unfolding header_fault
 new_stands = record { kept_is = refl; short = omega arith; none_shown = refl; no_frame = refl }
 
@@ -454,8 +454,8 @@ stays_without_memory front = record { reads = λ before frames stands. absurd st
 pub Advances-nil : (state : ReaderState) → Advances state state [] []
 Advances-nil state = record {
   reads = λ before frames stands.
-      subst (λ l. ReaderStandsFor state l (frames ++ [])) (sym (append-nil before))
-      (subst (ReaderStandsFor state before) (sym (append-nil frames)) stands);
+      subst (λ l. ReaderRepresents state l (frames ++ [])) (sym (append-nil before))
+      (subst (ReaderRepresents state before) (sym (append-nil frames)) stands);
 }
 
 -- one step after another
@@ -464,7 +464,7 @@ pub Advances-trans : (old mid new : ReaderState) (front more : List ℕ) (given 
     → Advances old new (front ++ more) (given ++ others)
 Advances-trans old mid new front more given others first second = record {
   reads = λ before frames stands.
-      subst (λ l. ReaderStandsFor new l (frames ++ (given ++ others))) (append_assoc before front more)
-      (subst (ReaderStandsFor new ((before ++ front) ++ more)) (append_assoc frames given others)
+      subst (λ l. ReaderRepresents new l (frames ++ (given ++ others))) (append_assoc before front more)
+      (subst (ReaderRepresents new ((before ++ front) ++ more)) (append_assoc frames given others)
       (second.reads (before ++ front) (frames ++ given) (first.reads before frames stands)));
 }

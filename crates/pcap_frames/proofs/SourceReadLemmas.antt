@@ -11,7 +11,7 @@ use Rattle.pcap_frames.specs.Frame.{FrameValue}
 use Rattle.pcap_frames.specs.Frames.{AreFrames}
 use Rattle.pcap_frames.specs.Capture.{ShowsFault, HasFaultAfter}
 use Rattle.pcap_frames.specs.ReaderState.{ReaderState, InHeader, InFrames, AtFault, LacksMemory, HasStopped}
-use Rattle.pcap_frames.specs.ReaderState.{ReaderStandsFor, Completes}
+use Rattle.pcap_frames.specs.ReaderState.{ReaderRepresents, Completes}
 use Rattle.pcap_frames.specs.Visitor.{Sees}
 use Rattle.pcap_frames.specs.Feeding.{IsAnswerOf, IfMemory, Feeds, SeesBeginning, IsEndOf}
 use Rattle.pcap_frames.specs.Reading.{refusal_of, SeesCapture, SeesBeforeFault, SeesFront, SeesPart, IsSeen, IsReadOf}
@@ -33,7 +33,7 @@ extent (AtFault fault) = 0
 extent LacksMemory = 0
 
 pub extent_is : (state : ReaderState) (bytes : List ℕ) (frames : List FrameValue)
-    → ReaderStandsFor state bytes frames → (HasStopped state → ⊥) → extent state ≡ length bytes
+    → ReaderRepresents state bytes frames → (HasStopped state → ⊥) → extent state ≡ length bytes
 extent_is (InHeader kept) bytes frames stands goes = ap length stands.kept_is
 extent_is (InFrames at) bytes frames stands goes = omega (arith, stands.place_is, stands.came_is)
 extent_is (AtFault fault) bytes frames stands goes = absurd (goes tt)
@@ -41,7 +41,7 @@ extent_is LacksMemory bytes frames stands goes = absurd stands
 
 -- no reader that goes on was fed more bytes than the limits allow
 pub extent_bound : (state : ReaderState) (bytes : List ℕ) (frames : List FrameValue)
-    → ReaderStandsFor state bytes frames → (HasStopped state → ⊥) → length bytes ≤ 24 + 262160 * 16777217
+    → ReaderRepresents state bytes frames → (HasStopped state → ⊥) → length bytes ≤ 24 + 262160 * 16777217
 extent_bound (InHeader kept) bytes frames stands goes = omega (arith, stands.short)
 extent_bound (InFrames at) bytes frames stands goes =
     let splits = stands.splits in
@@ -68,7 +68,7 @@ answer_goes LacksMemory x answer stopped = cc
 
 -- a reader that refuses stands for bytes that show its fault
 pub answer_shows : (T : Type 0) (state : ReaderState) (bytes : List ℕ) (frames : List FrameValue)
-    (fault : CaptureFault) → ReaderStandsFor state bytes frames
+    (fault : CaptureFault) → ReaderRepresents state bytes frames
     → IsAnswerOf {T = T} state (Err (feed.Refused fault)) → ShowsFault bytes frames fault
 answer_shows T (InHeader kept) bytes frames fault stands answer = absurd cc
 answer_shows T (InFrames at) bytes frames fault stands answer = absurd cc
@@ -104,19 +104,19 @@ fault_within file frames fault (inl shows) = shows_within file frames fault show
 fault_within file frames fault (inr (inl ends)) = omega (arith, ap length ends.none_before)
 fault_within file frames fault (inr (inr ends)) = let splits = ends.splits in splits.limit
 
-module _ {V : Type 0} (stands_for : V → List FrameValue → Type 0) where
+module _ {V : Type 0} (represents : V → List FrameValue → Type 0) where
   -- these bytes were read, the reader that goes on stands for them, and the visitor saw their frames
   pub record HasRead (seen saw : V) (left now : Option (List ℕ)) (state : ReaderState) : Type 0 where
     pub bytes : List ℕ
     pub frames : List FrameValue
     pub consumed : Consumes left now bytes
-    pub stands : ReaderStandsFor state bytes frames
+    pub stands : ReaderRepresents state bytes frames
     pub goes : HasStopped state → ⊥
     pub are_frames : AreFrames frames
-    pub sees : Sees stands_for seen saw frames
+    pub sees : Sees represents seen saw frames
 
   pub none_read : (visitor : V) (left : Option (List ℕ)) (state : ReaderState) → state ≡ InHeader []
-      → ReaderStandsFor state [] [] → HasRead visitor visitor left left state
+      → ReaderRepresents state [] [] → HasRead visitor visitor left left state
   none_read visitor left state is stands = record {
     bytes = [];
     frames = [];
@@ -124,12 +124,12 @@ module _ {V : Type 0} (stands_for : V → List FrameValue → Type 0) where
     stands = stands;
     goes = subst (λ s. HasStopped s → ⊥) (sym is) (λ stopped. stopped);
     are_frames = tt;
-    sees = Sees-nil stands_for visitor;
+    sees = Sees-nil represents visitor;
   }
 
   pub more_read : {T : Type 0} (seen mid saw : V) (left now after : Option (List ℕ)) (old new : ReaderState)
       (piece : List ℕ) (x : T)
-      → HasRead seen mid left now old → Consumes now after piece → Feeds stands_for mid saw old new piece
+      → HasRead seen mid left now old → Consumes now after piece → Feeds represents mid saw old new piece
       → IsAnswerOf new (Ok x) → HasRead seen saw left after new
   more_read seen mid saw left now after old new piece x read consumed feeds answer =
       let fed = feeds.advances in record {
@@ -139,12 +139,12 @@ module _ {V : Type 0} (stands_for : V → List FrameValue → Type 0) where
         stands = fed.reads read.bytes read.frames read.stands;
         goes = answer_goes new x answer;
         are_frames = AreFrames-append read.frames feeds.given read.are_frames feeds.are_frames;
-        sees = Sees-trans stands_for seen mid saw read.frames feeds.given read.sees feeds.sees;
+        sees = Sees-trans represents seen mid saw read.frames feeds.given read.sees feeds.sees;
       }
 
   pub less_unread : {T : Type 0} (seen mid saw : V) (left now : Option (List ℕ)) (old new : ReaderState)
       (piece : List ℕ) (x : T)
-      → HasRead seen mid left now old → 0 < length piece → Feeds stands_for mid saw old new piece
+      → HasRead seen mid left now old → 0 < length piece → Feeds represents mid saw old new piece
       → IsAnswerOf new (Ok x) → 24 + 262160 * 16777217 - extent new < 24 + 262160 * 16777217 - extent old
   less_unread seen mid saw left now old new piece x read some feeds answer =
       let fed = feeds.advances in
@@ -156,7 +156,7 @@ module _ {V : Type 0} (stands_for : V → List FrameValue → Type 0) where
 
   -- a call of the source failed
   pub read_some : (seen saw : V) (left now after : Option (List ℕ)) (state : ReaderState)
-      → HasRead seen saw left now state → Keeps now after → SeesFront stands_for seen saw left after
+      → HasRead seen saw left now state → Keeps now after → SeesFront represents seen saw left after
   read_some seen saw left now after state read kept = record {
     front = read.bytes;
     frames = read.frames;
@@ -168,8 +168,8 @@ module _ {V : Type 0} (stands_for : V → List FrameValue → Type 0) where
 
   -- the visitor had no memory for a frame of the piece
   pub read_cut_short : (seen mid saw : V) (left now after : Option (List ℕ)) (old : ReaderState) (piece : List ℕ)
-      → HasRead seen mid left now old → Consumes now after piece → SeesBeginning stands_for mid saw old piece
-      → SeesPart stands_for seen saw left after
+      → HasRead seen mid left now old → Consumes now after piece → SeesBeginning represents mid saw old piece
+      → SeesPart represents seen saw left after
   read_cut_short seen mid saw left now after old piece read consumed cut =
       let fed = completes_total (read.bytes ++ piece) in
       let more =
@@ -187,15 +187,15 @@ module _ {V : Type 0} (stands_for : V → List FrameValue → Type 0) where
         completes = fed.1;
         begins = (given.0, joined);
         are_frames = AreFrames-append read.frames cut.given read.are_frames cut.are_frames;
-        sees = Sees-trans stands_for seen mid saw read.frames cut.given read.sees cut.sees;
+        sees = Sees-trans represents seen mid saw read.frames cut.given read.sees cut.sees;
       }
 
   -- the piece shows a fault
   pub read_refused : (T : Type 0) (seen mid saw : V) (left now after : Option (List ℕ)) (old new : ReaderState)
       (piece : List ℕ) (fault : CaptureFault)
-      → HasRead seen mid left now old → Consumes now after piece → Feeds stands_for mid saw old new piece
+      → HasRead seen mid left now old → Consumes now after piece → Feeds represents mid saw old new piece
       → IsAnswerOf {T = T} new (Err (feed.Refused fault))
-      → SeesBeforeFault stands_for seen saw left after fault × IfSome left (λ file. IsReadOf file (Err (Capture fault)))
+      → SeesBeforeFault represents seen saw left after fault × IfSome left (λ file. IsReadOf file (Err (Capture fault)))
   read_refused T seen mid saw left now after old new piece fault read consumed feeds answer =
       let whole = Consumes-trans left now after read.bytes piece read.consumed consumed in
       let fed = feeds.advances in
@@ -212,7 +212,7 @@ module _ {V : Type 0} (stands_for : V → List FrameValue → Type 0) where
           fault_of_front = inl shows;
           limit = shows_within (read.bytes ++ piece) _ fault shows;
           are_frames = AreFrames-append read.frames feeds.given read.are_frames feeds.are_frames;
-          sees = Sees-trans stands_for seen mid saw read.frames feeds.given read.sees feeds.sees;
+          sees = Sees-trans represents seen mid saw read.frames feeds.given read.sees feeds.sees;
           first = consumed_front left after (read.bytes ++ piece) _ whole first;
           at_end = λ ends. absurd (shown_before_the_end (read.bytes ++ piece) _ fault shows ends);
         },
@@ -224,9 +224,9 @@ module _ {V : Type 0} (stands_for : V → List FrameValue → Type 0) where
   pub read_stopped : (T : Type 0) (seen mid saw : V) (left now after : Option (List ℕ)) (old new : ReaderState)
       (piece : List ℕ) (fault : FeedFault)
       → HasRead seen mid left now old → Consumes now after piece
-      → IfMemory {T = T} (Err fault) (Feeds stands_for mid saw old new piece)
-      (SeesBeginning stands_for mid saw old piece) → IsAnswerOf {T = T} new (Err fault)
-      → IsSeen stands_for seen saw left after (Err (refusal_of fault))
+      → IfMemory {T = T} (Err fault) (Feeds represents mid saw old new piece)
+      (SeesBeginning represents mid saw old piece) → IsAnswerOf {T = T} new (Err fault)
+      → IsSeen represents seen saw left after (Err (refusal_of fault))
       × IfSome left (λ file. IsReadOf file (Err (refusal_of fault)))
   read_stopped T seen mid saw left now after old new piece (feed.Refused fault) read consumed fed answer =
       read_refused T seen mid saw left now after old new piece fault read consumed fed answer
@@ -236,9 +236,9 @@ module _ {V : Type 0} (stands_for : V → List FrameValue → Type 0) where
   -- the end of the source
   pub read_whole : (seen saw : V) (left now after : Option (List ℕ)) (state : ReaderState) (count : ℕ)
       → HasRead seen saw left now state → Consumes now after [] → IsAtEnd after
-      → ((file : List ℕ) (frames : List FrameValue) → ReaderStandsFor state file frames
+      → ((file : List ℕ) (frames : List FrameValue) → ReaderRepresents state file frames
       → IsEndOf file frames (Ok count))
-      → SeesCapture stands_for seen saw left after count × IfSome left (λ file. IsReadOf file (Ok count))
+      → SeesCapture represents seen saw left after count × IfSome left (λ file. IsReadOf file (Ok count))
   read_whole seen saw left now after state count read consumed end finish =
       let answer = finish read.bytes read.frames read.stands in
       let whole : Consumes left after read.bytes =
@@ -260,9 +260,9 @@ module _ {V : Type 0} (stands_for : V → List FrameValue → Type 0) where
 
   pub read_ended : (seen saw : V) (left now after : Option (List ℕ)) (state : ReaderState) (fault : FeedFault)
       → HasRead seen saw left now state → Consumes now after [] → IsAtEnd after
-      → ((file : List ℕ) (frames : List FrameValue) → ReaderStandsFor state file frames
+      → ((file : List ℕ) (frames : List FrameValue) → ReaderRepresents state file frames
       → IsEndOf file frames (Err fault))
-      → IsSeen stands_for seen saw left after (Err (refusal_of fault))
+      → IsSeen represents seen saw left after (Err (refusal_of fault))
       × IfSome left (λ file. IsReadOf file (Err (refusal_of fault)))
   read_ended seen saw left now after state (feed.Refused fault) read consumed end finish =
       let first = finish read.bytes read.frames read.stands in

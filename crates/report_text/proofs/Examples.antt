@@ -10,7 +10,8 @@ use Rattle.frame_records.specs.declared.records.Records.{Records}
 use Rattle.hhh_output.specs.declared.line.Line.{Line}
 use Rattle.hhh_output.specs.declared.report.Report.{Report}
 use Rattle.report_text.specs.declared.mark.Mark.TheVariants.{Opened, Saved}
-use Rattle.report_text.specs.ReportText.{ArePositions, IsTold, IsTellable, text_line, number_line, positions_line}
+use Rattle.report_text.specs.ReportText.{ArePositions, IsShowableLine, IsShowable, text_line, number_line}
+use Rattle.report_text.specs.ReportText.{positions_line}
 use Rattle.report_text.specs.ReportText.{mark_name, line_text, lines_text, mark_text, report_text, tail_text}
 use Rattle.report_text.specs.ReportText.{longest_number, longest_line}
 use Rattle.report_text.proofs.OrderedListLemmas.{one_line_in_order}
@@ -127,27 +128,28 @@ line_names_a_prefix = record {
     dest (suc (suc (suc zero))) = omega arith
     dest (suc (suc (suc (suc place)))) = omega arith
 
-pub line_of_a_prefix_and_two_numbers : IsTold line
+pub line_of_a_prefix_and_two_numbers : IsShowableLine line
 line_of_a_prefix_and_two_numbers = record { is_prefix = line_names_a_prefix; low = omega arith; high = omega arith }
 
 -- an address of five bytes
-pub line_of_no_prefix : ¬ IsTold (record line { prefix = record { source = 10 ∷ 1 ∷ 2 ∷ 3 ∷ 4 ∷ []; dest = [] } })
+pub line_of_no_prefix : ¬ IsShowableLine
+    (record line { prefix = record { source = 10 ∷ 1 ∷ 2 ∷ 3 ∷ 4 ∷ []; dest = [] } })
 line_of_no_prefix told = let few : 5 ≤ 4 = told.is_prefix.source.few in omega (arith, few)
 
-pub line_of_a_number_that_is_too_great : ¬ IsTold (record line { hi = 2 ^ 64 })
+pub line_of_a_number_that_is_too_great : ¬ IsShowableLine (record line { hi = 2 ^ 64 })
 line_of_a_number_that_is_too_great told = omega (arith, told.high)
 
-pub report_that_can_be_told : IsTellable report
+pub report_that_can_be_told : IsShowable report
 report_that_can_be_told = record {
   positions =
       All-cons (λ (position : ℕ). position < 2 ^ 64) 1 [] (omega arith)
       (All-nil (λ (position : ℕ). position < 2 ^ 64));
   total = omega arith;
   threshold = omega arith;
-  lines = All-cons IsTold line [] line_of_a_prefix_and_two_numbers (All-nil IsTold);
+  lines = All-cons IsShowableLine line [] line_of_a_prefix_and_two_numbers (All-nil IsShowableLine);
 }
 
-pub report_of_a_total_that_is_too_great : ¬ IsTellable (record report { total = 2 ^ 64 })
+pub report_of_a_total_that_is_too_great : ¬ IsShowable (record report { total = 2 ^ 64 })
 report_of_a_total_that_is_too_great tellable = omega (arith, tellable.total)
 
 -- seven frames, of which one was too short and two weren't IPv4

@@ -6,7 +6,7 @@ use Rattle.std.proofs.lemmas.List.Elements.{All-head, All-tail}
 use Rattle.prefix_lattice.specs.{PrefixValue, IsPrefix, side_text, prefix_text}
 use Rattle.hhh_output.specs.declared.line.Line.{Line}
 use Rattle.hhh_output.specs.declared.report.Report.{Report}
-use Rattle.report_text.specs.ReportText.{line_text, lines_text, report_text, IsTold, IsTellable}
+use Rattle.report_text.specs.ReportText.{line_text, lines_text, report_text, IsShowableLine, IsShowable}
 use Rattle.hhh_output.specs.{AreSame}
 use Rattle.report_text.proofs.TextPartLemmas.{spaced, join-spaced}
 use Rattle.report_text.proofs.TextWordLemmas.{unlike, word-apart, number-apart, side-word, positions-apart}
@@ -40,7 +40,8 @@ opens-line line rest =
     (decimal line.lo) (decimal line.hi) (codes "\n") rest
 
 -- a line and what follows it are told apart
-line-apart : PrefixTextsAreApart → (line another : Line) (rest other : List ℕ) → IsTold line → IsTold another
+line-apart : PrefixTextsAreApart → (line another : Line) (rest other : List ℕ) → IsShowableLine line
+    → IsShowableLine another
     → line_text line ++ rest ≡ line_text another ++ other → (line ≡ another) × (rest ≡ other)
 line-apart law line another rest other is another_is same =
     let behind : opened line rest ≡ opened another other =
@@ -67,8 +68,8 @@ line-apart law line another rest other is another_is same =
     (lines, ap (drop 1) high.1)
 
 -- lines before `done` are told apart
-lines-apart : PrefixTextsAreApart → (lines others : List Line) → AllByRecursion IsTold lines
-    → AllByRecursion IsTold others
+lines-apart : PrefixTextsAreApart → (lines others : List Line) → AllByRecursion IsShowableLine lines
+    → AllByRecursion IsShowableLine others
     → lines_text lines ++ codes "done\n" ≡ lines_text others ++ codes "done\n" → lines ≡ others
 lines-apart law [] [] all others_all same = refl
 lines-apart law [] (another ∷ others) all others_all same =
@@ -113,7 +114,7 @@ opens-report report =
     (codes "done\n")
 
 -- reports that have one text say the same
-pub report-apart : PrefixTextsAreApart → (report other : Report) → IsTellable report → IsTellable other
+pub report-apart : PrefixTextsAreApart → (report other : Report) → IsShowable report → IsShowable other
     → report_text report ≡ report_text other → AreSame report other
 report-apart law report other is other_is same =
     let positions = positions-apart report.positions other.positions _ _

@@ -69,14 +69,14 @@ tail_text records =
     ++ text_line (codes "end" ∷ [])
 
 -- the line shows a prefix, and its low and high are 64-bit numbers
-pub record IsTold (line : Line) : Type 0 where
+pub record IsShowableLine (line : Line) : Type 0 where
   pub is_prefix : IsPrefix line.prefix
   pub low : line.lo < 2 ^ 64
   pub high : line.hi < 2 ^ 64
 
 -- the numbers of the report are 64-bit numbers, and its lines show prefixes
-pub record IsTellable (report : Report) : Type 0 where
+pub record IsShowable (report : Report) : Type 0 where
   pub positions : All (λ position. position < 2 ^ 64) report.positions
   pub total : report.total < 2 ^ 64
   pub threshold : report.threshold < 2 ^ 64
-  pub lines : All IsTold report.lines
+  pub lines : All IsShowableLine report.lines

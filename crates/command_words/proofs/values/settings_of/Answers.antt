@@ -1,7 +1,7 @@
 -- Each value that was read is good, so the first one that isn't is the first fault.
 use Rattle.std.proofs.Common.{sym}
 use Rattle.std.proofs.lemmas.Result.{err_from_is_err_and}
-use Rattle.command_words.specs.Matches.{values_told}
+use Rattle.command_words.specs.Matches.{values_in_matches}
 use Rattle.command_words.specs.declared.opt.Opt.TheVariants.{Weigh, Shards, Capacity, Phi, Deal}
 use Rattle.command_words.proofs.ValueLemmas.{good_before_first, good_before_next, weigh_is_good, number_is_good}
 use Rattle.command_words.proofs.ValueLemmas.{number_is_first, choice_is_first}
@@ -9,7 +9,7 @@ use Rattle.command_words.proofs.values.settings_of.Goals as goal
 
 pub returns-in_err-weigh-clause-err : goal.returns-in_err-weigh-clause-err
 returns-in_err-weigh-clause-err c =
-    let values = values_told c.args.matches.now in
+    let values = values_in_matches c.args.matches.now in
     let p = err_from_is_err_and c.from_residual.result c.from_residual.ensures.1 in
     rw (p.1, p.2)
     (choice_is_first values Weigh _ _ (sym c.text_of.ensures) (good_before_first values)
@@ -17,7 +17,7 @@ returns-in_err-weigh-clause-err c =
 
 pub returns-in_err-shards-clause-err : goal.returns-in_err-shards-clause-err
 returns-in_err-shards-clause-err c =
-    let values = values_told c.args.matches.now in
+    let values = values_in_matches c.args.matches.now in
     let before_shards =
     good_before_next values Weigh _ (sym c.text_of.ensures) (good_before_first values)
     (weigh_is_good _ _ c.in_ok-weigh.ensures.ok) in
@@ -27,7 +27,7 @@ returns-in_err-shards-clause-err c =
 
 pub returns-in_err-capacity-clause-err : goal.returns-in_err-capacity-clause-err
 returns-in_err-capacity-clause-err c =
-    let values = values_told c.args.matches.now in
+    let values = values_in_matches c.args.matches.now in
     let before_shards =
     good_before_next values Weigh _ (sym c.text_of.ensures) (good_before_first values)
     (weigh_is_good _ _ c.in_ok-weigh.ensures.ok) in
@@ -40,7 +40,7 @@ returns-in_err-capacity-clause-err c =
 
 pub returns-in_err-phi-clause-err : goal.returns-in_err-phi-clause-err
 returns-in_err-phi-clause-err c =
-    let values = values_told c.args.matches.now in
+    let values = values_in_matches c.args.matches.now in
     let before_shards =
     good_before_next values Weigh _ (sym c.text_of.ensures) (good_before_first values)
     (weigh_is_good _ _ c.in_ok-weigh.ensures.ok) in
@@ -55,7 +55,7 @@ returns-in_err-phi-clause-err c =
 
 pub returns-in_err-deal-clause-err : goal.returns-in_err-deal-clause-err
 returns-in_err-deal-clause-err c =
-    let values = values_told c.args.matches.now in
+    let values = values_in_matches c.args.matches.now in
     let before_shards =
     good_before_next values Weigh _ (sym c.text_of.ensures) (good_before_first values)
     (weigh_is_good _ _ c.in_ok-weigh.ensures.ok) in

@@ -20,7 +20,8 @@ invariant_of-result c =
       are_lines =
           lines_kept c.in_ok-merged.merged cut c.in_ok-merged.ensures c.only_prefixes_are_asked.ensures
           c.threshold-threshold.result c.in_ok-lines.lines c.in_ok-lines.ensures
-          (λ prefix is_prefix. c.spans_are_narrow.ensures.within cut prefix c.positions.ensures.kept is_prefix);
+          (λ prefix is_prefix.
+            c.merged_intervals_are_narrow.ensures.within cut prefix c.positions.ensures.kept is_prefix);
     }
 
 pub returns-clause-report : goal.returns-clause-report
@@ -41,7 +42,7 @@ returns-clause-sound c = λ lists stands weighed.
     c.reports_are_sound.ensures cut lists c.args.phi _ c.positions.ensures.kept stands weighed c.requires.wide
     (lines_kept c.in_ok-merged.merged cut c.in_ok-merged.ensures c.only_prefixes_are_asked.ensures
     c.threshold-threshold.result c.in_ok-lines.lines c.in_ok-lines.ensures
-    (λ prefix is_prefix. c.spans_are_narrow.ensures.within cut prefix c.positions.ensures.kept is_prefix))
+    (λ prefix is_prefix. c.merged_intervals_are_narrow.ensures.within cut prefix c.positions.ensures.kept is_prefix))
     (record {
       positions = c.in_ok-positions.ensures.positions;
       total = c.total-total.ensures.total ∙ c.in_ok-merged.ensures.total;

@@ -1,4 +1,4 @@
--- What spans say of weights, shard by shard.
+-- What merged intervals say of weights, shard by shard.
 use Rattle.std.proofs.Common.{◌≡◌, ℕ, ◌+◌, ◌-◌, ◌*◌, ◌≤◌, List, [], ◌∷◌, ◌++◌, map, take, sum_by, filter, eqb, Bool}
 use Rattle.std.proofs.Common.{true, false, All, Contains, None, Some, if◌then◌else◌, refl, sym, ap, ◌∙◌, subst}
 use Rattle.std.proofs.Common.{add-mul, arith}
@@ -14,7 +14,7 @@ use Rattle.space_saving.specs.{TableValue, entry_of, interval_in, interval_from,
 use Rattle.shard_state.specs.{SnapshotValue, IsSnapshot, table_at, total_of, SnapshotStandsFor, CutValue, IsCut}
 use Rattle.shard_state.specs.{positions_of, total_of_cut, CutStandsFor, records_before, HoldsNarrowly, interval_of}
 use Rattle.cut_merge.specs.Tables.{merged_interval, table_keys}
-use Rattle.cut_merge.specs.Span.{node_tables, span, monitored_at, IsWithinTotal}
+use Rattle.cut_merge.specs.MergedInterval.{node_tables, merged_interval_in, monitored_at, IsWithinTotal}
 use Rattle.prefix_lattice.proofs.ListLemmas.{Contains-head, Contains-tail}
 use Rattle.cut_merge.proofs.FirstSeenLemmas.{first_seen-contains}
 use Rattle.cut_merge.proofs.TableMergeLemmas.{IsMergedBounded, merged_bounded}
@@ -56,7 +56,9 @@ shards_hold law capacity prefix some is_prefix (shard ∷ shards) (list ∷ list
     let same : shard.capacity ≡ capacity = All-head (λ (s : SnapshotValue). s.capacity ≡ capacity) shard shards alike in
     let first : HoldsNarrowly (interval_of prefix shard) capacity (weight_of prefix (take shard.position list))
     (total_of shard) =
-    subst (λ m. HoldsNarrowly (interval_of prefix shard) m (weight_of prefix (take shard.position list)) (total_of shard)) same
+    subst (λ m.
+      HoldsNarrowly (interval_of prefix shard) m (weight_of prefix (take shard.position list)) (total_of shard))
+      same
     (law.weight shard list prefix stand.0 (omega (arith, same)) is_prefix (All-head Weighed list lists weighed)) in
     let rest =
     shards_hold law capacity prefix some is_prefix shards lists
@@ -101,12 +103,13 @@ shards_hold law capacity prefix some is_prefix (shard ∷ shards) (list ∷ list
           ));
     }
 
--- where a cut stands for lists, the span of each prefix holds its weight
-pub span_holds : SnapshotsHold → (cut : CutValue) (lists : List (List RecordValue)) (prefix : PrefixValue)
+-- where a cut stands for lists, the merged interval of each prefix holds its weight
+pub interval_holds : SnapshotsHold → (cut : CutValue) (lists : List (List RecordValue)) (prefix : PrefixValue)
     → IsCut cut → CutStandsFor cut lists → All Weighed lists → IsPrefix prefix
-    → HoldsNarrowly (span cut prefix) cut.capacity (weight_of prefix (records_before lists (positions_of cut)))
+    → HoldsNarrowly (merged_interval_in cut prefix) cut.capacity
+      (weight_of prefix (records_before lists (positions_of cut)))
     (total_of_cut cut)
-span_holds law cut lists prefix kept stands weighed is_prefix =
+interval_holds law cut lists prefix kept stands weighed is_prefix =
     shards_hold law cut.capacity prefix (omega (arith, kept.least)) is_prefix cut.shards lists kept.alike
     stands.shards weighed
 
@@ -170,20 +173,20 @@ light_shards law capacity node key is_node (shard ∷ shards) alike kept missing
       add-mul (interval_in table key).high (merged_interval tables key).high capacity,
     ))
 
--- a prefix that no shard monitors has a light span
-pub span_light : IntervalsAreNarrow → (cut : CutValue) (prefix : PrefixValue) → IsCut cut → IsPrefix prefix
+-- a prefix that no shard monitors has a light merged interval
+pub interval_light : IntervalsAreNarrow → (cut : CutValue) (prefix : PrefixValue) → IsCut cut → IsPrefix prefix
     → ¬ Contains (monitored_at cut (node_of prefix)) (key_of prefix)
-    → (span cut prefix).high * cut.capacity ≤ total_of_cut cut
-span_light law cut prefix kept is_prefix missing =
+    → (merged_interval_in cut prefix).high * cut.capacity ≤ total_of_cut cut
+interval_light law cut prefix kept is_prefix missing =
     light_shards law cut.capacity (node_of prefix) (key_of prefix)
     (record { source = is_prefix.source.few; dest = is_prefix.dest.few }) cut.shards kept.alike kept.kept
     (λ there.
     missing (first_seen-contains (flat_map table_keys (node_tables (node_of prefix) cut)) (key_of prefix) there))
 
--- and every span is within the total
-pub span_within : TablesAreBounded → (cut : CutValue) (prefix : PrefixValue) → IsCut cut → IsPrefix prefix
-    → IsWithinTotal (total_of_cut cut) (span cut prefix)
-span_within law cut prefix kept is_prefix =
+-- and every merged interval is within the total
+pub interval_within : TablesAreBounded → (cut : CutValue) (prefix : PrefixValue) → IsCut cut → IsPrefix prefix
+    → IsWithinTotal (total_of_cut cut) (merged_interval_in cut prefix)
+interval_within law cut prefix kept is_prefix =
     let is_node : IsNode (node_of prefix) = record { source = is_prefix.source.few; dest = is_prefix.dest.few } in
     let tables = node_tables (node_of prefix) cut in
     let bounded : IsMergedBounded tables (key_of prefix) =
