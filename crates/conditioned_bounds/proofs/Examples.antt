@@ -1,8 +1,8 @@
 -- Worked examples of the definitions, most by computing.
-use Rattle.std.proofs.Common.{◌≡◌, ℕ, ◌-◌, ◌*◌, ◌≤◌, cond, List, [], ◌∷◌, refl, pos, negsuc, arith}
+use Rattle.std.proofs.Common.{◌≡◌, ℕ, ◌≤◌, cond, List, [], ◌∷◌, refl, pos, negsuc, arith, ◌^◌}
 use Rattle.std.proofs.lemmas.List.Elements.{All-from_recursion}
 use Rattle.prefix_lattice.specs.{RecordValue, PrefixValue, covers, weight_of, conditioned_weight, Holds, IsNarrow}
-use Rattle.conditioned_bounds.specs.Bounds.{bound_of, asked_of, HoldWeights, AreNarrow, AreWeights}
+use Rattle.conditioned_bounds.specs.Bounds.{bound_of, asked_of, HoldWeights, AreNarrow, AreWeights, sum_limit}
 
 -- 9 bytes from 10.1.1.1 to 20.1.1.1
 abbrev packet : RecordValue
@@ -79,3 +79,6 @@ exact_intervals_are_the_weights =
 
 pub and_wide_ones_are_not : ¬ AreWeights (where_covered 7) (where_covered 11) (packet ∷ []) (root ∷ stairs)
 and_wide_ones_are_not weights = let low : 7 ≡ 9 = (weights 0 root (omega arith)).0 in omega (arith, low)
+
+pub limit_of_a_sum : sum_limit ≡ 2 ^ 124
+limit_of_a_sum = refl

@@ -1,12 +1,16 @@
 -- Bounds on conditioned weights, from intervals that hold weights (Mitzenmacher, Steinke, Thaler 2012).
-use Rattle.std.specs.Prelude.{ℕ, ◌≡◌, ◌+◌, List, ◌∷◌, ◌++◌, All, sum_by, ℤ, pos, ◌-ℤ◌}
-use Rattle.prefix_lattice.specs.{RecordValue, PrefixValue, weight_of, closest, kept_pairs, Holds, IsNarrow}
+use Rattle.std.specs.Prelude.{ℕ, ◌≡◌, ◌+◌, ◌*◌, ◌^◌, List, ◌∷◌, ◌++◌, All, sum_by, ℤ, pos, ◌-ℤ◌}
+use Rattle.prefix_lattice.specs.{RecordValue, PrefixValue, weight_of, closest, kept_pairs, total_limit, Holds, IsNarrow}
 
 -- the bound of a prefix over some lines: its high and the highs of the meets of its closest lines' kept pairs,
 -- less the lows of those lines
 abbrev pub bound_of : (PrefixValue → ℕ) → (PrefixValue → ℕ) → PrefixValue → List PrefixValue → ℤ
 bound_of low high prefix lines =
     pos (high prefix + sum_by high (kept_pairs (closest prefix lines))) -ℤ pos (sum_by low (closest prefix lines))
+
+-- no sum of lows or of highs reaches this: a list has fewer than 2^64 prefixes
+abbrev pub sum_limit : ℕ
+sum_limit = 2 ^ 64 * total_limit
 
 -- the prefixes whose intervals make a bound: the prefix itself, its closest lines, and the meets of their kept pairs
 abbrev pub asked_of : PrefixValue → List PrefixValue → List PrefixValue

@@ -24,7 +24,7 @@ nothing-plus : (excess : Excess) → plus excess no_excess ≡ excess
 nothing-plus excess =
     let pair : ℕ → ℕ → Excess = λ low high. record { low = low; high = high } in
     ap (λ low. pair low (excess.high + 0)) (add-zero excess.low)
-      ∙ ap (λ high. pair excess.low high) (add-zero excess.high)
+    ∙ ap (λ high. pair excess.low high) (add-zero excess.high)
 
 -- none is noted at the first place
 pub notes_none : (table : TableValue) (old : List (ℕ × Excess)) → NotesEntries table old old 0
@@ -67,7 +67,7 @@ notes_more table old now next place e notes at apart excesses keys =
     λ key b. elim b as (λ b. eqb e.key key ≡ b → Noted (es ++ e ∷ []) key) [
       | true ↦ λ same.
           excesses key
-            ∙ ap (λ b. if b then plus (excess_of key now) (excess_from table (Some e)) else excess_of key now) same
+          ∙ ap (λ b. if b then plus (excess_of key now) (excess_from table (Some e)) else excess_of key now) same
           ∙ ap (λ g. plus g (excess_from table (Some e)))
           (notes.excesses key
           ∙ ap (λ found. plus (excess_of key old) (excess_from table found)) (own key (eqb-true e.key key same))
@@ -76,8 +76,8 @@ notes_more table old now next place e notes at apart excesses keys =
           (sym (entry_of-push_own key es e (own key (eqb-true e.key key same)) same))
       | false ↦ λ differs.
           excesses key
-            ∙ ap (λ b. if b then plus (excess_of key now) (excess_from table (Some e)) else excess_of key now)
-              differs
+          ∙ ap (λ b. if b then plus (excess_of key now) (excess_from table (Some e)) else excess_of key now)
+          differs
           ∙ notes.excesses key
           ∙ ap (λ found. plus (excess_of key old) (excess_from table found))
           (sym (entry_of-push_other key es e differs))

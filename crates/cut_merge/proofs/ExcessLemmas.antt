@@ -26,14 +26,14 @@ pub seen_before : (key : ℕ) (excesses : List (ℕ × Excess)) (excess : Excess
     → lookup (λ other. eqb key other) excesses ≡ Some excess → seen (keys_of excesses) key ≡ keys_of excesses
 seen_before key excesses excess there =
     ap (λ b. if b then keys_of excesses else keys_of excesses ++ key ∷ [])
-      (sym (some_among key excesses) ∙ ap is_some there)
+    (sym (some_among key excesses) ∙ ap is_some there)
 
 -- a key without one wasn't
 pub not_seen_before : (key : ℕ) (excesses : List (ℕ × Excess)) → lookup (λ other. eqb key other) excesses ≡ None
     → seen (keys_of excesses) key ≡ keys_of excesses ++ key ∷ []
 not_seen_before key excesses missing =
     ap (λ b. if b then keys_of excesses else keys_of excesses ++ key ∷ [])
-      (sym (some_among key excesses) ∙ ap is_some missing)
+    (sym (some_among key excesses) ∙ ap is_some missing)
 
 -- what is found for each key after a excess is put at one
 abbrev pub Puts : ℕ → List (ℕ × Excess) → List (ℕ × Excess) → Excess → Type 0

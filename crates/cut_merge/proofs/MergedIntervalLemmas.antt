@@ -57,8 +57,8 @@ shards_hold law capacity prefix some is_prefix (shard ∷ shards) (list ∷ list
     let first : HoldsNarrowly (interval_of prefix shard) capacity (weight_of prefix (take shard.position list))
     (total_of shard) =
     subst (λ m.
-      HoldsNarrowly (interval_of prefix shard) m (weight_of prefix (take shard.position list)) (total_of shard))
-      same
+    HoldsNarrowly (interval_of prefix shard) m (weight_of prefix (take shard.position list)) (total_of shard))
+    same
     (law.weight shard list prefix stand.0 (omega (arith, same)) is_prefix (All-head Weighed list lists weighed)) in
     let rest =
     shards_hold law capacity prefix some is_prefix shards lists
@@ -107,7 +107,7 @@ shards_hold law capacity prefix some is_prefix (shard ∷ shards) (list ∷ list
 pub interval_holds : SnapshotsHold → (cut : CutValue) (lists : List (List RecordValue)) (prefix : PrefixValue)
     → IsCut cut → CutStandsFor cut lists → All Weighed lists → IsPrefix prefix
     → HoldsNarrowly (merged_interval_in cut prefix) cut.capacity
-      (weight_of prefix (records_before lists (positions_of cut)))
+    (weight_of prefix (records_before lists (positions_of cut)))
     (total_of_cut cut)
 interval_holds law cut lists prefix kept stands weighed is_prefix =
     shards_hold law cut.capacity prefix (omega (arith, kept.least)) is_prefix cut.shards lists kept.alike

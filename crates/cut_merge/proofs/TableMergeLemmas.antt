@@ -43,10 +43,10 @@ represents_more old new tables table bounded stands adds = record {
       let old_high : old.missing + (excess_of key old.excesses).high ≡ sum_by (λ t. (interval_in t key).high) tables =
       ap (λ (i : Interval). i.high) (stands.intervals key) in
       let new_low : (excess_of key new.excesses).low
-        ≡ (excess_of key old.excesses).low + (excess_from table found).low =
+      ≡ (excess_of key old.excesses).low + (excess_from table found).low =
       ap (λ (g : Excess). g.low) (adds.excesses key) in
       let new_high : (excess_of key new.excesses).high
-        ≡ (excess_of key old.excesses).high + (excess_from table found).high =
+      ≡ (excess_of key old.excesses).high + (excess_from table found).high =
       ap (λ (g : Excess). g.high) (adds.excesses key) in
       let above : missing_high table ≤ (interval_in table key).high = (bounded key).above_missing in
       let low : (excess_of key new.excesses).low ≡ sum_by (λ t. (interval_in t key).low) (tables ++ table ∷ []) =

@@ -76,7 +76,7 @@ weight_of_the_file = record {
   frames = frame ∷ [];
   capture = file_is_a_capture;
   spelled = refl;
-  holds = record { low = omega arith; high = omega arith; width = omega arith };
+  holds = record { holds = record { low = omega arith; high = omega arith }; narrow = omega arith };
 }
 
 -- and with `--weigh packets`
@@ -86,7 +86,7 @@ packets_of_the_file = record {
   frames = frame ∷ [];
   capture = file_is_a_capture;
   spelled = refl;
-  holds = record { low = omega arith; high = omega arith; width = omega arith };
+  holds = record { holds = record { low = omega arith; high = omega arith }; narrow = omega arith };
 }
 
 -- ---- rules of dealing

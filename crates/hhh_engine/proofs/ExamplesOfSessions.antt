@@ -1,7 +1,7 @@
--- Worked examples of the session over a capture without frames, of the answer that it is, and of what stands in its
--- place.
+-- Worked examples of the session over a capture without frames, of the answer that it is, of what comes in its place,
+-- and of what each status says.
 use Rattle.std.proofs.Common.{◌≡◌, ◌%◌, ℕ, List, [], ◌∷◌, ◌++◌, Some, None, false, inl, inr, refl, sym, ap, codes}
-use Rattle.std.proofs.Common.{arith}
+use Rattle.std.proofs.Common.{arith, get_or}
 use Rattle.std.specs.Fmt.{digits}
 use Rattle.std.proofs.lemmas.List.{get_or-replicate}
 use Rattle.std.proofs.lemmas.List.Elements.{All-nil, All-head, All-replicate}
@@ -24,7 +24,9 @@ use Rattle.command_words.specs.{AskFor}
 use Rattle.command_words.specs.declared.command.Command.{Command}
 use Rattle.command_words.specs.declared.command.Command.TheVariants.{Weigh, Report as report_command}
 use Rattle.command_words.specs.declared.settings.Settings.{Settings}
+use Rattle.command_words.specs.declared.words_kind.WordsKind.TheVariants.{NoCommand}
 use Rattle.hhh_engine.specs.Answer.{IsAnswer, Answers, AnswersInPart, AskSomething, HasKnownCapture}
+use Rattle.hhh_engine.specs.Ending.{WroteAnswer, RefusedWords, RefusedCapture, FailedToRead, FailedToWrite}
 use Rattle.hhh_engine.specs.NoText.{HasNoText}
 use Rattle.hhh_engine.specs.Session.{Rules, IsCutAtEnds, start_of, session_text, IsReportAtEnds, IsSession}
 use Rattle.hhh_engine.specs.declared.status.Status.TheVariants.{Done, BadCapture, ReadFault, OutOfMemory}
@@ -285,3 +287,27 @@ memory_may_want_at_any_time = tt
 
 pub success_has_a_text : HasNoText (Some header) 3 3 Done → ⊥
 success_has_a_text no_text = no_text
+
+-- ---- what a status says, of sinks that are lists of bytes
+
+-- the session was written, and the capture was read to its end
+pub session_is_done : WroteAnswer in_turn words (Some header) (Some []) (Some (codes "# ")) (Some (codes "# " ++ text))
+session_is_done = record { answered = session_was_written; at_end = refl }
+
+-- the first byte was read before the missing command was seen
+pub no_command_before_a_read : RefusedWords {S = List ℕ} {K = List ℕ} [] NoCommand (1 ∷ 2 ∷ []) (2 ∷ []) [] [] → ⊥
+no_command_before_a_read refused =
+    let same : 2 ≡ 1 = ap (λ bytes. get_or bytes 0 0) refused.unread in omega (arith, same)
+
+pub no_command : RefusedWords {S = List ℕ} {K = List ℕ} [] NoCommand (1 ∷ 2 ∷ []) (1 ∷ 2 ∷ []) [] []
+no_command = record { first_fault = refl; unread = refl; unwritten = refl }
+
+pub empty_file_is_refused : RefusedCapture {K = List ℕ} (Some []) (fault_at ShortHeader 0) [] []
+empty_file_is_refused = record { first_fault = empty_file_has_no_text; unwritten = refl }
+
+pub source_failed : FailedToRead {K = List ℕ} 3 4 [] []
+source_failed = record { rose = omega arith; unwritten = refl }
+
+pub sink_failed_in_the_session :
+    FailedToWrite in_turn words (Some header) (Some []) (Some []) (Some (codes "opened 0 0 0")) 3 4
+sink_failed_in_the_session = record { rose = omega arith; in_part = session_was_written_in_part; at_end = refl }

@@ -1,6 +1,6 @@
 -- Worked examples of thresholds, lines, reports and their tests, most by computing.
 use Rattle.std.proofs.Common.{◌≡◌, ℕ, zero, suc, ◌≤◌, ◌<◌, ◌≤ℤ◌, List, [], ◌∷◌, length, Contains, Bool, true, false}
-use Rattle.std.proofs.Common.{eqb, refl, ap, ◌∙◌, subst, arith, pos, ◌*◌}
+use Rattle.std.proofs.Common.{eqb, refl, ap, ◌∙◌, subst, arith, pos}
 use Rattle.std.proofs.Math.ListN.{replicate}
 use Rattle.std.proofs.lemmas.Bool.{and_parts, eqb-true, false≢true}
 use Rattle.std.proofs.lemmas.Int.{ints}

@@ -34,7 +34,7 @@ pub record CutHolds (cut : CutValue) (lists : List (List RecordValue)) : Type 0 
   pub stands : CutStandsFor cut lists
   pub intervals : (prefix : PrefixValue) → IsPrefix prefix
       → HoldsNarrowly (merged_interval_in cut prefix) cut.capacity
-        (weight_of prefix (records_before lists (positions_of cut)))
+      (weight_of prefix (records_before lists (positions_of cut)))
       (total_of_cut cut)
   pub light : (prefix : PrefixValue) → IsPrefix prefix → ¬ IsMonitored cut prefix
       → (merged_interval_in cut prefix).high * cut.capacity ≤ total_of_cut cut
@@ -258,8 +258,11 @@ report_is_sound cut lists phi report reports =
           (each_line (HoldsWeight records) report.lines (λ line there.
           let l = line_of line there in
           let interval_holds = holds.intervals line.prefix l.is_prefix in
-          record { low = omega (arith, l.low, interval_holds.holds.low); high =
-            omega (arith, l.high, interval_holds.holds.high) }));
+          record {
+            low = omega (arith, l.low, interval_holds.holds.low);
+            high =
+                omega (arith, l.high, interval_holds.holds.high);
+          }));
       width = each_line (IsNarrowLine cut.capacity report.total) report.lines (λ line there.
           let l = line_of line there in
           subst (λ n. (n - line.lo) * cut.capacity ≤ report.total) (sym l.high)

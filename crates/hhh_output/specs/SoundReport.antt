@@ -1,5 +1,5 @@
 -- What a report says of the records themselves: eight tests over the plain lists, without tables or bounds.
-use Rattle.std.specs.Prelude.{ℕ, ◌≡◌, ◌+◌, ◌-◌, ◌*◌, ◌<◌, ◌≤◌, List, length, All, Contains}
+use Rattle.std.specs.Prelude.{ℕ, ◌≡◌, ◌+◌, ◌*◌, ◌<◌, ◌≤◌, List, length, All, Contains}
 use Rattle.std.specs.List.{AllZip}
 use Rattle.prefix_lattice.specs.{RecordValue, PrefixValue, IsPrefix, weight_of, total_weight, conditioned_weight}
 use Rattle.prefix_lattice.specs.{closest, kept_pairs, Holds, IsNarrow}

@@ -6,7 +6,7 @@ use Rattle.std.proofs.lemmas.Fmt.{decimal_injective}
 use Rattle.prefix_lattice.specs.PrefixText.{dot, slash, space, address_text, side_text_of, side_text, prefix_text}
 use Rattle.prefix_lattice.specs.PrefixText.{source_part, dest_part, SpellsSide, IsAddressText, before_slash}
 use Rattle.prefix_lattice.specs.PrefixText.{HasLength, HasLooseBits, HasSideFault, SpellsPrefix, HasPrefixFault}
-use Rattle.prefix_lattice.specs.PrefixText.{WritesPart, longest_prefix_text}
+use Rattle.prefix_lattice.specs.PrefixText.{WritesPart, longest_prefix_text, longest_side_text}
 use Rattle.prefix_lattice.specs.declared.prefix_fault.Side.TheVariants.{Source, Dest}
 use Rattle.prefix_lattice.specs.declared.prefix_fault.PrefixFault.TheVariants.{BadAddress, BadLength, LooseBits}
 use Rattle.prefix_lattice.proofs.AddressTextLemmas.{first_number, second_number}
@@ -132,6 +132,10 @@ part_that_was_written = record { ends = refl; written = refl }
 
 pub byte_that_did_not_stay : WritesPart (codes "xxxxxx") (codes "xx10yx") 2 4 (codes "10") → ⊥
 byte_that_did_not_stay writes = omega (arith, ap (λ l. slice_index l 4) writes.written)
+
+pub longest_side : length (side_text (255 ∷ 255 ∷ 255 ∷ 255 ∷ [])) ≡ longest_side_text
+unfolding digits
+longest_side = refl
 
 -- no text is longer than that of 255.255.255.255/32 255.255.255.255/32
 pub longest_text :

@@ -29,6 +29,10 @@ side_text_of address bytes = address_text address ++ slash ∷ decimal (8 * byte
 abbrev pub side_text : List ℕ → List ℕ
 side_text front = side_text_of (address_of front) (length front)
 
+-- the most bytes of the text of a side, as of `255.255.255.255/32`
+abbrev pub longest_side_text : ℕ
+longest_side_text = 18
+
 -- the space that separates the two sides of a prefix
 abbrev pub space : ℕ
 space = 32
@@ -37,9 +41,9 @@ space = 32
 abbrev pub prefix_text : PrefixValue → List ℕ
 prefix_text prefix = side_text prefix.source ++ space ∷ side_text prefix.dest
 
--- the most bytes of the text of a prefix: two sides of 18, as `255.255.255.255/32`, and a space
+-- the most bytes of the text of a prefix: two sides and a space
 abbrev pub longest_prefix_text : ℕ
-longest_prefix_text = 37
+longest_prefix_text = 2 * longest_side_text + 1
 
 -- the part of a text before its first space
 abbrev pub source_part : List ℕ → List ℕ

@@ -2,7 +2,7 @@
 
 ghost use Rattle.std.specs.Prelude.{◌≡◌, ◌≢◌, ◌==◌, ◌<◌, ◌≤◌, ◌*◌, ◌^◌, ◌++◌, ◌∷◌, ℕ, length, position, decimal, IfSome, IfNone, IfOk, IfErr};
 ghost use Rattle.std.specs.List.{before_first};
-ghost use Rattle.prefix_lattice.specs.PrefixText.{address_text, SpellsSide, HasSideFault};
+ghost use Rattle.prefix_lattice.specs.PrefixText.{address_text, slash, SpellsSide, HasSideFault};
 ghost use Rattle.prefix_lattice.specs.KeptBytes.{address_length};
 
 use crate::kept_bytes::KeptBytes;
@@ -30,7 +30,7 @@ pub fn parse_side(text: &[u8], side: Side) -> Result<KeptBytes, PrefixFault>
 
 // What is wrong with a text that has no slash.
 fn without_length(text: &[u8], side: Side) -> PrefixFault
-    requires { before_first (λ byte. byte == 47) text.now ≡ text.now }
+    requires { before_first (λ byte. byte == slash) text.now ≡ text.now }
     ensures { HasSideFault side text.now result }
 {
     match address_of_text(text) {

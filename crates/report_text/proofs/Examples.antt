@@ -1,11 +1,11 @@
 -- Worked examples of the texts, most by computing.
 use Rattle.std.proofs.Common.{◌≡◌, ℕ, zero, suc, ◌^◌, ◌<◌, ◌≤◌, [], ◌∷◌, codes, refl, arith}
-use Rattle.std.proofs.Common.{◌-◌, ◌+◌, length, decimal}
+use Rattle.std.proofs.Common.{◌-◌, length, decimal}
 use Rattle.std.proofs.Math.ListN.{replicate}
 use Rattle.std.proofs.lemmas.List.Elements.{All-nil, All-cons, All-from_recursion}
 use Rattle.std.specs.Fmt.{digits}
 use Rattle.std.specs.Prelude.{slice_index}
-use Rattle.prefix_lattice.specs.{IsPrefix, longest_prefix_text}
+use Rattle.prefix_lattice.specs.{IsPrefix}
 use Rattle.frame_records.specs.declared.records.Records.{Records}
 use Rattle.hhh_output.specs.declared.line.Line.{Line}
 use Rattle.hhh_output.specs.declared.report.Report.{Report}

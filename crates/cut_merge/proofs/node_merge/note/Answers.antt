@@ -34,6 +34,6 @@ returns-in_default-clause-keys c =
     let missing : lookup (λ k. eqb c.args.key k) c.args.excesses.now.entries ≡ None =
     sym c.in_ok-before.ensures.old ∙ c.in_default.is in
     ap keys_of
-      (c.in_ok-before.ensures.entries ∙ insert_entry-new eqb c.args.excesses.now c.args.key c.args.more missing)
+    (c.in_ok-before.ensures.entries ∙ insert_entry-new eqb c.args.excesses.now c.args.key c.args.more missing)
     ∙ map-append (λ e. e.0) c.args.excesses.now.entries ((c.args.key, c.args.more) ∷ [])
     ∙ sym (not_seen_before c.args.key c.args.excesses.now.entries missing)

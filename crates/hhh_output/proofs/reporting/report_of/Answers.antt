@@ -21,7 +21,7 @@ invariant_of-result c =
           lines_kept c.in_ok-merged.merged cut c.in_ok-merged.ensures c.only_prefixes_are_asked.ensures
           c.threshold-threshold.result c.in_ok-lines.lines c.in_ok-lines.ensures
           (λ prefix is_prefix.
-            c.merged_intervals_are_narrow.ensures.within cut prefix c.positions.ensures.kept is_prefix);
+          c.merged_intervals_are_narrow.ensures.within cut prefix c.positions.ensures.kept is_prefix);
     }
 
 pub returns-clause-report : goal.returns-clause-report
