@@ -1,5 +1,6 @@
 -- The elements of a list, by its first and the others.
-use Rattle.std.proofs.Common.{◌≡◌, ◌≢◌, ◌↔◌, ◌∙◌, ◌==◌, ◌||◌, refl, sym, ap, subst, eq-eqb, get_or, List, [], ◌∷◌, map, ℕ, zero, suc, Bool, false, arith, Bor}
+use Rattle.std.proofs.Common.{◌≡◌, ◌≢◌, ◌↔◌, ◌∙◌, ◌==◌, ◌||◌, refl, sym, ap, subst, eq-eqb, get_or, List, [], ◌∷◌}
+use Rattle.std.proofs.Common.{map, ℕ, zero, suc, Bool, false, arith, Bor}
 use Rattle.std.specs.Bool.{IsTrue}
 use Rattle.std.specs.List.{Contains, list_any}
 use Rattle.std.specs.Str.{bytes_eq}
@@ -14,26 +15,36 @@ contains_other x y xs other (zero, within, same) = absurd (other same)
 contains_other x y xs other (suc k, within, same) = (k, omega arith, same)
 
 -- a search finds a text just where it is one of some
-pub among : (texts : List (List ℕ)) (text : List ℕ) → IsTrue (list_any (λ other. bytes_eq other text) texts) ↔ Contains texts text
+pub among : (texts : List (List ℕ)) (text : List ℕ)
+    → IsTrue (list_any (λ other. bytes_eq other text) texts) ↔ Contains texts text
 among texts text = (
   λ found.
       let at = Any-from_list_any (λ other. bytes_eq other text) texts found in
       subst (λ other. Contains texts other) ((bytes_eq-Decides at.1 text).0 at.4) (at.0, at.2, at.3),
-  λ h. list_any-from_Any (λ other. bytes_eq other text) texts (h.0, text, h.1, h.2, (bytes_eq-Decides text text).1 refl),
+  λ h.
+      list_any-from_Any (λ other. bytes_eq other text) texts
+      (h.0, text, h.1, h.2, (bytes_eq-Decides text text).1 refl),
 )
 
 -- so does one among texts behind references
-any_behind : (names : List (Bor (List ℕ))) (text : List ℕ) → list_any (λ name. bytes_eq name.now text) names ≡ list_any (λ other. bytes_eq other text) (map (λ name. name.now) names)
+any_behind : (names : List (Bor (List ℕ))) (text : List ℕ)
+    → list_any (λ name. bytes_eq name.now text) names
+    ≡ list_any (λ other. bytes_eq other text) (map (λ name. name.now) names)
 any_behind [] text = refl
 any_behind (name ∷ names) text = ap (λ rest. bytes_eq name.now text || rest) (any_behind names text)
 
 -- the answer of a search among some texts tells whether they contain the text
-pub is_among : (names : List (Bor (List ℕ))) (texts : List (List ℕ)) (text : List ℕ) (answer : Bool) → map (λ name. name.now) names ≡ texts → answer ≡ list_any (λ name. bytes_eq name.now text) names → IsTrue answer ↔ Contains texts text
+pub is_among : (names : List (Bor (List ℕ))) (texts : List (List ℕ)) (text : List ℕ) (answer : Bool)
+    → map (λ name. name.now) names ≡ texts → answer ≡ list_any (λ name. bytes_eq name.now text) names
+    → IsTrue answer ↔ Contains texts text
 is_among names texts text answer are is =
-    subst (λ ts. IsTrue answer ↔ Contains ts text) are (subst (λ test. IsTrue test ↔ Contains (map (λ name. name.now) names) text) (sym (is ∙ any_behind names text)) (among _ text))
+    subst (λ ts. IsTrue answer ↔ Contains ts text) are
+    (subst (λ test. IsTrue test ↔ Contains (map (λ name. name.now) names) text)
+    (sym (is ∙ any_behind names text)) (among _ text))
 
 -- a search that fails shows that a text is none of some
-pub not_among : (texts : List (List ℕ)) (text : List ℕ) → list_any (λ other. bytes_eq other text) texts ≡ false → Contains texts text → ⊥
+pub not_among : (texts : List (List ℕ)) (text : List ℕ) → list_any (λ other. bytes_eq other text) texts ≡ false
+    → Contains texts text → ⊥
 not_among texts text fails h = false≢true (sym fails ∙ (among texts text).1 h)
 
 -- texts that a comparison tells apart differ
@@ -42,4 +53,6 @@ apart text other fails same = false≢true (sym fails ∙ (bytes_eq-Decides text
 
 -- a text in which a search finds no `=` is a name
 pub no_equals_sign_in : (name : List ℕ) → list_any (λ byte. byte == equals_sign) name ≡ false → IsName name
-no_equals_sign_in name none k d within same = false≢true (sym none ∙ list_any_at (λ byte. byte == equals_sign) name k d within (eq-eqb (get_or name k d) equals_sign same))
+no_equals_sign_in name none k d within same =
+    false≢true (sym none
+    ∙ list_any_at (λ byte. byte == equals_sign) name k d within (eq-eqb (get_or name k d) equals_sign same))

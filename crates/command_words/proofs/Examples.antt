@@ -3,7 +3,9 @@ use Rattle.std.proofs.Common.{◌≡◌, ◌≢◌, List, [], ◌∷◌, Some, N
 use Rattle.std.proofs.lemmas.List.Elements.{All-cons, All-nil}
 use Rattle.std.proofs.lemmas.List.Kept.{AllPairs-cons}
 use Rattle.std.specs.List.{All, AllPairs, Contains}
-use Rattle.command_words.specs.Arguments.{Text, Argument, positional, option, hyphen, equals_sign, IsValue, IsName, long, Spells, Begins, SpellsAll, positionals_in, names_in, value_of, Form, AreOfForm, AreWellFormed}
+use Rattle.command_words.specs.Arguments.{Text, Argument, positional, option, hyphen, equals_sign, IsValue, IsName}
+use Rattle.command_words.specs.Arguments.{long, Spells, Begins, SpellsAll, positionals_in, names_in, value_of, Form}
+use Rattle.command_words.specs.Arguments.{AreOfForm, AreWellFormed}
 use Rattle.command_words.specs.Scanning.{option_name, text_at, FitsRest}
 use Rattle.command_words.specs.Forms.{form_of}
 use Rattle.command_words.specs.Words.{texts}
@@ -48,17 +50,28 @@ words = codes "--weigh=packets" ∷ codes "10.0.0.0/8" ∷ codes "--capture" ∷
 
 abbrev pub arguments : List Argument
 arguments =
-    option (codes "weigh") (codes "packets") ∷ positional (codes "10.0.0.0/8") ∷ option (codes "capture") (codes "a.pcap") ∷ positional (codes "20.0.0.0/8") ∷ []
+    option (codes "weigh") (codes "packets") ∷ positional (codes "10.0.0.0/8")
+    ∷ option (codes "capture") (codes "a.pcap") ∷ positional (codes "20.0.0.0/8") ∷ []
 
 -- the option at the front is one word
-pub option_at_the_front : Begins words (option (codes "weigh") (codes "packets")) (codes "10.0.0.0/8" ∷ codes "--capture" ∷ codes "a.pcap" ∷ codes "20.0.0.0/8" ∷ [])
-option_at_the_front = record { front = codes "--weigh=packets" ∷ []; parted = refl; spelled = (no_equals_sign_in (codes "weigh") refl, λ same. omega (arith, same), inr refl) }
+pub option_at_the_front : Begins words (option (codes "weigh") (codes "packets"))
+    (codes "10.0.0.0/8" ∷ codes "--capture" ∷ codes "a.pcap" ∷ codes "20.0.0.0/8" ∷ [])
+option_at_the_front = record {
+  front = codes "--weigh=packets" ∷ [];
+  parted = refl;
+  spelled = (no_equals_sign_in (codes "weigh") refl, λ same. omega (arith, same), inr refl);
+}
 
 -- the last three words are an option and a positional
-last_words : SpellsAll (codes "--capture" ∷ codes "a.pcap" ∷ codes "20.0.0.0/8" ∷ []) (option (codes "capture") (codes "a.pcap") ∷ positional (codes "20.0.0.0/8") ∷ [])
+last_words : SpellsAll (codes "--capture" ∷ codes "a.pcap" ∷ codes "20.0.0.0/8" ∷ [])
+    (option (codes "capture") (codes "a.pcap") ∷ positional (codes "20.0.0.0/8") ∷ [])
 last_words = (
   codes "20.0.0.0/8" ∷ [],
-  record { front = codes "--capture" ∷ codes "a.pcap" ∷ []; parted = refl; spelled = (no_equals_sign_in (codes "capture") refl, λ same. omega (arith, same), inl refl) },
+  record {
+    front = codes "--capture" ∷ codes "a.pcap" ∷ [];
+    parted = refl;
+    spelled = (no_equals_sign_in (codes "capture") refl, λ same. omega (arith, same), inl refl);
+  },
   ([], record { front = codes "20.0.0.0/8" ∷ []; parted = refl; spelled = (λ same. omega (arith, same), refl) }, refl),
 )
 
@@ -105,7 +118,9 @@ texts_of_two_words word other = refl
 names_are_apart : AllPairs (λ name other. name ≢ other) (names_in arguments)
 names_are_apart =
     AllPairs-cons (λ name other. name ≢ other) (codes "weigh") (codes "capture" ∷ [])
-    (λ k d within. All-cons (λ other. codes "weigh" ≢ other) (codes "capture") [] (apart (codes "weigh") (codes "capture") refl) (All-nil (λ other. codes "weigh" ≢ other)) k d within)
+    (λ k d within.
+    All-cons (λ other. codes "weigh" ≢ other) (codes "capture") [] (apart (codes "weigh") (codes "capture") refl)
+    (All-nil (λ other. codes "weigh" ≢ other)) k d within)
     (λ i j d before within. absurd (omega (arith, before, within)))
 
 -- `weigh` has two positionals, and options of these names
@@ -113,12 +128,16 @@ abbrev form : Form
 form = form_of Weigh
 
 capture_known : All (λ name. Contains form.options name) (codes "capture" ∷ [])
-capture_known = All-cons (λ name. Contains form.options name) (codes "capture") [] ((among form.options (codes "capture")).0 refl) (All-nil (λ name. Contains form.options name))
+capture_known =
+    All-cons (λ name. Contains form.options name) (codes "capture") []
+    ((among form.options (codes "capture")).0 refl) (All-nil (λ name. Contains form.options name))
 
 pub arguments_of_weigh : AreOfForm form arguments
 arguments_of_weigh = record {
   as_many = refl;
-  known = All-cons (λ name. Contains form.options name) (codes "weigh") (codes "capture" ∷ []) ((among form.options (codes "weigh")).0 refl) capture_known;
+  known =
+      All-cons (λ name. Contains form.options name) (codes "weigh") (codes "capture" ∷ [])
+      ((among form.options (codes "weigh")).0 refl) capture_known;
   once = names_are_apart;
 }
 
@@ -129,11 +148,13 @@ pub not_the_arguments_of_report : AreOfForm (form_of Report) arguments → ⊥
 not_the_arguments_of_report of_form = omega (arith, of_form.as_many)
 
 -- `weigh` has no option `shards`
-pub option_of_report_alone : AreOfForm form (positional (codes "x") ∷ positional (codes "y") ∷ option (codes "shards") (codes "1") ∷ []) → ⊥
+pub option_of_report_alone : AreOfForm form
+    (positional (codes "x") ∷ positional (codes "y") ∷ option (codes "shards") (codes "1") ∷ []) → ⊥
 option_of_report_alone of_form = not_among form.options (codes "shards") refl (of_form.known 0 [] (omega arith))
 
 -- behind the first two arguments one positional and `--capture` are left
-pub rest_of_the_words : FitsRest form 1 (codes "--capture" ∷ codes "a.pcap" ∷ codes "20.0.0.0/8" ∷ []) (option (codes "capture") (codes "a.pcap") ∷ positional (codes "20.0.0.0/8") ∷ [])
+pub rest_of_the_words : FitsRest form 1 (codes "--capture" ∷ codes "a.pcap" ∷ codes "20.0.0.0/8" ∷ [])
+    (option (codes "capture") (codes "a.pcap") ∷ positional (codes "20.0.0.0/8") ∷ [])
 rest_of_the_words = record {
   spelled = last_words;
   as_many = refl;

@@ -3,7 +3,7 @@ use Rattle.std.proofs.Common.{◌≡◌, [], ◌∷◌, Some, true, refl, codes}
 use Rattle.clap.specs.Words.{found_of, first_value, new_rule}
 use Rattle.clap.specs.declared.parser.matches.ArgMatches.{ArgMatches}
 use Rattle.command_words.specs.Forms.{form_of}
-use Rattle.command_words.specs.Matches.{Tells, TellsWords, values_told}
+use Rattle.command_words.specs.Matches.{AreMatchesOf, AreMatchesOfWords, values_in_matches}
 use Rattle.command_words.specs.Parser.{option_rule, bare_parser, with_positionals, with_options, parser_for}
 use Rattle.command_words.specs.declared.command_word.CommandWord.TheVariants.{Weigh}
 use Rattle.command_words.specs.declared.opt.Opt.TheVariants as opt
@@ -21,25 +21,35 @@ first_word_is_an_argument = refl
 pub no_help : (bare_parser (codes "report")).top.disable_help_flag ≡ true
 no_help = refl
 
-pub positionals_in_their_order : (with_positionals (bare_parser (codes "weigh")) (codes "SRC" ∷ codes "DST" ∷ [])).top.rules ≡ new_rule (codes "SRC") ∷ new_rule (codes "DST") ∷ []
+pub positionals_in_their_order : (with_positionals (bare_parser (codes "weigh"))
+    (codes "SRC" ∷ codes "DST" ∷ [])).top.rules ≡ new_rule (codes "SRC") ∷ new_rule (codes "DST") ∷ []
 positionals_in_their_order = refl
 
-pub options_behind_what_stands : (with_options (bare_parser (codes "report")) (codes "phi" ∷ [])).top.rules ≡ option_rule (codes "phi") ∷ []
+pub options_behind_what_stands : (with_options (bare_parser (codes "report")) (codes "phi" ∷ [])).top.rules
+    ≡ option_rule (codes "phi") ∷ []
 options_behind_what_stands = refl
 
 pub parser_of_weigh
-    : (parser_for (codes "weigh") (form_of Weigh)).top.rules ≡ new_rule (codes "SRC") ∷ new_rule (codes "DST") ∷ option_rule (codes "capture") ∷ option_rule (codes "weigh") ∷ []
+    : (parser_for (codes "weigh") (form_of Weigh)).top.rules
+    ≡ new_rule (codes "SRC") ∷ new_rule (codes "DST") ∷ option_rule (codes "capture")
+    ∷ option_rule (codes "weigh") ∷ []
 parser_of_weigh = refl
 
 -- what is found among `--weigh=packets 10.0.0.0/8 --capture a.pcap 20.0.0.0/8`
-pub second_positional_is_told : (matches : ArgMatches) → Tells (form_of Weigh) arguments matches → first_value (found_of matches) (codes "DST") ≡ Some (codes "20.0.0.0/8")
+pub second_positional_is_told : (matches : ArgMatches) → AreMatchesOf (form_of Weigh) arguments matches
+    → first_value (found_of matches) (codes "DST") ≡ Some (codes "20.0.0.0/8")
 second_positional_is_told matches tells = tells.positionals 1 (codes "DST") refl
 
-pub capture_is_told : (matches : ArgMatches) → Tells (form_of Weigh) arguments matches → first_value (found_of matches) (codes "capture") ≡ Some (codes "a.pcap")
-capture_is_told matches tells = tells.options (codes "capture") (not_among (codes "SRC" ∷ codes "DST" ∷ []) (codes "capture") refl)
+pub capture_is_told : (matches : ArgMatches) → AreMatchesOf (form_of Weigh) arguments matches
+    → first_value (found_of matches) (codes "capture") ≡ Some (codes "a.pcap")
+capture_is_told matches tells =
+    tells.options (codes "capture") (not_among (codes "SRC" ∷ codes "DST" ∷ []) (codes "capture") refl)
 
-pub weighing_is_told : (matches : ArgMatches) → Tells (form_of Weigh) arguments matches → values_told matches opt.Weigh ≡ Some (codes "packets")
-weighing_is_told matches tells = tells.options (codes "weigh") (not_among (codes "SRC" ∷ codes "DST" ∷ []) (codes "weigh") refl)
+pub weighing_is_told : (matches : ArgMatches) → AreMatchesOf (form_of Weigh) arguments matches
+    → values_in_matches matches opt.Weigh ≡ Some (codes "packets")
+weighing_is_told matches tells =
+    tells.options (codes "weigh") (not_among (codes "SRC" ∷ codes "DST" ∷ []) (codes "weigh") refl)
 
-pub words_are_told : (matches : ArgMatches) → Tells (form_of Weigh) arguments matches → TellsWords weigh_line Weigh matches
+pub words_are_told : (matches : ArgMatches) → AreMatchesOf (form_of Weigh) arguments matches
+    → AreMatchesOfWords weigh_line Weigh matches
 words_are_told matches tells = record { arguments = arguments; are_words = words_of_a_command; told = tells }

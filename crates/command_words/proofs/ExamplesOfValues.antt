@@ -1,12 +1,17 @@
 -- Worked examples of the values of options, and of what they set.
-use Rattle.std.proofs.Common.{◌≡◌, ◌<◌, ℕ, zero, suc, [], ◌∷◌, get_or, Some, None, inr, refl, sym, subst, codes, false, arith}
+use Rattle.std.proofs.Common.{◌≡◌, ◌<◌, ℕ, zero, suc, [], ◌∷◌, get_or, Some, None, inr, refl, sym, subst, codes}
+use Rattle.std.proofs.Common.{false, arith}
 use Rattle.std.specs.Fmt.{digits}
 use Rattle.std.proofs.lemmas.Fmt.{first_decimal, decimal_injective}
 use Rattle.frame_records.specs.declared.weigh.Weigh.TheVariants.{Bytes, Packets}
 use Rattle.deal_rules.specs.declared.deal_kind.DealKind.TheVariants.{RoundRobin, Free}
 use Rattle.command_words.specs.Arguments.{option}
-use Rattle.command_words.specs.Options.{name_of, place_of, Kind, number, choice, kind_of, IsNumber, IsAllowed, IsGoodText, IsGood, IsNoNumber, IsOutside, IsNoChoice}
-use Rattle.command_words.specs.Settings.{Values, values_in, SetsNumber, SetsWeigh, SetsDeal, weigh_word, deal_word, SetsSettings, IsWide, AreLimited}
+use Rattle.command_words.specs.Options.{name_of, place_of, Kind, number, choice, kind_of, IsNumber, IsAllowed}
+use Rattle.command_words.specs.Options.{IsGoodText, IsGood, IsNoNumber, IsOutside, IsNoChoice}
+use Rattle.command_words.specs.Options.{greatest_capacity, greatest_phi}
+use Rattle.command_words.specs.Settings.{Values, values_in, SetsNumber, SetsWeigh, SetsDeal, weigh_word, deal_word}
+use Rattle.command_words.specs.Settings.{SetsSettings, IsWide, AreLimited}
+use Rattle.command_words.specs.Settings.{greatest_block, greatest_workers, greatest_callers, greatest_rounds}
 use Rattle.command_words.specs.Words.{IsFirstBad, HasValueFault}
 use Rattle.command_words.specs.OneValue.{IsBadNumber, IsBadChoice}
 use Rattle.command_words.specs.declared.opt.Opt.{Opt}
@@ -43,7 +48,9 @@ pub no_number_has_a_leading_zero : (value : ℕ) → IsNumber (codes "01") value
 unfolding digits
 no_number_has_a_leading_zero zero is_number = let same : codes "01" ≡ codes "0" = is_number.spelled in cc
 no_number_has_a_leading_zero (suc value) is_number =
-    let first : 48 < 48 = subst (λ text. 48 < get_or text 0 0) (sym is_number.spelled) (first_decimal (suc value) (omega arith) is_number.bounded) in
+    let first : 48 < 48 =
+    subst (λ text. 48 < get_or text 0 0) (sym is_number.spelled)
+    (first_decimal (suc value) (omega arith) is_number.bounded) in
     omega (arith, first)
 
 -- 16 shards are the most, and one is the least
@@ -92,7 +99,12 @@ good_before_shards Phi before = tt
 good_before_shards Deal before = absurd (omega (arith, before))
 
 pub shards_are_the_first_bad : IsFirstBad IsOutside two_bad_values Shards
-shards_are_the_first_bad = record { before = good_before_shards; text = codes "17"; value = refl; is_bad = seventeen_shards }
+shards_are_the_first_bad = record {
+  before = good_before_shards;
+  text = codes "17";
+  value = refl;
+  is_bad = seventeen_shards;
+}
 
 pub shards_are_the_fault : HasValueFault two_bad_values (OutOfLimits Shards)
 shards_are_the_fault = shards_are_the_first_bad
@@ -178,3 +190,32 @@ capacity_by_default = refl
 pub sixteen_shards_by_their_number : SetsNumber Shards 4 (Some (codes "16")) 16
 unfolding digits
 sixteen_shards_by_their_number = (record { spelled = refl; bounded = omega arith }, (omega arith, omega arith))
+
+-- ---- the greatest of each setting
+
+pub greatest_tables : IsAllowed (kind_of Capacity) greatest_capacity
+greatest_tables = (omega arith, omega arith)
+
+pub greatest_share_is_the_whole : IsAllowed (kind_of Phi) greatest_phi
+greatest_share_is_the_whole = (omega arith, omega arith)
+
+pub greatest_settings : AreLimited (record defaults {
+  block = greatest_block;
+  workers = greatest_workers;
+  callers = greatest_callers;
+  rounds = greatest_rounds;
+})
+greatest_settings = record {
+  some_shards = omega arith;
+  few_shards = omega arith;
+  least_capacity = omega arith;
+  most_capacity = omega arith;
+  some_phi = omega arith;
+  most_phi = omega arith;
+  some_block = omega arith;
+  most_block = omega arith;
+  some_workers = omega arith;
+  few_workers = omega arith;
+  few_callers = omega arith;
+  few_rounds = omega arith;
+}

@@ -13,7 +13,8 @@ use Rattle.command_words.specs.Arguments.{Text, Argument, positional, option, Sp
 use Rattle.command_words.specs.Forms.{word_of, form_of, AreWordsOf}
 use Rattle.command_words.specs.Paths.{NamesPaths}
 use Rattle.command_words.specs.Settings.{values_in}
-use Rattle.command_words.specs.Words.{HasSides, AskToWeigh, AskToReport, AskFor, IsLimited, HasGoodPositionals, HasBadPrefix, HasBadValue, IsTooNarrow, HasWordsFault}
+use Rattle.command_words.specs.Words.{HasSides, AskToWeigh, AskToReport, AskFor, IsLimited, HasGoodPositionals}
+use Rattle.command_words.specs.Words.{HasBadPrefix, HasBadValue, IsTooNarrow, HasWordsFault}
 use Rattle.command_words.specs.Options.{place_of, IsGood}
 use Rattle.command_words.specs.declared.command.Command.TheVariants as command
 use Rattle.command_words.specs.declared.command_word.CommandWord.{CommandWord}
@@ -21,11 +22,14 @@ use Rattle.command_words.specs.declared.command_word.CommandWord.TheVariants.{We
 use Rattle.command_words.specs.declared.opt.Opt.{Opt}
 use Rattle.command_words.specs.declared.opt.Opt.TheVariants as opt
 use Rattle.command_words.specs.declared.settings.Settings.{Settings}
-use Rattle.command_words.specs.declared.words_kind.WordsKind.TheVariants.{NoCommand, UnknownCommand, Refused, BadPrefix, OutOfLimits, Bound}
+use Rattle.command_words.specs.declared.words_kind.WordsKind.TheVariants.{NoCommand, UnknownCommand, Refused}
+use Rattle.command_words.specs.declared.words_kind.WordsKind.TheVariants.{BadPrefix, OutOfLimits, Bound}
 use Rattle.command_words.proofs.ElementLemmas.{among, apart, no_equals_sign_in}
 use Rattle.command_words.proofs.OneReadingLemmas.{one_reading}
 use Rattle.command_words.proofs.Examples.{words, arguments, words_of_weigh}
-use Rattle.command_words.proofs.ExamplesOfValues.{defaults, nothing_sets_the_defaults, defaults_are_within_their_limits, defaults_are_wide, seventeen_shards, tables_too_small_for_a_share}
+use Rattle.command_words.proofs.ExamplesOfValues.{defaults, nothing_sets_the_defaults}
+use Rattle.command_words.proofs.ExamplesOfValues.{defaults_are_within_their_limits, defaults_are_wide}
+use Rattle.command_words.proofs.ExamplesOfValues.{seventeen_shards, tables_too_small_for_a_share}
 
 pub word_of_a_command : word_of Report ≡ codes "report"
 word_of_a_command = refl
@@ -93,7 +97,12 @@ pub report_has_no_positionals : HasGoodPositionals Report []
 report_has_no_positionals = tt
 
 pub capture_that_is_named : NamesPaths weigh_line (record { capture = codes "a.pcap" })
-capture_that_is_named = record { command = Weigh; arguments = arguments; are_words = words_of_a_command; capture = refl }
+capture_that_is_named = record {
+  command = Weigh;
+  arguments = arguments;
+  are_words = words_of_a_command;
+  capture = refl;
+}
 
 -- `report`
 abbrev report_line : List Text
@@ -105,18 +114,32 @@ no_words_of_report = record {
   begun = refl;
   well_formed = record {
     spelled = refl;
-    of_form = record { as_many = refl; known = All-nil _; once = λ i j d before within. absurd (omega (arith, before, within)) };
+    of_form = record {
+      as_many = refl;
+      known = All-nil _;
+      once = λ i j d before within. absurd (omega (arith, before, within));
+    };
   };
 }
 
 pub asks_for_a_report : AskToReport report_line defaults
-asks_for_a_report = record { arguments = []; are_words = no_words_of_report; set = nothing_sets_the_defaults; wide = defaults_are_wide }
+asks_for_a_report = record {
+  arguments = [];
+  are_words = no_words_of_report;
+  set = nothing_sets_the_defaults;
+  wide = defaults_are_wide;
+}
 
 pub settings_of_the_report_are_limited : IsLimited (command.Report defaults)
 settings_of_the_report_are_limited = (defaults_are_within_their_limits, defaults_are_wide)
 
 pub standard_input_is_named_by_default : NamesPaths report_line (record { capture = codes "-" })
-standard_input_is_named_by_default = record { command = Report; arguments = []; are_words = no_words_of_report; capture = refl }
+standard_input_is_named_by_default = record {
+  command = Report;
+  arguments = [];
+  are_words = no_words_of_report;
+  capture = refl;
+}
 
 -- an empty command line
 pub no_command : HasWordsFault [] NoCommand
@@ -163,13 +186,28 @@ bits_past_the_length = record {
     begun = refl;
     well_formed = record {
       spelled = loose_words_are_spelled;
-      of_form = record { as_many = refl; known = All-nil _; once = λ i j d before within. absurd (omega (arith, before, within)) };
+      of_form = record {
+        as_many = refl;
+        known = All-nil _;
+        once = λ i j d before within. absurd (omega (arith, before, within));
+      };
     };
   };
   source = codes "10.1.2.0/16";
   dest = codes "0.0.0.0/0";
   sides = refl;
-  has_fault = inl (refl, record { address = 0x0a010200; bytes = 2; is_address = omega arith; is_length = omega arith; spelled = refl; loose = λ none. omega (arith, none) });
+  has_fault =
+      inl (
+        refl,
+        record {
+          address = 0x0a010200;
+          bytes = 2;
+          is_address = omega arith;
+          is_length = omega arith;
+          spelled = refl;
+          loose = λ none. omega (arith, none);
+        },
+      );
 }
 
 pub prefix_is_the_fault : HasWordsFault (codes "weigh" ∷ loose_words) (BadPrefix (LooseBits Source))
@@ -188,10 +226,20 @@ words_for_many_shards = record {
   behind = codes "--shards=17" ∷ [];
   begun = refl;
   well_formed = record {
-    spelled = ([], record { front = codes "--shards=17" ∷ []; parted = refl; spelled = (no_equals_sign_in (codes "shards") refl, λ same. omega (arith, same), inr refl) }, refl);
+    spelled = (
+      [],
+      record {
+        front = codes "--shards=17" ∷ [];
+        parted = refl;
+        spelled = (no_equals_sign_in (codes "shards") refl, λ same. omega (arith, same), inr refl);
+      },
+      refl,
+    );
     of_form = record {
       as_many = refl;
-      known = All-cons IsOption (codes "shards") [] ((among (form_of Report).options (codes "shards")).0 refl) (All-nil IsOption);
+      known =
+          All-cons IsOption (codes "shards") [] ((among (form_of Report).options (codes "shards")).0 refl)
+          (All-nil IsOption);
       once = λ i j d before within. absurd (omega (arith, before, within));
     };
   };
@@ -223,8 +271,20 @@ narrow_arguments = option (codes "phi") (codes "117647") ∷ option (codes "capa
 narrow_words_are_spelled : SpellsAll narrow_words narrow_arguments
 narrow_words_are_spelled = (
   codes "--capacity" ∷ codes "17" ∷ [],
-  record { front = codes "--phi" ∷ codes "117647" ∷ []; parted = refl; spelled = (no_equals_sign_in (codes "phi") refl, λ same. omega (arith, same), inl refl) },
-  ([], record { front = codes "--capacity" ∷ codes "17" ∷ []; parted = refl; spelled = (no_equals_sign_in (codes "capacity") refl, λ same. omega (arith, same), inl refl) }, refl),
+  record {
+    front = codes "--phi" ∷ codes "117647" ∷ [];
+    parted = refl;
+    spelled = (no_equals_sign_in (codes "phi") refl, λ same. omega (arith, same), inl refl);
+  },
+  (
+    [],
+    record {
+      front = codes "--capacity" ∷ codes "17" ∷ [];
+      parted = refl;
+      spelled = (no_equals_sign_in (codes "capacity") refl, λ same. omega (arith, same), inl refl);
+    },
+    refl,
+  ),
 )
 
 narrow_words_are_of_report : AreWellFormed (form_of Report) narrow_words narrow_arguments
@@ -232,10 +292,14 @@ narrow_words_are_of_report = record {
   spelled = narrow_words_are_spelled;
   of_form = record {
     as_many = refl;
-    known = All-cons IsOption (codes "phi") (codes "capacity" ∷ []) ((among (form_of Report).options (codes "phi")).0 refl)
-        (All-cons IsOption (codes "capacity") [] ((among (form_of Report).options (codes "capacity")).0 refl) (All-nil IsOption));
+    known =
+        All-cons IsOption (codes "phi") (codes "capacity" ∷ [])
+        ((among (form_of Report).options (codes "phi")).0 refl)
+        (All-cons IsOption (codes "capacity") [] ((among (form_of Report).options (codes "capacity")).0 refl)
+        (All-nil IsOption));
     once = AllPairs-cons (λ name other. name ≢ other) (codes "phi") (codes "capacity" ∷ [])
-        (All-cons (λ other. codes "phi" ≢ other) (codes "capacity") [] (apart (codes "phi") (codes "capacity") refl) (All-nil (λ other. codes "phi" ≢ other)))
+        (All-cons (λ other. codes "phi" ≢ other) (codes "capacity") []
+        (apart (codes "phi") (codes "capacity") refl) (All-nil (λ other. codes "phi" ≢ other)))
         (λ i j d before within. absurd (omega (arith, before, within)));
   };
 }

@@ -3,7 +3,7 @@ use Rattle.std.proofs.Common.{◌≡◌, ◌≢◌, List, ◌∷◌, Bor, Err, R
 use Rattle.clap.specs.declared.parser.matches.ArgMatches.{ArgMatches}
 use Rattle.command_words.specs.Arguments.{Text, Argument, AreWellFormed}
 use Rattle.command_words.specs.Forms.{word_of, form_of}
-use Rattle.command_words.specs.Matches.{Tells, TellsWords}
+use Rattle.command_words.specs.Matches.{AreMatchesOf, AreMatchesOfWords}
 use Rattle.command_words.specs.Words.{texts, HasWordsFault}
 use Rattle.command_words.specs.declared.command_word.CommandWord.{CommandWord}
 use Rattle.command_words.specs.declared.words_kind.WordsKind.{WordsKind}
@@ -12,33 +12,46 @@ use Rattle.command_words.specs.declared.words_kind.WordsRefusal.{WordsRefusal}
 use Rattle.command_words.specs.declared.words_kind.WordsRefusal.TheVariants.{Bad}
 
 -- words that begin with a command's word
-begun_by : (words : List (Bor Text)) (first : Bor Text) (others : List (Bor Text)) (word : CommandWord) → words ≡ first ∷ others → first.now ≡ word_of word
+begun_by : (words : List (Bor Text)) (first : Bor Text) (others : List (Bor Text)) (word : CommandWord)
+    → words ≡ first ∷ others → first.now ≡ word_of word
     → texts words ≡ word_of word ∷ texts others
 begun_by words first others word are first_is = ap texts are ∙ ap (λ text. text ∷ texts others) first_is
 
 -- a first word that is no command's is a fault
-pub unknown_first : (words : List (Bor Text)) (first : Bor Text) (others : List (Bor Text)) → words ≡ first ∷ others → ((word : CommandWord) → first.now ≢ word_of word)
+pub unknown_first : (words : List (Bor Text)) (first : Bor Text) (others : List (Bor Text)) → words ≡ first ∷ others
+    → ((word : CommandWord) → first.now ≢ word_of word)
     → HasWordsFault (texts words) UnknownCommand
 unknown_first words first others are no_command = (first.now, texts others, ap texts are, no_command)
 
 -- words behind a command's word that are not well formed are a fault
-pub refused_behind : (words : List (Bor Text)) (first : Bor Text) (others : List (Bor Text)) (word : CommandWord) → words ≡ first ∷ others → first.now ≡ word_of word
-    → ((arguments : List Argument) → AreWellFormed (form_of word) (texts others) arguments → ⊥) → HasWordsFault (texts words) Refused
-refused_behind words first others word are first_is no_form = (word, texts others, begun_by words first others word are first_is, no_form)
+pub refused_behind : (words : List (Bor Text)) (first : Bor Text) (others : List (Bor Text)) (word : CommandWord)
+    → words ≡ first ∷ others → first.now ≡ word_of word
+    → ((arguments : List Argument) → AreWellFormed (form_of word) (texts others) arguments → ⊥)
+    → HasWordsFault (texts words) Refused
+refused_behind words first others word are first_is no_form =
+    (word, texts others, begun_by words first others word are first_is, no_form)
 
 -- the matches of what stands behind a command's word tell the words
-pub tells_behind : (words : List (Bor Text)) (first : Bor Text) (others : List (Bor Text)) (word : CommandWord) (matches : ArgMatches) → words ≡ first ∷ others → first.now ≡ word_of word
+pub tells_behind : (words : List (Bor Text)) (first : Bor Text) (others : List (Bor Text)) (word : CommandWord)
+    (matches : ArgMatches) → words ≡ first ∷ others → first.now ≡ word_of word
     → (arguments : List Argument) × AreWellFormed (form_of word) (texts others) arguments
-    → ((arguments : List Argument) → AreWellFormed (form_of word) (texts others) arguments → Tells (form_of word) arguments matches) → TellsWords (texts words) word matches
+    → ((arguments : List Argument) → AreWellFormed (form_of word) (texts others) arguments
+    → AreMatchesOf (form_of word) arguments matches) → AreMatchesOfWords (texts words) word matches
 tells_behind words first others word matches are first_is well tells = record {
   arguments = well.0;
-  are_words = record { behind = texts others; begun = begun_by words first others word are first_is; well_formed = well.1 };
+  are_words = record {
+    behind = texts others;
+    begun = begun_by words first others word are first_is;
+    well_formed = well.1;
+  };
   told = tells well.0 well.1;
 }
 
 -- what is told as bad is the fault that was found
-pub told_as_bad : {T : Type 0} (words : List Text) (first kind : WordsKind) → HasWordsFault words first → Path (Result T WordsRefusal) (Err (Bad first)) (Err (Bad kind)) → HasWordsFault words kind
+pub told_as_bad : {T : Type 0} (words : List Text) (first kind : WordsKind) → HasWordsFault words first
+    → Path (Result T WordsRefusal) (Err (Bad first)) (Err (Bad kind)) → HasWordsFault words kind
 told_as_bad {T} words first kind has same = subst (λ k. HasWordsFault words k) (same_kind first kind same) has
   where
-    same_kind : (first kind : WordsKind) → Path (Result T WordsRefusal) (Err (Bad first)) (Err (Bad kind)) → first ≡ kind
+    same_kind : (first kind : WordsKind) → Path (Result T WordsRefusal) (Err (Bad first)) (Err (Bad kind))
+        → first ≡ kind
     same_kind first kind same = cc

@@ -11,16 +11,21 @@ use Rattle.command_words.specs.declared.opt.Opt.TheVariants.{Shards, Capacity, P
 use Rattle.command_words.specs.declared.settings.Settings.{Settings}
 
 -- a number that an option sets is within its limits, if the default is
-set_within : (opt : Opt) (default least greatest : ℕ) (text : Option Text) (value : ℕ) → kind_of opt ≡ number least greatest → least ≤ default → default ≤ greatest
+set_within : (opt : Opt) (default least greatest : ℕ) (text : Option Text) (value : ℕ)
+    → kind_of opt ≡ number least greatest → least ≤ default → default ≤ greatest
     → SetsNumber opt default text value → (least ≤ value) × (value ≤ greatest)
-set_within opt default least greatest None value kind low high set = (subst (λ n. least ≤ n) (sym set) low, subst (λ n. n ≤ greatest) (sym set) high)
-set_within opt default least greatest (Some text) value kind low high set = subst (λ (k : Kind). IsAllowed k value) kind set.1
+set_within opt default least greatest None value kind low high set =
+    (subst (λ n. least ≤ n) (sym set) low, subst (λ n. n ≤ greatest) (sym set) high)
+set_within opt default least greatest (Some text) value kind low high set =
+    subst (λ (k : Kind). IsAllowed k value) kind set.1
 
 -- settings that values set are within their limits
 set_is_limited : (values : Values) (settings : Settings) → SetsSettings values settings → AreLimited settings
 set_is_limited values settings set =
     let shards = set_within Shards 4 1 16 (values Shards) settings.shards refl (omega arith) (omega arith) set.shards in
-    let capacity = set_within Capacity 512 2 4096 (values Capacity) settings.capacity refl (omega arith) (omega arith) set.capacity in
+    let capacity =
+    set_within Capacity 512 2 4096 (values Capacity) settings.capacity refl (omega arith) (omega arith)
+    set.capacity in
     let phi = set_within Phi 10000 1 1000000 (values Phi) settings.phi refl (omega arith) (omega arith) set.phi in
     record {
       some_shards = shards.0;

@@ -1,5 +1,6 @@
 -- What `clap` tells of words is what the words say.
-use Rattle.std.proofs.Common.{◌≡◌, ◌<◌, ℕ, zero, suc, List, [], ◌∷◌, length, Option, Some, None, Bor, refl, sym, ap, ap₂, ◌∙◌, subst, arith, codes, slice_index_or}
+use Rattle.std.proofs.Common.{◌≡◌, ◌<◌, ℕ, zero, suc, List, [], ◌∷◌, length, Option, Some, None, Bor, refl, sym, ap}
+use Rattle.std.proofs.Common.{ap₂, ◌∙◌, subst, arith, codes, slice_index_or}
 use Rattle.std.proofs.Math.Path.{fun_ext}
 use Rattle.std.specs.Prelude.{slice_get, Contains, IsSome}
 use Rattle.clap.specs.Words.{found_of, first_value}
@@ -9,7 +10,7 @@ use Rattle.command_words.specs.Scanning.{text_at}
 use Rattle.command_words.specs.Forms.{form_of}
 use Rattle.command_words.specs.Options.{name_of}
 use Rattle.command_words.specs.Settings.{values_in}
-use Rattle.command_words.specs.Matches.{Tells, TellsWords, values_told}
+use Rattle.command_words.specs.Matches.{AreMatchesOf, AreMatchesOfWords, values_in_matches}
 use Rattle.command_words.specs.Words.{HasSides, HasGoodPositionals, HasValueFault, HasWordsFault}
 use Rattle.command_words.specs.declared.command_word.CommandWord.{CommandWord}
 use Rattle.command_words.specs.declared.command_word.CommandWord.TheVariants.{Weigh, Report}
@@ -42,19 +43,40 @@ small_name opt.Phi = omega arith
 small_name opt.Deal = omega arith
 
 -- the values that are told are those of the arguments
-pub told_values : (word : CommandWord) (arguments : List Argument) (matches : ArgMatches) → Tells (form_of word) arguments matches → values_told matches ≡ values_in arguments
-told_values word arguments matches told = fun_ext (λ at. told.options (name_of at) (no_positional word (name_of at) (small_name at)))
+pub told_values : (word : CommandWord) (arguments : List Argument) (matches : ArgMatches)
+    → AreMatchesOf (form_of word) arguments matches → values_in_matches matches ≡ values_in arguments
+told_values word arguments matches told =
+    fun_ext (λ at. told.options (name_of at) (no_positional word (name_of at) (small_name at)))
 
 -- a value that is bad among those that are told is what is wrong with the words
-pub told_fault : (words : List Text) (word : CommandWord) (matches : ArgMatches) (tells : TellsWords words word matches) (kind : WordsKind) → HasGoodPositionals word tells.arguments
-    → HasValueFault (values_told matches) kind → HasWordsFault words kind
+pub told_fault : (words : List Text) (word : CommandWord) (matches : ArgMatches)
+    (tells : AreMatchesOfWords words word matches) (kind : WordsKind) → HasGoodPositionals word tells.arguments
+    → HasValueFault (values_in_matches matches) kind → HasWordsFault words kind
 told_fault words word matches tells kind good has =
     go kind (subst (λ values. HasValueFault values kind) (told_values word tells.arguments matches tells.told) has)
   where
     go : (kind : WordsKind) → HasValueFault (values_in tells.arguments) kind → HasWordsFault words kind
-    go (BadNumber at) fault = record { command = word; arguments = tells.arguments; are_words = tells.are_words; positionals = good; has_fault = fault }
-    go (OutOfLimits at) fault = record { command = word; arguments = tells.arguments; are_words = tells.are_words; positionals = good; has_fault = fault }
-    go (BadChoice at) fault = record { command = word; arguments = tells.arguments; are_words = tells.are_words; positionals = good; has_fault = fault }
+    go (BadNumber at) fault = record {
+      command = word;
+      arguments = tells.arguments;
+      are_words = tells.are_words;
+      positionals = good;
+      has_fault = fault;
+    }
+    go (OutOfLimits at) fault = record {
+      command = word;
+      arguments = tells.arguments;
+      are_words = tells.are_words;
+      positionals = good;
+      has_fault = fault;
+    }
+    go (BadChoice at) fault = record {
+      command = word;
+      arguments = tells.arguments;
+      are_words = tells.are_words;
+      positionals = good;
+      has_fault = fault;
+    }
     go _ fault = absurd fault
 
 -- two sides, and that they are told
@@ -66,7 +88,8 @@ pub record TellsSides (arguments : List Argument) (matches : ArgMatches) : Type 
   pub dest_told : first_value (found_of matches) (codes "DST") ≡ Some dest
 
 -- both sides of `weigh` are told
-pub told_sides : (arguments : List Argument) (matches : ArgMatches) → length (positionals_in arguments) ≡ 2 → Tells (form_of Weigh) arguments matches → TellsSides arguments matches
+pub told_sides : (arguments : List Argument) (matches : ArgMatches) → length (positionals_in arguments) ≡ 2
+    → AreMatchesOf (form_of Weigh) arguments matches → TellsSides arguments matches
 told_sides arguments matches two told = go (positionals_in arguments) refl two
   where
     go : (texts : List Text) → positionals_in arguments ≡ texts → length texts ≡ 2 → TellsSides arguments matches
@@ -82,23 +105,30 @@ told_sides arguments matches two told = go (positionals_in arguments) refl two
     go (source ∷ dest ∷ other ∷ more) are many = absurd (omega arith)
 
 -- a text that is told is found
-pub told_is_found : (found : Option (Bor Text)) (told : Option Text) (text : Text) → text_at found ≡ told → told ≡ Some text → IsSome found
+pub told_is_found : (found : Option (Bor Text)) (told : Option Text) (text : Text) → text_at found ≡ told
+    → told ≡ Some text → IsSome found
 told_is_found None told text is told_is = cc
 told_is_found (Some word) told text is told_is = refl
 
 -- what is found is the text that is told
-found_is_told : (found : Option (Bor Text)) (told : Option Text) (text : Text) (word : Bor Text) → text_at found ≡ told → told ≡ Some text → found ≡ Some word → word.now ≡ text
-found_is_told found told text word is told_is found_is = same_some word.now text (sym (ap text_at found_is) ∙ is ∙ told_is)
+found_is_told : (found : Option (Bor Text)) (told : Option Text) (text : Text) (word : Bor Text)
+    → text_at found ≡ told → told ≡ Some text → found ≡ Some word → word.now ≡ text
+found_is_told found told text word is told_is found_is =
+    same_some word.now text (sym (ap text_at found_is) ∙ is ∙ told_is)
   where
     same_some : (text other : Text) → Path (Option Text) (Some text) (Some other) → text ≡ other
     same_some text other same = cc
 
 -- what is found behind `weigh` is its sides
-pub found_sides : (words : List Text) (matches : ArgMatches) (tells : TellsWords words Weigh matches) (found_source found_dest : Option (Bor Text)) (source dest : Bor Text)
-    → text_at found_source ≡ first_value (found_of matches) (codes "SRC") → text_at found_dest ≡ first_value (found_of matches) (codes "DST")
-    → found_source ≡ Some source → found_dest ≡ Some dest → (source_text dest_text : Text) → source_text ≡ source.now → dest_text ≡ dest.now
+pub found_sides : (words : List Text) (matches : ArgMatches) (tells : AreMatchesOfWords words Weigh matches)
+    (found_source found_dest : Option (Bor Text)) (source dest : Bor Text)
+    → text_at found_source ≡ first_value (found_of matches) (codes "SRC")
+    → text_at found_dest ≡ first_value (found_of matches) (codes "DST")
+    → found_source ≡ Some source → found_dest ≡ Some dest → (source_text dest_text : Text)
+    → source_text ≡ source.now → dest_text ≡ dest.now
     → HasSides tells.arguments source_text dest_text
-found_sides words matches tells found_source found_dest source dest source_is dest_is source_found dest_found source_text dest_text same_source same_dest =
+found_sides words matches tells found_source found_dest source dest source_is dest_is source_found dest_found
+    source_text dest_text same_source same_dest =
     let told = told_sides tells.arguments matches tells.are_words.well_formed.of_form.as_many tells.told in
     told.sides
     ∙ ap₂ (λ s d. s ∷ d ∷ [])

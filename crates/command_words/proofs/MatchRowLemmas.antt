@@ -20,7 +20,8 @@ pub other_text : (text other : Text) → text ≢ other → bytes_eq text other 
 other_text text other apart = false_from_ne_true _ (λ same. apart ((bytes_eq-Decides text other).0 same))
 
 -- what holds of each text holds of the one at a place
-pub at_place : (P : Text → Type 0) (place : ℕ) (name : Text) (texts : List Text) → slice_get texts place ≡ Some name → All P texts → P name
+pub at_place : (P : Text → Type 0) (place : ℕ) (name : Text) (texts : List Text) → slice_get texts place ≡ Some name
+    → All P texts → P name
 at_place P place name [] at all = let wrong : ⊥ = cc in absurd wrong
 at_place P zero name (text ∷ texts) at all = let same : text ≡ name = cc in subst P same (All-head P text texts all)
 at_place P (suc place) name (text ∷ texts) at all = at_place P place name texts at (All-tail P text texts all)
@@ -40,16 +41,20 @@ told ids (option name value ∷ arguments) = row name value ∷ told ids argumen
 first_here : (name id value : Text) (rows : List Row) → id ≡ name → first_of name (row id value ∷ rows) ≡ Some value
 first_here name id value rows same = rw (same, same_text name) refl
 
-first_behind : (name id value : Text) (rows : List Row) → id ≢ name → first_of name (row id value ∷ rows) ≡ first_of name rows
+first_behind : (name id value : Text) (rows : List Row) → id ≢ name
+    → first_of name (row id value ∷ rows) ≡ first_of name rows
 first_behind name id value rows apart = rw (other_text id name apart) refl
 
 -- a name of an option gives its value
-pub told_option : (name : Text) (ids : List Text) (arguments : List Argument) → All (λ id. id ≢ name) ids → first_of name (told ids arguments) ≡ value_of name arguments
+pub told_option : (name : Text) (ids : List Text) (arguments : List Argument) → All (λ id. id ≢ name) ids
+    → first_of name (told ids arguments) ≡ value_of name arguments
 told_option name ids [] apart = refl
 told_option name [] (positional text ∷ arguments) apart = told_option name [] arguments apart
 told_option name (id ∷ ids) (positional text ∷ arguments) apart =
-    first_behind name id text (told ids arguments) (All-head (λ i. i ≢ name) id ids apart) ∙ told_option name ids arguments (All-tail (λ i. i ≢ name) id ids apart)
-told_option name ids (option other value ∷ arguments) apart = go (bytes_eq other name) refl (told_option name ids arguments apart)
+    first_behind name id text (told ids arguments) (All-head (λ i. i ≢ name) id ids apart)
+    ∙ told_option name ids arguments (All-tail (λ i. i ≢ name) id ids apart)
+told_option name ids (option other value ∷ arguments) apart =
+    go (bytes_eq other name) refl (told_option name ids arguments apart)
   where
     go : (b : Bool) → bytes_eq other name ≡ b → first_of name (told ids arguments) ≡ value_of name arguments
         → first_of name (row other value ∷ told ids arguments) ≡ value_of name (option other value ∷ arguments)
@@ -57,13 +62,18 @@ told_option name ids (option other value ∷ arguments) apart = go (bytes_eq oth
     go false is behind = rw is behind
 
 -- a name of a positional gives the one in its place
-pub told_positional : (place : ℕ) (name : Text) (ids : List Text) (arguments : List Argument) → slice_get ids place ≡ Some name → AllPairs (λ a b. a ≢ b) ids
-    → All (λ other. other ≢ name) (names_in arguments) → first_of name (told ids arguments) ≡ slice_get (positionals_in arguments) place
+pub told_positional : (place : ℕ) (name : Text) (ids : List Text) (arguments : List Argument)
+    → slice_get ids place ≡ Some name → AllPairs (λ a b. a ≢ b) ids
+    → All (λ other. other ≢ name) (names_in arguments)
+    → first_of name (told ids arguments) ≡ slice_get (positionals_in arguments) place
 told_positional place name ids [] at distinct apart = refl
 told_positional place name [] (positional text ∷ arguments) at distinct apart = cc
-told_positional zero name (id ∷ ids) (positional text ∷ arguments) at distinct apart = first_here name id text (told ids arguments) cc
+told_positional zero name (id ∷ ids) (positional text ∷ arguments) at distinct apart =
+    first_here name id text (told ids arguments) cc
 told_positional (suc place) name (id ∷ ids) (positional text ∷ arguments) at distinct apart =
-    first_behind name id text (told ids arguments) (at_place (λ other. id ≢ other) place name ids at (AllPairs-head (λ a b. a ≢ b) id ids distinct)) ∙ told_positional place name ids arguments at (AllPairs-tail (λ a b. a ≢ b) id ids distinct) apart
+    first_behind name id text (told ids arguments)
+    (at_place (λ other. id ≢ other) place name ids at (AllPairs-head (λ a b. a ≢ b) id ids distinct))
+    ∙ told_positional place name ids arguments at (AllPairs-tail (λ a b. a ≢ b) id ids distinct) apart
 told_positional place name ids (option other value ∷ arguments) at distinct apart =
     first_behind name other value (told ids arguments) (All-head (λ o. o ≢ name) other (names_in arguments) apart)
     ∙ told_positional place name ids arguments at distinct (All-tail (λ o. o ≢ name) other (names_in arguments) apart)

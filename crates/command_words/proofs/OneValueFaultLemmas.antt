@@ -5,7 +5,8 @@ use Rattle.std.proofs.lemmas.Fmt.{decimal_injective}
 use Rattle.frame_records.specs.declared.weigh.Weigh.{Weigh}
 use Rattle.deal_rules.specs.declared.deal_kind.DealKind.{DealKind}
 use Rattle.command_words.specs.Arguments.{Text}
-use Rattle.command_words.specs.Options.{Kind, number, choice, kind_of, place_of, IsNumber, IsGoodText, IsGood, IsNoNumber, IsNoChoice, IsOutside}
+use Rattle.command_words.specs.Options.{Kind, number, choice, kind_of, place_of, IsNumber, IsGoodText, IsGood}
+use Rattle.command_words.specs.Options.{IsNoNumber, IsNoChoice, IsOutside}
 use Rattle.command_words.specs.Settings.{Values, SetsNumber, SetsWeigh, SetsDeal, SetsSettings, weigh_word, deal_word}
 use Rattle.command_words.specs.Words.{IsFirstBad, HasValueFault}
 use Rattle.command_words.specs.declared.opt.Opt.{Opt}
@@ -19,7 +20,8 @@ use Rattle.command_words.specs.declared.opt.Opt.TheVariants as opt
 
 -- a text is one number at most
 one_number : (text : Text) (value other : ℕ) → IsNumber text value → IsNumber text other → value ≡ other
-one_number text value other one two = decimal_injective value other one.bounded two.bounded (sym one.spelled ∙ two.spelled)
+one_number text value other one two =
+    decimal_injective value other one.bounded two.bounded (sym one.spelled ∙ two.spelled)
 
 -- what a bad value is: it is no good one
 abbrev IsNoGood : (Kind → Text → Type 0) → Type 0
@@ -63,78 +65,101 @@ outside_no_choice (number least greatest) text bad worse = worse
 outside_no_choice (choice words) text bad worse = bad
 
 -- an option with a bad value has no good one
-bad_is_no_good : (IsBad : Kind → Text → Type 0) (values : Values) (opt : Opt) → IsNoGood IsBad → IsFirstBad IsBad values opt → IsGood opt (values opt) → ⊥
+bad_is_no_good : (IsBad : Kind → Text → Type 0) (values : Values) (opt : Opt) → IsNoGood IsBad
+    → IsFirstBad IsBad values opt → IsGood opt (values opt) → ⊥
 bad_is_no_good IsBad values opt is_no_good bad good =
     is_no_good (kind_of opt) bad.text (subst (λ told. IsGood opt told) bad.value good) bad.is_bad
 
 -- two first bad values are those of one option
-one_place : (IsBad IsWorse : Kind → Text → Type 0) (values : Values) (opt other : Opt) → IsNoGood IsBad → IsNoGood IsWorse
+one_place : (IsBad IsWorse : Kind → Text → Type 0) (values : Values) (opt other : Opt) → IsNoGood IsBad
+    → IsNoGood IsWorse
     → IsFirstBad IsBad values opt → IsFirstBad IsWorse values other → opt ≡ other
-one_place IsBad IsWorse values opt other bad_no_good worse_no_good bad worse = go (cases_lt (place_of opt) (place_of other)) (cases_lt (place_of other) (place_of opt))
+one_place IsBad IsWorse values opt other bad_no_good worse_no_good bad worse =
+    go (cases_lt (place_of opt) (place_of other)) (cases_lt (place_of other) (place_of opt))
   where
-    go : (place_of opt < place_of other) ⊎ (place_of other ≤ place_of opt) → (place_of other < place_of opt) ⊎ (place_of opt ≤ place_of other) → opt ≡ other
+    go : (place_of opt < place_of other) ⊎ (place_of other ≤ place_of opt)
+        → (place_of other < place_of opt) ⊎ (place_of opt ≤ place_of other) → opt ≡ other
     go (inl before) behind = absurd (bad_is_no_good IsBad values opt bad_no_good bad (worse.before opt before))
-    go (inr after) (inl before) = absurd (bad_is_no_good IsWorse values other worse_no_good worse (bad.before other before))
+    go (inr after) (inl before) =
+        absurd (bad_is_no_good IsWorse values other worse_no_good worse (bad.before other before))
     go (inr after) (inr before) = same_opt opt other (omega arith)
 
 -- one option's value is not bad in two ways that are apart
 bad_once : (IsBad IsWorse : Kind → Text → Type 0) (values : Values) (opt : Opt) → AreApart IsBad IsWorse
     → IsFirstBad IsBad values opt → IsFirstBad IsWorse values opt → ⊥
 bad_once IsBad IsWorse values opt apart bad worse =
-    apart (kind_of opt) bad.text bad.is_bad (subst (λ t. IsWorse (kind_of opt) t) (same_some worse.text bad.text (sym worse.value ∙ bad.value)) worse.is_bad)
+    apart (kind_of opt) bad.text bad.is_bad
+    (subst (λ t. IsWorse (kind_of opt) t) (same_some worse.text bad.text (sym worse.value ∙ bad.value))
+    worse.is_bad)
   where
     same_some : (text other : Text) → Path (Option Text) (Some text) (Some other) → text ≡ other
     same_some text other same = cc
 
 -- values don't have two first faults that are apart
-bad_in_one_way : (IsBad IsWorse : Kind → Text → Type 0) (values : Values) (opt other : Opt) → IsNoGood IsBad → IsNoGood IsWorse → AreApart IsBad IsWorse
+bad_in_one_way : (IsBad IsWorse : Kind → Text → Type 0) (values : Values) (opt other : Opt) → IsNoGood IsBad
+    → IsNoGood IsWorse → AreApart IsBad IsWorse
     → IsFirstBad IsBad values opt → IsFirstBad IsWorse values other → ⊥
 bad_in_one_way IsBad IsWorse values opt other bad_no_good worse_no_good apart bad worse =
     bad_once IsBad IsWorse values opt apart bad
-    (subst (λ o. IsFirstBad IsWorse values o) (sym (one_place IsBad IsWorse values opt other bad_no_good worse_no_good bad worse)) worse)
+    (subst (λ o. IsFirstBad IsWorse values o)
+    (sym (one_place IsBad IsWorse values opt other bad_no_good worse_no_good bad worse)) worse)
 
 -- values have one first fault at most
-pub one_value_fault : (values : Values) (kind other : WordsKind) → HasValueFault values kind → HasValueFault values other → kind ≡ other
+pub one_value_fault : (values : Values) (kind other : WordsKind) → HasValueFault values kind
+    → HasValueFault values other → kind ≡ other
 one_value_fault values (BadNumber at) (BadNumber place) one two =
     ap BadNumber (one_place IsNoNumber IsNoNumber values at place no_number_is_bad no_number_is_bad one two)
 one_value_fault values (BadNumber at) (OutOfLimits place) one two =
-    absurd (bad_in_one_way IsNoNumber IsOutside values at place no_number_is_bad outside_is_bad no_number_outside one two)
+    absurd (bad_in_one_way IsNoNumber IsOutside values at place no_number_is_bad outside_is_bad no_number_outside
+    one two)
 one_value_fault values (BadNumber at) (BadChoice place) one two =
-    absurd (bad_in_one_way IsNoNumber IsNoChoice values at place no_number_is_bad no_choice_is_bad no_number_no_choice one two)
+    absurd (bad_in_one_way IsNoNumber IsNoChoice values at place no_number_is_bad no_choice_is_bad
+    no_number_no_choice one two)
 one_value_fault values (BadNumber at) _ one two = absurd two
 one_value_fault values (OutOfLimits at) (BadNumber place) one two =
-    absurd (bad_in_one_way IsNoNumber IsOutside values place at no_number_is_bad outside_is_bad no_number_outside two one)
+    absurd (bad_in_one_way IsNoNumber IsOutside values place at no_number_is_bad outside_is_bad no_number_outside
+    two one)
 one_value_fault values (OutOfLimits at) (OutOfLimits place) one two =
     ap OutOfLimits (one_place IsOutside IsOutside values at place outside_is_bad outside_is_bad one two)
 one_value_fault values (OutOfLimits at) (BadChoice place) one two =
-    absurd (bad_in_one_way IsOutside IsNoChoice values at place outside_is_bad no_choice_is_bad outside_no_choice one two)
+    absurd (bad_in_one_way IsOutside IsNoChoice values at place outside_is_bad no_choice_is_bad outside_no_choice
+    one two)
 one_value_fault values (OutOfLimits at) _ one two = absurd two
 one_value_fault values (BadChoice at) (BadNumber place) one two =
-    absurd (bad_in_one_way IsNoNumber IsNoChoice values place at no_number_is_bad no_choice_is_bad no_number_no_choice two one)
+    absurd (bad_in_one_way IsNoNumber IsNoChoice values place at no_number_is_bad no_choice_is_bad
+    no_number_no_choice two one)
 one_value_fault values (BadChoice at) (OutOfLimits place) one two =
-    absurd (bad_in_one_way IsOutside IsNoChoice values place at outside_is_bad no_choice_is_bad outside_no_choice two one)
+    absurd (bad_in_one_way IsOutside IsNoChoice values place at outside_is_bad no_choice_is_bad outside_no_choice
+    two one)
 one_value_fault values (BadChoice at) (BadChoice place) one two =
     ap BadChoice (one_place IsNoChoice IsNoChoice values at place no_choice_is_bad no_choice_is_bad one two)
 one_value_fault values (BadChoice at) _ one two = absurd two
 one_value_fault values _ other one two = absurd one
 
 -- values that set something are all good
-set_is_good : (values : Values) (settings : Settings) → SetsSettings values settings → (at : Opt) → IsGood at (values at)
+set_is_good : (values : Values) (settings : Settings) → SetsSettings values settings → (at : Opt)
+    → IsGood at (values at)
 set_is_good values settings set opt.Weigh = weigh_is_good (values opt.Weigh) settings.weigh set.weigh
 set_is_good values settings set opt.Shards = number_is_good opt.Shards 4 (values opt.Shards) settings.shards set.shards
-set_is_good values settings set opt.Capacity = number_is_good opt.Capacity 512 (values opt.Capacity) settings.capacity set.capacity
+set_is_good values settings set opt.Capacity =
+    number_is_good opt.Capacity 512 (values opt.Capacity) settings.capacity set.capacity
 set_is_good values settings set opt.Phi = number_is_good opt.Phi 10000 (values opt.Phi) settings.phi set.phi
 set_is_good values settings set opt.Deal = deal_is_good (values opt.Deal) settings.deal set.deal
 
 -- values that set something have no fault
-pub no_value_fault : (values : Values) (settings : Settings) (kind : WordsKind) → SetsSettings values settings → HasValueFault values kind → ⊥
-no_value_fault values settings (BadNumber at) set has = bad_is_no_good IsNoNumber values at no_number_is_bad has (set_is_good values settings set at)
-no_value_fault values settings (OutOfLimits at) set has = bad_is_no_good IsOutside values at outside_is_bad has (set_is_good values settings set at)
-no_value_fault values settings (BadChoice at) set has = bad_is_no_good IsNoChoice values at no_choice_is_bad has (set_is_good values settings set at)
+pub no_value_fault : (values : Values) (settings : Settings) (kind : WordsKind) → SetsSettings values settings
+    → HasValueFault values kind → ⊥
+no_value_fault values settings (BadNumber at) set has =
+    bad_is_no_good IsNoNumber values at no_number_is_bad has (set_is_good values settings set at)
+no_value_fault values settings (OutOfLimits at) set has =
+    bad_is_no_good IsOutside values at outside_is_bad has (set_is_good values settings set at)
+no_value_fault values settings (BadChoice at) set has =
+    bad_is_no_good IsNoChoice values at no_choice_is_bad has (set_is_good values settings set at)
 no_value_fault values settings _ set has = has
 
 -- a value sets one number at most
-one_set_number : (at : Opt) (default : ℕ) (told : Option Text) (value other : ℕ) → SetsNumber at default told value → SetsNumber at default told other → value ≡ other
+one_set_number : (at : Opt) (default : ℕ) (told : Option Text) (value other : ℕ) → SetsNumber at default told value
+    → SetsNumber at default told other → value ≡ other
 one_set_number at default None value other one two = one ∙ sym two
 one_set_number at default (Some text) value other one two = one_number text value other one.0 two.0
 
@@ -159,11 +184,14 @@ one_set_deal None deal other one two = one ∙ sym two
 one_set_deal (Some text) deal other one two = deal_text_is_apart deal other (sym one ∙ two)
 
 -- values set one thing at most
-pub one_set : (values : Values) (settings other : Settings) → SetsSettings values settings → SetsSettings values other → settings ≡ other
+pub one_set : (values : Values) (settings other : Settings) → SetsSettings values settings
+    → SetsSettings values other → settings ≡ other
 one_set values settings other one two =
     λ i. record {
       shards = one_set_number opt.Shards 4 (values opt.Shards) settings.shards other.shards one.shards two.shards i;
-      capacity = one_set_number opt.Capacity 512 (values opt.Capacity) settings.capacity other.capacity one.capacity two.capacity i;
+      capacity =
+          one_set_number opt.Capacity 512 (values opt.Capacity) settings.capacity other.capacity one.capacity
+          two.capacity i;
       phi = one_set_number opt.Phi 10000 (values opt.Phi) settings.phi other.phi one.phi two.phi i;
       block = (one.block ∙ sym two.block) i;
       workers = (one.workers ∙ sym two.workers) i;

@@ -1,5 +1,6 @@
 -- The parser of a command takes well-formed words, and tells their arguments.
-use Rattle.std.proofs.Common.{◌≡◌, ◌≢◌, ◌∙◌, ℕ, Bool, true, false, cond, List, [], ◌∷◌, None, Some, true≢false, eqb-true, length, refl, sym, ap, subst, codes, arith}
+use Rattle.std.proofs.Common.{◌≡◌, ◌≢◌, ◌∙◌, ℕ, Bool, true, false, cond, List, [], ◌∷◌, None, Some, true≢false}
+use Rattle.std.proofs.Common.{eqb-true, length, refl, sym, ap, subst, codes, arith}
 use Rattle.std.specs.Prelude.{Contains, fold}
 use Rattle.std.specs.List.{All, AllPairs, list_all}
 use Rattle.std.specs.Str.{bytes_eq}
@@ -9,14 +10,15 @@ use Rattle.std.proofs.lemmas.List.Elements.{All-nil, All-from_recursion}
 use Rattle.std.proofs.lemmas.List.Kept.{AllPairs-cons}
 use Rattle.clap.specs.Simple.{Shape, built, is_simple}
 use Rattle.clap.specs.Takes.{default_passes, is_valid, level_passes, takes}
-use Rattle.clap.specs.Walk.{Row, Rule, arg_by_id, arg_by_long, default_rows, finished, has_row, is_empty, nothing_held, Walk, rows_after, stop_after, with_default}
+use Rattle.clap.specs.Walk.{Row, Rule, arg_by_id, arg_by_long, default_rows, finished, has_row, is_empty}
+use Rattle.clap.specs.Walk.{nothing_held, Walk, rows_after, stop_after, with_default}
 use Rattle.clap.proofs.WalkLemmas.{first_value-rows}
 use Rattle.clap.specs.Words.{App, first_of, found_of, matches_of, rows_of}
 use Rattle.clap.specs.declared.builder.value_parser.Reading.{Reading}
 use Rattle.clap.specs.declared.parser.matches.ArgMatches.{ArgMatches}
 use Rattle.command_words.specs.Arguments.{Text, Argument, AreOfForm, AreWellFormed}
 use Rattle.command_words.specs.Forms.{form_of, word_of}
-use Rattle.command_words.specs.Matches.{Tells}
+use Rattle.command_words.specs.Matches.{AreMatchesOf}
 use Rattle.command_words.specs.Parser.{parser_for}
 use Rattle.command_words.specs.declared.command_word.CommandWord.{CommandWord}
 use Rattle.command_words.specs.declared.command_word.CommandWord.TheVariants.{Weigh, Report}
@@ -28,16 +30,20 @@ use Rattle.command_words.proofs.ParserWalkLemmas.{Knows, Reaches, built_option, 
 -- ---- after the walk
 
 -- an argument with no default value gets no row
-no_default : (values : List Text) (b : Bool) (id : Text) (how : Reading) (rows : List Row) → is_empty values ≡ true → cond b rows (default_rows id how values rows) ≡ rows
+no_default : (values : List Text) (b : Bool) (id : Text) (how : Reading) (rows : List Row) → is_empty values ≡ true
+    → cond b rows (default_rows id how values rows) ≡ rows
 no_default values true id how rows empty = refl
 no_default [] false id how rows empty = refl
-no_default (value ∷ values) false id how rows empty = let some : length (value ∷ values) ≡ 0 = eqb-true _ 0 empty in absurd (omega arith)
+no_default (value ∷ values) false id how rows empty =
+    let some : length (value ∷ values) ≡ 0 = eqb-true _ 0 empty in absurd (omega arith)
 
-no_defaults : (rules : List Rule) (rows : List Row) → list_all (λ a. is_empty a.defaults) rules ≡ true → fold with_default rows rules ≡ rows
+no_defaults : (rules : List Rule) (rows : List Row) → list_all (λ a. is_empty a.defaults) rules ≡ true
+    → fold with_default rows rules ≡ rows
 no_defaults [] rows empty = refl
 no_defaults (a ∷ rules) rows empty =
     let parts = and_parts _ _ empty in
-    ap (λ rs. fold with_default rs rules) (no_default a.defaults (has_row a.id rows) a.id _ rows parts.0) ∙ no_defaults rules rows parts.1
+    ap (λ rs. fold with_default rs rules) (no_default a.defaults (has_row a.id rows) a.id _ rows parts.0)
+    ∙ no_defaults rules rows parts.1
 
 -- nothing is required, and nothing has a default
 pub record IsOptional (s : Shape) : Type 0 where
@@ -45,7 +51,8 @@ pub record IsOptional (s : Shape) : Type 0 where
   pub passes : list_all default_passes s.rules ≡ true
   pub valid : (rows : List Row) → is_valid s rows false ≡ true
 
-module _ (s : Shape) (optional : IsOptional s) (words : List Text) (position : ℕ) (rows : List Row) (reached : Reaches s (standing nothing_held 1) words position rows) where
+module _ (s : Shape) (optional : IsOptional s) (words : List Text) (position : ℕ) (rows : List Row)
+    (reached : Reaches s (standing nothing_held 1) words position rows) where
   -- nothing comes to the rows at the end
   pub rows_reached : rows_after s.rules [] words ≡ rows
   rows_reached = rw reached.ends (no_defaults s.rules _ optional.empty ∙ reached.holds.rows_are)
@@ -56,7 +63,9 @@ module _ (s : Shape) (optional : IsOptional s) (words : List Text) (position : �
 
   -- and the parse passes
   pub level_reached : level_passes s [] nothing_held words false ≡ true
-  level_reached = rw (reached.passes, reached.ends, reached.holds.passes, optional.passes) (optional.valid (finished s.rules reached.held))
+  level_reached =
+      rw (reached.passes, reached.ends, reached.holds.passes, optional.passes)
+      (optional.valid (finished s.rules reached.held))
 
 -- ---- the two commands
 
@@ -100,13 +109,17 @@ places Weigh = (record { placed = refl; known = refl }, (record { placed = refl;
 places Report = tt
 
 -- a positional of `weigh` is none of its options
-no_option : (id : Text) → bytes_eq id (codes "capture") ≡ false → bytes_eq id (codes "weigh") ≡ false → IsNoOption (form_of Weigh).options id
+no_option : (id : Text) → bytes_eq id (codes "capture") ≡ false → bytes_eq id (codes "weigh") ≡ false
+    → IsNoOption (form_of Weigh).options id
 no_option id capture weigh name within =
     each_contained (λ other. id ≢ other) (form_of Weigh).options name
-    (All-from_recursion (λ other. id ≢ other) (form_of Weigh).options (apart_by id _ capture, (apart_by id _ weigh, tt))) within
+    (All-from_recursion (λ other. id ≢ other) (form_of Weigh).options
+    (apart_by id _ capture, (apart_by id _ weigh, tt))) within
 
 no_options : (command : CommandWord) → AreNoOptions (form_of command).options (form_of command).positionals
-no_options Weigh = All-from_recursion (IsNoOption (form_of Weigh).options) (form_of Weigh).positionals (no_option _ refl refl, (no_option _ refl refl, tt))
+no_options Weigh =
+    All-from_recursion (IsNoOption (form_of Weigh).options) (form_of Weigh).positionals
+    (no_option _ refl refl, (no_option _ refl refl, tt))
 no_options Report = All-nil (IsNoOption (form_of Report).options)
 
 none_apart : AllPairs {X = Text} (λ a b. a ≢ b) []
@@ -120,29 +133,41 @@ are_apart Weigh = AllPairs-cons (λ a b. a ≢ b) (codes "SRC") (codes "DST" ∷
 are_apart Report = none_apart
 
 -- well-formed words bring the walk to the rows of their arguments
-module _ (command : CommandWord) (words : List Text) (arguments : List Argument) (well_formed : AreWellFormed (form_of command) words arguments) where
-  form_reached : Reaches (shape command) (standing nothing_held 1) words (last_position 1 arguments) (told (form_of command).positionals arguments)
+module _ (command : CommandWord) (words : List Text) (arguments : List Argument)
+    (well_formed : AreWellFormed (form_of command) words arguments) where
+  form_reached : Reaches (shape command) (standing nothing_held 1) words (last_position 1 arguments)
+      (told (form_of command).positionals arguments)
   form_reached =
       let of_form = well_formed.of_form in
-      let knows = λ (name : Text) (within : Contains (form_of command).options name). each_contained (Knows (shape command)) (form_of command).options name (each_known command) within in
-      let fits = fit (form_of command).options (shape command) knows 1 (form_of command).positionals [] arguments (places command) (no_options command) (are_apart command) of_form.as_many of_form.known
+      let knows =
+      λ (name : Text) (within : Contains (form_of command).options name).
+      each_contained (Knows (shape command)) (form_of command).options name (each_known command) within in
+      let fits = fit (form_of command).options (shape command) knows 1 (form_of command).positionals [] arguments
+      (places command) (no_options command) (are_apart command) of_form.as_many of_form.known
       of_form.once (λ place default within. refl) (λ place default within. refl) in
-      reaches_all (shape command) words arguments (form_of command).positionals 1 [] nothing_held well_formed.spelled fits (record { passes = refl; rows_are = refl })
+      reaches_all (shape command) words arguments (form_of command).positionals 1 [] nothing_held
+      well_formed.spelled fits (record { passes = refl; rows_are = refl })
 
 -- the parser takes the words
-pub well_formed_taken : (command : CommandWord) (words : List Text) (arguments : List Argument) → AreWellFormed (form_of command) words arguments → takes (parser command) words ≡ true
+pub well_formed_taken : (command : CommandWord) (words : List Text) (arguments : List Argument)
+    → AreWellFormed (form_of command) words arguments → takes (parser command) words ≡ true
 well_formed_taken Weigh words arguments well_formed =
     let reached = form_reached Weigh words arguments well_formed in
-    rw (never_stopped (shape Weigh) (optional Weigh) words _ _ reached) (level_reached (shape Weigh) (optional Weigh) words _ _ reached)
+    rw (never_stopped (shape Weigh) (optional Weigh) words _ _ reached)
+    (level_reached (shape Weigh) (optional Weigh) words _ _ reached)
 well_formed_taken Report words arguments well_formed =
     let reached = form_reached Report words arguments well_formed in
-    rw (never_stopped (shape Report) (optional Report) words _ _ reached) (level_reached (shape Report) (optional Report) words _ _ reached)
+    rw (never_stopped (shape Report) (optional Report) words _ _ reached)
+    (level_reached (shape Report) (optional Report) words _ _ reached)
 
 -- and finds the rows of their arguments
-pub well_formed_found : (command : CommandWord) (words : List Text) (arguments : List Argument) → AreWellFormed (form_of command) words arguments
+pub well_formed_found : (command : CommandWord) (words : List Text) (arguments : List Argument)
+    → AreWellFormed (form_of command) words arguments
     → matches_of (parser command) words ≡ told (form_of command).positionals arguments
-well_formed_found Weigh words arguments well_formed = rows_reached (shape Weigh) (optional Weigh) words _ _ (form_reached Weigh words arguments well_formed)
-well_formed_found Report words arguments well_formed = rows_reached (shape Report) (optional Report) words _ _ (form_reached Report words arguments well_formed)
+well_formed_found Weigh words arguments well_formed =
+    rows_reached (shape Weigh) (optional Weigh) words _ _ (form_reached Weigh words arguments well_formed)
+well_formed_found Report words arguments well_formed =
+    rows_reached (shape Report) (optional Report) words _ _ (form_reached Report words arguments well_formed)
 
 -- the parser is one of which `clap` says what it finds
 pub simple_parser : (command : CommandWord) → is_simple (parser command) ≡ true
@@ -152,15 +177,21 @@ simple_parser Report = refl
 -- ---- what the matches tell
 
 not_contained : (texts : List Text) (name : Text) → (Contains texts name → ⊥) → All (λ text. text ≢ name) texts
-not_contained texts name never = λ place default within same. never (place, within, get_or_default texts place name default within ∙ same)
+not_contained texts name never = λ place default within same.
+    never (place, within, get_or_default texts place name default within ∙ same)
 
 -- matches with the rows of arguments tell them
-pub rows_tell : (command : CommandWord) (arguments : List Argument) (matches : ArgMatches) → AreOfForm (form_of command) arguments
-    → rows_of (found_of matches) ≡ told (form_of command).positionals arguments → Tells (form_of command) arguments matches
+pub rows_tell : (command : CommandWord) (arguments : List Argument) (matches : ArgMatches)
+    → AreOfForm (form_of command) arguments
+    → rows_of (found_of matches) ≡ told (form_of command).positionals arguments
+    → AreMatchesOf (form_of command) arguments matches
 rows_tell command arguments matches of_form rows = record {
   options = λ name never. first_value-rows (found_of matches) name ∙ ap (first_of name) rows
-      ∙ told_option name (form_of command).positionals arguments (not_contained (form_of command).positionals name never);
+      ∙ told_option name (form_of command).positionals arguments
+      (not_contained (form_of command).positionals name never);
   positionals = λ place name at. first_value-rows (found_of matches) name ∙ ap (first_of name) rows
       ∙ told_positional place name (form_of command).positionals arguments at (are_apart command)
-      (λ k default within same. at_place (IsNoOption (form_of command).options) place name (form_of command).positionals at (no_options command) _ (of_form.known k default within) (sym same));
+      (λ k default within same.
+      at_place (IsNoOption (form_of command).options) place name (form_of command).positionals at
+      (no_options command) _ (of_form.known k default within) (sym same));
 }

@@ -1,5 +1,6 @@
 -- The words after a command's name, read as positionals and options in any order. The grammar is this program's own.
-use Rattle.std.specs.Prelude.{ℕ, ◌≡◌, ◌≢◌, ◌⊎◌, ◌++◌, List, [], ◌∷◌, length, All, AllPairs, Contains, Option, Some, None, if◌then◌else◌}
+use Rattle.std.specs.Prelude.{ℕ, ◌≡◌, ◌≢◌, ◌⊎◌, ◌++◌, List, [], ◌∷◌, length, All, AllPairs, Contains, Option, Some}
+use Rattle.std.specs.Prelude.{None, if◌then◌else◌}
 use Rattle.std.specs.Str.{bytes_eq}
 
 -- a word, which is one string of the command line, or a part of a word, as its bytes
@@ -36,7 +37,9 @@ long name = hyphen ∷ hyphen ∷ name
 -- or the one word `--name=value`
 abbrev pub Spells : List Text → Argument → Type 0
 Spells words (positional text) = IsValue text × (words ≡ text ∷ [])
-Spells words (option name value) = IsName name × IsValue value × ((words ≡ long name ∷ value ∷ []) ⊎ (words ≡ (long name ++ equals_sign ∷ value) ∷ []))
+Spells words (option name value) =
+    IsName name × IsValue value
+    × ((words ≡ long name ∷ value ∷ []) ⊎ (words ≡ (long name ++ equals_sign ∷ value) ∷ []))
 
 -- the first words spell this argument, and the others follow
 pub record Begins (words : List Text) (argument : Argument) (others : List Text) : Type 0 where
@@ -47,7 +50,8 @@ pub record Begins (words : List Text) (argument : Argument) (others : List Text)
 -- the words spell the arguments, one after the other
 abbrev pub SpellsAll : List Text → List Argument → Type 0
 SpellsAll words [] = words ≡ []
-SpellsAll words (argument ∷ arguments) = (others : List Text) × Begins words argument others × SpellsAll others arguments
+SpellsAll words (argument ∷ arguments) =
+    (others : List Text) × Begins words argument others × SpellsAll others arguments
 
 -- the positionals among arguments, in their order
 abbrev pub positionals_in : List Argument → List Text

@@ -9,16 +9,18 @@ use Rattle.command_words.specs.Settings.{Values}
 use Rattle.command_words.specs.declared.command_word.CommandWord.{CommandWord}
 
 -- the matches hold the arguments: the value of each option by its name, and each positional by its name in the form
-pub record Tells (form : Form) (arguments : List Argument) (matches : ArgMatches) : Type 0 where
-  pub options : (name : Text) → (Contains form.positionals name → ⊥) → first_value (found_of matches) name ≡ value_of name arguments
-  pub positionals : (place : ℕ) (name : Text) → slice_get form.positionals place ≡ Some name → first_value (found_of matches) name ≡ slice_get (positionals_in arguments) place
+pub record AreMatchesOf (form : Form) (arguments : List Argument) (matches : ArgMatches) : Type 0 where
+  pub options : (name : Text) → (Contains form.positionals name → ⊥)
+      → first_value (found_of matches) name ≡ value_of name arguments
+  pub positionals : (place : ℕ) (name : Text) → slice_get form.positionals place ≡ Some name
+      → first_value (found_of matches) name ≡ slice_get (positionals_in arguments) place
 
 -- the matches hold the arguments that the words of a command line spell
-pub record TellsWords (words : List Text) (command : CommandWord) (matches : ArgMatches) : Type 0 where
+pub record AreMatchesOfWords (words : List Text) (command : CommandWord) (matches : ArgMatches) : Type 0 where
   pub arguments : List Argument
   pub are_words : AreWordsOf words command arguments
-  pub told : Tells (form_of command) arguments matches
+  pub told : AreMatchesOf (form_of command) arguments matches
 
 -- the value that matches hold for each option
-abbrev pub values_told : ArgMatches → Values
-values_told matches = λ opt. first_value (found_of matches) (name_of opt)
+abbrev pub values_in_matches : ArgMatches → Values
+values_in_matches matches = λ opt. first_value (found_of matches) (name_of opt)

@@ -1,8 +1,10 @@
 -- The options whose values are checked: what each takes, and what is wrong with a value.
-use Rattle.std.specs.Prelude.{⊤, ℕ, ◌≡◌, ◌⊎◌, ◌^◌, ◌<◌, ◌≤◌, List, [], ◌∷◌, codes, decimal, Contains, Option, Some, None}
+use Rattle.std.specs.Prelude.{⊤, ℕ, ◌≡◌, ◌⊎◌, ◌^◌, ◌<◌, ◌≤◌, List, [], ◌∷◌, codes, decimal, Contains, Option, Some}
+use Rattle.std.specs.Prelude.{None}
 use Rattle.command_words.specs.Arguments.{Text}
 use Rattle.command_words.specs.declared.opt.Opt.{Opt}
 use Rattle.command_words.specs.declared.opt.Opt.TheVariants.{Weigh, Shards, Capacity, Phi, Deal}
+use Rattle.prefix_lattice.specs.{most_shards}
 
 -- the name of an option
 abbrev pub name_of : Opt → Text
@@ -25,12 +27,20 @@ pub data Kind : Type 0 where
   number : ℕ → ℕ → Kind
   choice : List Text → Kind
 
+-- the greatest capacity of tables that the command line takes, which is that of the tables themselves
+abbrev pub greatest_capacity : ℕ
+greatest_capacity = 4096
+
+-- the greatest share, the whole, in parts per million
+abbrev pub greatest_phi : ℕ
+greatest_phi = 1000000
+
 -- the values that each option takes
 abbrev pub kind_of : Opt → Kind
 kind_of Weigh = choice (codes "bytes" ∷ codes "packets" ∷ [])
-kind_of Shards = number 1 16
-kind_of Capacity = number 2 4096
-kind_of Phi = number 1 1000000
+kind_of Shards = number 1 most_shards
+kind_of Capacity = number 2 greatest_capacity
+kind_of Phi = number 1 greatest_phi
 kind_of Deal = choice (codes "round" ∷ codes "source" ∷ codes "free" ∷ [])
 
 -- the text is a number below 2^64 in decimal, without leading zeros

@@ -9,7 +9,9 @@ option_rule name = record (new_rule name) { long = Some name }
 
 -- a parser of the words after the program's name and the command's name, with no `--help`
 abbrev pub bare_parser : Text → App
-bare_parser word = let app = new_app word in record app { top = record app.top { no_binary_name = true; disable_help_flag = true } }
+bare_parser word =
+    let app = new_app word in
+    record app { top = record app.top { no_binary_name = true; disable_help_flag = true } }
 
 -- a parser with positionals of these names added
 abbrev pub with_positionals : App → List Text → App

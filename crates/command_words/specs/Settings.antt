@@ -5,10 +5,11 @@ use Rattle.frame_records.specs.declared.weigh.Weigh.TheVariants as weighing
 use Rattle.deal_rules.specs.declared.deal_kind.DealKind.{DealKind}
 use Rattle.deal_rules.specs.declared.deal_kind.DealKind.TheVariants as dealing
 use Rattle.command_words.specs.Arguments.{Text, Argument, value_of}
-use Rattle.command_words.specs.Options.{name_of, kind_of, IsNumber, IsAllowed}
+use Rattle.command_words.specs.Options.{name_of, kind_of, IsNumber, IsAllowed, greatest_capacity, greatest_phi}
 use Rattle.command_words.specs.declared.opt.Opt.{Opt}
 use Rattle.command_words.specs.declared.opt.Opt.TheVariants.{Weigh as ByWeigh, Shards, Capacity, Phi, Deal}
 use Rattle.command_words.specs.declared.settings.Settings.{Settings}
+use Rattle.prefix_lattice.specs.{most_shards}
 
 -- the value of each option that is present
 abbrev pub Values : Type 0
@@ -59,19 +60,35 @@ pub record SetsSettings (values : Values) (settings : Settings) : Type 0 where
 
 -- tables of this capacity can't hide a prefix of this share: phi times capacity is at least 2,000,000
 abbrev pub IsWide : Settings → Type 0
-IsWide settings = 2000000 ≤ settings.phi * settings.capacity
+IsWide settings = 2 * greatest_phi ≤ settings.phi * settings.capacity
+
+-- the most records that one fold counts
+abbrev pub greatest_block : ℕ
+greatest_block = 65536
+
+-- the most threads that fold records
+abbrev pub greatest_workers : ℕ
+greatest_workers = 16
+
+-- the most threads that report besides the calling one
+abbrev pub greatest_callers : ℕ
+greatest_callers = 8
+
+-- the most reports that each of them makes while records are folded
+abbrev pub greatest_rounds : ℕ
+greatest_rounds = 32
 
 -- each number of the settings is within its limits
 pub record AreLimited (settings : Settings) : Type 0 where
   pub some_shards : 1 ≤ settings.shards
-  pub few_shards : settings.shards ≤ 16
+  pub few_shards : settings.shards ≤ most_shards
   pub least_capacity : 2 ≤ settings.capacity
-  pub most_capacity : settings.capacity ≤ 4096
+  pub most_capacity : settings.capacity ≤ greatest_capacity
   pub some_phi : 1 ≤ settings.phi
-  pub most_phi : settings.phi ≤ 1000000
+  pub most_phi : settings.phi ≤ greatest_phi
   pub some_block : 1 ≤ settings.block
-  pub most_block : settings.block ≤ 65536
+  pub most_block : settings.block ≤ greatest_block
   pub some_workers : 1 ≤ settings.workers
-  pub few_workers : settings.workers ≤ 16
-  pub few_callers : settings.callers ≤ 8
-  pub few_rounds : settings.rounds ≤ 32
+  pub few_workers : settings.workers ≤ greatest_workers
+  pub few_callers : settings.callers ≤ greatest_callers
+  pub few_rounds : settings.rounds ≤ greatest_rounds

@@ -14,7 +14,9 @@ use Rattle.command_words.specs.declared.command_word.CommandWord.TheVariants.{We
 use Rattle.command_words.specs.declared.opt.Opt.{Opt}
 use Rattle.command_words.specs.declared.settings.Settings.{Settings}
 use Rattle.command_words.specs.declared.words_kind.WordsKind.{WordsKind}
-use Rattle.command_words.specs.declared.words_kind.WordsKind.TheVariants.{NoCommand, UnknownCommand, Refused, BadPrefix, BadNumber, OutOfLimits, BadChoice, Bound}
+use Rattle.command_words.specs.declared.words_kind.WordsKind.TheVariants.{NoCommand, UnknownCommand, Refused}
+use Rattle.command_words.specs.declared.words_kind.WordsKind.TheVariants.{BadPrefix, BadNumber, OutOfLimits}
+use Rattle.command_words.specs.declared.words_kind.WordsKind.TheVariants.{BadChoice, Bound}
 
 -- the texts of the arguments
 abbrev pub texts : List (Bor Text) → List Text
@@ -53,7 +55,9 @@ IsLimited (command.Report settings) = AreLimited settings × IsWide settings
 
 -- the positionals of the command are good: those of `weigh` spell a prefix
 abbrev pub HasGoodPositionals : CommandWord → List Argument → Type 0
-HasGoodPositionals Weigh arguments = (source : Text) × (dest : Text) × HasSides arguments source dest × ((prefix : PrefixValue) × SpellsPrefix source dest prefix)
+HasGoodPositionals Weigh arguments =
+    (source : Text) × (dest : Text) × HasSides arguments source dest
+    × ((prefix : PrefixValue) × SpellsPrefix source dest prefix)
 HasGoodPositionals Report arguments = ⊤
 
 -- the positionals of `weigh` have this fault
@@ -99,8 +103,12 @@ pub record IsTooNarrow (words : List Text) : Type 0 where
 -- of the options, then the bound on phi times the capacity
 abbrev pub HasWordsFault : List Text → WordsKind → Type 0
 HasWordsFault words NoCommand = words ≡ []
-HasWordsFault words UnknownCommand = (first : Text) × (behind : List Text) × (words ≡ first ∷ behind) × ((command : CommandWord) → first ≢ word_of command)
-HasWordsFault words Refused = (command : CommandWord) × (behind : List Text) × (words ≡ word_of command ∷ behind) × ((arguments : List Argument) → AreWellFormed (form_of command) behind arguments → ⊥)
+HasWordsFault words UnknownCommand =
+    (first : Text) × (behind : List Text) × (words ≡ first ∷ behind)
+    × ((command : CommandWord) → first ≢ word_of command)
+HasWordsFault words Refused =
+    (command : CommandWord) × (behind : List Text) × (words ≡ word_of command ∷ behind)
+    × ((arguments : List Argument) → AreWellFormed (form_of command) behind arguments → ⊥)
 HasWordsFault words (BadPrefix fault) = HasBadPrefix words fault
 HasWordsFault words (BadNumber opt) = HasBadValue words (BadNumber opt)
 HasWordsFault words (OutOfLimits opt) = HasBadValue words (OutOfLimits opt)

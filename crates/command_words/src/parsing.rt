@@ -4,7 +4,7 @@ ghost use Rattle.std.specs.Prelude.{◌≡◌, List, IfOk};
 ghost use Rattle.clap.specs.Words.{app_of};
 ghost use Rattle.command_words.specs.Arguments.{Argument, AreWellFormed};
 ghost use Rattle.command_words.specs.Forms.{form_of, word_of};
-ghost use Rattle.command_words.specs.Matches.{Tells};
+ghost use Rattle.command_words.specs.Matches.{AreMatchesOf};
 ghost use Rattle.command_words.specs.Parser.{parser_for, with_options, with_positionals};
 ghost use Rattle.command_words.specs.Words.{texts};
 
@@ -21,7 +21,7 @@ pub(crate) fn parse<'a>(
 ) -> Result<ArgMatches<'a>, AllocError>
     requires { (arguments : List Argument) × AreWellFormed (form_of command) (texts behind.now) arguments }
     ensures { IfOk result (λ matches. (arguments : List Argument) → AreWellFormed (form_of command) (texts behind.entry.now) arguments
-        → Tells (form_of command) arguments matches) }
+        → AreMatchesOf (form_of command) arguments matches) }
 {
     match parser_of(alloc, command)?.try_get_matches_from(behind) {
         Ok(matches) => Ok(matches),

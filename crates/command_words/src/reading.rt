@@ -2,7 +2,7 @@
 
 ghost use Rattle.std.specs.Prelude.{◌≡◌, ◌⊎◌, List, Ok, Err, IfOk, IfErr};
 ghost use Rattle.command_words.specs.Arguments.{Text};
-ghost use Rattle.command_words.specs.Matches.{TellsWords};
+ghost use Rattle.command_words.specs.Matches.{AreMatchesOfWords};
 ghost use Rattle.command_words.specs.Words.{texts, AskFor, HasWordsFault, IsLimited};
 ghost use Rattle.command_words.specs.declared.command.Command.{Command};
 ghost use Rattle.command_words.specs.declared.command_word.CommandWord.{CommandWord};
@@ -58,7 +58,7 @@ pub(crate) fn read_line<'a>(
     words: &'a [&'a str],
 ) -> Result<CommandLine<'a>, WordsRefusal>
     ensures ok { IfOk result (λ line. AskFor (texts words.entry.now) line.command) }
-    ensures told { IfOk result (λ line. (command : CommandWord) × TellsWords (texts words.entry.now) command line.matches) }
+    ensures told { IfOk result (λ line. (command : CommandWord) × AreMatchesOfWords (texts words.entry.now) command line.matches) }
     ensures bad { (kind : WordsKind) → result ≡ Err (Bad kind) → HasWordsFault (texts words.entry.now) kind }
 {
     let Some((first, behind)) = words.split_first() else {
@@ -79,9 +79,9 @@ pub(crate) fn read_line<'a>(
 
 // The command asked for by arguments that begin with the name of this command.
 fn command_of(word: CommandWord, matches: &ArgMatches<'_>) -> Result<Command, WordsKind>
-    requires { (words : List Text) × TellsWords words word matches.now }
-    ensures ok { (words : List Text) → TellsWords words word matches.now → IfOk result (AskFor words) }
-    ensures err { (words : List Text) → TellsWords words word matches.now → IfErr result (HasWordsFault words) }
+    requires { (words : List Text) × AreMatchesOfWords words word matches.now }
+    ensures ok { (words : List Text) → AreMatchesOfWords words word matches.now → IfOk result (AskFor words) }
+    ensures err { (words : List Text) → AreMatchesOfWords words word matches.now → IfErr result (HasWordsFault words) }
 {
     match word {
         CommandWord::Weigh => weigh_command(matches),
@@ -91,9 +91,9 @@ fn command_of(word: CommandWord, matches: &ArgMatches<'_>) -> Result<Command, Wo
 
 // The command asked for by arguments that begin with `weigh`.
 fn weigh_command(matches: &ArgMatches<'_>) -> Result<Command, WordsKind>
-    requires { (words : List Text) × TellsWords words Weigh matches.now }
-    ensures ok { (words : List Text) → TellsWords words Weigh matches.now → IfOk result (AskFor words) }
-    ensures err { (words : List Text) → TellsWords words Weigh matches.now → IfErr result (HasWordsFault words) }
+    requires { (words : List Text) × AreMatchesOfWords words Weigh matches.now }
+    ensures ok { (words : List Text) → AreMatchesOfWords words Weigh matches.now → IfOk result (AskFor words) }
+    ensures err { (words : List Text) → AreMatchesOfWords words Weigh matches.now → IfErr result (HasWordsFault words) }
 {
     let source = matches.get_str("SRC").unwrap();
     let dest = matches.get_str("DST").unwrap();
@@ -107,8 +107,8 @@ fn weigh_command(matches: &ArgMatches<'_>) -> Result<Command, WordsKind>
 
 // The command asked for by arguments that begin with `report`.
 fn report_command(matches: &ArgMatches<'_>) -> Result<Command, WordsKind>
-    ensures ok { (words : List Text) → TellsWords words Report matches.now → IfOk result (AskFor words) }
-    ensures err { (words : List Text) → TellsWords words Report matches.now → IfErr result (HasWordsFault words) }
+    ensures ok { (words : List Text) → AreMatchesOfWords words Report matches.now → IfOk result (AskFor words) }
+    ensures err { (words : List Text) → AreMatchesOfWords words Report matches.now → IfErr result (HasWordsFault words) }
 {
     let settings = settings_of(matches)?;
     if !is_wide(&settings) {

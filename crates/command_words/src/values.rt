@@ -4,7 +4,7 @@ ghost use Rattle.std.specs.Prelude.{◌≡◌, ◌↔◌, IfOk, IfErr, IsTrue};
 ghost use Rattle.command_words.specs.Scanning.{text_at};
 ghost use Rattle.command_words.specs.Options.{kind_of, number};
 ghost use Rattle.command_words.specs.Settings.{SetsDeal, SetsNumber, SetsSettings, SetsWeigh, IsWide};
-ghost use Rattle.command_words.specs.Matches.{values_told};
+ghost use Rattle.command_words.specs.Matches.{values_in_matches};
 ghost use Rattle.command_words.specs.Words.{HasValueFault};
 ghost use Rattle.command_words.specs.OneValue.{IsBadChoice, IsBadNumber};
 ghost use Rattle.command_words.specs.declared.words_kind.WordsKind.TheVariants.{BadChoice};
@@ -50,8 +50,8 @@ const LEAST_WIDTH: u64 = 2_000_000;
 
 /// The settings that the options give, or the fault of the first wrong value.
 pub(crate) fn settings_of(matches: &ArgMatches<'_>) -> Result<Settings, WordsKind>
-    ensures ok { IfOk result (SetsSettings (values_told matches.now)) }
-    ensures err { IfErr result (HasValueFault (values_told matches.now)) }
+    ensures ok { IfOk result (SetsSettings (values_in_matches matches.now)) }
+    ensures err { IfErr result (HasValueFault (values_in_matches matches.now)) }
 {
     let weigh = weigh_of(text_of(matches, Opt::Weigh))?;
     let shards = SHARDS.read(text_of(matches, Opt::Shards))?;
@@ -81,7 +81,7 @@ pub(crate) fn is_wide(settings: &Settings) -> bool
 
 // The value of an option, if it is present.
 fn text_of<'a>(matches: &ArgMatches<'a>, opt: Opt) -> Option<&'a str>
-    ensures { text_at result ≡ values_told matches.now opt }
+    ensures { text_at result ≡ values_in_matches matches.now opt }
 {
     matches.get_str(opt.name())
 }

@@ -1,15 +1,21 @@
 -- A record is covered by the closest lines and the meets of their kept pairs in balance.
-use Rattle.std.proofs.Common.{◌≡◌, ◌+◌, ◌≤◌, Bool, true, false, cond, ◌&&◌, not, List, [], ◌∷◌, None, Some, refl, ap, ◌∙◌, ⊎_elim, arith}
+use Rattle.std.proofs.Common.{◌≡◌, ◌+◌, ◌≤◌, Bool, true, false, cond, ◌&&◌, not, List, [], ◌∷◌, None, Some, refl}
+use Rattle.std.proofs.Common.{ap, ◌∙◌, ⊎_elim, arith}
 use Rattle.std.specs.List.{filter_map, cons_option, count_by, list_any}
 use Rattle.std.proofs.lemmas.List.Sums.{sum_by-cons}
 use Rattle.std.proofs.lemmas.List.Folds.{list_any-append}
-use Rattle.std.proofs.lemmas.Bool.{cases_Bool, or_parts, or_from, or_cases, and_parts, and_right, not_from_true, not_from_false, both_ways, false_from_ne_true, false≢true}
-use Rattle.prefix_lattice.specs.{RecordValue, PrefixValue, covers, under, same_prefix, strictly_under, meet, lines_under, one_covers, closest, covering_count, kept_meet, unless_under_third, under_third, kept_among, kept_pairs, ObeysStaircase}
+use Rattle.std.proofs.lemmas.Bool.{cases_Bool, or_parts, or_from, or_cases, and_parts, and_right, not_from_true}
+use Rattle.std.proofs.lemmas.Bool.{not_from_false, both_ways, false_from_ne_true, false≢true}
+use Rattle.prefix_lattice.specs.{RecordValue, PrefixValue, covers, under, same_prefix, strictly_under, meet}
+use Rattle.prefix_lattice.specs.{lines_under, one_covers, closest, covering_count, kept_meet, unless_under_third}
+use Rattle.prefix_lattice.specs.{under_third, kept_among, kept_pairs, ObeysStaircase}
 use Rattle.conditioned_bounds.proofs.WeightLemmas.{mark, is_left, Balances}
 
 -- what is under a prefix covers no more than it
 abbrev pub CoveringGoesUp : Type 0
-CoveringGoesUp = (lower upper : PrefixValue) (r : RecordValue) → under lower upper ≡ true → covers lower r ≡ true → covers upper r ≡ true
+CoveringGoesUp =
+    (lower upper : PrefixValue) (r : RecordValue) → under lower upper ≡ true → covers lower r ≡ true
+    → covers upper r ≡ true
 
 -- a meet is under the first of its two prefixes
 abbrev pub MeetsAreUnder : Type 0
@@ -33,34 +39,49 @@ count_by-none p (q ∷ qs) none =
     omega (arith, sum_by-cons (λ x. mark (p x)) q qs, count_by-none p qs parts.1)
 
 -- no meet of a prefix that doesn't cover a record covers it
-meets_of_first-none : CoveringGoesUp → MeetsAreUnder → (all : List PrefixValue) (first : PrefixValue) (r : RecordValue) → covers first r ≡ false
+meets_of_first-none : CoveringGoesUp → MeetsAreUnder
+    → (all : List PrefixValue) (first : PrefixValue) (r : RecordValue) → covers first r ≡ false
     → (rest : List PrefixValue) → one_covers (filter_map (kept_meet all first) rest) r ≡ false
 meets_of_first-none up lower all first r none [] = refl
 meets_of_first-none up lower all first r none (second ∷ rest) =
-    (elim (meet first second) as (λ o. meet first second ≡ o → one_covers (cons_option (unless_under_third all first second o) (filter_map (kept_meet all first) rest)) r ≡ false) [
+    (elim (meet first second) as
+    (λ o. meet first second ≡ o
+    → one_covers (cons_option (unless_under_third all first second o) (filter_map (kept_meet all first) rest)) r
+    ≡ false) [
       | None ↦ λ is. meets_of_first-none up lower all first r none rest
       | Some m ↦ λ is.
-          let apart : covers m r ≡ false = false_from_ne_true (covers m r) (λ yes. both_ways (covers first r) none (up m first r (lower first second m is) yes)) in
-          elim (under_third all first second m) as (λ b. one_covers (cons_option (cond b None (Some m)) (filter_map (kept_meet all first) rest)) r ≡ false) [
+          let apart : covers m r ≡ false =
+          false_from_ne_true (covers m r)
+          (λ yes. both_ways (covers first r) none (up m first r (lower first second m is) yes)) in
+          elim (under_third all first second m) as
+          (λ b. one_covers (cons_option (cond b None (Some m)) (filter_map (kept_meet all first) rest)) r ≡ false) [
             | true ↦ meets_of_first-none up lower all first r none rest
-            | false ↦ or_from (covers m r) (one_covers (filter_map (kept_meet all first) rest) r) apart (meets_of_first-none up lower all first r none rest)
+            | false ↦
+                or_from (covers m r) (one_covers (filter_map (kept_meet all first) rest) r) apart
+                (meets_of_first-none up lower all first r none rest)
           ]
     ]) refl
 
 -- where no member covers a record, no meet does
-pub kept_among-none : CoveringGoesUp → MeetsAreUnder → (all : List PrefixValue) (r : RecordValue) (firsts : List PrefixValue)
+pub kept_among-none : CoveringGoesUp → MeetsAreUnder
+    → (all : List PrefixValue) (r : RecordValue) (firsts : List PrefixValue)
     → one_covers firsts r ≡ false → one_covers (kept_among all firsts) r ≡ false
 kept_among-none up lower all r [] none = refl
 kept_among-none up lower all r (first ∷ rest) none =
-    let parts : (covers first r ≡ false) × (one_covers rest r ≡ false) = or_parts (covers first r) (one_covers rest r) none in
+    let parts : (covers first r ≡ false) × (one_covers rest r ≡ false) =
+    or_parts (covers first r) (one_covers rest r) none in
     list_any-append (λ q. covers q r) (filter_map (kept_meet all first) rest) (kept_among all rest)
-    ∙ or_from (one_covers (filter_map (kept_meet all first) rest) r) (one_covers (kept_among all rest) r) (meets_of_first-none up lower all first r parts.0 rest) (kept_among-none up lower all r rest parts.1)
+    ∙ or_from (one_covers (filter_map (kept_meet all first) rest) r) (one_covers (kept_among all rest) r)
+    (meets_of_first-none up lower all first r parts.0 rest) (kept_among-none up lower all r rest parts.1)
 
 -- a prefix covers what a line under it covers
-pub covers-lines_under : CoveringGoesUp → (p : PrefixValue) (r : RecordValue) (lines : List PrefixValue) → one_covers (lines_under p lines) r ≡ true → covers p r ≡ true
+pub covers-lines_under : CoveringGoesUp → (p : PrefixValue) (r : RecordValue) (lines : List PrefixValue)
+    → one_covers (lines_under p lines) r ≡ true → covers p r ≡ true
 covers-lines_under up p r [] any = absurd (false≢true any)
 covers-lines_under up p r (line ∷ lines) any =
-    (elim (strictly_under line p) as (λ b. strictly_under line p ≡ b → one_covers (cond b (line ∷ lines_under p lines) (lines_under p lines)) r ≡ true → covers p r ≡ true) [
+    (elim (strictly_under line p) as
+    (λ b. strictly_under line p ≡ b → one_covers (cond b (line ∷ lines_under p lines) (lines_under p lines)) r
+    ≡ true → covers p r ≡ true) [
       | true ↦ λ is found. ⊎_elim
           (λ first. up line p r (and_parts (under line p) (not (same_prefix line p)) is).0 first)
           (λ later. covers-lines_under up p r lines later)
@@ -76,14 +97,21 @@ balances up lower p lines r explained stairs =
     ⊎_elim
     (λ any.
     let whole : mark (covers p r) ≡ 1 = ap mark (covers-lines_under up p r lines any) in
-    let nothing_left : mark (is_left p lines r) ≡ 0 = ap mark (and_right (covers p r) (not (one_covers (lines_under p lines) r)) (not_from_true (one_covers (lines_under p lines) r) any)) in
-    let kept : covering_count r (kept_pairs (closest p lines)) + 1 ≡ covering_count r (closest p lines) = stairs (count_by-some (λ q. covers q r) (closest p lines) (explained ∙ any)) in
+    let nothing_left : mark (is_left p lines r) ≡ 0 =
+    ap mark
+    (and_right (covers p r) (not (one_covers (lines_under p lines) r))
+    (not_from_true (one_covers (lines_under p lines) r) any)) in
+    let kept : covering_count r (kept_pairs (closest p lines)) + 1 ≡ covering_count r (closest p lines) =
+    stairs (count_by-some (λ q. covers q r) (closest p lines) (explained ∙ any)) in
     omega arith)
     (λ none.
     let no_line : one_covers (closest p lines) r ≡ false = explained ∙ none in
     let near : covering_count r (closest p lines) ≡ 0 = count_by-none (λ q. covers q r) (closest p lines) no_line in
-    let meets : covering_count r (kept_pairs (closest p lines)) ≡ 0 = count_by-none (λ q. covers q r) (kept_pairs (closest p lines)) (kept_among-none up lower (closest p lines) r (closest p lines) no_line) in
+    let meets : covering_count r (kept_pairs (closest p lines)) ≡ 0 =
+    count_by-none (λ q. covers q r) (kept_pairs (closest p lines))
+    (kept_among-none up lower (closest p lines) r (closest p lines) no_line) in
     let all_left : mark (is_left p lines r) ≡ mark (covers p r) =
-    elim (covers p r) as (λ b. mark (b && not (one_covers (lines_under p lines) r)) ≡ mark b) [ true ↦ ap mark (not_from_false (one_covers (lines_under p lines) r) none) | false ↦ refl ] in
+    elim (covers p r) as (λ b. mark (b && not (one_covers (lines_under p lines) r)) ≡ mark b)
+    [ true ↦ ap mark (not_from_false (one_covers (lines_under p lines) r) none) | false ↦ refl ] in
     omega arith)
     (cases_Bool (one_covers (lines_under p lines) r))

@@ -1,8 +1,8 @@
 -- Worked examples of the definitions, most by computing.
-use Rattle.std.proofs.Common.{◌≡◌, ℕ, ◌-◌, ◌*◌, ◌≤◌, cond, List, [], ◌∷◌, refl, pos, negsuc, arith}
+use Rattle.std.proofs.Common.{◌≡◌, ℕ, ◌≤◌, cond, List, [], ◌∷◌, refl, pos, negsuc, arith, ◌^◌}
 use Rattle.std.proofs.lemmas.List.Elements.{All-from_recursion}
-use Rattle.prefix_lattice.specs.{RecordValue, PrefixValue, covers, weight_of, conditioned_weight}
-use Rattle.conditioned_bounds.specs.Bounds.{bound_of, asked_of, HoldWeights, AreNarrow, AreWeights}
+use Rattle.prefix_lattice.specs.{RecordValue, PrefixValue, covers, weight_of, conditioned_weight, Holds, IsNarrow}
+use Rattle.conditioned_bounds.specs.Bounds.{bound_of, asked_of, HoldWeights, AreNarrow, AreWeights, sum_limit}
 
 -- 9 bytes from 10.1.1.1 to 20.1.1.1
 abbrev packet : RecordValue
@@ -14,14 +14,17 @@ root = record { source = []; dest = [] }
 
 -- (10.0.0.0/8, 20.1.1.0/24), (10.1.0.0/16, 20.1.0.0/16) and (10.1.1.0/24, 20.0.0.0/8)
 abbrev stairs : List PrefixValue
-stairs = record { source = 10 ∷ []; dest = 20 ∷ 1 ∷ 1 ∷ [] } ∷ record { source = 10 ∷ 1 ∷ []; dest = 20 ∷ 1 ∷ [] } ∷ record { source = 10 ∷ 1 ∷ 1 ∷ []; dest = 20 ∷ [] } ∷ []
+stairs =
+    record { source = 10 ∷ []; dest = 20 ∷ 1 ∷ 1 ∷ [] } ∷ record { source = 10 ∷ 1 ∷ []; dest = 20 ∷ 1 ∷ [] }
+    ∷ record { source = 10 ∷ 1 ∷ 1 ∷ []; dest = 20 ∷ [] } ∷ []
 
 -- this number for each prefix that covers the packet
 abbrev where_covered : ℕ → PrefixValue → ℕ
 where_covered number prefix = cond (covers prefix packet) number 0
 
 -- 9 - 27 + 18
-pub exact_intervals_leave_nothing : bound_of (where_covered 9) (where_covered 9) root stairs ≡ pos (conditioned_weight root stairs (packet ∷ []))
+pub exact_intervals_leave_nothing : bound_of (where_covered 9) (where_covered 9) root stairs
+    ≡ pos (conditioned_weight root stairs (packet ∷ []))
 exact_intervals_leave_nothing = refl
 
 -- 11 - 21 + 22
@@ -29,7 +32,8 @@ pub wide_intervals_add_up : bound_of (where_covered 7) (where_covered 11) root s
 wide_intervals_add_up = refl
 
 -- 2 - 9, of intervals that hold no weights
-pub bounds_may_be_below_zero : bound_of (λ prefix. 9) (λ prefix. 2) root (record { source = 10 ∷ []; dest = [] } ∷ []) ≡ negsuc 6
+pub bounds_may_be_below_zero : bound_of (λ prefix. 9) (λ prefix. 2) root
+    (record { source = 10 ∷ []; dest = [] } ∷ []) ≡ negsuc 6
 bounds_may_be_below_zero = refl
 
 -- nothing is explained
@@ -37,32 +41,44 @@ pub without_lines_it_is_the_high : bound_of (where_covered 7) (where_covered 11)
 without_lines_it_is_the_high = refl
 
 -- the prefix, its line, and no meet
-pub asks_the_prefix_and_its_line : asked_of root (record { source = 10 ∷ []; dest = [] } ∷ []) ≡ root ∷ record { source = 10 ∷ []; dest = [] } ∷ []
+pub asks_the_prefix_and_its_line : asked_of root (record { source = 10 ∷ []; dest = [] } ∷ [])
+    ≡ root ∷ record { source = 10 ∷ []; dest = [] } ∷ []
 asks_the_prefix_and_its_line = refl
 
 -- the root, its three stairs, and the two meets that are kept: all six cover the packet
-pub wide_intervals_hold_the_weights : HoldWeights (where_covered 7) (where_covered 11) (packet ∷ []) (asked_of root stairs)
+pub wide_intervals_hold_the_weights : HoldWeights (where_covered 7) (where_covered 11) (packet ∷ [])
+    (asked_of root stairs)
 wide_intervals_hold_the_weights =
-    let within : (7 ≤ 9) × (9 ≤ 11) = (omega arith, omega arith) in
-    All-from_recursion (λ prefix. (where_covered 7 prefix ≤ weight_of prefix (packet ∷ [])) × (weight_of prefix (packet ∷ []) ≤ where_covered 11 prefix))
+    let within : Holds 7 11 9 = record { low = omega arith; high = omega arith } in
+    All-from_recursion
+    (λ prefix. Holds (where_covered 7 prefix) (where_covered 11 prefix) (weight_of prefix (packet ∷ [])))
     (asked_of root stairs) (within, (within, (within, (within, (within, (within, tt))))))
 
-pub intervals_up_to_8_do_not_hold_a_weight_of_9 : ¬ HoldWeights (where_covered 7) (where_covered 8) (packet ∷ []) (root ∷ [])
-intervals_up_to_8_do_not_hold_a_weight_of_9 held = let most : 9 ≤ 8 = (held 0 root (omega arith)).1 in omega (arith, most)
+pub intervals_up_to_8_do_not_hold_a_weight_of_9 : ¬ HoldWeights (where_covered 7) (where_covered 8) (packet ∷ [])
+    (root ∷ [])
+intervals_up_to_8_do_not_hold_a_weight_of_9 held =
+    let most : 9 ≤ 8 = (held 0 root (omega arith)).high in omega (arith, most)
 
 -- four wide, twice, is at most nine
 pub wide_intervals_are_narrow_for_two_entries : AreNarrow (where_covered 7) (where_covered 11) 2 9 (root ∷ stairs)
 wide_intervals_are_narrow_for_two_entries =
     let narrow : 8 ≤ 9 = omega arith in
-    All-from_recursion (λ prefix. (where_covered 11 prefix - where_covered 7 prefix) * 2 ≤ 9) (root ∷ stairs) (narrow, (narrow, (narrow, (narrow, tt))))
+    All-from_recursion (λ prefix. IsNarrow (where_covered 7 prefix) (where_covered 11 prefix) 2 9) (root ∷ stairs)
+    (narrow, (narrow, (narrow, (narrow, tt))))
 
 pub and_too_wide_for_three : ¬ AreNarrow (where_covered 7) (where_covered 11) 3 9 (root ∷ stairs)
 and_too_wide_for_three narrow = let most : 12 ≤ 9 = narrow 0 root (omega arith) in omega (arith, most)
 
 pub exact_intervals_are_the_weights : AreWeights (where_covered 9) (where_covered 9) (packet ∷ []) (root ∷ stairs)
 exact_intervals_are_the_weights =
-    All-from_recursion (λ prefix. (where_covered 9 prefix ≡ weight_of prefix (packet ∷ [])) × (where_covered 9 prefix ≡ weight_of prefix (packet ∷ [])))
+    All-from_recursion
+    (λ prefix.
+    (where_covered 9 prefix ≡ weight_of prefix (packet ∷ []))
+    × (where_covered 9 prefix ≡ weight_of prefix (packet ∷ [])))
     (root ∷ stairs) ((refl, refl), ((refl, refl), ((refl, refl), ((refl, refl), tt))))
 
 pub and_wide_ones_are_not : ¬ AreWeights (where_covered 7) (where_covered 11) (packet ∷ []) (root ∷ stairs)
 and_wide_ones_are_not weights = let low : 7 ≡ 9 = (weights 0 root (omega arith)).0 in omega (arith, low)
+
+pub limit_of_a_sum : sum_limit ≡ 2 ^ 124
+limit_of_a_sum = refl

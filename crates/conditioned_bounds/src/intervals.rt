@@ -1,7 +1,7 @@
 //! The source of the intervals of prefixes.
 
-ghost use Rattle.std.specs.Prelude.{◌≡◌, ◌^◌, ◌<◌, ◌≤◌, ℕ};
-ghost use Rattle.prefix_lattice.specs.{PrefixValue};
+ghost use Rattle.std.specs.Prelude.{◌≡◌, ◌<◌, ◌≤◌, ℕ};
+ghost use Rattle.prefix_lattice.specs.{PrefixValue, total_limit};
 
 use prefix_lattice::Prefix;
 
@@ -19,5 +19,5 @@ pub trait Intervals {
         ensures least { result.0 ≡ low self.now prefix.now }
         ensures most { result.1 ≡ high self.now prefix.now }
         ensures ordered { result.0 ≤ result.1 }
-        ensures bounded { result.1 < 2 ^ 60 };
+        ensures bounded { result.1 < total_limit };
 }

@@ -1,5 +1,6 @@
 -- Worked examples of the definitions, most by computing.
-use Rattle.std.proofs.Common.{◌≡◌, ℕ, zero, suc, ◌+◌, ◌*◌, ◌^◌, ◌≤◌, List, [], ◌∷◌, ◌++◌, refl, sym, ap, ◌∙◌, subst, arith}
+use Rattle.std.proofs.Common.{◌≡◌, ℕ, zero, suc, ◌+◌, ◌*◌, ◌^◌, ◌≤◌, List, [], ◌∷◌, ◌++◌, refl, sym, ap, ◌∙◌, subst}
+use Rattle.std.proofs.Common.{arith}
 use Rattle.std.proofs.Math.ListN.{replicate}
 use Rattle.std.specs.Prelude.{slice_index_or}
 use Rattle.std.specs.Map.{keys_of}
@@ -8,10 +9,11 @@ use Rattle.space_saving.specs.declared.entry.Entry.{Entry}
 use Rattle.space_saving.specs.{TableValue, Interval}
 use Rattle.shard_state.specs.{fold_from, SnapshotValue, CutValue, total_of_cut}
 use Rattle.cut_merge.specs.Tables.{first_seen, merged_interval, table_keys, monitored_keys}
-use Rattle.cut_merge.specs.Span.{node_tables, span, monitored_at, IsWithinTotal}
-use Rattle.cut_merge.specs.declared.gain.Gain.{Gain}
+use Rattle.cut_merge.specs.MergedInterval.{node_tables, merged_interval_in, monitored_at, IsWithinTotal}
+use Rattle.cut_merge.specs.declared.excess.Excess.{Excess}
 use Rattle.cut_merge.specs.NodeMerge.{NodeMergeValue}
-use Rattle.cut_merge.specs.Merged.{MergedValue, nothing_merged, interval_for_key, merge_at, interval_for, candidates_at, StandsForCut, IsMerged}
+use Rattle.cut_merge.specs.Merged.{MergedValue, nothing_merged, interval_for_key, merge_at, interval_for}
+use Rattle.cut_merge.specs.Merged.{candidates_at, RepresentsCut, IsMerged}
 
 -- each key stands where it is seen first
 pub keys_are_seen_once : first_seen (3 ∷ 1 ∷ 3 ∷ 2 ∷ 1 ∷ []) ≡ 3 ∷ 1 ∷ 2 ∷ []
@@ -71,7 +73,8 @@ cut = record {
 abbrev host_key : ℕ → ℕ → ℕ
 host_key host dest = (0x0a000000 + host) * 2 ^ 32 + dest
 
--- at the node that keeps whole sources alone, each shard counts the hosts; the last of them carries the count that it took over as its error
+-- at the node that keeps whole sources alone, each shard counts the hosts; the last of them carries the count that
+-- it took over as its error
 pub tables_of_the_sources : node_tables (record { source_bytes = 4; dest_bytes = 0 }) cut
     ≡ record { capacity = 2; entries = entry (host_key 2 0) 1 0 ∷ entry (host_key 1 0) 2 0 ∷ [] }
     ∷ record { capacity = 2; entries = entry (host_key 3 0) 1 0 ∷ entry (host_key 4 0) 2 1 ∷ [] }
@@ -82,36 +85,43 @@ tables_of_the_sources = refl
 abbrev host_prefix : ℕ → PrefixValue
 host_prefix host = record { source = 10 ∷ 0 ∷ 0 ∷ host ∷ []; dest = 20 ∷ 0 ∷ 0 ∷ 1 ∷ [] }
 
--- host 1 has 3 packets: two that the first shard counts for sure, and one that may stand in the second shard's least count
-pub span_of_a_host : span cut (host_prefix 1) ≡ record { low = 2; high = 3 }
-span_of_a_host = refl
+-- host 1 has 3 packets: two that the first shard counts for sure, and one that may stand in the second shard's
+-- least count
+pub interval_of_a_host : merged_interval_in cut (host_prefix 1) ≡ record { low = 2; high = 3 }
+interval_of_a_host = refl
 
-pub span_within_the_total : IsWithinTotal 6 (span cut (host_prefix 1))
-span_within_the_total = let low : (span cut (host_prefix 1)).low ≡ 2 = refl in let high : (span cut (host_prefix 1)).high ≡ 3 = refl in
+pub interval_within_the_total : IsWithinTotal 6 (merged_interval_in cut (host_prefix 1))
+interval_within_the_total =
+    let low : (merged_interval_in cut (host_prefix 1)).low ≡ 2 = refl in
+    let high : (merged_interval_in cut (host_prefix 1)).high ≡ 3 = refl in
     record { ordered = omega (arith, low, high); within_total = omega (arith, high) }
 
-pub no_span_is_above_the_total : ¬ IsWithinTotal 2 (span cut (host_prefix 1))
-no_span_is_above_the_total within = let high : 3 ≤ 2 = within.within_total in omega (arith, high)
+pub no_interval_is_above_the_total : ¬ IsWithinTotal 2 (merged_interval_in cut (host_prefix 1))
+no_interval_is_above_the_total within = let high : 3 ≤ 2 = within.within_total in omega (arith, high)
 
 -- one entry in each shard counts all hosts of 10.0.0.0/24
-pub span_of_all_hosts : span cut (record { source = 10 ∷ 0 ∷ 0 ∷ []; dest = 20 ∷ 0 ∷ 0 ∷ 1 ∷ [] }) ≡ record { low = 6; high = 6 }
-span_of_all_hosts = refl
+pub interval_of_all_hosts : merged_interval_in cut (record { source = 10 ∷ 0 ∷ 0 ∷ []; dest = 20 ∷ 0 ∷ 0 ∷ 1 ∷ [] })
+    ≡ record { low = 6; high = 6 }
+interval_of_all_hosts = refl
 
 -- hosts in first-seen order: 2 and 1 in the first shard's table, and 3 and 4 in the second's
-pub hosts_of_both_shards : monitored_at cut (record { source_bytes = 4; dest_bytes = 0 }) ≡ 0x0a00000200000000 ∷ 0x0a00000100000000 ∷ 0x0a00000300000000 ∷ 0x0a00000400000000 ∷ []
+pub hosts_of_both_shards : monitored_at cut (record { source_bytes = 4; dest_bytes = 0 })
+    ≡ 0x0a00000200000000 ∷ 0x0a00000100000000 ∷ 0x0a00000300000000 ∷ 0x0a00000400000000 ∷ []
 hosts_of_both_shards = refl
 
 -- three packets in each shard
 pub total_of_both_shards : total_of_cut cut ≡ 6
 total_of_both_shards = refl
 
-abbrev gain : ℕ → ℕ → Gain
-gain low high = record { low = low; high = high }
+abbrev excess : ℕ → ℕ → Excess
+excess low high = record { low = low; high = high }
 
--- the tables of whole addresses merged: what each host gains, and the least counts 1 and 1 of both full tables
+-- the tables of whole addresses merged: what each host excesses, and the least counts 1 and 1 of both full tables
 abbrev hosts : NodeMergeValue
 hosts = record {
-  gains = (host_key 2 0x14000001, gain 1 0) ∷ (host_key 1 0x14000001, gain 2 1) ∷ (host_key 3 0x14000001, gain 1 0) ∷ (host_key 4 0x14000001, gain 1 1) ∷ [];
+  excesses =
+      (host_key 2 0x14000001, excess 1 0) ∷ (host_key 1 0x14000001, excess 2 1) ∷ (host_key 3 0x14000001, excess 1 0)
+      ∷ (host_key 4 0x14000001, excess 1 1) ∷ [];
   missing = 2;
 }
 
@@ -122,14 +132,15 @@ merged = record { capacity = 2; total = 6; nodes = replicate 24 nothing_merged +
 pub whole_addresses_stand_last : merge_at (record { source_bytes = 4; dest_bytes = 4 }) merged ≡ hosts
 whole_addresses_stand_last = refl
 
-pub merged_intervals_are_spans : interval_for merged (host_prefix 1) ≡ span cut (host_prefix 1)
-merged_intervals_are_spans = refl
+pub merged_intervals_are_those_of_the_cut : interval_for merged (host_prefix 1) ≡ merged_interval_in cut (host_prefix 1)
+merged_intervals_are_those_of_the_cut = refl
 
 -- host 9 may have been missed in both shards
 pub interval_of_a_host_that_no_shard_monitors : interval_for merged (host_prefix 9) ≡ record { low = 0; high = 2 }
 interval_of_a_host_that_no_shard_monitors = refl
 
-pub candidates_are_the_monitored_keys : candidates_at merged (record { source_bytes = 4; dest_bytes = 4 }) ≡ monitored_at cut (record { source_bytes = 4; dest_bytes = 4 })
+pub candidates_are_the_monitored_keys : candidates_at merged (record { source_bytes = 4; dest_bytes = 4 })
+    ≡ monitored_at cut (record { source_bytes = 4; dest_bytes = 4 })
 candidates_are_the_monitored_keys = refl
 
 -- 0.0.0.0/0 0.0.0.0/0
@@ -137,9 +148,11 @@ abbrev root : PrefixValue
 root = record { source = []; dest = [] }
 
 root_is_prefix : IsPrefix root
-root_is_prefix = let none : AreLeadingBytes [] = record { few = omega arith; bytes = λ place. omega arith } in record { source = none; dest = none }
+root_is_prefix =
+    let none : AreLeadingBytes [] = record { few = omega arith; bytes = λ place. omega arith } in
+    record { source = none; dest = none }
 
-pub merged_of_one_node_does_not_stand_for_the_cut : ¬ StandsForCut merged cut
+pub merged_of_one_node_does_not_stand_for_the_cut : ¬ RepresentsCut merged cut
 merged_of_one_node_does_not_stand_for_the_cut stands =
     let high : 0 ≡ 6 = ap (λ (i : Interval). i.high) (stands.intervals root root_is_prefix) in omega (arith, high)
 
@@ -157,17 +170,18 @@ alike x zero place = refl
 alike x (suc length) zero = refl
 alike x (suc length) (suc place) = alike x length place
 
-pub nothing_stands_for_nothing_counted : StandsForCut nothing nothing_counted
-nothing_stands_for_nothing_counted =
+pub nothing_represents_nothing_counted : RepresentsCut nothing nothing_counted
+nothing_represents_nothing_counted =
     let table : List Entry → TableValue = λ entries. record { capacity = 2; entries = entries } in
     record {
       capacity = refl;
       total = refl;
       intervals = λ prefix is_prefix.
           ap (λ merge. interval_for_key merge (key_of prefix)) (alike nothing_merged 25 (index_of (node_of prefix)))
-          ∙ sym (ap (λ entries. merged_interval (table entries ∷ []) (key_of prefix)) (alike [] 25 (index_of (node_of prefix))));
+          ∙ sym (ap (λ entries. merged_interval (table entries ∷ []) (key_of prefix))
+          (alike [] 25 (index_of (node_of prefix))));
       candidates = λ node is_node.
-          ap (λ (merge : NodeMergeValue). keys_of merge.gains) (alike nothing_merged 25 (index_of node))
+          ap (λ (merge : NodeMergeValue). keys_of merge.excesses) (alike nothing_merged 25 (index_of node))
           ∙ sym (ap (λ entries. monitored_keys (table entries ∷ [])) (alike [] 25 (index_of node)));
     }
 
@@ -175,9 +189,12 @@ pub nothing_is_merged : IsMerged nothing
 nothing_is_merged = record {
   bounded = omega arith;
   shape = refl;
-  intervals = λ place key. subst (λ merge. IsWithinTotal 0 (interval_for_key merge key)) (sym (alike nothing_merged 25 place)) (record { ordered = omega arith; within_total = omega arith });
+  intervals = λ place key.
+      subst (λ merge. IsWithinTotal 0 (interval_for_key merge key)) (sym (alike nothing_merged 25 place))
+      (record { ordered = omega arith; within_total = omega arith });
 }
 
 -- a total of 2 is below the high of host 1
 pub merged_intervals_are_within_the_total : ¬ IsMerged (record merged { total = 2 })
-merged_intervals_are_within_the_total kept = let high : 3 ≤ 2 = (kept.intervals 24 (host_key 1 0x14000001)).within_total in omega (arith, high)
+merged_intervals_are_within_the_total kept =
+    let high : 3 ≤ 2 = (kept.intervals 24 (host_key 1 0x14000001)).within_total in omega (arith, high)

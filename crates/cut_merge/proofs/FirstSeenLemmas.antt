@@ -1,8 +1,11 @@
 -- Keys in first-seen order: one more, many more, and what stands among them.
-use Rattle.std.proofs.Common.{◌≡◌, ◌≢◌, ℕ, ◌≤◌, ◌⊎◌, inl, inr, length, All, AllPairs, Contains, arith, eqb, not, cond, ◌||◌, Bool, true, false, List, [], ◌∷◌, ◌++◌, filter, fold, refl, sym, ap, ◌∙◌, subst, if◌then◌else◌}
+use Rattle.std.proofs.Common.{◌≡◌, ◌≢◌, ℕ, ◌≤◌, ◌⊎◌, inl, inr, length, All, AllPairs, Contains, arith, eqb, not}
+use Rattle.std.proofs.Common.{cond, ◌||◌, Bool, true, false, List, [], ◌∷◌, ◌++◌, filter, fold, refl, sym, ap, ◌∙◌}
+use Rattle.std.proofs.Common.{subst, if◌then◌else◌}
 use Rattle.std.proofs.lemmas.Bool.{eqb-true, eq-eqb, false≢true}
 use Rattle.std.proofs.lemmas.List.{append_assoc, append-nil}
-use Rattle.std.proofs.lemmas.List.Elements.{filter-append, All-cons, All-head, All-tail, All-filter, All-weaker, filter_passes}
+use Rattle.std.proofs.lemmas.List.Elements.{filter-append, All-cons, All-head, All-tail, All-filter, All-weaker}
+use Rattle.std.proofs.lemmas.List.Elements.{filter_passes}
 use Rattle.std.proofs.lemmas.List.Kept.{AllPairs-cons, AllPairs-filter}
 use Rattle.std.proofs.lemmas.List.Sums.{length-filter, count_by-le-length}
 use Rattle.std.proofs.lemmas.Map.Views.{any-filter_same}
@@ -16,24 +19,33 @@ abbrev others : ℕ → List ℕ → List ℕ
 others first keys = filter (λ other. not (eqb first other)) keys
 
 -- one more key than the first, among those that differ from the first
-others-seen_same : (first key : ℕ) (keys : List ℕ) → eqb key first ≡ true → others first (seen keys key) ≡ others first keys
+others-seen_same : (first key : ℕ) (keys : List ℕ) → eqb key first ≡ true
+    → others first (seen keys key) ≡ others first keys
 others-seen_same first key keys same =
     let k : first ≡ key = sym (eqb-true key first same) in
-    (elim (list_any (λ other. eqb key other) keys) as (λ b. others first (if b then keys else keys ++ key ∷ []) ≡ others first keys) [
+    (elim (list_any (λ other. eqb key other) keys) as
+    (λ b. others first (if b then keys else keys ++ key ∷ []) ≡ others first keys) [
       | true ↦ refl
       | false ↦ filter-append (λ other. not (eqb first other)) keys (key ∷ [])
-          ∙ ap (λ b. others first keys ++ cond (not b) (key ∷ []) []) (eq-eqb first key k) ∙ append-nil (others first keys)
+          ∙ ap (λ b. others first keys ++ cond (not b) (key ∷ []) []) (eq-eqb first key k)
+          ∙ append-nil (others first keys)
     ])
 
 -- and another key, which stays among them
-others-seen_other : (first key : ℕ) (keys : List ℕ) → eqb key first ≡ false → others first (seen keys key) ≡ seen (others first keys) key
+others-seen_other : (first key : ℕ) (keys : List ℕ) → eqb key first ≡ false
+    → others first (seen keys key) ≡ seen (others first keys) key
 others-seen_other first key keys differs =
     let apart : eqb first key ≡ false = by_cases (eqb first key) refl in
     let kept : list_any (λ other. eqb key other) (others first keys) ≡ list_any (λ other. eqb key other) keys =
-    any-filter_same (λ other. eqb key other) (λ other. not (eqb first other)) true (λ other is. subst (λ o. not (eqb first o) ≡ true) (eqb-true key other is) (ap not apart)) keys in
-    (elim (list_any (λ other. eqb key other) keys) as (λ b. others first (if b then keys else keys ++ key ∷ []) ≡ (if b then others first keys else others first keys ++ key ∷ [])) [
+    any-filter_same (λ other. eqb key other) (λ other. not (eqb first other)) true
+    (λ other is. subst (λ o. not (eqb first o) ≡ true) (eqb-true key other is) (ap not apart)) keys in
+    (elim (list_any (λ other. eqb key other) keys) as
+    (λ b. others first (if b then keys else keys ++ key ∷ [])
+    ≡ (if b then others first keys else others first keys ++ key ∷ [])) [
       | true ↦ refl
-      | false ↦ filter-append (λ other. not (eqb first other)) keys (key ∷ []) ∙ ap (λ b. others first keys ++ cond (not b) (key ∷ []) []) apart
+      | false ↦
+          filter-append (λ other. not (eqb first other)) keys (key ∷ [])
+          ∙ ap (λ b. others first keys ++ cond (not b) (key ∷ []) []) apart
     ]) ∙ ap (λ b. if b then others first keys else others first keys ++ key ∷ []) (sym kept)
   where
     by_cases : (b : Bool) → eqb first key ≡ b → eqb first key ≡ false
@@ -49,24 +61,37 @@ first_seen-push (first ∷ keys) key =
     by : (b : Bool) → eqb key first ≡ b
         → first ∷ others first (seen (first_seen keys) key) ≡ seen (first ∷ others first (first_seen keys)) key
     by true same = ap (λ rest. first ∷ rest) (others-seen_same first key (first_seen keys) same)
-        ∙ ap (λ b. if b || list_any (λ other. eqb key other) (others first (first_seen keys)) then first ∷ others first (first_seen keys) else first ∷ others first (first_seen keys) ++ key ∷ []) (sym same)
+        ∙ ap (λ b.
+        if b
+        || list_any (λ other. eqb key other) (others first (first_seen keys)) then first
+        ∷ others first (first_seen keys) else first ∷ others first (first_seen keys) ++ key ∷ []) (sym same)
     by false differs = ap (λ rest. first ∷ rest) (others-seen_other first key (first_seen keys) differs)
-        ∙ (elim (list_any (λ other. eqb key other) (others first (first_seen keys))) as (λ b. first ∷ (if b then others first (first_seen keys) else others first (first_seen keys) ++ key ∷ [])
-        ≡ (if b then first ∷ others first (first_seen keys) else first ∷ others first (first_seen keys) ++ key ∷ [])) [ true ↦ refl | false ↦ refl ])
-        ∙ ap (λ b. if b || list_any (λ other. eqb key other) (others first (first_seen keys)) then first ∷ others first (first_seen keys) else first ∷ others first (first_seen keys) ++ key ∷ []) (sym differs)
+        ∙ (elim (list_any (λ other. eqb key other) (others first (first_seen keys))) as
+        (λ b. first ∷ (if b then others first (first_seen keys) else others first (first_seen keys) ++ key ∷ [])
+        ≡ (if b then first ∷ others first (first_seen keys) else first ∷ others first (first_seen keys) ++ key
+        ∷ [])) [ true ↦ refl | false ↦ refl ])
+        ∙ ap (λ b.
+        if b
+        || list_any (λ other. eqb key other) (others first (first_seen keys)) then first
+        ∷ others first (first_seen keys) else first ∷ others first (first_seen keys) ++ key ∷ [])
+        (sym differs)
 
 -- and so of many
 pub first_seen-append : (keys more : List ℕ) → first_seen (keys ++ more) ≡ fold seen (first_seen keys) more
 first_seen-append keys [] = ap first_seen (append-nil keys)
 first_seen-append keys (key ∷ more) =
-    ap first_seen (sym (append_assoc keys (key ∷ []) more)) ∙ first_seen-append (keys ++ key ∷ []) more ∙ ap (λ start. fold seen start more) (first_seen-push keys key)
+    ap first_seen (sym (append_assoc keys (key ∷ []) more)) ∙ first_seen-append (keys ++ key ∷ []) more
+    ∙ ap (λ start. fold seen start more) (first_seen-push keys key)
 
 -- a key that differs from the first stands among the others
-others-contains : (first key : ℕ) (keys : List ℕ) → eqb first key ≡ false → Contains keys key → Contains (others first keys) key
+others-contains : (first key : ℕ) (keys : List ℕ) → eqb first key ≡ false → Contains keys key
+    → Contains (others first keys) key
 others-contains first key [] differs there = absurd (Contains-nil key there)
-others-contains first key (k ∷ keys) differs there = by (eqb first k) refl (others-contains first key keys differs) (Contains-cons k keys key there)
+others-contains first key (k ∷ keys) differs there =
+    by (eqb first k) refl (others-contains first key keys differs) (Contains-cons k keys key there)
   where
-    by : (b : Bool) → eqb first k ≡ b → (Contains keys key → Contains (others first keys) key) → (k ≡ key) ⊎ Contains keys key
+    by : (b : Bool) → eqb first k ≡ b → (Contains keys key → Contains (others first keys) key)
+        → (k ≡ key) ⊎ Contains keys key
         → Contains (cond (not b) (k ∷ others first keys) (others first keys)) key
     by true same rest (inl is) = absurd (false≢true (sym differs ∙ ap (eqb first) (sym is) ∙ same))
     by true same rest (inr later) = rest later
@@ -76,32 +101,48 @@ others-contains first key (k ∷ keys) differs there = by (eqb first k) refl (ot
 -- each key of a list is seen
 pub first_seen-contains : (keys : List ℕ) (key : ℕ) → Contains keys key → Contains (first_seen keys) key
 first_seen-contains [] key there = there
-first_seen-contains (first ∷ keys) key there = by (eqb first key) refl (first_seen-contains keys key) (Contains-cons first keys key there)
+first_seen-contains (first ∷ keys) key there =
+    by (eqb first key) refl (first_seen-contains keys key) (Contains-cons first keys key there)
   where
-    by : (b : Bool) → eqb first key ≡ b → (Contains keys key → Contains (first_seen keys) key) → (first ≡ key) ⊎ Contains keys key
+    by : (b : Bool) → eqb first key ≡ b → (Contains keys key → Contains (first_seen keys) key)
+        → (first ≡ key) ⊎ Contains keys key
         → Contains (first ∷ others first (first_seen keys)) key
-    by _ _ rest (inl is) = subst (Contains (first ∷ others first (first_seen keys))) is (Contains-head first (others first (first_seen keys)))
-    by true same rest (inr _) = subst (Contains (first ∷ others first (first_seen keys))) (eqb-true first key same) (Contains-head first (others first (first_seen keys)))
-    by false differs rest (inr later) = Contains-tail first (others first (first_seen keys)) key (others-contains first key (first_seen keys) differs (rest later))
+    by _ _ rest (inl is) =
+        subst (Contains (first ∷ others first (first_seen keys))) is
+        (Contains-head first (others first (first_seen keys)))
+    by true same rest (inr _) =
+        subst (Contains (first ∷ others first (first_seen keys))) (eqb-true first key same)
+        (Contains-head first (others first (first_seen keys)))
+    by false differs rest (inr later) =
+        Contains-tail first (others first (first_seen keys)) key
+        (others-contains first key (first_seen keys) differs (rest later))
 
 -- what holds of each key of a list holds of each that is seen
 pub first_seen-all : (P : ℕ → Type 0) (keys : List ℕ) → All P keys → All P (first_seen keys)
 first_seen-all P [] all = all
 first_seen-all P (first ∷ keys) all =
     All-cons P first (others first (first_seen keys)) (All-head P first keys all)
-    (All-filter (λ other. not (eqb first other)) P (first_seen keys) (first_seen-all P keys (All-tail P first keys all)))
+    (All-filter (λ other. not (eqb first other)) P (first_seen keys)
+    (first_seen-all P keys (All-tail P first keys all)))
 
 -- no key is seen twice
 pub first_seen-distinct : (keys : List ℕ) → AllPairs (λ key other. key ≢ other) (first_seen keys)
 first_seen-distinct [] = λ i j d before below. absurd (omega arith)
 first_seen-distinct (first ∷ keys) =
     AllPairs-cons (λ key other. key ≢ other) first (others first (first_seen keys))
-    (All-weaker (λ other. not (eqb first other) ≡ true) (λ other. first ≢ other) (λ other passes same. false≢true (sym (ap not (eq-eqb first other same)) ∙ passes))
+    (All-weaker (λ other. not (eqb first other) ≡ true) (λ other. first ≢ other)
+    (λ other passes same. false≢true (sym (ap not (eq-eqb first other same)) ∙ passes))
     (others first (first_seen keys)) (filter_passes (λ other. not (eqb first other)) (first_seen keys)))
-    (AllPairs-filter (λ key other. key ≢ other) (λ other. not (eqb first other)) (first_seen keys) (first_seen-distinct keys))
+    (AllPairs-filter (λ key other. key ≢ other) (λ other. not (eqb first other)) (first_seen keys)
+    (first_seen-distinct keys))
 
 -- and no more keys are seen than there are
 pub first_seen-length : (keys : List ℕ) → length (first_seen keys) ≤ length keys
 first_seen-length [] = omega arith
 first_seen-length (first ∷ keys) =
-    omega (arith, first_seen-length keys, length-filter (λ other. not (eqb first other)) (first_seen keys), count_by-le-length (λ other. not (eqb first other)) (first_seen keys))
+    omega (
+      arith,
+      first_seen-length keys,
+      length-filter (λ other. not (eqb first other)) (first_seen keys),
+      count_by-le-length (λ other. not (eqb first other)) (first_seen keys),
+    )

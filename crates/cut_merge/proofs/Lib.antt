@@ -1,10 +1,10 @@
 pub mod Examples
 pub mod ExamplesOfMerging
-pub mod GainLemmas
-pub mod EntryGainLemmas
+pub mod ExcessLemmas
+pub mod EntryExcessLemmas
 pub mod FirstSeenLemmas
 pub mod TableMergeLemmas
 pub mod CutTableLemmas
 pub mod CutMergeLemmas
-pub mod SpanLemmas
+pub mod MergedIntervalLemmas
 pub mod MonitoredKeyLemmas

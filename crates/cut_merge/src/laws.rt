@@ -2,8 +2,8 @@
 
 ghost use Rattle.std.specs.Prelude.{◌≡◌, ◌≢◌, ℕ, ◌*◌, ◌^◌, ◌<◌, ◌≤◌, List, length, All, AllPairs, Contains};
 ghost use Rattle.prefix_lattice.specs.{RecordValue, NodeValue, IsNode, PrefixValue, IsPrefix, node_of, key_of, weight_of, total_weight, IsKeyOf};
-ghost use Rattle.shard_state.specs.{CutValue, IsCut, positions_of, total_of_cut, CutStandsFor, records_before, Holds};
-ghost use Rattle.cut_merge.specs.Span.{node_tables, span, monitored_at, IsWithinTotal};
+ghost use Rattle.shard_state.specs.{CutValue, IsCut, positions_of, total_of_cut, CutStandsFor, records_before, HoldsNarrowly};
+ghost use Rattle.cut_merge.specs.MergedInterval.{node_tables, merged_interval_in, monitored_at, IsWithinTotal};
 ghost use Rattle.cut_merge.specs.Merged.{IsBounded};
 
 use shard_state::snapshots_hold_weights;
@@ -11,20 +11,20 @@ use space_saving::intervals_are_narrow;
 
 /// If a cut represents lists of records, the merged interval of each prefix holds its exact weight over the records
 /// before the positions, and is no wider than the total divided by the capacity.
-pub fn spans_hold_weights()
+pub fn merged_intervals_hold_weights()
     ensures { (cut : CutValue) (lists : List (List RecordValue)) (prefix : PrefixValue) → IsCut cut → CutStandsFor cut lists
         → All (λ list. All (λ rec. 1 ≤ rec.weight) list) lists → IsPrefix prefix
-        → Holds (span cut prefix) cut.capacity (weight_of prefix (records_before lists (positions_of cut))) (total_of_cut cut) }
+        → HoldsNarrowly (merged_interval_in cut prefix) cut.capacity (weight_of prefix (records_before lists (positions_of cut))) (total_of_cut cut) }
 {
     snapshots_hold_weights();
 }
 
 /// In every cut a merged interval has its ends in order and within the total, and the high of a prefix that no
 /// shard monitors is at most the total divided by the capacity.
-pub fn spans_are_narrow()
-    ensures within { (cut : CutValue) (prefix : PrefixValue) → IsCut cut → IsPrefix prefix → IsWithinTotal (total_of_cut cut) (span cut prefix) }
+pub fn merged_intervals_are_narrow()
+    ensures within { (cut : CutValue) (prefix : PrefixValue) → IsCut cut → IsPrefix prefix → IsWithinTotal (total_of_cut cut) (merged_interval_in cut prefix) }
     ensures light { (cut : CutValue) (prefix : PrefixValue) → IsCut cut → IsPrefix prefix
-        → ¬ Contains (monitored_at cut (node_of prefix)) (key_of prefix) → (span cut prefix).high * cut.capacity ≤ total_of_cut cut }
+        → ¬ Contains (monitored_at cut (node_of prefix)) (key_of prefix) → (merged_interval_in cut prefix).high * cut.capacity ≤ total_of_cut cut }
 {
     tables_are_bounded();
     intervals_are_narrow();

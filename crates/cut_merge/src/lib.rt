@@ -2,12 +2,14 @@
 //! monitors.
 #![tactic(auto)]
 
-mod gain;
+mod excess;
 mod laws;
 mod merged;
 mod node_merge;
 
-pub use laws::{monitored_keys_are_few, spans_are_narrow, spans_hold_weights};
+pub use laws::{
+    merged_intervals_are_narrow, merged_intervals_hold_weights, monitored_keys_are_few,
+};
 pub use merged::Merged;
 
 #[cfg(test)]

@@ -1,10 +1,10 @@
 //! The tables of a cut, merged.
 
-ghost use Rattle.std.specs.Prelude.{◌≡◌, ◌^◌, ◌<◌, ◌≤◌, ℕ, IfOk};
-ghost use Rattle.prefix_lattice.specs.{IsNode};
+ghost use Rattle.std.specs.Prelude.{◌≡◌, ◌<◌, ◌≤◌, ℕ, IfOk};
+ghost use Rattle.prefix_lattice.specs.{IsNode, total_limit};
 ghost use Rattle.shard_state.specs.{CutValue, total_of_cut};
-ghost use Rattle.cut_merge.specs.Merged.{StandsForTables, merge_at, interval_for, candidates_at, StandsForCut, interval_for_key};
-ghost use Rattle.cut_merge.specs.Span.{node_tables, span, monitored_at, IsWithinTotal};
+ghost use Rattle.cut_merge.specs.Merged.{RepresentsTables, merge_at, interval_for, candidates_at, RepresentsCut, interval_for_key};
+ghost use Rattle.cut_merge.specs.MergedInterval.{node_tables, merged_interval_in, monitored_at, IsWithinTotal};
 
 use crate::laws::tables_are_bounded;
 use crate::node_merge::NodeMerge;
@@ -36,8 +36,8 @@ impl Merged {
     /// Merges the tables of a cut, which counted less than 2^60 together; those of at most 16 shards always did.
     /// The only error is that memory runs out.
     pub fn of(alloc: Global, cut: &Cut) -> Result<Merged, AllocError>
-        requires { total_of_cut cut.now < 2 ^ 60 }
-        ensures { IfOk result (λ merged. StandsForCut merged cut.now) }
+        requires { total_of_cut cut.now < total_limit }
+        ensures { IfOk result (λ merged. RepresentsCut merged cut.now) }
     {
         let mut nodes = Vec::with_capacity(alloc, 25)?;
         for place in 0..25 {
@@ -54,7 +54,7 @@ impl Merged {
     /// The weight that the tables counted together, in bytes or packets, below 2^60.
     pub fn total(&self) -> u64
         ensures total { result ≡ self.now.total }
-        ensures bounded { result < 2 ^ 60 }
+        ensures bounded { result < total_limit }
     {
         self.total
     }
@@ -71,10 +71,10 @@ impl Merged {
     pub fn interval(&self, prefix: &Prefix) -> (u64, u64)
         ensures low { result.0 ≡ (interval_for self.now prefix.now).low }
         ensures high { result.1 ≡ (interval_for self.now prefix.now).high }
-        ensures of_cut { (cut : CutValue) → StandsForCut self.now cut → span cut prefix.now ≡ record { low = result.0; high = result.1 } }
+        ensures of_cut { (cut : CutValue) → RepresentsCut self.now cut → merged_interval_in cut prefix.now ≡ record { low = result.0; high = result.1 } }
         ensures ordered { result.0 ≤ result.1 }
         ensures within_total { result.1 ≤ self.now.total }
-        ensures bounded { result.1 < 2 ^ 60 }
+        ensures bounded { result.1 < total_limit }
     {
         self.merge_of(prefix.node()).interval(prefix.key())
     }
@@ -83,7 +83,7 @@ impl Merged {
     /// by shard, in the order of each table's entries.
     pub fn candidates(&self, node: Node) -> &[u64]
         ensures known { result.now ≡ candidates_at self.now node }
-        ensures of_cut { (cut : CutValue) → StandsForCut self.now cut → result.now ≡ monitored_at cut node }
+        ensures of_cut { (cut : CutValue) → RepresentsCut self.now cut → result.now ≡ monitored_at cut node }
     {
         self.merge_of(node).keys()
     }
@@ -92,7 +92,7 @@ impl Merged {
     fn merge_of(&self, node: Node) -> &NodeMerge
         ensures merge { result.now ≡ merge_at node self.now }
         ensures within { (key : ℕ) → IsWithinTotal self.now.total (interval_for_key result.now key) }
-        ensures bounded { self.now.total < 2 ^ 60 }
+        ensures bounded { self.now.total < total_limit }
     {
         &self.nodes[usize::from(node.index())]
     }
@@ -101,8 +101,8 @@ impl Merged {
 // The tables of a node, merged over the shards of a cut.
 fn merge_node(alloc: Global, cut: &Cut, node: Node) -> Result<NodeMerge, AllocError>
     requires is_node { IsNode node }
-    requires bounded { total_of_cut cut.now < 2 ^ 60 }
-    ensures stands { IfOk result (λ merge. StandsForTables merge (node_tables node cut.now)) }
+    requires bounded { total_of_cut cut.now < total_limit }
+    ensures stands { IfOk result (λ merge. RepresentsTables merge (node_tables node cut.now)) }
     ensures within { IfOk result (λ merge. (key : ℕ) → IsWithinTotal (total_of_cut cut.now) (interval_for_key merge key)) }
 {
     tables_are_bounded();
@@ -115,7 +115,7 @@ fn merge_node(alloc: Global, cut: &Cut, node: Node) -> Result<NodeMerge, AllocEr
 
 // The weight that the shards of a cut counted together.
 fn total_of_shards(cut: &Cut) -> u64
-    requires { total_of_cut cut.now < 2 ^ 60 }
+    requires { total_of_cut cut.now < total_limit }
     ensures { result ≡ total_of_cut cut.now }
 {
     let mut total = 0;

@@ -3,11 +3,11 @@
 ghost use Rattle.std.specs.Prelude.{◌≡◌, ◌==◌, ◌+◌, ◌^◌, ◌<◌, ◌≤◌, ℕ, [], OnOk, fold, if◌then◌else◌};
 ghost use Rattle.std.specs.Map.{keys_of};
 ghost use Rattle.space_saving.specs.{entry_of, total_count};
-ghost use Rattle.cut_merge.specs.Merged.{seen, missing_high, gain_from, AddsTable, plus, interval_for_key};
+ghost use Rattle.cut_merge.specs.Merged.{seen, missing_high, excess_from, AddsTable, plus, interval_for_key};
 ghost use Rattle.cut_merge.specs.Tables.{table_keys};
-ghost use Rattle.cut_merge.specs.NodeMerge.{gain_of};
+ghost use Rattle.cut_merge.specs.NodeMerge.{excess_of};
 
-use crate::gain::Gain;
+use crate::excess::Excess;
 use indexmap::IndexMap;
 use space_saving::Flat;
 use std::alloc::{AllocError, Global};
@@ -17,7 +17,7 @@ use std::marker::Model;
 /// The high of a key is the second number plus its excess, so tables that lack the key count by the second number.
 #[derive(Debug, Drop)]
 pub(crate) struct NodeMerge {
-    gains: IndexMap<u64, Gain>,
+    excesses: IndexMap<u64, Excess>,
     missing: u64,
 }
 
@@ -26,16 +26,16 @@ impl Model for NodeMerge {
 
     ghost Value = { NodeMergeValue };
 
-    ghost view = { λ m. record { gains = m.gains.entries; missing = m.missing } };
+    ghost view = { λ m. record { excesses = m.excesses.entries; missing = m.missing } };
 }
 
 impl NodeMerge {
     /// No table is merged yet. It allocates no memory.
     pub(crate) fn new(alloc: Global) -> NodeMerge
-        ensures { result ≡ record { gains = []; missing = 0 } }
+        ensures { result ≡ record { excesses = []; missing = 0 } }
     {
         NodeMerge {
-            gains: IndexMap::new(alloc),
+            excesses: IndexMap::new(alloc),
             missing: 0,
         }
     }
@@ -48,7 +48,7 @@ impl NodeMerge {
     {
         let missing = missing_in(table);
         self.missing += missing;
-        note_entries(&mut self.gains, table, missing)
+        note_entries(&mut self.excesses, table, missing)
     }
 
     /// The least and the greatest weight that the key can have had.
@@ -57,25 +57,25 @@ impl NodeMerge {
         ensures low { result.0 ≡ (interval_for_key self.now key).low }
         ensures high { result.1 ≡ (interval_for_key self.now key).high }
     {
-        let gain = gain_in(&self.gains, key);
-        (gain.low, self.missing + gain.high)
+        let excess = excess_in(&self.excesses, key);
+        (excess.low, self.missing + excess.high)
     }
 
     /// The keys that some table monitors, in the order in which they were first seen.
     pub(crate) fn keys(&self) -> &[u64]
-        ensures { result.now ≡ keys_of self.now.gains }
+        ensures { result.now ≡ keys_of self.now.excesses }
     {
-        self.gains.keys().as_slice()
+        self.excesses.keys().as_slice()
     }
 }
 
 // The excess noted for a key.
-fn gain_in(gains: &IndexMap<u64, Gain>, key: u64) -> Gain
-    ensures { result ≡ gain_of key gains.now.entries }
+fn excess_in(excesses: &IndexMap<u64, Excess>, key: u64) -> Excess
+    ensures { result ≡ excess_of key excesses.now.entries }
 {
-    match gains.get(&key) {
-        Some(gain) => *gain,
-        None => Gain::NONE,
+    match excesses.get(&key) {
+        Some(excess) => *excess,
+        None => Excess::NONE,
     }
 }
 
@@ -93,38 +93,38 @@ fn missing_in(table: &Flat) -> u64
 
 // Notes the excess of each entry of a table over a key that is missing there.
 fn note_entries(
-    gains: &mut IndexMap<u64, Gain>,
+    excesses: &mut IndexMap<u64, Excess>,
     table: &Flat,
     missing: u64,
 ) -> Result<(), AllocError>
     requires missing { missing ≡ missing_high table.now }
-    requires low { (key : ℕ) → (gain_of key gains.old.entries).low + total_count table.now.entries < 2 ^ 64 }
-    requires high { (key : ℕ) → (gain_of key gains.old.entries).high + total_count table.now.entries < 2 ^ 64 }
-    ensures gains { OnOk result ((key : ℕ) → gain_of key gains.new.entries
-        ≡ plus (gain_of key gains.old.entries) (gain_from table.now (entry_of key table.now.entries))) }
-    ensures keys { OnOk result (keys_of gains.new.entries ≡ fold seen (keys_of gains.old.entries) (table_keys table.now)) }
+    requires low { (key : ℕ) → (excess_of key excesses.old.entries).low + total_count table.now.entries < 2 ^ 64 }
+    requires high { (key : ℕ) → (excess_of key excesses.old.entries).high + total_count table.now.entries < 2 ^ 64 }
+    ensures excesses { OnOk result ((key : ℕ) → excess_of key excesses.new.entries
+        ≡ plus (excess_of key excesses.old.entries) (excess_from table.now (entry_of key table.now.entries))) }
+    ensures keys { OnOk result (keys_of excesses.new.entries ≡ fold seen (keys_of excesses.old.entries) (table_keys table.now)) }
 {
     for place in 0..table.len() {
         let entry = table.entry(place);
-        let gain = Gain {
+        let excess = Excess {
             low: entry.count - entry.error,
             high: entry.count - missing,
         };
-        note(gains, entry.key, gain)?;
+        note(excesses, entry.key, excess)?;
     }
     Ok(())
 }
 
 // Adds to the excess of a key. A new key is appended.
-fn note(gains: &mut IndexMap<u64, Gain>, key: u64, more: Gain) -> Result<(), AllocError>
-    requires low { (gain_of key gains.old.entries).low + more.low < 2 ^ 64 }
-    requires high { (gain_of key gains.old.entries).high + more.high < 2 ^ 64 }
-    ensures gain { OnOk result ((other : ℕ) → gain_of other gains.new.entries
-        ≡ (if key == other then plus (gain_of other gains.old.entries) more else gain_of other gains.old.entries)) }
-    ensures keys { OnOk result (keys_of gains.new.entries ≡ seen (keys_of gains.old.entries) key) }
+fn note(excesses: &mut IndexMap<u64, Excess>, key: u64, more: Excess) -> Result<(), AllocError>
+    requires low { (excess_of key excesses.old.entries).low + more.low < 2 ^ 64 }
+    requires high { (excess_of key excesses.old.entries).high + more.high < 2 ^ 64 }
+    ensures excess { OnOk result ((other : ℕ) → excess_of other excesses.new.entries
+        ≡ (if key == other then plus (excess_of other excesses.old.entries) more else excess_of other excesses.old.entries)) }
+    ensures keys { OnOk result (keys_of excesses.new.entries ≡ seen (keys_of excesses.old.entries) key) }
 {
-    if let Some(before) = gains.insert(key, more)? {
-        gains.insert(key, before.plus(more))?;
+    if let Some(before) = excesses.insert(key, more)? {
+        excesses.insert(key, before.plus(more))?;
     }
     Ok(())
 }

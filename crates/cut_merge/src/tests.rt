@@ -73,7 +73,7 @@ fn merged(rt: &impl Abort, alloc: Global) -> Result<Merged, AllocError> {
 }
 
 #[test]
-fn spans_add_up_over_shards(rt: HostRuntime) -> Result<(), Fail> {
+fn merged_intervals_add_up_over_shards(rt: HostRuntime) -> Result<(), Fail> {
     let alloc = rt.alloc();
     let merged = merged(&rt, alloc)?;
     // The first table has the entries U 1 and X 5, and room for two more; the second has Y 1, Z 1, W 1, and V 2

@@ -1,12 +1,15 @@
 -- A dealing holds the records that were dealt.
-use Rattle.std.proofs.Common.{◌≡◌, ℕ, suc, zero, ◌+◌, ◌^◌, ◌<◌, ◌≤◌, eqb, true, false, cond, List, [], ◌∷◌, ◌++◌, length, map, filter, All, refl, sym, ap, ◌∙◌, subst, arith}
+use Rattle.std.proofs.Common.{◌≡◌, ℕ, suc, zero, ◌+◌, ◌^◌, ◌<◌, ◌≤◌, eqb, true, false, cond, List, [], ◌∷◌, ◌++◌}
+use Rattle.std.proofs.Common.{length, map, filter, All, refl, sym, ap, ◌∙◌, subst, arith}
 use Rattle.std.specs.List.{zip, range_with_len, flat_map, sum_by}
 use Rattle.std.specs.List.Sorted.{IsPermutation}
 use Rattle.std.proofs.lemmas.Bool.{eqb-true, eqb-false, cond_both}
 use Rattle.std.proofs.lemmas.List.Elements.{All-head, All-tail}
 use Rattle.std.proofs.lemmas.List.Sums.{sum_by-cons, sum_by-append}
 use Rattle.std.proofs.lemmas.List.Concat.{length-flat_map}
-use Rattle.std.proofs.lemmas.List.Sorted.{IsPermutation-refl, IsPermutation-sym, IsPermutation-trans, IsPermutation-cons, IsPermutation-append_right, IsPermutation-middle, length_permutation, sum_by-IsPermutation}
+use Rattle.std.proofs.lemmas.List.Sorted.{IsPermutation-refl, IsPermutation-sym, IsPermutation-trans}
+use Rattle.std.proofs.lemmas.List.Sorted.{IsPermutation-cons, IsPermutation-append_right, IsPermutation-middle}
+use Rattle.std.proofs.lemmas.List.Sorted.{length_permutation, sum_by-IsPermutation}
 use Rattle.prefix_lattice.specs.{RecordValue, PrefixValue, covers, weight_of, total_weight}
 use Rattle.deal_rules.specs.declared.deal_kind.DealKind.{DealKind}
 use Rattle.deal_rules.proofs.ShardListLemmas.{length-dealing}
@@ -24,10 +27,12 @@ later_than : (n from : ℕ) → from ≤ n → (n ≡ from → ⊥) → from + 1
 later_than n from least apart = omega (arith, least, apart)
 
 -- shards behind the record's own stay as they were
-joined-past : (n : ℕ) (r : RecordValue) (f : ℕ → List RecordValue) (from count : ℕ) → n < from → joined (with_first n r f) from count ≡ joined f from count
+joined-past : (n : ℕ) (r : RecordValue) (f : ℕ → List RecordValue) (from count : ℕ) → n < from
+    → joined (with_first n r f) from count ≡ joined f from count
 joined-past n r f from zero past = refl
 joined-past n r f from (suc count) past =
-    cond_both (eqb n from) (r ∷ f from) (f from) (λ l. l ++ joined (with_first n r f) (from + 1) count ≡ joined f from (suc count))
+    cond_both (eqb n from) (r ∷ f from) (f from)
+    (λ l. l ++ joined (with_first n r f) (from + 1) count ≡ joined f from (suc count))
     (λ here. let e : n ≡ from = eqb-true n from here in absurd (omega (arith, e, past)))
     (λ other. ap (λ l. f from ++ l) (joined-past n r f (from + 1) count (omega (arith, past))))
 
@@ -36,9 +41,11 @@ joined-first : (n : ℕ) (r : RecordValue) (f : ℕ → List RecordValue) (from 
     → IsPermutation (r ∷ joined f from count) (joined (with_first n r f) from count)
 joined-first n r f from zero least most = absurd (omega (arith, least, most))
 joined-first n r f from (suc count) least most =
-    cond_both (eqb n from) (r ∷ f from) (f from) (λ l. IsPermutation (r ∷ joined f from (suc count)) (l ++ joined (with_first n r f) (from + 1) count))
+    cond_both (eqb n from) (r ∷ f from) (f from)
+    (λ l. IsPermutation (r ∷ joined f from (suc count)) (l ++ joined (with_first n r f) (from + 1) count))
     (λ here. let e : n ≡ from = eqb-true n from here in
-    subst (λ l. IsPermutation (r ∷ joined f from (suc count)) ((r ∷ f from) ++ l)) (sym (joined-past n r f (from + 1) count (omega (arith, e))))
+    subst (λ l. IsPermutation (r ∷ joined f from (suc count)) ((r ∷ f from) ++ l))
+    (sym (joined-past n r f (from + 1) count (omega (arith, e))))
     (IsPermutation-refl (r ∷ joined f from (suc count))))
     (λ other. let apart : n ≡ from → ⊥ = eqb-false n from other in
     let later : IsPermutation (r ∷ joined f (from + 1) count) (joined (with_first n r f) (from + 1) count) =
@@ -51,78 +58,113 @@ joined-none : (from count : ℕ) → joined (λ shard. []) from count ≡ []
 joined-none from zero = refl
 joined-none from (suc count) = joined-none (from + 1) count
 
-dealt_list-cons : (shard n : ℕ) (ns : List ℕ) (r : RecordValue) (rs : List RecordValue) → dealt_list shard (n ∷ ns) (r ∷ rs) ≡ with_first n r (λ s. dealt_list s ns rs) shard
+dealt_list-cons : (shard n : ℕ) (ns : List ℕ) (r : RecordValue) (rs : List RecordValue)
+    → dealt_list shard (n ∷ ns) (r ∷ rs) ≡ with_first n r (λ s. dealt_list s ns rs) shard
 dealt_list-cons shard n ns r rs =
     let record_of : ℕ × RecordValue → RecordValue = λ dealt. dealt.1 in
     let later : List (ℕ × RecordValue) = filter (λ (dealt : ℕ × RecordValue). eqb dealt.0 shard) (zip ns rs) in
-    elim (eqb n shard) as (λ b. map record_of (cond b ((n, r) ∷ later) later) ≡ cond b (r ∷ map record_of later) (map record_of later)) [ true ↦ refl | false ↦ refl ]
+    elim (eqb n shard) as
+    (λ b. map record_of (cond b ((n, r) ∷ later) later) ≡ cond b (r ∷ map record_of later) (map record_of later))
+    [ true ↦ refl | false ↦ refl ]
 
-joined-same : (f g : ℕ → List RecordValue) → ((shard : ℕ) → f shard ≡ g shard) → (from count : ℕ) → joined f from count ≡ joined g from count
+joined-same : (f g : ℕ → List RecordValue) → ((shard : ℕ) → f shard ≡ g shard) → (from count : ℕ)
+    → joined f from count ≡ joined g from count
 joined-same f g same from zero = refl
-joined-same f g same from (suc count) = ap (λ l. l ++ joined f (from + 1) count) (same from) ∙ ap (λ l. g from ++ l) (joined-same f g same (from + 1) count)
+joined-same f g same from (suc count) =
+    ap (λ l. l ++ joined f (from + 1) count) (same from)
+    ∙ ap (λ l. g from ++ l) (joined-same f g same (from + 1) count)
 
 -- the lists of all shards together are the records in another order
-dealt_lists-permuted : (shards : ℕ) (ns : List ℕ) (rs : List RecordValue) → length ns ≡ length rs → All (λ n. n < shards) ns
+dealt_lists-permuted : (shards : ℕ) (ns : List ℕ) (rs : List RecordValue) → length ns ≡ length rs
+    → All (λ n. n < shards) ns
     → IsPermutation rs (flat_map (λ list. list) (dealt_lists shards ns rs))
-dealt_lists-permuted shards [] [] same below = subst (λ l. IsPermutation [] l) (sym (joined-none 0 shards)) (IsPermutation-refl [])
+dealt_lists-permuted shards [] [] same below =
+    subst (λ l. IsPermutation [] l) (sym (joined-none 0 shards)) (IsPermutation-refl [])
 dealt_lists-permuted shards [] (r ∷ rs) same below = absurd (omega (arith, same))
 dealt_lists-permuted shards (n ∷ ns) [] same below = absurd (omega (arith, same))
 dealt_lists-permuted shards (n ∷ ns) (r ∷ rs) same below =
     let f : ℕ → List RecordValue = λ s. dealt_list s ns rs in
-    let earlier : IsPermutation rs (joined f 0 shards) = dealt_lists-permuted shards ns rs (omega (arith, same)) (All-tail (λ m. m < shards) n ns below) in
+    let earlier : IsPermutation rs (joined f 0 shards) =
+    dealt_lists-permuted shards ns rs (omega (arith, same)) (All-tail (λ m. m < shards) n ns below) in
     let first : IsPermutation (r ∷ joined f 0 shards) (joined (with_first n r f) 0 shards) =
-    joined-first n r f 0 shards (omega arith) (let h : n < shards = All-head (λ m. m < shards) n ns below in omega (arith, h)) in
-    subst (λ l. IsPermutation (r ∷ rs) l) (sym (joined-same (λ s. dealt_list s (n ∷ ns) (r ∷ rs)) (with_first n r f) (λ s. dealt_list-cons s n ns r rs) 0 shards))
+    joined-first n r f 0 shards (omega arith)
+    (let h : n < shards = All-head (λ m. m < shards) n ns below in omega (arith, h)) in
+    subst (λ l. IsPermutation (r ∷ rs) l)
+    (sym (joined-same (λ s. dealt_list s (n ∷ ns) (r ∷ rs)) (with_first n r f)
+    (λ s. dealt_list-cons s n ns r rs) 0 shards))
     (IsPermutation-trans (r ∷ rs) (r ∷ joined f 0 shards) _ (IsPermutation-cons r rs (joined f 0 shards) earlier) first)
 
-sum_by-joined : {X : Type 0} (f : X → ℕ) → (lists : List (List X)) → sum_by f (flat_map (λ list. list) lists) ≡ sum_by (sum_by f) lists
+sum_by-joined : {X : Type 0} (f : X → ℕ) → (lists : List (List X))
+    → sum_by f (flat_map (λ list. list) lists) ≡ sum_by (sum_by f) lists
 sum_by-joined f [] = refl
-sum_by-joined f (l ∷ ls) = sum_by-append f l (flat_map (λ list. list) ls) ∙ ap (λ n. sum_by f l + n) (sum_by-joined f ls) ∙ sym (sum_by-cons (sum_by f) l ls)
+sum_by-joined f (l ∷ ls) =
+    sum_by-append f l (flat_map (λ list. list) ls) ∙ ap (λ n. sum_by f l + n) (sum_by-joined f ls)
+    ∙ sym (sum_by-cons (sum_by f) l ls)
 
 sum_by-same : {X : Type 0} (f g : X → ℕ) → ((x : X) → f x ≡ g x) → (xs : List X) → sum_by f xs ≡ sum_by g xs
 sum_by-same f g same [] = refl
-sum_by-same f g same (x ∷ xs) = sum_by-cons f x xs ∙ ap (λ n. n + sum_by f xs) (same x) ∙ ap (λ n. g x + n) (sum_by-same f g same xs) ∙ sym (sum_by-cons g x xs)
+sum_by-same f g same (x ∷ xs) =
+    sum_by-cons f x xs ∙ ap (λ n. n + sum_by f xs) (same x) ∙ ap (λ n. g x + n) (sum_by-same f g same xs)
+    ∙ sym (sum_by-cons g x xs)
 
 -- what covered records weigh, as a sum over all of them
-weight_of-sum : (prefix : PrefixValue) (rs : List RecordValue) → weight_of prefix rs ≡ sum_by (λ rec. cond (covers prefix rec) rec.weight 0) rs
+weight_of-sum : (prefix : PrefixValue) (rs : List RecordValue)
+    → weight_of prefix rs ≡ sum_by (λ rec. cond (covers prefix rec) rec.weight 0) rs
 weight_of-sum prefix [] = refl
 weight_of-sum prefix (r ∷ rs) =
     let weigh : RecordValue → ℕ = λ rec. rec.weight in
     let part : RecordValue → ℕ = λ rec. cond (covers prefix rec) rec.weight 0 in
     let later : List RecordValue = filter (covers prefix) rs in
     let ih : sum_by weigh later ≡ sum_by part rs = weight_of-sum prefix rs in
-    let here : sum_by weigh (cond (covers prefix r) (r ∷ later) later) ≡ cond (covers prefix r) r.weight 0 + sum_by weigh later =
-    elim (covers prefix r) as (λ b. sum_by weigh (cond b (r ∷ later) later) ≡ cond b r.weight 0 + sum_by weigh later) [ true ↦ sum_by-cons weigh r later | false ↦ omega arith ] in
+    let here : sum_by weigh (cond (covers prefix r) (r ∷ later) later)
+    ≡ cond (covers prefix r) r.weight 0 + sum_by weigh later =
+    elim (covers prefix r) as
+    (λ b. sum_by weigh (cond b (r ∷ later) later) ≡ cond b r.weight 0 + sum_by weigh later)
+    [ true ↦ sum_by-cons weigh r later | false ↦ omega arith ] in
     here ∙ ap (λ n. part r + n) ih ∙ sym (sum_by-cons part r rs)
 
 -- the laws, of lists that are dealt
-pub permuted : (shards : ℕ) (records : List RecordValue) (numbers : List ℕ) (lists : List (List RecordValue)) → AreDealt shards records numbers lists
+pub permuted : (shards : ℕ) (records : List RecordValue) (numbers : List ℕ) (lists : List (List RecordValue))
+    → AreDealt shards records numbers lists
     → IsPermutation records (flat_map (λ list. list) lists)
 permuted shards records numbers lists dealt =
-    subst (λ (ls : List (List RecordValue)). IsPermutation records (flat_map (λ list. list) ls)) (sym dealt.parted) (dealt_lists-permuted shards numbers records dealt.as_many dealt.below)
+    subst (λ (ls : List (List RecordValue)). IsPermutation records (flat_map (λ list. list) ls)) (sym dealt.parted)
+    (dealt_lists-permuted shards numbers records dealt.as_many dealt.below)
 
-pub summed : (shards : ℕ) (records : List RecordValue) (numbers : List ℕ) (lists : List (List RecordValue)) → AreDealt shards records numbers lists
+pub summed : (shards : ℕ) (records : List RecordValue) (numbers : List ℕ) (lists : List (List RecordValue))
+    → AreDealt shards records numbers lists
     → (weigh : RecordValue → ℕ) → sum_by (sum_by weigh) lists ≡ sum_by weigh records
-summed shards records numbers lists dealt weigh = sym (sum_by-joined weigh lists) ∙ sum_by-IsPermutation weigh records _ (permuted shards records numbers lists dealt)
+summed shards records numbers lists dealt weigh =
+    sym (sum_by-joined weigh lists)
+    ∙ sum_by-IsPermutation weigh records _ (permuted shards records numbers lists dealt)
 
-pub counted : (shards : ℕ) (records : List RecordValue) (numbers : List ℕ) (lists : List (List RecordValue)) → AreDealt shards records numbers lists
+pub counted : (shards : ℕ) (records : List RecordValue) (numbers : List ℕ) (lists : List (List RecordValue))
+    → AreDealt shards records numbers lists
     → sum_by (λ list. length list) lists ≡ length records
-counted shards records numbers lists dealt = sym (length-flat_map (λ list. list) lists) ∙ length_permutation records _ (permuted shards records numbers lists dealt)
+counted shards records numbers lists dealt =
+    sym (length-flat_map (λ list. list) lists)
+    ∙ length_permutation records _ (permuted shards records numbers lists dealt)
 
-pub weighed : (shards : ℕ) (records : List RecordValue) (numbers : List ℕ) (lists : List (List RecordValue)) → AreDealt shards records numbers lists
+pub weighed : (shards : ℕ) (records : List RecordValue) (numbers : List ℕ) (lists : List (List RecordValue))
+    → AreDealt shards records numbers lists
     → (prefix : PrefixValue) → sum_by (weight_of prefix) lists ≡ weight_of prefix records
 weighed shards records numbers lists dealt prefix =
     let part : RecordValue → ℕ = λ rec. cond (covers prefix rec) rec.weight 0 in
-    sum_by-same (weight_of prefix) (sum_by part) (weight_of-sum prefix) lists ∙ summed shards records numbers lists dealt part ∙ sym (weight_of-sum prefix records)
+    sum_by-same (weight_of prefix) (sum_by part) (weight_of-sum prefix) lists
+    ∙ summed shards records numbers lists dealt part ∙ sym (weight_of-sum prefix records)
 
-pub total : (shards : ℕ) (records : List RecordValue) (numbers : List ℕ) (lists : List (List RecordValue)) → AreDealt shards records numbers lists
+pub total : (shards : ℕ) (records : List RecordValue) (numbers : List ℕ) (lists : List (List RecordValue))
+    → AreDealt shards records numbers lists
     → sum_by total_weight lists ≡ total_weight records
 total shards records numbers lists dealt = summed shards records numbers lists dealt (λ rec. rec.weight)
 
 -- a dealing has as many records as were dealt
-pub AreShardLists-dealing : (kind : DealKind) (may_answer : ℕ → RecordValue → ℕ → ℕ → Type 0) (shards : ℕ) (records : List RecordValue) (lists : List (List RecordValue))
-    → IsDealing kind may_answer shards records lists → 1 ≤ shards → shards ≤ 16 → length records ≤ 2 ^ 24 → AreShardLists lists
+pub AreShardLists-dealing : (kind : DealKind) (may_answer : ℕ → RecordValue → ℕ → ℕ → Type 0) (shards : ℕ)
+    (records : List RecordValue) (lists : List (List RecordValue))
+    → IsDealing kind may_answer shards records lists → 1 ≤ shards → shards ≤ 16 → length records ≤ 2 ^ 24
+    → AreShardLists lists
 AreShardLists-dealing kind may_answer shards records lists dealing some few small =
     let long : length lists ≡ shards = length-dealing kind may_answer shards records lists dealing in
-    let all : sum_by (λ list. length list) lists ≡ length records = counted shards records dealing.numbers lists dealing.dealt in
+    let all : sum_by (λ list. length list) lists ≡ length records =
+    counted shards records dealing.numbers lists dealing.dealt in
     record { some = omega (arith, long, some); few = omega (arith, long, few); small = omega (arith, all, small) }

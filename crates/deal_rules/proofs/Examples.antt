@@ -54,7 +54,15 @@ pub free_takes_any : IsOfKind Free 2 third 3 0
 free_takes_any = record { round = λ e. cc; source = λ e. cc }
 
 pub asked_of_the_third : IsAsked 2 third 2
-asked_of_the_third = record { early = omega arith; source = omega arith; dest = omega arith; weighed = omega arith; light = omega arith; some = omega arith; few = omega arith }
+asked_of_the_third = record {
+  early = omega arith;
+  source = omega arith;
+  dest = omega arith;
+  weighed = omega arith;
+  light = omega arith;
+  some = omega arith;
+  few = omega arith;
+}
 
 pub asked_past_the_last_place : IsAsked 16777216 third 2 → ⊥
 asked_past_the_last_place asked = omega (arith, asked.early)
@@ -88,7 +96,8 @@ record_without_a_number dealt = omega (arith, dealt.as_many)
 
 pub lists_of_each_other : AreDealt 2 (first ∷ second ∷ []) (0 ∷ 1 ∷ []) ((second ∷ []) ∷ (first ∷ []) ∷ []) → ⊥
 lists_of_each_other dealt =
-    let same : 4 ≡ 7 = ap (λ (lists : List (List RecordValue)). (get_or (get_or lists 0 []) 0 third).src) dealt.parted in
+    let same : 4 ≡ 7 =
+    ap (λ (lists : List (List RecordValue)). (get_or (get_or lists 0 []) 0 third).src) dealt.parted in
     omega (arith, same)
 
 -- the number at each place is the place modulo two
@@ -101,7 +110,11 @@ number_at (suc (suc (suc place))) number read = cc
 pub numbers_in_turn : FollowRule RoundRobin place_in_turn 2 records (0 ∷ 1 ∷ 0 ∷ [])
 numbers_in_turn = λ place number rec read_rec read_number.
     let in_turn : number ≡ place % 2 = number_at place number read_number in
-    record { below = omega (arith, in_turn); of_kind = record { round = λ e. in_turn; source = λ e. cc }; answered = in_turn }
+    record {
+      below = omega (arith, in_turn);
+      of_kind = record { round = λ e. in_turn; source = λ e. cc };
+      answered = in_turn;
+    }
 
 pub numbers_from_one : FollowRule RoundRobin place_in_turn 2 records (1 ∷ 0 ∷ 1 ∷ []) → ⊥
 numbers_from_one follow = let h : 1 ≡ 0 = (follow 0 1 first refl refl).answered in omega (arith, h)
@@ -115,8 +128,10 @@ lists_of_two_shards = record { some = omega arith; few = omega arith; small = om
 pub lists_of_no_shard : AreShardLists [] → ⊥
 lists_of_no_shard lists = omega (arith, lists.some)
 
-pub dealer_by_place : {X : Type 0} {F : X → Type 0} {g : _} (dealers : Dealers X F g) → dealer_of RoundRobin dealers ≡ dealers.round
+pub dealer_by_place : {X : Type 0} {F : X → Type 0} {g : _} (dealers : Dealers X F g)
+    → dealer_of RoundRobin dealers ≡ dealers.round
 dealer_by_place dealers = refl
 
-pub dealer_by_any_function : {X : Type 0} {F : X → Type 0} {g : _} (dealers : Dealers X F g) → dealer_of Free dealers ≡ dealers.free
+pub dealer_by_any_function : {X : Type 0} {F : X → Type 0} {g : _} (dealers : Dealers X F g)
+    → dealer_of Free dealers ≡ dealers.free
 dealer_by_any_function dealers = refl

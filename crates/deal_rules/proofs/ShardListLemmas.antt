@@ -1,9 +1,12 @@
 -- The lists of the shards as one more record is dealt.
-use Rattle.std.proofs.Common.{◌≡◌, ℕ, suc, zero, ◌+◌, ◌<◌, ◌≤◌, eqb, Bool, true, false, cond, List, [], ◌∷◌, ◌++◌, length, map, filter, take, get_or, set, refl, sym, ap, ◌∙◌, subst, inl, inr, ◌⊎◌, arith, length-set, length-append}
+use Rattle.std.proofs.Common.{◌≡◌, ℕ, suc, zero, ◌+◌, ◌<◌, ◌≤◌, eqb, Bool, true, false, cond, List, [], ◌∷◌, ◌++◌}
+use Rattle.std.proofs.Common.{length, map, filter, take, get_or, set, refl, sym, ap, ◌∙◌, subst, inl, inr, ◌⊎◌}
+use Rattle.std.proofs.Common.{arith, length-set, length-append}
 use Rattle.std.specs.List.{zip, slice_get}
 use Rattle.std.specs.Prelude.{Some}
 use Rattle.std.proofs.lemmas.Bool.{eqb-true, eqb-false, cond_both}
-use Rattle.std.proofs.lemmas.List.{map-append, append-nil, get_or_default, take_more, take_all, length-take-le, get_or-set_same, get_or-set_other}
+use Rattle.std.proofs.lemmas.List.{map-append, append-nil, get_or_default, take_more, take_all, length-take-le}
+use Rattle.std.proofs.lemmas.List.{get_or-set_same, get_or-set_other}
 use Rattle.std.proofs.lemmas.List.Elements.{filter-append, All-nil, All-push}
 use Rattle.std.proofs.lemmas.List.FromFn.{length-map-range_with_len, get_or-map-range_with_len, fill_by_all}
 use Rattle.std.proofs.lemmas.Option.{slice_get_within, get_or_from_slice_get}
@@ -12,7 +15,8 @@ use Rattle.deal_rules.specs.declared.deal_kind.DealKind.{DealKind}
 use Rattle.deal_rules.specs.Rule.{MayBeDealt}
 use Rattle.deal_rules.specs.Dealing.{dealt_list, dealt_lists, FollowRule, IsDealing}
 
-zip-push : (ns : List ℕ) (rs : List RecordValue) (n : ℕ) (r : RecordValue) → length ns ≡ length rs → zip (ns ++ n ∷ []) (rs ++ r ∷ []) ≡ zip ns rs ++ (n, r) ∷ []
+zip-push : (ns : List ℕ) (rs : List RecordValue) (n : ℕ) (r : RecordValue) → length ns ≡ length rs
+    → zip (ns ++ n ∷ []) (rs ++ r ∷ []) ≡ zip ns rs ++ (n, r) ∷ []
 zip-push [] [] n r same = refl
 zip-push [] (q ∷ rs) n r same = absurd (omega (arith, same))
 zip-push (m ∷ ns) [] n r same = absurd (omega (arith, same))
@@ -25,29 +29,36 @@ dealt_list-push shard ns rs n r same =
     let is_here : ℕ × RecordValue → Bool = λ dealt. eqb dealt.0 shard in
     let record_of : ℕ × RecordValue → RecordValue = λ dealt. dealt.1 in
     let last : map record_of (cond (eqb n shard) ((n, r) ∷ []) []) ≡ cond (eqb n shard) (r ∷ []) [] =
-    elim (eqb n shard) as (λ b. map record_of (cond b ((n, r) ∷ []) []) ≡ cond b (r ∷ []) []) [ true ↦ refl | false ↦ refl ] in
+    elim (eqb n shard) as (λ b. map record_of (cond b ((n, r) ∷ []) []) ≡ cond b (r ∷ []) [])
+    [ true ↦ refl | false ↦ refl ] in
     ap (λ l. map record_of (filter is_here l)) (zip-push ns rs n r same)
     ∙ ap (map record_of) (filter-append is_here (zip ns rs) ((n, r) ∷ []))
     ∙ map-append record_of (filter is_here (zip ns rs)) (filter is_here ((n, r) ∷ []))
     ∙ ap (λ l. map record_of (filter is_here (zip ns rs)) ++ l) last
 
 -- each shard's list as one more record is pushed to its own
-pushed_at : (shards : ℕ) (ns : List ℕ) (rs : List RecordValue) (n : ℕ) (r : RecordValue) → length ns ≡ length rs → n < shards → (shard : ℕ) → shard < shards
-    → get_or (set (dealt_lists shards ns rs) n (dealt_list n ns rs ++ r ∷ [])) shard [] ≡ dealt_list shard (ns ++ n ∷ []) (rs ++ r ∷ [])
+pushed_at : (shards : ℕ) (ns : List ℕ) (rs : List RecordValue) (n : ℕ) (r : RecordValue) → length ns ≡ length rs
+    → n < shards → (shard : ℕ) → shard < shards
+    → get_or (set (dealt_lists shards ns rs) n (dealt_list n ns rs ++ r ∷ [])) shard []
+    ≡ dealt_list shard (ns ++ n ∷ []) (rs ++ r ∷ [])
 pushed_at shards ns rs n r same below shard within =
     let old = dealt_lists shards ns rs in
     let long : length old ≡ shards = length-map-range_with_len (λ s. dealt_list s ns rs) 0 shards in
-    let read : get_or old shard [] ≡ dealt_list shard ns rs = get_or-map-range_with_len (λ s. dealt_list s ns rs) 0 shards shard shard [] within (omega arith) in
+    let read : get_or old shard [] ≡ dealt_list shard ns rs =
+    get_or-map-range_with_len (λ s. dealt_list s ns rs) 0 shards shard shard [] within (omega arith) in
     sym (dealt_list-push shard ns rs n r same
-    ∙ cond_both (eqb n shard) (r ∷ []) [] (λ last. dealt_list shard ns rs ++ last ≡ get_or (set old n (dealt_list n ns rs ++ r ∷ [])) shard [])
+    ∙ cond_both (eqb n shard) (r ∷ []) []
+    (λ last. dealt_list shard ns rs ++ last ≡ get_or (set old n (dealt_list n ns rs ++ r ∷ [])) shard [])
     (λ here. let e : n ≡ shard = eqb-true n shard here in
-    ap (λ s. dealt_list s ns rs ++ r ∷ []) (sym e) ∙ sym (get_or-set_same old n (dealt_list n ns rs ++ r ∷ []) [] (omega (arith, long, below)))
+    ap (λ s. dealt_list s ns rs ++ r ∷ []) (sym e)
+    ∙ sym (get_or-set_same old n (dealt_list n ns rs ++ r ∷ []) [] (omega (arith, long, below)))
     ∙ ap (λ s. get_or (set old n (dealt_list n ns rs ++ r ∷ [])) s []) e)
     (λ other. append-nil (dealt_list shard ns rs) ∙ sym read
     ∙ sym (get_or-set_other old n shard (dealt_list n ns rs ++ r ∷ []) [] (λ e. eqb-false n shard other (sym e)))))
 
 -- the lists as one more record is pushed to its shard's list
-pub dealt_lists-push : (shards : ℕ) (ns : List ℕ) (rs : List RecordValue) (n : ℕ) (r : RecordValue) → length ns ≡ length rs → n < shards
+pub dealt_lists-push : (shards : ℕ) (ns : List ℕ) (rs : List RecordValue) (n : ℕ) (r : RecordValue)
+    → length ns ≡ length rs → n < shards
     → set (dealt_lists shards ns rs) n (dealt_list n ns rs ++ r ∷ []) ≡ dealt_lists shards (ns ++ n ∷ []) (rs ++ r ∷ [])
 dealt_lists-push shards ns rs n r same below =
     let old = dealt_lists shards ns rs in
@@ -66,17 +77,23 @@ read-push (y ∷ xs) x zero read got = inl got
 read-push (y ∷ xs) x (suc place) read got =
     elim (read-push xs x place read got) [ inl h ↦ inl h | inr h ↦ inr (omega (arith, h.0), h.1) ]
 
-FollowRule-push : (kind : DealKind) (may_answer : ℕ → RecordValue → ℕ → ℕ → Type 0) (shards : ℕ) (rs : List RecordValue) (ns : List ℕ) (r : RecordValue) (n : ℕ)
-    → length ns ≡ length rs → FollowRule kind may_answer shards rs ns → MayBeDealt kind may_answer (length rs) r shards n
+FollowRule-push : (kind : DealKind) (may_answer : ℕ → RecordValue → ℕ → ℕ → Type 0) (shards : ℕ)
+    (rs : List RecordValue) (ns : List ℕ) (r : RecordValue) (n : ℕ)
+    → length ns ≡ length rs → FollowRule kind may_answer shards rs ns
+    → MayBeDealt kind may_answer (length rs) r shards n
     → FollowRule kind may_answer shards (rs ++ r ∷ []) (ns ++ n ∷ [])
 FollowRule-push kind may_answer shards rs ns r n same follow last = λ place number rec read_rec read_number.
     elim (read-push rs r place rec read_rec) [
       | inl of_rec ↦ elim (read-push ns n place number read_number) [
         | inl of_number ↦ follow place number rec of_rec of_number
-        | inr is_last ↦ let h : place < length rs = slice_get_within rs place rec of_rec in absurd (omega (arith, h, is_last.0, same))
+        | inr is_last ↦
+            let h : place < length rs = slice_get_within rs place rec of_rec in
+            absurd (omega (arith, h, is_last.0, same))
       ]
       | inr is_rec ↦ elim (read-push ns n place number read_number) [
-        | inl of_number ↦ let h : place < length ns = slice_get_within ns place number of_number in absurd (omega (arith, h, is_rec.0, same))
+        | inl of_number ↦
+            let h : place < length ns = slice_get_within ns place number of_number in
+            absurd (omega (arith, h, is_rec.0, same))
         | inr is_last ↦ subst (λ p. MayBeDealt kind may_answer p rec shards number) (sym is_rec.0)
             (subst (λ q. MayBeDealt kind may_answer (length rs) q shards number) (sym is_rec.1)
             (subst (λ m. MayBeDealt kind may_answer (length rs) r shards m) (sym is_last.1) last))
@@ -84,13 +101,16 @@ FollowRule-push kind may_answer shards rs ns r n same follow last = λ place num
     ]
 
 -- a dealing has a list for each shard
-pub length-dealing : (kind : DealKind) (may_answer : ℕ → RecordValue → ℕ → ℕ → Type 0) (shards : ℕ) (records : List RecordValue) (lists : List (List RecordValue))
+pub length-dealing : (kind : DealKind) (may_answer : ℕ → RecordValue → ℕ → ℕ → Type 0) (shards : ℕ)
+    (records : List RecordValue) (lists : List (List RecordValue))
     → IsDealing kind may_answer shards records lists → length lists ≡ shards
 length-dealing kind may_answer shards records lists dealing =
-    ap (λ (ls : List (List RecordValue)). length ls) dealing.dealt.parted ∙ length-map-range_with_len (λ shard. dealt_list shard dealing.numbers records) 0 shards
+    ap (λ (ls : List (List RecordValue)). length ls) dealing.dealt.parted
+    ∙ length-map-range_with_len (λ shard. dealt_list shard dealing.numbers records) 0 shards
 
 -- no record is dealt yet
-pub IsDealing-none : (kind : DealKind) (may_answer : ℕ → RecordValue → ℕ → ℕ → Type 0) (shards : ℕ) (lists : List (List RecordValue)) → lists ≡ dealt_lists shards [] []
+pub IsDealing-none : (kind : DealKind) (may_answer : ℕ → RecordValue → ℕ → ℕ → Type 0) (shards : ℕ)
+    (lists : List (List RecordValue)) → lists ≡ dealt_lists shards [] []
     → IsDealing kind may_answer shards [] lists
 IsDealing-none kind may_answer shards lists empty = record {
   numbers = [];
@@ -99,12 +119,14 @@ IsDealing-none kind may_answer shards lists empty = record {
 }
 
 -- one more record is dealt
-pub IsDealing-push : (kind : DealKind) (may_answer : ℕ → RecordValue → ℕ → ℕ → Type 0) (shards : ℕ) (rs : List RecordValue) (lists : List (List RecordValue)) (r : RecordValue) (n : ℕ)
+pub IsDealing-push : (kind : DealKind) (may_answer : ℕ → RecordValue → ℕ → ℕ → Type 0) (shards : ℕ)
+    (rs : List RecordValue) (lists : List (List RecordValue)) (r : RecordValue) (n : ℕ)
     → IsDealing kind may_answer shards rs lists → MayBeDealt kind may_answer (length rs) r shards n
     → IsDealing kind may_answer shards (rs ++ r ∷ []) (set lists n (get_or lists n [] ++ r ∷ []))
 IsDealing-push kind may_answer shards rs lists r n dealing last =
     let ns = dealing.numbers in
-    let at : get_or (dealt_lists shards ns rs) n [] ≡ dealt_list n ns rs = get_or-map-range_with_len (λ s. dealt_list s ns rs) 0 shards n n [] last.below (omega arith) in
+    let at : get_or (dealt_lists shards ns rs) n [] ≡ dealt_list n ns rs =
+    get_or-map-range_with_len (λ s. dealt_list s ns rs) 0 shards n n [] last.below (omega arith) in
     record {
       numbers = ns ++ n ∷ [];
       dealt = record {
@@ -118,23 +140,33 @@ IsDealing-push kind may_answer shards rs lists r n dealing last =
     }
 
 -- the next record of a list is dealt: the list of its shard was `old` and is `new`
-pub IsDealing-more : (kind : DealKind) (may_answer : ℕ → RecordValue → ℕ → ℕ → Type 0) (shards : ℕ) (records : List RecordValue) (place : ℕ) (lists : List (List RecordValue)) (r : RecordValue) (n : ℕ) (old new : List RecordValue)
-    → slice_get records place ≡ Some r → IsDealing kind may_answer shards (take place records) lists → MayBeDealt kind may_answer place r shards n
-    → old ≡ get_or lists n old → new ≡ old ++ r ∷ [] → IsDealing kind may_answer shards (take (place + 1) records) (set lists n new)
+pub IsDealing-more : (kind : DealKind) (may_answer : ℕ → RecordValue → ℕ → ℕ → Type 0) (shards : ℕ)
+    (records : List RecordValue) (place : ℕ) (lists : List (List RecordValue)) (r : RecordValue) (n : ℕ)
+    (old new : List RecordValue)
+    → slice_get records place ≡ Some r → IsDealing kind may_answer shards (take place records) lists
+    → MayBeDealt kind may_answer place r shards n
+    → old ≡ get_or lists n old → new ≡ old ++ r ∷ []
+    → IsDealing kind may_answer shards (take (place + 1) records) (set lists n new)
 IsDealing-more kind may_answer shards records place lists r n old new read dealing last was pushed =
     let within : place < length records = slice_get_within records place r read in
     let long : length (take place records) ≡ place = length-take-le place records (omega (arith, within)) in
     let longer : take (place + 1) records ≡ take place records ++ r ∷ [] =
-    take_more records place r within ∙ ap (λ q. take place records ++ q ∷ []) (get_or_from_slice_get records place r r read) in
-    let here : n < length lists = let h = last.below in let e = length-dealing kind may_answer shards (take place records) lists dealing in omega (arith, h, e) in
-    let grown : new ≡ get_or lists n [] ++ r ∷ [] = pushed ∙ ap (λ l. l ++ r ∷ []) (was ∙ get_or_default lists n old [] here) in
+    take_more records place r within
+    ∙ ap (λ q. take place records ++ q ∷ []) (get_or_from_slice_get records place r r read) in
+    let here : n < length lists =
+    let h = last.below in
+    let e = length-dealing kind may_answer shards (take place records) lists dealing in omega (arith, h, e) in
+    let grown : new ≡ get_or lists n [] ++ r ∷ [] =
+    pushed ∙ ap (λ l. l ++ r ∷ []) (was ∙ get_or_default lists n old [] here) in
     subst (λ (rs : List RecordValue). IsDealing kind may_answer shards rs (set lists n new)) (sym longer)
     (subst (λ l. IsDealing kind may_answer shards (take place records ++ r ∷ []) (set lists n l)) (sym grown)
     (IsDealing-push kind may_answer shards (take place records) lists r n dealing
     (subst (λ p. MayBeDealt kind may_answer p r shards n) (sym long) last)))
 
 -- all records are dealt
-pub IsDealing-all : (kind : DealKind) (may_answer : ℕ → RecordValue → ℕ → ℕ → Type 0) (shards : ℕ) (records : List RecordValue) (place : ℕ) (lists : List (List RecordValue))
-    → length records ≤ place → IsDealing kind may_answer shards (take place records) lists → IsDealing kind may_answer shards records lists
+pub IsDealing-all : (kind : DealKind) (may_answer : ℕ → RecordValue → ℕ → ℕ → Type 0) (shards : ℕ)
+    (records : List RecordValue) (place : ℕ) (lists : List (List RecordValue))
+    → length records ≤ place → IsDealing kind may_answer shards (take place records) lists
+    → IsDealing kind may_answer shards records lists
 IsDealing-all kind may_answer shards records place lists past dealing =
     subst (λ (rs : List RecordValue). IsDealing kind may_answer shards rs lists) (take_all place records past) dealing

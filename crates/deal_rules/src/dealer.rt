@@ -1,7 +1,7 @@
 //! A stored rule of dealing.
 
 ghost use Rattle.std.specs.Prelude.{◌≡◌, ◌↔◌, ℕ, ◌<◌, ◌≤◌};
-ghost use Rattle.prefix_lattice.specs.{RecordValue};
+ghost use Rattle.prefix_lattice.specs.{RecordValue, most_records, most_shards};
 ghost use Rattle.deal_rules.specs.declared.deal_kind.DealKind.{DealKind};
 ghost use Rattle.deal_rules.specs.Rule.{IsAsked, IsOfKind, MayBeDealt};
 
@@ -70,9 +70,9 @@ impl Dealer {
     /// The shard of the record at this index, from 0 to 16,777,215, among 1 to 16 shards, as returned by the stored
     /// function.
     pub fn shard(&self, place: u64, rec: &Record, shards: u32) -> u32
-        requires early { place < 16777216 }
+        requires early { place < most_records }
         requires some { 1 ≤ shards }
-        requires few { shards ≤ 16 }
+        requires few { shards ≤ most_shards }
         ensures { MayBeDealt (⟦<Dealer as Deals>⟧.kind_of self.now) (⟦<Dealer as Deals>⟧.may_answer self.now)
             place rec.now shards result }
     {

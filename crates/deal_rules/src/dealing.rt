@@ -3,7 +3,7 @@
 ghost use Rattle.std.specs.Prelude.{◌≡◌, ℕ, ◌≤◌, List, [], length, IfOk};
 ghost use Rattle.std.specs.List.{flat_map, sum_by};
 ghost use Rattle.std.specs.List.Sorted.{IsPermutation};
-ghost use Rattle.prefix_lattice.specs.{PrefixValue, weight_of, total_weight, RecordValue};
+ghost use Rattle.prefix_lattice.specs.{PrefixValue, weight_of, total_weight, RecordValue, most_records, most_shards};
 ghost use Rattle.deal_rules.specs.Dealing.{AreDealt, IsDealing, dealt_lists};
 
 use crate::{Dealer, Deals, Dealt};
@@ -20,8 +20,8 @@ pub fn deal(
     shards: u32,
 ) -> Result<Dealt, AllocError>
     requires some { 1 ≤ shards }
-    requires few { shards ≤ 16 }
-    requires small { length list.now ≤ 16777216 }
+    requires few { shards ≤ most_shards }
+    requires small { length list.now ≤ most_records }
     ensures { IfOk result (λ dealt. IsDealing (⟦<Dealer as Deals>⟧.kind_of dealer.now)
         (⟦<Dealer as Deals>⟧.may_answer dealer.now) shards list.now dealt) }
 {

@@ -2,7 +2,9 @@
 use Rattle.std.proofs.Common.{◌≡◌, ℕ, true, false, List, [], ◌∷◌, ◌++◌, take, length, Some, None, Ok, Err, refl}
 use Rattle.prefix_lattice.specs.{RecordValue}
 use Rattle.pcap_frames.specs.{FrameValue}
-use Rattle.frame_records.specs.FrameRecord.{has_tag_at, tag_bytes, network_place, begins_ipv4, skip_at, skip_of, weight_of_frame, record_at, unless_skipped, record_of, records_of, is_skipped, skipped}
+use Rattle.frame_records.specs.FrameRecord.{has_tag_at, tag_bytes, network_place, begins_ipv4, skip_at, skip_of}
+use Rattle.frame_records.specs.FrameRecord.{weight_of_frame, record_at, unless_skipped, record_of, records_of}
+use Rattle.frame_records.specs.FrameRecord.{is_skipped, skipped}
 use Rattle.frame_records.specs.declared.weigh.Weigh.TheVariants.{Bytes, Packets}
 use Rattle.frame_records.specs.declared.skip.Skip.TheVariants.{NotIpv4, Short, BadHeader}
 
@@ -130,7 +132,9 @@ one_tag = refl
 pub two_tags : record_of Bytes twice_tagged ≡ Ok (weighing 100)
 two_tags = refl
 
-pub three_tags : record_of Bytes (frame (addresses ++ 0x81 ∷ 0 ∷ 0 ∷ 7 ∷ 0x81 ∷ 0 ∷ 0 ∷ 8 ∷ 0x81 ∷ 0 ∷ 0 ∷ 9 ∷ 8 ∷ 0 ∷ take 16 (packet 0x45))) ≡ Err NotIpv4
+pub three_tags : record_of Bytes
+    (frame (addresses ++ 0x81 ∷ 0 ∷ 0 ∷ 7 ∷ 0x81 ∷ 0 ∷ 0 ∷ 8 ∷ 0x81 ∷ 0 ∷ 0 ∷ 9 ∷ 8 ∷ 0 ∷ take 16 (packet 0x45)))
+    ≡ Err NotIpv4
 three_tags = refl
 
 pub other_type : record_of Bytes arp ≡ Err NotIpv4

@@ -3,7 +3,7 @@ use Rattle.std.proofs.Common.{ℕ, ◌≡◌, ◌-◌, ◌^◌, true, false, Lis
 use Rattle.pcap_frames.specs.declared.fault.FaultKind.TheVariants.{ShortHeader}
 use Rattle.pcap_frames.specs.declared.fault.ReadRefusal.TheVariants.{Capture, ReadFault, OutOfMemory}
 use Rattle.pcap_frames.specs.{FrameValue, header_fault, fault_at}
-use Rattle.frame_records.specs.CaptureFile.{HasFrames}
+use Rattle.frame_records.specs.CaptureFile.{HasFrames, IsRefusedFor}
 use Rattle.frame_records.specs.declared.records.Records.{Records}
 use Rattle.frame_records.specs.declared.skip.Skip.TheVariants.{Short, BadHeader}
 use Rattle.frame_records.specs.declared.weigh.Weigh.TheVariants.{Bytes, Packets}
@@ -33,9 +33,14 @@ records_of_a_capture file is = record { frames = frames; few = omega arith; told
 pub records_of_an_untold_capture : HasRecords Packets None records
 records_of_an_untold_capture = record { frames = frames; few = omega arith; told = tt; are = records_and_counts }
 
-pub empty_file_is_refused : HasRefused (Some []) 3 3 (Capture (fault_at ShortHeader 0))
+-- an empty file is refused for its missing header, at its first byte
+pub empty_file_has_no_header : IsRefusedFor [] (fault_at ShortHeader 0)
 unfolding header_fault
-empty_file_is_refused = ([], inr (inl (record { none_shown = refl; short = omega arith; none_before = refl; is_fault = refl })))
+empty_file_has_no_header =
+    ([], inr (inl (record { none_shown = refl; short = omega arith; none_before = refl; is_fault = refl })))
+
+pub empty_file_is_refused : HasRefused (Some []) 3 3 (Capture (fault_at ShortHeader 0))
+empty_file_is_refused = empty_file_has_no_header
 
 pub fault_of_the_source_was_counted : HasRefused None 3 4 ReadFault
 fault_of_the_source_was_counted = omega arith
@@ -67,7 +72,8 @@ visitor_keeps_them = record { list = refl; frames = refl; not_ipv4 = refl; short
 pub short_frame_is_counted : with_skip Short records ≡ record records { short = 1 }
 short_frame_is_counted = refl
 
-pub after_another_packet : after_frame (record_of Packets plain) records ≡ record records { list = weighing 1 ∷ weighing 1 ∷ weighing 1 ∷ []; frames = 4 }
+pub after_another_packet : after_frame (record_of Packets plain) records
+    ≡ record records { list = weighing 1 ∷ weighing 1 ∷ weighing 1 ∷ []; frames = 4 }
 after_another_packet = refl
 
 pub after_a_bad_header : after_frame (Err BadHeader) records ≡ record records { frames = 4; bad_header = 1 }

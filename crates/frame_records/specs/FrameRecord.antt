@@ -1,6 +1,7 @@
 -- The record of a frame: the addresses in the IPv4 header (RFC 791) that an Ethernet frame carries, after up to
 -- two VLAN tags (802.1Q, 802.1ad), and a weight.
-use Rattle.std.specs.Prelude.{ℕ, ◌+◌, ◌-◌, ◌/◌, ◌%◌, ◌==◌, ◌&&◌, ◌||◌, not, nat_lt, nat_le, max, Bool, true, false, if◌then◌else◌, List, slice_index, count_by, Option, None, Some, Result, Ok, Err}
+use Rattle.std.specs.Prelude.{ℕ, ◌+◌, ◌-◌, ◌/◌, ◌%◌, ◌==◌, ◌&&◌, ◌||◌, not, nat_lt, nat_le, max, Bool, true, false}
+use Rattle.std.specs.Prelude.{if◌then◌else◌, List, slice_index, count_by, Option, None, Some, Result, Ok, Err}
 use Rattle.std.specs.List.{filter_map}
 use Rattle.std.specs.Result.{result_ok}
 use Rattle.byteorder.specs.Endian.{big_from}
@@ -13,7 +14,9 @@ use Rattle.frame_records.specs.declared.skip.Skip.TheVariants.{NotIpv4, Short, B
 
 -- whether the captured bytes have the type of a VLAN tag at this offset
 abbrev pub has_tag_at : ℕ → FrameValue → Bool
-has_tag_at place frame = nat_le (place + 2) frame.captured && (big_from place 2 frame.head == 0x8100 || big_from place 2 frame.head == 0x88a8)
+has_tag_at place frame =
+    nat_le (place + 2) frame.captured
+    && (big_from place 2 frame.head == 0x8100 || big_from place 2 frame.head == 0x88a8)
 
 -- how many bytes of tags precede the type of the frame: a third tag counts as its type
 abbrev pub tag_bytes : FrameValue → ℕ

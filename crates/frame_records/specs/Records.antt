@@ -1,7 +1,7 @@
 -- The result of reading the records of a capture.
 use Rattle.std.specs.Prelude.{⊤, ℕ, ◌≡◌, ◌≤◌, List, length, Option, IfSome}
 use Rattle.std.specs.Io.KnownBytes.{Consumes}
-use Rattle.pcap_frames.specs.{FrameValue}
+use Rattle.pcap_frames.specs.{FrameValue, most_frames}
 use Rattle.outside_io.specs.{Rose}
 use Rattle.frame_records.specs.CaptureFile.{HasFrames, IsRefusedFor}
 use Rattle.pcap_frames.specs.declared.fault.ReadRefusal.{ReadRefusal}
@@ -22,7 +22,7 @@ pub record AreRecordsOf (weigh : Weigh) (all : List FrameValue) (records : Recor
 -- the records are those of at most 16,777,216 frames, which are the frames of the source's bytes where these are known
 pub record HasRecords (weigh : Weigh) (left : Option (List ℕ)) (records : Records) : Type 0 where
   pub frames : List FrameValue
-  pub few : length frames ≤ 16777216
+  pub few : length frames ≤ most_frames
   pub told : IfSome left (λ file. HasFrames file frames)
   pub are : AreRecordsOf weigh frames records
 

@@ -4,6 +4,7 @@ ghost use Rattle.std.specs.Prelude.{◌≡◌, ◌≤◌, ◌<◌, vec_len, leng
 ghost use Rattle.std.specs.Io.KnownBytes.{IsAtEnd};
 ghost use Rattle.frame_records.specs.Records.{HasRecords, HasRefused, HasReadFront};
 ghost use Rattle.frame_records.specs.RecordVisitor.{weigh_by};
+ghost use Rattle.prefix_lattice.specs.{most_records};
 
 use crate::record_visitor::RecordVisitor;
 use crate::{Records, Weigh};
@@ -22,7 +23,7 @@ pub fn read_records<S: Source>(
     weigh: Weigh,
 ) -> Result<Records, ReadRefusal>
     ensures records { IfOk result (HasRecords weigh (S.left source.old)) }
-    ensures few { IfOk result (λ records. length records.list ≤ 16777216) }
+    ensures few { IfOk result (λ records. length records.list ≤ most_records) }
     ensures at_end { OnOk result (IsAtEnd (S.left source.new)) }
     ensures refused { IfErr result (HasRefused (S.left source.old) (S.faults source.old) (S.faults source.new)) }
     ensures front { OnErr result (HasReadFront (S.left source.old) (S.left source.new)) }
@@ -45,7 +46,7 @@ fn read_weighed<S: Source, const PACKETS: bool>(
 ) -> Result<Records, ReadRefusal>
     requires { 0 < length buffer.old }
     ensures records { IfOk result (HasRecords (weigh_by PACKETS) (S.left source.old)) }
-    ensures few { IfOk result (λ records. length records.list ≤ 16777216) }
+    ensures few { IfOk result (λ records. length records.list ≤ most_records) }
     ensures at_end { OnOk result (IsAtEnd (S.left source.new)) }
     ensures refused { IfErr result (HasRefused (S.left source.old) (S.faults source.old) (S.faults source.new)) }
     ensures front { OnErr result (HasReadFront (S.left source.old) (S.left source.new)) }

@@ -43,7 +43,7 @@ impl<const PACKETS: bool> RecordVisitor<PACKETS> {
 }
 
 impl<const PACKETS: bool> FrameVisitor for RecordVisitor<PACKETS> {
-    ghost stands_for = { λ v frames. KeepsRecordsOf (weigh_by PACKETS) frames v.records };
+    ghost represents = { λ v frames. KeepsRecordsOf (weigh_by PACKETS) frames v.records };
 
     fn frame(&mut self, frame: &Frame<'_>) -> Result<(), AllocError> {
         self.records.take(record_of(frame, Self::weigh()))

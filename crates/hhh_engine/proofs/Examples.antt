@@ -1,13 +1,15 @@
 -- Worked examples of what is written for a capture of one packet.
-use Rattle.std.proofs.Common.{◌≡◌, ℕ, List, [], ◌∷◌, ◌++◌, refl, codes, arith}
+use Rattle.std.proofs.Common.{◌≡◌, ℕ, List, [], ◌∷◌, ◌++◌, refl, codes, arith, ◌%◌}
 use Rattle.std.specs.Fmt.{digits}
 use Rattle.prefix_lattice.specs.{RecordValue, PrefixValue}
 use Rattle.pcap_frames.specs.declared.file_order.FileOrder.TheVariants.{Little}
 use Rattle.pcap_frames.specs.{number_at, FrameValue, magic_order}
 use Rattle.frame_records.specs.{HasFrames}
 use Rattle.frame_records.specs.declared.weigh.Weigh.TheVariants.{Bytes, Packets}
-use Rattle.hhh_engine.specs.Session.{start_of}
+use Rattle.hhh_engine.specs.Session.{start_of, by_formula}
 use Rattle.hhh_engine.specs.WeightText.{weigh_capacity, weigh_text, text_for, IsWeightText}
+use Rattle.deal_rules.specs.declared.deal_kind.DealKind.{DealKind}
+use Rattle.deal_rules.specs.declared.deal_kind.DealKind.TheVariants.{Free}
 
 -- 100 bytes from 10.1.2.3 to 20.1.2.3
 abbrev packet : RecordValue
@@ -47,7 +49,8 @@ frame_header = 0 ∷ 0 ∷ 0 ∷ 0 ∷ 0 ∷ 0 ∷ 0 ∷ 0 ∷ 34 ∷ 0 ∷ 0 �
 
 abbrev captured : List ℕ
 captured =
-    2 ∷ 0 ∷ 0 ∷ 0 ∷ 0 ∷ 2 ∷ 2 ∷ 0 ∷ 0 ∷ 0 ∷ 0 ∷ 1 ∷ 8 ∷ 0 ∷ 0x45 ∷ 0 ∷ 0 ∷ 86 ∷ 0 ∷ 0 ∷ 0 ∷ 0 ∷ 64 ∷ 17 ∷ 0 ∷ 0 ∷ 10 ∷ 1 ∷ 2 ∷ 3 ∷ 20 ∷ 1 ∷ 2 ∷ 3 ∷ []
+    2 ∷ 0 ∷ 0 ∷ 0 ∷ 0 ∷ 2 ∷ 2 ∷ 0 ∷ 0 ∷ 0 ∷ 0 ∷ 1 ∷ 8 ∷ 0 ∷ 0x45 ∷ 0 ∷ 0 ∷ 86 ∷ 0 ∷ 0 ∷ 0 ∷ 0 ∷ 64 ∷ 17 ∷ 0 ∷ 0 ∷ 10
+    ∷ 1 ∷ 2 ∷ 3 ∷ 20 ∷ 1 ∷ 2 ∷ 3 ∷ []
 
 abbrev pub file : List ℕ
 file = header ++ frame_header ++ captured
@@ -73,7 +76,7 @@ weight_of_the_file = record {
   frames = frame ∷ [];
   capture = file_is_a_capture;
   spelled = refl;
-  holds = record { low = omega arith; high = omega arith; width = omega arith };
+  holds = record { holds = record { low = omega arith; high = omega arith }; narrow = omega arith };
 }
 
 -- and with `--weigh packets`
@@ -83,5 +86,18 @@ packets_of_the_file = record {
   frames = frame ∷ [];
   capture = file_is_a_capture;
   spelled = refl;
-  holds = record { low = omega arith; high = omega arith; width = omega arith };
+  holds = record { holds = record { low = omega arith; high = omega arith }; narrow = omega arith };
 }
+
+-- ---- rules of dealing
+
+-- each record goes to the shard that the lowest bits of its destination name, whatever the kind
+abbrev by_destination : DealKind → ℕ → RecordValue → ℕ → ℕ
+by_destination kind place rec shards = rec.dst % shards
+
+pub shard_of_the_packet : by_formula by_destination Free 0 packet 4 3
+shard_of_the_packet = refl
+
+-- a formula gives a record one shard alone
+pub no_other_shard_of_the_packet : by_formula by_destination Free 0 packet 4 2 → ⊥
+no_other_shard_of_the_packet is = omega (arith, is)

@@ -1,12 +1,15 @@
--- Worked examples of the session over a capture without frames, of the answer that it is, and of what stands in its place.
-use Rattle.std.proofs.Common.{◌≡◌, ◌%◌, ℕ, List, [], ◌∷◌, ◌++◌, Some, None, false, inl, inr, refl, sym, ap, codes, arith}
+-- Worked examples of the session over a capture without frames, of the answer that it is, of what comes in its place,
+-- and of what each status says.
+use Rattle.std.proofs.Common.{◌≡◌, ◌%◌, ℕ, List, [], ◌∷◌, ◌++◌, Some, None, false, inl, inr, refl, sym, ap, codes}
+use Rattle.std.proofs.Common.{arith, get_or}
 use Rattle.std.specs.Fmt.{digits}
 use Rattle.std.proofs.lemmas.List.{get_or-replicate}
 use Rattle.std.proofs.lemmas.List.Elements.{All-nil, All-head, All-replicate}
 use Rattle.prefix_lattice.specs.{RecordValue, NodeValue, IsNode, index_of, node_of, key_of}
 use Rattle.deal_rules.specs.declared.deal_kind.DealKind.TheVariants.{RoundRobin}
 use Rattle.deal_rules.specs.{IsDealing}
-use Rattle.shard_state.specs.{SnapshotValue, no_entries, empty_snapshot, entries_at, table_at, SnapshotStandsFor, CutValue}
+use Rattle.shard_state.specs.{SnapshotValue, no_entries, empty_snapshot, entries_at, table_at, SnapshotStandsFor}
+use Rattle.shard_state.specs.{CutValue}
 use Rattle.space_saving.specs.{interval_in}
 use Rattle.hhh_output.specs.{AreLines, IsLineOf, IsReportOf, IsSound, IsThreshold}
 use Rattle.hhh_output.specs.declared.line.Line.{Line}
@@ -21,7 +24,9 @@ use Rattle.command_words.specs.{AskFor}
 use Rattle.command_words.specs.declared.command.Command.{Command}
 use Rattle.command_words.specs.declared.command.Command.TheVariants.{Weigh, Report as report_command}
 use Rattle.command_words.specs.declared.settings.Settings.{Settings}
-use Rattle.hhh_engine.specs.Answer.{IsAnswer, Answers, AnswersInPart, AskSomething, TellsCapture}
+use Rattle.command_words.specs.declared.words_kind.WordsKind.TheVariants.{NoCommand}
+use Rattle.hhh_engine.specs.Answer.{IsAnswer, Answers, AnswersInPart, AskSomething, HasKnownCapture}
+use Rattle.hhh_engine.specs.Ending.{WroteAnswer, RefusedWords, RefusedCapture, FailedToRead, FailedToWrite}
 use Rattle.hhh_engine.specs.NoText.{HasNoText}
 use Rattle.hhh_engine.specs.Session.{Rules, IsCutAtEnds, start_of, session_text, IsReportAtEnds, IsSession}
 use Rattle.hhh_engine.specs.declared.status.Status.TheVariants.{Done, BadCapture, ReadFault, OutOfMemory}
@@ -51,14 +56,24 @@ in_turn kind place rec shards number = number ≡ place % shards
 
 pub header_is_a_capture : HasFrames header []
 unfolding number_at magic_order
-header_is_a_capture = (Little, record { header = record { whole = omega arith; magic = refl; major = refl; minor = refl; link = refl }; begins = refl; limit = omega arith })
+header_is_a_capture = (
+  Little,
+  record {
+    header = record { whole = omega arith; magic = refl; major = refl; minor = refl; link = refl };
+    begins = refl;
+    limit = omega arith;
+  },
+)
 
 -- four shards without records
 abbrev lists : List (List RecordValue)
 lists = [] ∷ [] ∷ [] ∷ [] ∷ []
 
 abbrev cut : CutValue
-cut = record { capacity = 512; shards = empty_snapshot 512 ∷ empty_snapshot 512 ∷ empty_snapshot 512 ∷ empty_snapshot 512 ∷ [] }
+cut = record {
+  capacity = 512;
+  shards = empty_snapshot 512 ∷ empty_snapshot 512 ∷ empty_snapshot 512 ∷ empty_snapshot 512 ∷ [];
+}
 
 -- no table has an entry
 nothing_counted : (node : NodeValue) → IsNode node → entries_at node (empty_snapshot 512) ≡ []
@@ -80,27 +95,42 @@ cut_of_nothing = record {
 }
 
 -- a cut whose tables have another capacity is not that of the lists
-pub cut_of_another_capacity : IsCutAtEnds 512 ([] ∷ []) (record { capacity = 512; shards = empty_snapshot 4096 ∷ [] }) → ⊥
+pub cut_of_another_capacity : IsCutAtEnds 512 ([] ∷ [])
+    (record { capacity = 512; shards = empty_snapshot 4096 ∷ [] }) → ⊥
 cut_of_another_capacity at =
-    let same : 4096 ≡ 512 = All-head (λ (s : SnapshotValue). s.capacity ≡ 512) (empty_snapshot 4096) [] at.stands.alike in
+    let same : 4096 ≡ 512 =
+    All-head (λ (s : SnapshotValue). s.capacity ≡ 512) (empty_snapshot 4096) [] at.stands.alike in
     omega (arith, same)
 
 -- its report has no line
 pub no_lines : AreLines []
-no_lines = record { few = omega arith; ordered = All-nil _; rising = λ i j d before within. absurd (omega (arith, within)) }
+no_lines = record {
+  few = omega arith;
+  ordered = All-nil _;
+  rising = λ i j d before within. absurd (omega (arith, within));
+}
 
 abbrev report : Report
 report = record { positions = 0 ∷ 0 ∷ 0 ∷ 0 ∷ []; total = 0; threshold = 1; lines = []; are_lines = no_lines }
 
 least_threshold : IsThreshold 10000 0 1
-least_threshold = record { heavy = record { some = omega arith; share = omega arith }; least = λ weight heavy. heavy.some }
+least_threshold = record {
+  heavy = record { some = omega arith; share = omega arith };
+  least = λ weight heavy. heavy.some;
+}
 
-high_of_nothing : (node : NodeValue) (key : ℕ) → IsNode node → (interval_in (table_at node (empty_snapshot 512)) key).high ≡ 0
-high_of_nothing node key is_node = ap (λ entries. (interval_in (record { capacity = 512; entries = entries }) key).high) (nothing_counted node is_node)
+high_of_nothing : (node : NodeValue) (key : ℕ) → IsNode node
+    → (interval_in (table_at node (empty_snapshot 512)) key).high ≡ 0
+high_of_nothing node key is_node =
+    ap (λ entries. (interval_in (record { capacity = 512; entries = entries }) key).high)
+    (nothing_counted node is_node)
 
 nothing_is_heavy : (line : Line) → IsLineOf cut 1 [] line → ⊥
 nothing_is_heavy line is_line =
-    let is_node : IsNode (node_of line.prefix) = record { source = is_line.is_prefix.source.few; dest = is_line.is_prefix.dest.few } in
+    let is_node : IsNode (node_of line.prefix) = record {
+      source = is_line.is_prefix.source.few;
+      dest = is_line.is_prefix.dest.few;
+    } in
     let nothing = high_of_nothing (node_of line.prefix) (key_of line.prefix) is_node in
     omega (arith, is_line.high, is_line.heavy, nothing)
 
@@ -126,7 +156,12 @@ nothing_is_sound = record {
 }
 
 pub report_at_the_ends : IsReportAtEnds settings lists report
-report_at_the_ends = record { cut = cut; at_ends = cut_of_nothing; is_report = report_of_nothing; is_sound = nothing_is_sound }
+report_at_the_ends = record {
+  cut = cut;
+  at_ends = cut_of_nothing;
+  is_report = report_of_nothing;
+  is_sound = nothing_is_sound;
+}
 
 abbrev records : Records
 records = record { list = []; frames = 0; not_ipv4 = 0; short = 0; bad_header = 0 }
@@ -167,7 +202,14 @@ asks_for_a_report = record {
   are_words = record {
     behind = [];
     begun = refl;
-    well_formed = record { spelled = refl; of_form = record { as_many = refl; known = All-nil _; once = λ i j d before within. absurd (omega (arith, within)) } };
+    well_formed = record {
+      spelled = refl;
+      of_form = record {
+        as_many = refl;
+        known = All-nil _;
+        once = λ i j d before within. absurd (omega (arith, within));
+      };
+    };
   };
   set = record {
     weigh = refl;
@@ -194,15 +236,21 @@ no_words_ask (report_command settings) asked = let begun = asked.are_words.begun
 pub no_words_ask_nothing : AskSomething [] → ⊥
 no_words_ask_nothing asks = no_words_ask asks.command asks.asked
 
-pub source_of_a_header : TellsCapture (Some header)
+pub source_of_a_header : HasKnownCapture (Some header)
 source_of_a_header = record { file = header; told = refl; frames = []; capture = header_is_a_capture }
 
-pub silent_source_tells_no_capture : TellsCapture None → ⊥
+pub silent_source_tells_no_capture : HasKnownCapture None → ⊥
 silent_source_tells_no_capture tells = let told = tells.told in cc
 
 -- the text stands behind what the sink held
 pub session_was_written : Answers in_turn words (Some (codes "# ")) (Some (codes "# " ++ text)) header
-session_was_written = record { command = report_command settings; asked = asks_for_a_report; text = text; is_answer = session_is_the_answer; written = refl }
+session_was_written = record {
+  command = report_command settings;
+  asked = asks_for_a_report;
+  text = text;
+  is_answer = session_is_the_answer;
+  written = refl;
+}
 
 -- a sink with room for 12 bytes took the first line, and three letters of the second
 pub session_was_written_in_part : AnswersInPart in_turn words (Some []) (Some (codes "opened 0 0 0")) header
@@ -211,13 +259,22 @@ session_was_written_in_part = record {
   asked = asks_for_a_report;
   text = text;
   is_answer = session_is_the_answer;
-  written = record { front = codes "opened 0 0 0"; is_beginning = (codes " 0\nreport\nat 0 0 0 0\ntotal 0\nthreshold 1\ndone\nframes 0\nskipped 0 0 0\nend\n", refl); cut = omega arith; appended = refl };
+  written = record {
+    front = codes "opened 0 0 0";
+    is_beginning = (
+      codes " 0\nreport\nat 0 0 0 0\ntotal 0\nthreshold 1\ndone\nframes 0\nskipped 0 0 0\nend\n",
+      refl,
+    );
+    cut = omega arith;
+    appended = refl;
+  };
 }
 
 -- no text comes of an empty file, nor where the source failed
 pub empty_file_has_no_text : HasNoText (Some []) 0 0 (BadCapture (fault_at ShortHeader 0))
 unfolding header_fault
-empty_file_has_no_text = ([], inr (inl (record { none_shown = refl; short = omega arith; none_before = refl; is_fault = refl })))
+empty_file_has_no_text =
+    ([], inr (inl (record { none_shown = refl; short = omega arith; none_before = refl; is_fault = refl })))
 
 pub failed_source_has_no_text : HasNoText (Some header) 3 4 ReadFault
 failed_source_has_no_text = omega arith
@@ -230,3 +287,27 @@ memory_may_want_at_any_time = tt
 
 pub success_has_a_text : HasNoText (Some header) 3 3 Done → ⊥
 success_has_a_text no_text = no_text
+
+-- ---- what a status says, of sinks that are lists of bytes
+
+-- the session was written, and the capture was read to its end
+pub session_is_done : WroteAnswer in_turn words (Some header) (Some []) (Some (codes "# ")) (Some (codes "# " ++ text))
+session_is_done = record { answered = session_was_written; at_end = refl }
+
+-- the first byte was read before the missing command was seen
+pub no_command_before_a_read : RefusedWords {S = List ℕ} {K = List ℕ} [] NoCommand (1 ∷ 2 ∷ []) (2 ∷ []) [] [] → ⊥
+no_command_before_a_read refused =
+    let same : 2 ≡ 1 = ap (λ bytes. get_or bytes 0 0) refused.unread in omega (arith, same)
+
+pub no_command : RefusedWords {S = List ℕ} {K = List ℕ} [] NoCommand (1 ∷ 2 ∷ []) (1 ∷ 2 ∷ []) [] []
+no_command = record { first_fault = refl; unread = refl; unwritten = refl }
+
+pub empty_file_is_refused : RefusedCapture {K = List ℕ} (Some []) (fault_at ShortHeader 0) [] []
+empty_file_is_refused = record { first_fault = empty_file_has_no_text; unwritten = refl }
+
+pub source_failed : FailedToRead {K = List ℕ} 3 4 [] []
+source_failed = record { rose = omega arith; unwritten = refl }
+
+pub sink_failed_in_the_session :
+    FailedToWrite in_turn words (Some header) (Some []) (Some []) (Some (codes "opened 0 0 0")) 3 4
+sink_failed_in_the_session = record { rose = omega arith; in_part = session_was_written_in_part; at_end = refl }

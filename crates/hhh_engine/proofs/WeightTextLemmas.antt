@@ -3,11 +3,14 @@ use Rattle.std.proofs.Common.{◌≡◌, ℕ, List, [], ◌++◌, codes, decimal
 use Rattle.hhh_engine.specs.WeightText.{weigh_text}
 
 -- parts that follow one another, as one text
-grouped : (low-name low high-name high total-name total end : List ℕ) → ((([] ++ low-name ++ low) ++ high-name ++ high) ++ total-name ++ total) ++ end ≡ low-name ++ low ++ high-name ++ high ++ total-name ++ total ++ end
+grouped : (low-name low high-name high total-name total end : List ℕ)
+    → ((([] ++ low-name ++ low) ++ high-name ++ high) ++ total-name ++ total) ++ end
+    ≡ low-name ++ low ++ high-name ++ high ++ total-name ++ total ++ end
 grouped low-name low high-name high total-name total end = simp append_assoc
 
 -- the three lines that tell a weight
-pub weigh-parts : (start first second third all : List ℕ) (low high total : ℕ) → start ≡ [] → first ≡ start ++ codes "low " ++ decimal low → second ≡ first ++ codes "\nhigh " ++ decimal high
+pub weigh-parts : (start first second third all : List ℕ) (low high total : ℕ) → start ≡ []
+    → first ≡ start ++ codes "low " ++ decimal low → second ≡ first ++ codes "\nhigh " ++ decimal high
     → third ≡ second ++ codes "\ntotal " ++ decimal total → all ≡ third ++ codes "\n" → all ≡ weigh_text low high total
 weigh-parts start first second third all low high total is_start is_first is_second is_third is_all =
     is_all
@@ -15,4 +18,5 @@ weigh-parts start first second third all low high total is_start is_first is_sec
     ∙ ap (λ text. text ++ codes "\ntotal " ++ decimal total) (is_second
     ∙ ap (λ text. text ++ codes "\nhigh " ++ decimal high) (is_first
     ∙ ap (λ text. text ++ codes "low " ++ decimal low) is_start)))
-    ∙ grouped (codes "low ") (decimal low) (codes "\nhigh ") (decimal high) (codes "\ntotal ") (decimal total) (codes "\n")
+    ∙ grouped (codes "low ") (decimal low) (codes "\nhigh ") (decimal high) (codes "\ntotal ") (decimal total)
+    (codes "\n")

@@ -12,8 +12,10 @@ use Rattle.hhh_engine.specs.Session.{Rules}
 abbrev Rule : Type 1
 Rule = ℕ → RecordValue → ℕ → ℕ → Type 0
 
-wider_dealing : (narrow wide : Rule) (kind : DealKind) (shards : ℕ) (records : List RecordValue) (lists : List (List RecordValue))
-    → ((place : ℕ) (rec : RecordValue) (shards number : ℕ) → narrow place rec shards number → wide place rec shards number)
+wider_dealing : (narrow wide : Rule) (kind : DealKind) (shards : ℕ) (records : List RecordValue)
+    (lists : List (List RecordValue))
+    → ((place : ℕ) (rec : RecordValue) (shards number : ℕ) → narrow place rec shards number
+    → wide place rec shards number)
     → IsDealing kind narrow shards records lists → IsDealing kind wide shards records lists
 wider_dealing narrow wide kind shards records lists widen dealing = record {
   numbers = dealing.numbers;
@@ -24,7 +26,8 @@ wider_dealing narrow wide kind shards records lists widen dealing = record {
 }
 
 wider_answer : (narrow wide : Rules) (command : Command) (file text : List ℕ)
-    → ((kind : DealKind) (place : ℕ) (rec : RecordValue) (shards number : ℕ) → narrow kind place rec shards number → wide kind place rec shards number)
+    → ((kind : DealKind) (place : ℕ) (rec : RecordValue) (shards number : ℕ) → narrow kind place rec shards number
+    → wide kind place rec shards number)
     → IsAnswer narrow command file text → IsAnswer wide command file text
 wider_answer narrow wide (Weigh prefix settings) file text widen answer = answer
 wider_answer narrow wide (Report settings) file text widen session = record {
@@ -33,14 +36,17 @@ wider_answer narrow wide (Report settings) file text widen session = record {
   records = session.records;
   are_records = session.are_records;
   lists = session.lists;
-  dealt = wider_dealing (narrow settings.deal) (wide settings.deal) settings.deal settings.shards session.records.list session.lists (widen settings.deal) session.dealt;
+  dealt =
+      wider_dealing (narrow settings.deal) (wide settings.deal) settings.deal settings.shards session.records.list
+      session.lists (widen settings.deal) session.dealt;
   report = session.report;
   is_report = session.is_report;
   spelled = session.spelled;
 }
 
 pub wider_answers : (narrow wide : Rules) (words : List (List ℕ)) (old new : Option (List ℕ)) (file : List ℕ)
-    → ((kind : DealKind) (place : ℕ) (rec : RecordValue) (shards number : ℕ) → narrow kind place rec shards number → wide kind place rec shards number)
+    → ((kind : DealKind) (place : ℕ) (rec : RecordValue) (shards number : ℕ) → narrow kind place rec shards number
+    → wide kind place rec shards number)
     → Answers narrow words old new file → Answers wide words old new file
 wider_answers narrow wide words old new file widen answers = record {
   command = answers.command;
@@ -51,7 +57,8 @@ wider_answers narrow wide words old new file widen answers = record {
 }
 
 pub wider_answers_in_part : (narrow wide : Rules) (words : List (List ℕ)) (old new : Option (List ℕ)) (file : List ℕ)
-    → ((kind : DealKind) (place : ℕ) (rec : RecordValue) (shards number : ℕ) → narrow kind place rec shards number → wide kind place rec shards number)
+    → ((kind : DealKind) (place : ℕ) (rec : RecordValue) (shards number : ℕ) → narrow kind place rec shards number
+    → wide kind place rec shards number)
     → AnswersInPart narrow words old new file → AnswersInPart wide words old new file
 wider_answers_in_part narrow wide words old new file widen answers = record {
   command = answers.command;

@@ -16,7 +16,7 @@ pub record AskSomething (words : List (List ℕ)) : Type 0 where
   pub asked : AskFor words command
 
 -- the bytes of a source are known, and they are a capture of some frames
-pub record TellsCapture (left : Option (List ℕ)) : Type 0 where
+pub record HasKnownCapture (left : Option (List ℕ)) : Type 0 where
   pub file : List ℕ
   pub told : left ≡ Some file
   pub frames : List FrameValue
@@ -36,7 +36,8 @@ pub record Answers (rules : Rules) (words : List (List ℕ)) (old new : Option (
   pub written : Appends old new text
 
 -- a strict prefix of the text of the command that the arguments ask for was written
-pub record AnswersInPart (rules : Rules) (words : List (List ℕ)) (old new : Option (List ℕ)) (file : List ℕ) : Type 0 where
+pub record AnswersInPart (rules : Rules) (words : List (List ℕ)) (old new : Option (List ℕ)) (file : List ℕ)
+    : Type 0 where
   pub command : Command
   pub asked : AskFor words command
   pub text : List ℕ

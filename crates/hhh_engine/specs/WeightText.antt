@@ -12,7 +12,9 @@ weigh_capacity = 64
 
 -- three lines: the least and the greatest weight of the prefix, and the weight of all records
 abbrev pub weigh_text : ℕ → ℕ → ℕ → List ℕ
-weigh_text low high total = codes "low " ++ decimal low ++ codes "\nhigh " ++ decimal high ++ codes "\ntotal " ++ decimal total ++ codes "\n"
+weigh_text low high total =
+    codes "low " ++ decimal low ++ codes "\nhigh " ++ decimal high ++ codes "\ntotal " ++ decimal total
+    ++ codes "\n"
 
 -- what is written for a prefix and some records
 abbrev pub text_for : PrefixValue → List RecordValue → List ℕ

@@ -8,7 +8,8 @@ ghost use Rattle.pcap_frames.specs.declared.fault.CaptureFault.{CaptureFault};
 ghost use Rattle.deal_rules.specs.{dealer_of};
 ghost use Rattle.command_words.specs.{texts, HasWordsFault, IsLimited};
 ghost use Rattle.command_words.specs.declared.words_kind.WordsKind.{WordsKind};
-ghost use Rattle.hhh_engine.specs.Answer.{IsAnswer, Answers, AnswersInPart, AskSomething, TellsCapture};
+ghost use Rattle.hhh_engine.specs.Answer.{IsAnswer, AskSomething, HasKnownCapture};
+ghost use Rattle.hhh_engine.specs.Ending.{WroteAnswer, RefusedWords, RefusedCapture, FailedToRead, FailedToWrite};
 ghost use Rattle.hhh_engine.specs.NoText.{HasNoText};
 ghost use Rattle.hhh_engine.specs.declared.status.Status.TheVariants.{Done, BadWords, BadCapture, ReadFault, WriteFault, OutOfMemory};
 
@@ -38,33 +39,24 @@ pub fn run<S: Source, K: Sink>(
 ) -> Status
     // The text of the command was written for the records of the capture, which was read to its end. What the
     // text says of weights holds for the records themselves.
-    ensures done { result ≡ Done → IfSome (S.left capture.old) (Answers (λ kind. ⟦<Dealer as Deals>⟧.may_answer (dealer_of kind dealers.now))
-        (texts words.now) (K.taken sink.old) (K.taken sink.new)) }
-    ensures done_at_end { result ≡ Done → IsAtEnd (S.left capture.new) }
+    ensures done { result ≡ Done → WroteAnswer (λ kind. ⟦<Dealer as Deals>⟧.may_answer (dealer_of kind dealers.now)) (texts words.now)
+        (S.left capture.old) (S.left capture.new) (K.taken sink.old) (K.taken sink.new) }
 
     // The arguments are checked first, before anything is read.
-    ensures bad_words { (kind : WordsKind) → result ≡ BadWords kind → HasWordsFault (texts words.now) kind }
-    ensures bad_words_untouched { (kind : WordsKind) → result ≡ BadWords kind → (capture.new ≡ capture.old) × (sink.new ≡ sink.old) }
+    ensures bad_words { (kind : WordsKind) → result ≡ BadWords kind → RefusedWords (texts words.now) kind capture.old capture.new sink.old sink.new }
     ensures refuses_words { (kind : WordsKind) → HasWordsFault (texts words.now) kind → (result ≡ BadWords kind) ⊎ (result ≡ OutOfMemory) }
 
-    // The capture is refused only for its first fault, and then nothing is written.
-    ensures bad_capture { (fault : CaptureFault) → result ≡ BadCapture fault → IfSome (S.left capture.old) (λ file. IsRefusedFor file fault) }
-    ensures bad_capture_unwritten { (fault : CaptureFault) → result ≡ BadCapture fault → sink.new ≡ sink.old }
-
     // A capture with a fault is refused for it, unless the source fails or memory runs out first.
+    ensures bad_capture { (fault : CaptureFault) → result ≡ BadCapture fault → RefusedCapture (S.left capture.old) fault sink.old sink.new }
     ensures refuses { (file : List ℕ) (fault : CaptureFault) → AskSomething (texts words.now) → S.left capture.old ≡ Some file → IsRefusedFor file fault
         → (result ≡ BadCapture fault) ⊎ ((result ≡ ReadFault) ⊎ (result ≡ OutOfMemory)) }
 
-    // A read or write fault is reported only where the source or the sink had one in this call.
-    ensures read_fault { result ≡ ReadFault → Rose (S.faults capture.old) (S.faults capture.new) }
-    ensures read_fault_unwritten { result ≡ ReadFault → sink.new ≡ sink.old }
-    ensures write_fault { result ≡ WriteFault → Rose (K.faults sink.old) (K.faults sink.new) }
-    ensures write_fault_at_end { result ≡ WriteFault → IsAtEnd (S.left capture.new) }
-    ensures write_fault_in_part { result ≡ WriteFault → IfSome (S.left capture.old) (AnswersInPart (λ kind. ⟦<Dealer as Deals>⟧.may_answer (dealer_of kind dealers.now))
-        (texts words.now) (K.taken sink.old) (K.taken sink.new)) }
-
-    // A fault of the source or of the sink is never ignored, nor reported as anything else.
+    // A read or write fault is reported only where the source or the sink had one in this call. It is never
+    // ignored, nor reported as anything else.
+    ensures read_fault { result ≡ ReadFault → FailedToRead (S.faults capture.old) (S.faults capture.new) sink.old sink.new }
     ensures read_fault_told { (result ≡ ReadFault → ⊥) → S.faults capture.new ≡ S.faults capture.old }
+    ensures write_fault { result ≡ WriteFault → FailedToWrite (λ kind. ⟦<Dealer as Deals>⟧.may_answer (dealer_of kind dealers.now)) (texts words.now)
+        (S.left capture.old) (S.left capture.new) (K.taken sink.old) (K.taken sink.new) (K.faults sink.old) (K.faults sink.new) }
     ensures write_fault_told { (result ≡ WriteFault → ⊥) → K.faults sink.new ≡ K.faults sink.old }
 
     // Memory may run out at any time before the text is written.
@@ -72,7 +64,7 @@ pub fn run<S: Source, K: Sink>(
 
     // With arguments that ask for a command, a valid capture and no fault of source or sink, the run ends in
     // Done unless memory runs out.
-    ensures complete { AskSomething (texts words.now) → TellsCapture (S.left capture.old)
+    ensures complete { AskSomething (texts words.now) → HasKnownCapture (S.left capture.old)
         → (Rose (S.faults capture.old) (S.faults capture.new) → ⊥) → (Rose (K.faults sink.old) (K.faults sink.new) → ⊥)
         → (result ≡ Done) ⊎ (result ≡ OutOfMemory) }
 {

@@ -1,5 +1,6 @@
 -- Worked examples of thresholds, lines, reports and their tests, most by computing.
-use Rattle.std.proofs.Common.{◌≡◌, ℕ, zero, suc, ◌≤◌, ◌<◌, ◌≤ℤ◌, List, [], ◌∷◌, length, Contains, Bool, true, false, eqb, refl, ap, ◌∙◌, subst, arith, pos}
+use Rattle.std.proofs.Common.{◌≡◌, ℕ, zero, suc, ◌≤◌, ◌<◌, ◌≤ℤ◌, List, [], ◌∷◌, length, Contains, Bool, true, false}
+use Rattle.std.proofs.Common.{eqb, refl, ap, ◌∙◌, subst, arith, pos}
 use Rattle.std.proofs.Math.ListN.{replicate}
 use Rattle.std.proofs.lemmas.Bool.{and_parts, eqb-true, false≢true}
 use Rattle.std.proofs.lemmas.Int.{ints}
@@ -8,13 +9,14 @@ use Rattle.std.proofs.lemmas.List.Kept.{AllPairs-cons}
 use Rattle.std.specs.Prelude.{slice_index_or, slice_index}
 use Rattle.std.specs.declared.cmp.Ordering.{Ordering}
 use Rattle.std.specs.declared.cmp.Ordering.TheVariants.{Less, Equal, Greater}
-use Rattle.prefix_lattice.specs.{RecordValue, index_of, begins_with, PrefixValue, IsPrefix, covers, weight_of, node_of, key_of, under, report_order, conditioned_weight}
+use Rattle.prefix_lattice.specs.{RecordValue, index_of, begins_with, PrefixValue, IsPrefix, covers, weight_of}
+use Rattle.prefix_lattice.specs.{node_of, key_of, under, report_order, conditioned_weight}
 use Rattle.shard_state.specs.{fold_from, no_entries, empty_snapshot, CutValue}
 use Rattle.cut_merge.specs.{monitored_keys}
 use Rattle.hhh_output.specs.Lines.{prefixes_of, AreLines}
 use Rattle.hhh_output.specs.Report.{IsMonitored, low_in, high_in, IsUnexplained, IsLineOf, IsReportOf, AreSame}
-use Rattle.hhh_output.specs.SoundReport.{HoldsWeight, IsNarrow, IsJustified, IsSound}
-use Rattle.hhh_output.specs.Threshold.{IsHeavy, IsThreshold}
+use Rattle.hhh_output.specs.SoundReport.{HoldsWeight, IsNarrowLine, IsJustified, IsSound}
+use Rattle.hhh_output.specs.Threshold.{IsHeavy, IsThreshold, million, IsWideShare}
 use Rattle.hhh_output.specs.declared.line.Line.{Line}
 use Rattle.hhh_output.specs.declared.report.Report.{Report}
 
@@ -26,15 +28,35 @@ one_of_101_is_not heavy = omega (arith, heavy.share)
 
 -- a hundredth of 101 is heavy from 2 on
 pub threshold_of_a_hundredth : IsThreshold 10000 101 2
-threshold_of_a_hundredth = record { heavy = record { some = omega arith; share = omega arith }; least = λ weight heavy. omega (arith, heavy.some, heavy.share) }
+threshold_of_a_hundredth = record {
+  heavy = record { some = omega arith; share = omega arith };
+  least = λ weight heavy. omega (arith, heavy.some, heavy.share);
+}
 
 -- of nothing, a weight of 1 is heavy
 pub threshold_of_nothing : IsThreshold 10000 0 1
-threshold_of_nothing = record { heavy = record { some = omega arith; share = omega arith }; least = λ weight heavy. heavy.some }
+threshold_of_nothing = record {
+  heavy = record { some = omega arith; share = omega arith };
+  least = λ weight heavy. heavy.some;
+}
+
+-- the whole, in parts per million
+pub whole_in_parts : IsHeavy million 7 7
+whole_in_parts = record { some = omega arith; share = omega arith }
+
+-- tables of 512 entries can't hide a hundredth, those of 199 can
+pub tables_for_a_hundredth : IsWideShare 10000 512
+tables_for_a_hundredth = omega arith
+
+pub tables_too_small_for_a_hundredth : IsWideShare 10000 199 → ⊥
+tables_too_small_for_a_hundredth wide = omega (arith, wide)
 
 -- all of the weight
 pub threshold_of_the_whole : IsThreshold 1000000 7 7
-threshold_of_the_whole = record { heavy = record { some = omega arith; share = omega arith }; least = λ weight heavy. omega (arith, heavy.share) }
+threshold_of_the_whole = record {
+  heavy = record { some = omega arith; share = omega arith };
+  least = λ weight heavy. omega (arith, heavy.share);
+}
 
 -- 100 bytes from 10.1.2.3 to 20.1.2.3
 abbrev packet : RecordValue
@@ -56,7 +78,7 @@ weight_that_is_held =
     let weight : weight_of prefix (packet ∷ []) ≡ 100 = refl in
     record { low = omega (arith, weight); high = omega (arith, weight) }
 
-pub narrow_line : IsNarrow 512 100 line
+pub narrow_line : IsNarrowLine 512 100 line
 narrow_line = omega arith
 
 -- what the line explains is no longer told of its ancestors
@@ -65,7 +87,10 @@ explained_weight = refl
 
 -- one shard that counted the packet
 abbrev cut : CutValue
-cut = record { capacity = 4; shards = record { capacity = 4; position = 1; tables = fold_from 0 4 no_entries (packet ∷ []) } ∷ [] }
+cut = record {
+  capacity = 4;
+  shards = record { capacity = 4; position = 1; tables = fold_from 0 4 no_entries (packet ∷ []) } ∷ [];
+}
 
 pub low_of_the_prefix : low_in cut prefix ≡ 100
 unfolding no_entries
@@ -84,7 +109,10 @@ abbrev pub whole : PrefixValue
 whole = record { source = 10 ∷ 1 ∷ 2 ∷ 3 ∷ []; dest = 20 ∷ 1 ∷ 2 ∷ 3 ∷ [] }
 
 pub whole_is_prefix : IsPrefix whole
-whole_is_prefix = record { source = record { few = omega arith; bytes = source }; dest = record { few = omega arith; bytes = dest } }
+whole_is_prefix = record {
+  source = record { few = omega arith; bytes = source };
+  dest = record { few = omega arith; bytes = dest };
+}
   where
     source : (place : ℕ) → slice_index whole.source place < 256
     source zero = omega arith
@@ -112,7 +140,11 @@ abbrev Precedes : Line → Line → Type 0
 Precedes line later = report_order line.prefix later.prefix ≡ Less
 
 pub no_lines : AreLines []
-no_lines = record { few = omega arith; ordered = λ place other within. absurd (omega arith); rising = λ place later other before within. absurd (omega arith) }
+no_lines = record {
+  few = omega arith;
+  ordered = λ place other within. absurd (omega arith);
+  rising = λ place later other before within. absurd (omega arith);
+}
 
 pub own_alone : AreLines (own ∷ [])
 own_alone = record {
@@ -124,7 +156,9 @@ own_alone = record {
 pub lines_of_greater_level_come_first : AreLines (own ∷ of_all ∷ [])
 lines_of_greater_level_come_first = record {
   few = omega arith;
-  ordered = All-cons (λ (line : Line). line.lo ≤ line.hi) own (of_all ∷ []) (omega arith) (All-cons (λ (line : Line). line.lo ≤ line.hi) of_all [] (omega arith) no_lines.ordered);
+  ordered =
+      All-cons (λ (line : Line). line.lo ≤ line.hi) own (of_all ∷ []) (omega arith)
+      (All-cons (λ (line : Line). line.lo ≤ line.hi) of_all [] (omega arith) no_lines.ordered);
   rising = AllPairs-cons Precedes own (of_all ∷ []) (All-cons (Precedes own) of_all [] refl (All-nil (Precedes own)))
       (AllPairs-cons Precedes of_all [] (All-nil (Precedes of_all)) no_lines.rising);
 }
@@ -146,7 +180,14 @@ pub own_line_of_the_cut : IsLineOf cut 1 [] own
 unfolding no_entries
 own_line_of_the_cut =
     let unexplained : pos 1 ≤ℤ pos 100 = omega (arith, ints) in
-    record { is_prefix = whole_is_prefix; low = refl; high = refl; monitored = (0, omega arith, refl); heavy = omega arith; unexplained = unexplained }
+    record {
+      is_prefix = whole_is_prefix;
+      low = refl;
+      high = refl;
+      monitored = (0, omega arith, refl);
+      heavy = omega arith;
+      unexplained = unexplained;
+    }
 
 pub no_line_above_all_weight : ¬ IsLineOf cut 101 [] own
 no_line_above_all_weight line = omega (arith, line.heavy)
@@ -163,7 +204,9 @@ pub another_network_is_not : ¬ IsMonitored cut elsewhere
 unfolding no_entries
 another_network_is_not monitored = other monitored.0 monitored.1 monitored.2
   where
-    other : (place : ℕ) → place < 1 → slice_index_or (key_of (record { source = 10 ∷ []; dest = [] }) ∷ []) place (key_of elsewhere) ≡ key_of elsewhere → ⊥
+    other : (place : ℕ) → place < 1
+        → slice_index_or (key_of (record { source = 10 ∷ []; dest = [] }) ∷ []) place (key_of elsewhere)
+        ≡ key_of elsewhere → ⊥
     other zero within is = omega (arith, is)
     other (suc place) within is = omega arith
 
@@ -190,7 +233,8 @@ pub reports_with_other_lines : ¬ AreSame told silent
 reports_with_other_lines same = let count : 1 ≡ 0 = ap length same.lines in omega (arith, count)
 
 pub silence_is_no_report_of_the_cut : ¬ IsReportOf cut 10000 silent
-silence_is_no_report_of_the_cut report = let inside = (report.lines own).1 own_line_of_the_cut in omega (arith, inside.1)
+silence_is_no_report_of_the_cut report =
+    let inside = (report.lines own).1 own_line_of_the_cut in omega (arith, inside.1)
 
 -- a cut of one shard that counted nothing, and what is reported of it
 abbrev nothing_counted : CutValue
@@ -215,7 +259,8 @@ nothing_is_told_of_nothing = record {
     (λ inside. absurd (omega (arith, inside.1))),
     (λ asked.
         let none = subst (λ keys. Contains keys (key_of line.prefix))
-        (ap (λ entries. monitored_keys (record { capacity = 4; entries = entries } ∷ [])) (alike [] 25 (index_of (node_of line.prefix)))) asked.monitored in
+        (ap (λ entries. monitored_keys (record { capacity = 4; entries = entries } ∷ []))
+        (alike [] 25 (index_of (node_of line.prefix)))) asked.monitored in
         absurd (omega (arith, none.1))),
   );
 }
@@ -228,10 +273,12 @@ both_begin (byte ∷ bytes) [] begins begun = absurd (false≢true begun)
 both_begin (byte ∷ bytes) (first ∷ rest) begins begun =
     let parts = and_parts (eqb byte first) (begins_with bytes rest) begins in
     let other = and_parts (eqb first byte) (begins_with rest bytes) begun in
-    ap (λ head. head ∷ bytes) (eqb-true byte first parts.0) ∙ ap (λ tail. first ∷ tail) (both_begin bytes rest parts.1 other.1)
+    ap (λ head. head ∷ bytes) (eqb-true byte first parts.0)
+    ∙ ap (λ tail. first ∷ tail) (both_begin bytes rest parts.1 other.1)
 
 -- a prefix that covers the packet and isn't its own stands above it, so the line explains the packet
-explained : (prefix : PrefixValue) → ¬ Contains (whole ∷ []) prefix → conditioned_weight prefix (whole ∷ []) (packet ∷ []) < 1
+explained : (prefix : PrefixValue) → ¬ Contains (whole ∷ []) prefix
+    → conditioned_weight prefix (whole ∷ []) (packet ∷ []) < 1
 explained prefix missing = by_cover (covers prefix packet) refl (under prefix whole) refl
   where
     by_cover : (covered : Bool) → covers prefix packet ≡ covered → (below : Bool) → under prefix whole ≡ below
@@ -242,8 +289,10 @@ explained prefix missing = by_cover (covers prefix packet) refl (under prefix wh
         let above = and_parts (begins_with whole.source prefix.source) (begins_with whole.dest prefix.dest) covered in
         let below = and_parts (begins_with prefix.source whole.source) (begins_with prefix.dest whole.dest) is in
         let same : whole ≡ prefix =
-        ap (λ source. record { source = source; dest = whole.dest }) (both_begin whole.source prefix.source above.0 below.0)
-        ∙ ap (λ dest. record { source = prefix.source; dest = dest }) (both_begin whole.dest prefix.dest above.1 below.1) in
+        ap (λ source. record { source = source; dest = whole.dest })
+        (both_begin whole.source prefix.source above.0 below.0)
+        ∙ ap (λ dest. record { source = prefix.source; dest = dest })
+        (both_begin whole.dest prefix.dest above.1 below.1) in
         absurd (missing (0, omega arith, same))
 
 pub justified_by_its_weight : IsJustified 4 1 (whole ∷ []) (packet ∷ []) own
@@ -260,15 +309,21 @@ told_is_sound = record {
   threshold = record { heavy = record { some = omega arith; share = omega arith }; least = λ weight heavy. heavy.some };
   interval =
       let weight : weight_of whole (packet ∷ []) ≡ 100 = refl in
-      All-cons (HoldsWeight (packet ∷ [])) own [] (record { low = omega (arith, weight); high = omega (arith, weight) }) (All-nil (HoldsWeight (packet ∷ [])));
-  width = All-cons (IsNarrow 4 100) own [] (omega arith) (All-nil (IsNarrow 4 100));
+      All-cons (HoldsWeight (packet ∷ [])) own []
+      (record { low = omega (arith, weight); high = omega (arith, weight) })
+      (All-nil (HoldsWeight (packet ∷ [])));
+  width = All-cons (IsNarrowLine 4 100) own [] (omega arith) (All-nil (IsNarrowLine 4 100));
   heavy = All-cons (λ (line : Line). 1 ≤ line.hi) own [] (omega arith) (All-nil (λ (line : Line). 1 ≤ line.hi));
-  justified = All-cons (IsJustified 4 1 (whole ∷ []) (packet ∷ [])) own [] justified_by_its_weight (All-nil (IsJustified 4 1 (whole ∷ []) (packet ∷ [])));
+  justified =
+      All-cons (IsJustified 4 1 (whole ∷ []) (packet ∷ [])) own [] justified_by_its_weight
+      (All-nil (IsJustified 4 1 (whole ∷ []) (packet ∷ [])));
   complete = λ prefix is_prefix missing. explained prefix missing;
 }
 
 pub silence_is_unsound : ¬ IsSound silent ((packet ∷ []) ∷ []) 4 10000
-silence_is_unsound sound = let left : 100 < 1 = sound.complete whole whole_is_prefix (λ inside. omega (arith, inside.1)) in omega (arith, left)
+silence_is_unsound sound =
+    let left : 100 < 1 = sound.complete whole whole_is_prefix (λ inside. omega (arith, inside.1)) in
+    omega (arith, left)
 
 -- a second packet that the positions leave out is not told of
 pub told_of_one_packet_alone : ¬ IsSound told ((packet ∷ []) ∷ (packet ∷ []) ∷ []) 4 10000

@@ -1,15 +1,18 @@
 -- Worked examples of how the lines of a report are found, most by computing.
-use Rattle.std.proofs.Common.{◌≡◌, ◌≢◌, ℕ, ◌*◌, ◌≤◌, ◌≤ℤ◌, List, [], ◌∷◌, ◌++◌, length, All, AllPairs, Contains, refl, sym, ap, subst, arith, pos}
+use Rattle.std.proofs.Common.{◌≡◌, ◌≢◌, ℕ, ◌*◌, ◌≤◌, ◌≤ℤ◌, List, [], ◌∷◌, ◌++◌, length, All, AllPairs, Contains}
+use Rattle.std.proofs.Common.{refl, sym, ap, subst, arith, pos, ◌<◌}
 use Rattle.std.proofs.Math.ListN.{replicate}
 use Rattle.std.proofs.lemmas.Int.{ints}
 use Rattle.std.proofs.lemmas.List.Elements.{All-nil, All-cons}
 use Rattle.std.proofs.lemmas.List.Kept.{AllPairs-cons}
 use Rattle.std.specs.Map.{keys_of}
-use Rattle.prefix_lattice.specs.{NodeValue, index_of, PrefixValue, node_of, key_of, IsKeyOf}
+use Rattle.prefix_lattice.specs.{NodeValue, index_of, PrefixValue, node_of, key_of, IsKeyOf, node_count}
 use Rattle.cut_merge.specs.{NodeMergeValue, MergedValue, nothing_merged, candidates_at}
 use Rattle.hhh_output.specs.declared.line.Line.{Line}
-use Rattle.hhh_output.specs.Selecting.{merged_low, merged_high, IsMergedLine, IsSelected, most_candidates, AreCandidates, nodes_before, nodes_down, AreDistinct, AreOfLevel, AreDownTo}
+use Rattle.hhh_output.specs.Selecting.{merged_low, merged_high, IsMergedLine, IsSelected, most_candidates}
+use Rattle.hhh_output.specs.Selecting.{AreCandidates, nodes_before, nodes_down, AreDistinct, AreOfLevel, AreDownTo}
 use Rattle.hhh_output.proofs.Examples.{root, whole, whole_is_prefix, own, of_all, alike}
+use Rattle.hhh_output.specs.Lines.{line_limit}
 
 -- of the nodes one has level 8, and two have level 7
 pub nodes_of_the_first_levels : nodes_down 2 ≡ 3
@@ -21,10 +24,17 @@ nodes_of_level_4 = refl
 pub a_node_has_the_entries_of_128_tables_at_most : most_candidates ≡ 128 * 4096
 a_node_has_the_entries_of_128_tables_at_most = refl
 
+pub candidates_of_all_nodes_are_below_the_limit : node_count * most_candidates < line_limit
+candidates_of_all_nodes_are_below_the_limit = omega arith
+
 pub lines_of_two_prefixes_are_distinct : AreDistinct (own ∷ of_all ∷ [])
 lines_of_two_prefixes_are_distinct =
     let Other : Line → Line → Type 0 = λ line other. line.prefix ≢ other.prefix in
-    AllPairs-cons Other own (of_all ∷ []) (All-cons (Other own) of_all [] (λ same. let kept : 4 ≡ 0 = ap (λ (prefix : PrefixValue). length prefix.source) same in omega (arith, kept)) (All-nil (Other own)))
+    AllPairs-cons Other own (of_all ∷ [])
+    (All-cons (Other own) of_all []
+    (λ same. let kept : 4
+    ≡ 0 = ap (λ (prefix : PrefixValue). length prefix.source) same in omega (arith, kept))
+    (All-nil (Other own)))
     (AllPairs-cons Other of_all [] (All-nil (Other of_all)) (λ place later other before within. absurd (omega arith)))
 
 pub a_prefix_has_one_line : ¬ AreDistinct (own ∷ own ∷ [])
@@ -35,7 +45,9 @@ abbrev merged : MergedValue
 merged = record {
   capacity = 4;
   total = 100;
-  nodes = replicate 24 nothing_merged ++ record { gains = (key_of whole, record { low = 100; high = 100 }) ∷ []; missing = 0 } ∷ [];
+  nodes =
+      replicate 24 nothing_merged
+      ++ record { excesses = (key_of whole, record { low = 100; high = 100 }) ∷ []; missing = 0 } ∷ [];
 }
 
 -- those that know nothing at all
@@ -60,43 +72,58 @@ pub line_with_another_interval : ¬ IsMergedLine merged 0 [] of_all
 line_with_another_interval asked = let low : 100 ≡ 0 = asked.low in omega (arith, low)
 
 pub selected_line : IsSelected merged 100 [] own
-selected_line = record { is_prefix = whole_is_prefix; candidate = (0, omega arith, refl); asked = line_that_is_asked_for }
+selected_line = record {
+  is_prefix = whole_is_prefix;
+  candidate = (0, omega arith, refl);
+  asked = line_that_is_asked_for;
+}
 
 no_candidates : (node : NodeValue) → candidates_at nothing node ≡ []
-no_candidates node = ap (λ (merge : NodeMergeValue). keys_of merge.gains) (alike nothing_merged 25 (index_of node))
+no_candidates node = ap (λ (merge : NodeMergeValue). keys_of merge.excesses) (alike nothing_merged 25 (index_of node))
 
 pub nothing_has_no_candidates : AreCandidates nothing
 nothing_has_no_candidates = record {
   keyed = λ node is_node. subst (All (IsKeyOf node)) (sym (no_candidates node)) (All-nil (IsKeyOf node));
-  distinct = λ node is_node. subst (AllPairs (λ key other. key ≢ other)) (sym (no_candidates node)) (λ place later other before within. absurd (omega arith));
-  few = λ node is_node. subst (λ (keys : List ℕ). length keys ≤ most_candidates) (sym (no_candidates node)) (omega arith);
+  distinct = λ node is_node.
+      subst (AllPairs (λ key other. key ≢ other)) (sym (no_candidates node))
+      (λ place later other before within. absurd (omega arith));
+  few = λ node is_node.
+      subst (λ (keys : List ℕ). length keys ≤ most_candidates) (sym (no_candidates node)) (omega arith);
 }
 
 -- the root keeps no bit, so it has the one key 0
-pub root_has_no_key_1 : ¬ AreCandidates (record nothing { nodes = record { gains = (1, record { low = 1; high = 1 }) ∷ []; missing = 0 } ∷ [] })
+pub root_has_no_key_1 : ¬ AreCandidates
+    (record nothing { nodes = record { excesses = (1, record { low = 1; high = 1 }) ∷ []; missing = 0 } ∷ [] })
 root_has_no_key_1 candidates =
-    let loose : 1 ≡ 0 = (candidates.keyed (node_of root) (record { source = omega arith; dest = omega arith }) 0 1 (omega arith)).dest in
+    let loose : 1 ≡ 0 =
+    (candidates.keyed (node_of root) (record { source = omega arith; dest = omega arith }) 0 1
+    (omega arith)).dest in
     omega (arith, loose)
 
 -- nothing is selected from nothing
 none_selected : (threshold : ℕ) (lines : List PrefixValue) (line : Line) → ¬ IsSelected nothing threshold lines line
 none_selected threshold lines line selected =
-    let none = subst (λ keys. Contains keys (key_of line.prefix)) (no_candidates (node_of line.prefix)) selected.candidate in omega (arith, none.1)
+    let none =
+    subst (λ keys. Contains keys (key_of line.prefix)) (no_candidates (node_of line.prefix)) selected.candidate in
+    omega (arith, none.1)
 
 pub nothing_has_no_line_of_level_8 : AreOfLevel nothing 1 [] 8 []
 nothing_has_no_line_of_level_8 = record {
-  members = λ line. ((λ inside. absurd (omega (arith, inside.1))), (λ selected. absurd (none_selected 1 [] line selected.1)));
+  members = λ line.
+      ((λ inside. absurd (omega (arith, inside.1))), (λ selected. absurd (none_selected 1 [] line selected.1)));
   rising = λ place later other before within. absurd (omega arith);
   few = omega arith;
 }
 
 pub a_selected_line_is_not_left_out : ¬ AreOfLevel merged 100 [] 8 []
-a_selected_line_is_not_left_out level = let inside = (level.members own).1 (refl, selected_line) in omega (arith, inside.1)
+a_selected_line_is_not_left_out level =
+    let inside = (level.members own).1 (refl, selected_line) in omega (arith, inside.1)
 
 pub nothing_has_no_line_of_any_level : AreDownTo nothing 1 9 []
 nothing_has_no_line_of_any_level = record {
   above = λ line inside. absurd (omega (arith, inside.1));
-  members = λ line of_level. ((λ inside. absurd (omega (arith, inside.1))), (λ selected. absurd (none_selected 1 [] line selected)));
+  members = λ line of_level.
+      ((λ inside. absurd (omega (arith, inside.1))), (λ selected. absurd (none_selected 1 [] line selected)));
   rising = λ place later other before within. absurd (omega arith);
   few = omega arith;
 }

@@ -1,5 +1,7 @@
 -- Finding the lines of a level, node by node, and putting them in order.
-use Rattle.std.proofs.Common.{◌≡◌, ◌≢◌, ℕ, ◌+◌, ◌*◌, ◌<◌, ◌≤◌, ◌↔◌, ◌⊎◌, inl, inr, eqb, ◌&&◌, Bool, true, false, List, [], length, get_or, All, Contains, refl, sym, ap, ◌∙◌, subst, add-one, if◌then◌else◌, arith}
+use Rattle.std.proofs.Common.{◌≡◌, ◌≢◌, ℕ, ◌+◌, ◌*◌, ◌<◌, ◌≤◌, ◌↔◌, ◌⊎◌, inl, inr, eqb, ◌&&◌, Bool, true, false}
+use Rattle.std.proofs.Common.{List, [], length, get_or, All, Contains, refl, sym, ap, ◌∙◌, subst, add-one}
+use Rattle.std.proofs.Common.{if◌then◌else◌, arith}
 use Rattle.std.specs.declared.cmp.Ordering.{Ordering}
 use Rattle.std.specs.declared.cmp.Ordering.TheVariants.{Less, Equal, Greater}
 use Rattle.std.specs.Ordering.{is_lt, ordering_reverse}
@@ -9,9 +11,11 @@ use Rattle.std.specs.List.Sorted.{IsPermutation, IsSortedBy}
 use Rattle.std.proofs.Math.Bool.{and_comm}
 use Rattle.std.proofs.lemmas.Bool.{eqb-true, eq-eqb, false≢true, and_parts}
 use Rattle.std.proofs.lemmas.List.Elements.{All-weaker, All-contains_itself, Contains-get_or}
-use Rattle.std.proofs.lemmas.List.Sorted.{sorted_far, ranks_by, Contains-permutation, IsPermutation-sym, length_permutation}
+use Rattle.std.proofs.lemmas.List.Sorted.{sorted_far, ranks_by, Contains-permutation, IsPermutation-sym}
+use Rattle.std.proofs.lemmas.List.Sorted.{length_permutation}
 use Rattle.std.proofs.lemmas.Map.Keys.{IsDistinct-IsPermutation, IsDistinct-from_apart, apart_from_distinct}
-use Rattle.prefix_lattice.specs.{NodeValue, index_of, node_at, level_of, PrefixValue, IsPrefix, node_of, under, same_prefix, report_order}
+use Rattle.prefix_lattice.specs.{NodeValue, index_of, node_at, level_of, PrefixValue, IsPrefix, node_of, under}
+use Rattle.prefix_lattice.specs.{same_prefix, report_order}
 use Rattle.prefix_lattice.proofs.NodePlaceLemmas.{node_at-index_of}
 use Rattle.cut_merge.specs.{MergedValue}
 use Rattle.hhh_output.specs.declared.line.Line.{Line}
@@ -19,15 +23,23 @@ use Rattle.hhh_output.specs.Selecting.{IsSelected, AreDistinct, AreOfLevel, node
 use Rattle.hhh_output.proofs.OneReportLemmas.{Before}
 
 -- the nodes before a place are looked through
-pub record LooksThrough (merged : MergedValue) (threshold : ℕ) (reported : List PrefixValue) (level : ℕ) (found : List Line) (place : ℕ) : Type 0 where
-  pub members : (line : Line) → Contains found line ↔ ((index_of (node_of line.prefix) < place) × (level_of (node_of line.prefix) ≡ level) × IsSelected merged threshold reported line)
+pub record LooksThrough (merged : MergedValue) (threshold : ℕ) (reported : List PrefixValue) (level : ℕ)
+    (found : List Line) (place : ℕ) : Type 0 where
+  pub members : (line : Line)
+      → Contains found line
+      ↔ ((index_of (node_of line.prefix) < place) × (level_of (node_of line.prefix) ≡ level)
+      × IsSelected merged threshold reported line)
   pub distinct : AreDistinct found
   pub few : length found ≤ nodes_before level place * most_candidates
 
 -- none at first
-pub looks_none : (merged : MergedValue) (threshold : ℕ) (reported : List PrefixValue) (level : ℕ) → LooksThrough merged threshold reported level [] 0
+pub looks_none : (merged : MergedValue) (threshold : ℕ) (reported : List PrefixValue) (level : ℕ)
+    → LooksThrough merged threshold reported level [] 0
 looks_none merged threshold reported level = record {
-  members = λ line. (λ there. absurd (no_line line there), λ part. let never : index_of (node_of line.prefix) < 0 = part.0 in absurd (omega arith));
+  members = λ line. (
+    λ there. absurd (no_line line there),
+    λ part. let never : index_of (node_of line.prefix) < 0 = part.0 in absurd (omega arith),
+  );
   distinct = λ i j d before below. absurd (omega arith);
   few = omega arith;
 }
@@ -36,27 +48,37 @@ looks_none merged threshold reported level = record {
     no_line line (k, below, at) = omega arith
 
 -- a prefix at this place is of this node
-at_place : (prefix : PrefixValue) (node : NodeValue) (place : ℕ) → IsPrefix prefix → node ≡ node_at place → index_of (node_of prefix) ≡ place → node_of prefix ≡ node
+at_place : (prefix : PrefixValue) (node : NodeValue) (place : ℕ) → IsPrefix prefix → node ≡ node_at place
+    → index_of (node_of prefix) ≡ place → node_of prefix ≡ node
 at_place prefix node place is_prefix is same =
-    sym (node_at-index_of (node_of prefix) (record { source = is_prefix.source.few; dest = is_prefix.dest.few })) ∙ ap node_at same ∙ sym is
+    sym (node_at-index_of (node_of prefix) (record { source = is_prefix.source.few; dest = is_prefix.dest.few }))
+    ∙ ap node_at same ∙ sym is
 
-more_nodes : (level place : ℕ) → nodes_before level (place + 1) ≡ nodes_before level place + (if eqb (level_of (node_at place)) level then 1 else 0)
+more_nodes : (level place : ℕ)
+    → nodes_before level (place + 1)
+    ≡ nodes_before level place + (if eqb (level_of (node_at place)) level then 1 else 0)
 more_nodes level place = ap (nodes_before level) (add-one place)
 
-module _ (merged : MergedValue) (threshold : ℕ) (reported : List PrefixValue) (level : ℕ) (found : List Line) (place : ℕ) (node : NodeValue)
-    (looks : LooksThrough merged threshold reported level found place) (is : node ≡ node_at place) (back : index_of node ≡ place) where
+module _ (merged : MergedValue) (threshold : ℕ) (reported : List PrefixValue) (level : ℕ) (found : List Line)
+    (place : ℕ) (node : NodeValue)
+    (looks : LooksThrough merged threshold reported level found place) (is : node ≡ node_at place)
+    (back : index_of node ≡ place) where
   -- a node of another level has none of its lines
   pub looks_past : level_of node ≢ level → LooksThrough merged threshold reported level found (place + 1)
   looks_past other = record {
     members = λ line. (
-      λ there. let part = (looks.members line).0 there in let before : index_of (node_of line.prefix) < place = part.0 in (omega arith, part.1, part.2),
+      λ there.
+          let part = (looks.members line).0 there in
+          let before : index_of (node_of line.prefix) < place = part.0 in (omega arith, part.1, part.2),
       λ part. (looks.members line).1 (earlier line part, part.1, part.2),
     );
     distinct = looks.distinct;
     few = omega (arith, looks.few, more_nodes level place, fewer);
   }
     where
-      earlier : (line : Line) → (index_of (node_of line.prefix) < place + 1) × (level_of (node_of line.prefix) ≡ level) × IsSelected merged threshold reported line
+      earlier : (line : Line)
+          → (index_of (node_of line.prefix) < place + 1) × (level_of (node_of line.prefix) ≡ level)
+          × IsSelected merged threshold reported line
           → index_of (node_of line.prefix) < place
       earlier line part =
           let few : index_of (node_of line.prefix) < place + 1 = part.0 in
@@ -77,85 +99,128 @@ module _ (merged : MergedValue) (threshold : ℕ) (reported : List PrefixValue) 
 
   -- a node of the level adds its lines
   pub looks_at : level_of node ≡ level → (after : List Line) (candidates : ℕ) → candidates ≤ most_candidates
-      → ((line : Line) → Contains after line ↔ (Contains found line ⊎ ((node_of line.prefix ≡ node) × IsSelected merged threshold reported line)))
-      → AreDistinct after → length after ≤ length found + candidates → LooksThrough merged threshold reported level after (place + 1)
+      → ((line : Line) → Contains after line
+      ↔ (Contains found line ⊎ ((node_of line.prefix ≡ node) × IsSelected merged threshold reported line)))
+      → AreDistinct after → length after ≤ length found + candidates
+      → LooksThrough merged threshold reported level after (place + 1)
   looks_at same after candidates few_candidates members distinct few = record {
     members = λ line. (
       λ there. elim ((members line).0 there) [
-        | inl earlier ↦ let part = (looks.members line).0 earlier in let before : index_of (node_of line.prefix) < place = part.0 in (omega arith, part.1, part.2)
-        | inr new ↦ let here : index_of (node_of line.prefix) ≡ place = ap index_of new.0 ∙ back in (omega arith, ap level_of new.0 ∙ same, new.1)
+        | inl earlier ↦
+            let part = (looks.members line).0 earlier in
+            let before : index_of (node_of line.prefix) < place = part.0 in (omega arith, part.1, part.2)
+        | inr new ↦
+            let here : index_of (node_of line.prefix) ≡ place = ap index_of new.0 ∙ back in
+            (omega arith, ap level_of new.0 ∙ same, new.1)
       ],
       λ part. (members line).1 (sides line part (eqb (index_of (node_of line.prefix)) place) refl),
     );
     distinct = distinct;
     few =
         let count : Bool → ℕ = λ b. if b then 1 else 0 in
-        let one : count (eqb (level_of (node_at place)) level) ≡ 1 = ap count (eq-eqb (level_of (node_at place)) level (ap level_of (sym is) ∙ same)) in
+        let one : count (eqb (level_of (node_at place)) level) ≡ 1 =
+        ap count (eq-eqb (level_of (node_at place)) level (ap level_of (sym is) ∙ same)) in
         omega (arith, few, few_candidates, looks.few, more_nodes level place, one);
   }
     where
-      sides : (line : Line) → (index_of (node_of line.prefix) < place + 1) × (level_of (node_of line.prefix) ≡ level) × IsSelected merged threshold reported line
+      sides : (line : Line)
+          → (index_of (node_of line.prefix) < place + 1) × (level_of (node_of line.prefix) ≡ level)
+          × IsSelected merged threshold reported line
           → (b : Bool) → eqb (index_of (node_of line.prefix)) place ≡ b
           → Contains found line ⊎ ((node_of line.prefix ≡ node) × IsSelected merged threshold reported line)
-      sides line part true here = inr (at_place line.prefix node place part.2.is_prefix is (eqb-true (index_of (node_of line.prefix)) place here), part.2)
+      sides line part true here =
+          inr (
+            at_place line.prefix node place part.2.is_prefix is
+                (eqb-true (index_of (node_of line.prefix)) place here),
+            part.2,
+          )
       sides line part false other =
           let few_places : index_of (node_of line.prefix) < place + 1 = part.0 in
-          let apart : index_of (node_of line.prefix) ≢ place = λ same_place. false≢true (sym other ∙ eq-eqb (index_of (node_of line.prefix)) place same_place) in
+          let apart : index_of (node_of line.prefix) ≢ place =
+          λ same_place. false≢true (sym other ∙ eq-eqb (index_of (node_of line.prefix)) place same_place) in
           inl ((looks.members line).1 (omega (arith, apart), part.1, part.2))
 
 -- the laws of the order of a report
 pub record ReportOrder : Type 0 where
   pub total : IsTotalOrder report_order
-  pub apart : (prefix other : PrefixValue) → IsPrefix prefix → IsPrefix other → (report_order prefix other ≡ Equal) ↔ (prefix ≡ other)
+  pub apart : (prefix other : PrefixValue) → IsPrefix prefix → IsPrefix other
+      → (report_order prefix other ≡ Equal) ↔ (prefix ≡ other)
   pub reflexive : (prefix : PrefixValue) → under prefix prefix ≡ true
-  pub antisymmetric : (prefix other : PrefixValue) → under prefix other ≡ true → under other prefix ≡ true → prefix ≡ other
+  pub antisymmetric : (prefix other : PrefixValue) → under prefix other ≡ true → under other prefix ≡ true
+      → prefix ≡ other
 
 -- whether two lines have one prefix
 abbrev same_line : Line → Line → Bool
 same_line line other = same_prefix line.prefix other.prefix
 
 -- lines that are apart stay so in another order
-distinct_moved : ReportOrder → (lines moved : List Line) → IsPermutation lines moved → AreDistinct lines → AreDistinct moved
+distinct_moved : ReportOrder → (lines moved : List Line) → IsPermutation lines moved → AreDistinct lines
+    → AreDistinct moved
 distinct_moved order lines moved moves distinct =
-    let differ : (line other : Line) → line.prefix ≢ other.prefix → same_line line other ≡ false = λ line other apart. by line other apart (same_line line other) refl in
-    let apart : IsDistinct same_line lines = IsDistinct-from_apart same_line lines (λ i j d before below. differ (get_or lines i d) (get_or lines j d) (distinct i j d before below)) in
+    let differ : (line other : Line) → line.prefix ≢ other.prefix → same_line line other ≡ false =
+    λ line other apart. by line other apart (same_line line other) refl in
+    let apart : IsDistinct same_line lines =
+    IsDistinct-from_apart same_line lines
+    (λ i j d before below. differ (get_or lines i d) (get_or lines j d) (distinct i j d before below)) in
     let still : IsDistinct same_line moved =
-    IsDistinct-IsPermutation same_line (λ line other. and_comm (under line.prefix other.prefix) (under other.prefix line.prefix)) lines moved moves apart in
+    IsDistinct-IsPermutation same_line
+    (λ line other. and_comm (under line.prefix other.prefix) (under other.prefix line.prefix)) lines moved moves
+    apart in
     λ i j d before below same. false≢true (sym (apart_from_distinct same_line moved i j d still before below)
-    ∙ subst (λ p. same_prefix (get_or moved i d).prefix p ≡ true) same (ap (λ b. b && b) (order.reflexive (get_or moved i d).prefix)))
+    ∙ subst (λ p. same_prefix (get_or moved i d).prefix p ≡ true) same
+    (ap (λ b. b && b) (order.reflexive (get_or moved i d).prefix)))
   where
-    by : (line other : Line) → line.prefix ≢ other.prefix → (b : Bool) → same_line line other ≡ b → same_line line other ≡ false
-    by line other apart true is = let both = and_parts (under line.prefix other.prefix) (under other.prefix line.prefix) is in
+    by : (line other : Line) → line.prefix ≢ other.prefix → (b : Bool) → same_line line other ≡ b
+        → same_line line other ≡ false
+    by line other apart true is =
+        let both = and_parts (under line.prefix other.prefix) (under other.prefix line.prefix) is in
         absurd (apart (order.antisymmetric line.prefix other.prefix both.0 both.1))
     by line other apart false is = is
 
 -- one line stands before another where it isn't after it and they have two prefixes
-stands_before : ReportOrder → (line other : Line) → IsPrefix line.prefix → IsPrefix other.prefix → line.prefix ≢ other.prefix
+stands_before : ReportOrder → (line other : Line) → IsPrefix line.prefix → IsPrefix other.prefix
+    → line.prefix ≢ other.prefix
     → is_lt (report_order other.prefix line.prefix) ≡ false → Before line other
 stands_before order line other is_prefix other_is apart after = by (report_order line.prefix other.prefix) refl
   where
     by : (o : Ordering) → report_order line.prefix other.prefix ≡ o → report_order line.prefix other.prefix ≡ Less
     by Less is = is
     by Equal is = absurd (apart ((order.apart line.prefix other.prefix is_prefix other_is).0 is))
-    by Greater is = absurd (false≢true (sym after ∙ ap is_lt (order.total.antisymm other.prefix line.prefix ∙ ap ordering_reverse is)))
+    by Greater is =
+        absurd (false≢true
+        (sym after ∙ ap is_lt (order.total.antisymm other.prefix line.prefix ∙ ap ordering_reverse is)))
 
 -- the lines of a level, sorted
-pub level_sorted : (merged : MergedValue) (threshold : ℕ) (reported : List PrefixValue) (level : ℕ) (found sorted : List Line) → ReportOrder
+pub level_sorted : (merged : MergedValue) (threshold : ℕ) (reported : List PrefixValue) (level : ℕ)
+    (found sorted : List Line) → ReportOrder
     → LooksThrough merged threshold reported level found 25 → IsPermutation found sorted
-    → IsSortedBy (λ line other. is_lt (report_order line.prefix other.prefix)) sorted → AreOfLevel merged threshold reported level sorted
+    → IsSortedBy (λ line other. is_lt (report_order line.prefix other.prefix)) sorted
+    → AreOfLevel merged threshold reported level sorted
 level_sorted merged threshold reported level found sorted order looks moves rises =
     let lt : Line → Line → Bool = λ line other. is_lt (report_order line.prefix other.prefix) in
-    let selected : (line : Line) → Contains sorted line → (level_of (node_of line.prefix) ≡ level) × IsSelected merged threshold reported line =
-    λ line there. let part = (looks.members line).0 (Contains-permutation sorted found line (IsPermutation-sym found sorted moves) there) in (part.1, part.2) in
+    let selected : (line : Line) → Contains sorted line
+    → (level_of (node_of line.prefix) ≡ level) × IsSelected merged threshold reported line =
+    λ line there.
+    let part =
+    (looks.members line).0
+    (Contains-permutation sorted found line (IsPermutation-sym found sorted moves) there) in
+    (part.1, part.2) in
     let distinct = distinct_moved order found sorted moves looks.distinct in
     record {
-      members = λ line. (selected line, λ part. Contains-permutation found sorted line moves ((looks.members line).1 (small line part.1.is_prefix, part.0, part.1)));
+      members = λ line. (
+        selected line,
+        λ part.
+            Contains-permutation found sorted line moves
+            ((looks.members line).1 (small line part.1.is_prefix, part.0, part.1)),
+      );
       rising = λ i j d before below.
           let line = get_or sorted i d in
           let other = get_or sorted j d in
           let within : i < length sorted = omega arith in
-          stands_before order line other (selected line (Contains-get_or sorted i d within)).1.is_prefix (selected other (Contains-get_or sorted j d below)).1.is_prefix
-          (distinct i j d before below) (sorted_far lt (ranks_by order.total (λ (l : Line). l.prefix)) sorted rises i j d (omega arith) below);
+          stands_before order line other (selected line (Contains-get_or sorted i d within)).1.is_prefix
+          (selected other (Contains-get_or sorted j d below)).1.is_prefix
+          (distinct i j d before below)
+          (sorted_far lt (ranks_by order.total (λ (l : Line). l.prefix)) sorted rises i j d (omega arith) below);
       few = omega (arith, looks.few, length_permutation found sorted moves);
     }
   where

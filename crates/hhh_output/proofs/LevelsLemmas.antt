@@ -1,20 +1,25 @@
 -- The lines of a report, level after level.
-use Rattle.std.proofs.Common.{◌≡◌, ℕ, ◌+◌, ◌-◌, ◌<◌, ◌≤◌, inl, inr, eqb, cond, List, [], ◌++◌, length, get_or, sum_by, AllPairs, Contains, pos, ◌-ℤ◌, ◌≤ℤ◌, refl, sym, ap, ◌∙◌, subst, add-one, length-append, arith}
+use Rattle.std.proofs.Common.{◌≡◌, ℕ, ◌+◌, ◌-◌, ◌<◌, ◌≤◌, inl, inr, eqb, cond, List, [], ◌++◌, length, get_or}
+use Rattle.std.proofs.Common.{sum_by, AllPairs, Contains, pos, ◌-ℤ◌, ◌≤ℤ◌, refl, sym, ap, ◌∙◌, subst, add-one}
+use Rattle.std.proofs.Common.{length-append, arith}
 use Rattle.std.specs.declared.cmp.Ordering.TheVariants.{Less, Equal, Greater}
 use Rattle.std.specs.Ordering.{nat_cmp, ordering_then}
 use Rattle.std.proofs.lemmas.Bool.{cases_lt, lt-ltb}
 use Rattle.std.proofs.lemmas.List.{map-append, get_or_append_left, get_or-append_right}
-use Rattle.std.proofs.lemmas.List.Elements.{All-weaker, All-contains_itself, All-map, Contains-append_left, Contains-append_right, Contains-append_cases, Contains-get_or}
+use Rattle.std.proofs.lemmas.List.Elements.{All-weaker, All-contains_itself, All-map, Contains-append_left}
+use Rattle.std.proofs.lemmas.List.Elements.{Contains-append_right, Contains-append_cases, Contains-get_or}
 use Rattle.prefix_lattice.specs.{address_of, PrefixValue, closest, kept_pairs}
 use Rattle.cut_merge.specs.{MergedValue}
 use Rattle.hhh_output.specs.declared.line.Line.{Line}
 use Rattle.hhh_output.specs.Lines.{prefixes_of}
-use Rattle.hhh_output.specs.Selecting.{merged_low, merged_high, IsSelected, AreOfLevel, AreDownTo, nodes_before, nodes_down}
+use Rattle.hhh_output.specs.Selecting.{merged_low, merged_high, IsSelected, AreOfLevel, AreDownTo, nodes_before}
+use Rattle.hhh_output.specs.Selecting.{nodes_down}
 use Rattle.hhh_output.proofs.OneReportLemmas.{Before}
 use Rattle.hhh_output.proofs.NearLineLemmas.{level, LevelsFall, closest-append}
 
 -- whether merged tables ask for a line depends on its closest lines alone
-asked_over : (merged : MergedValue) (threshold : ℕ) (lines other : List PrefixValue) (line : Line) → closest line.prefix lines ≡ closest line.prefix other
+asked_over : (merged : MergedValue) (threshold : ℕ) (lines other : List PrefixValue) (line : Line)
+    → closest line.prefix lines ≡ closest line.prefix other
     → IsSelected merged threshold lines line → IsSelected merged threshold other line
 asked_over merged threshold lines other line same is = record {
   is_prefix = is.is_prefix;
@@ -23,7 +28,11 @@ asked_over merged threshold lines other line same is = record {
     low = is.asked.low;
     high = is.asked.high;
     heavy = is.asked.heavy;
-    unexplained = subst (λ near. pos threshold ≤ℤ (pos (merged_high merged line.prefix + sum_by (merged_high merged) (kept_pairs near)) -ℤ pos (sum_by (merged_low merged) near))) same is.asked.unexplained;
+    unexplained =
+        subst (λ near.
+        pos threshold
+        ≤ℤ (pos (merged_high merged line.prefix + sum_by (merged_high merged) (kept_pairs near))
+        -ℤ pos (sum_by (merged_low merged) near))) same is.asked.unexplained;
   };
 }
 
@@ -32,12 +41,15 @@ falls_before : (line later : Line) → level later.prefix < level line.prefix �
 falls_before line later falls =
     let p = line.prefix in
     let q = later.prefix in
-    let less : nat_cmp (level q) (level p) ≡ Less = ap (λ b. cond b Less (cond (eqb (level q) (level p)) Equal Greater)) (lt-ltb (level q) (level p) falls) in
+    let less : nat_cmp (level q) (level p) ≡ Less =
+    ap (λ b. cond b Less (cond (eqb (level q) (level p)) Equal Greater)) (lt-ltb (level q) (level p) falls) in
     ap (λ o. ordering_then o (ordering_then (nat_cmp (address_of p.source) (address_of q.source))
-    (ordering_then (nat_cmp (length p.source) (length q.source)) (nat_cmp (address_of p.dest) (address_of q.dest))))) less
+    (ordering_then (nat_cmp (length p.source) (length q.source))
+    (nat_cmp (address_of p.dest) (address_of q.dest))))) less
 
 -- two lists in order, where each of the first stands before each of the second
-pairs-append : {X : Type 0} (R : X → X → Type 0) (xs ys : List X) → AllPairs R xs → AllPairs R ys → ((x y : X) → Contains xs x → Contains ys y → R x y) → AllPairs R (xs ++ ys)
+pairs-append : {X : Type 0} (R : X → X → Type 0) (xs ys : List X) → AllPairs R xs → AllPairs R ys
+    → ((x y : X) → Contains xs x → Contains ys y → R x y) → AllPairs R (xs ++ ys)
 pairs-append {X} R xs ys first second across = λ i j d before below.
     let all : length (xs ++ ys) ≡ length xs + length ys = length-append xs ys in
     elim (cases_lt j (length xs)) [
@@ -51,10 +63,13 @@ pairs-append {X} R xs ys first second across = λ i j d before below.
           elim (cases_lt i (length xs)) [
             | inl i_in ↦
                 subst (λ x. R x (get_or (xs ++ ys) j d)) (sym (get_or_append_left xs ys d i i_in))
-                (subst (R (get_or xs i d)) (sym at_j) (across (get_or xs i d) (get_or ys (j - length xs) d) (Contains-get_or xs i d i_in) (Contains-get_or ys (j - length xs) d j_in)))
+                (subst (R (get_or xs i d)) (sym at_j)
+                (across (get_or xs i d) (get_or ys (j - length xs) d) (Contains-get_or xs i d i_in)
+                (Contains-get_or ys (j - length xs) d j_in)))
             | inr i_past ↦
                 subst (λ x. R x (get_or (xs ++ ys) j d)) (sym (get_or-append_right xs ys (length xs) i d refl i_past))
-                (subst (R (get_or ys (i - length xs) d)) (sym at_j) (second (i - length xs) (j - length xs) d (omega arith) j_in))
+                (subst (R (get_or ys (i - length xs) d)) (sym at_j)
+                (second (i - length xs) (j - length xs) d (omega arith) j_in))
           ]
     ]
 
@@ -65,7 +80,9 @@ down_none merged threshold = record {
   members = λ line high. (
     λ there. absurd (no_line line there),
     λ selected.
-        let few : level line.prefix ≤ 8 = omega (arith, selected.is_prefix.source.few, selected.is_prefix.dest.few) in absurd (omega arith),
+        let few : level line.prefix ≤ 8 =
+        omega (arith, selected.is_prefix.source.few, selected.is_prefix.dest.few) in
+        absurd (omega arith),
   );
   rising = λ i j d before below. absurd (omega arith);
   few = omega arith;
@@ -76,17 +93,20 @@ down_none merged threshold = record {
 
 -- one more level
 module _ (merged : MergedValue) (threshold levels : ℕ) (lines found : List Line) (law : LevelsFall) (some : levels < 9)
-    (down : AreDownTo merged threshold levels lines) (of_level : AreOfLevel merged threshold (prefixes_of lines) (8 - levels) found) where
+    (down : AreDownTo merged threshold levels lines)
+    (of_level : AreOfLevel merged threshold (prefixes_of lines) (8 - levels) found) where
   its_level : (line : Line) → Contains found line → level line.prefix ≡ 8 - levels
   its_level line there = ((of_level.members line).0 there).0
 
   -- the new lines leave the closest lines of those of no smaller level
-  unchanged : (line : Line) → 8 < level line.prefix + (levels + 1) → closest line.prefix (prefixes_of (lines ++ found)) ≡ closest line.prefix (prefixes_of lines)
+  unchanged : (line : Line) → 8 < level line.prefix + (levels + 1)
+      → closest line.prefix (prefixes_of (lines ++ found)) ≡ closest line.prefix (prefixes_of lines)
   unchanged line high =
       ap (closest line.prefix) (map-append (λ (l : Line). l.prefix) lines found)
       ∙ closest-append line.prefix (prefixes_of lines) (prefixes_of found) law
       (All-map (λ p. level p ≤ level line.prefix) (λ (l : Line). l.prefix) found
-      (All-weaker (Contains found) (λ (l : Line). level l.prefix ≤ level line.prefix) (λ other there. omega (arith, its_level other there, high)) found (All-contains_itself found)))
+      (All-weaker (Contains found) (λ (l : Line). level l.prefix ≤ level line.prefix)
+      (λ other there. omega (arith, its_level other there, high)) found (All-contains_itself found)))
 
   pub down_more : AreDownTo merged threshold (levels + 1) (lines ++ found)
   down_more = record {
@@ -95,12 +115,15 @@ module _ (merged : MergedValue) (threshold levels : ℕ) (lines found : List Lin
       | inr new ↦ omega (arith, its_level line new)
     ];
     members = λ line high. (
-      λ there. asked_over merged threshold (prefixes_of lines) (prefixes_of (lines ++ found)) line (sym (unchanged line high)) (elim (Contains-append_cases lines found line there) [
-        | inl earlier ↦ (down.members line (down.above line earlier)).0 earlier
-        | inr new ↦ ((of_level.members line).0 new).1
-      ]),
+      λ there. asked_over merged threshold (prefixes_of lines) (prefixes_of (lines ++ found)) line
+          (sym (unchanged line high)) (elim (Contains-append_cases lines found line there) [
+            | inl earlier ↦ (down.members line (down.above line earlier)).0 earlier
+            | inr new ↦ ((of_level.members line).0 new).1
+          ]),
       λ selected.
-          let before = asked_over merged threshold (prefixes_of (lines ++ found)) (prefixes_of lines) line (unchanged line high) selected in
+          let before =
+          asked_over merged threshold (prefixes_of (lines ++ found)) (prefixes_of lines) line
+          (unchanged line high) selected in
           elim (cases_lt 8 (level line.prefix + levels)) [
             | inl above ↦ Contains-append_left lines found line ((down.members line above).1 before)
             | inr not_above ↦ let here : level line.prefix ≡ 8 - levels = omega arith in
@@ -112,6 +135,7 @@ module _ (merged : MergedValue) (threshold levels : ℕ) (lines found : List Lin
         let high : 8 < level line.prefix + levels = down.above line earlier in
         falls_before line later (omega (arith, its_level later new)));
     few =
-        let more : nodes_down (levels + 1) ≡ nodes_down levels + nodes_before (8 - levels) 25 = ap nodes_down (add-one levels) in
+        let more : nodes_down (levels + 1) ≡ nodes_down levels + nodes_before (8 - levels) 25 =
+        ap nodes_down (add-one levels) in
         omega (arith, more, down.few, of_level.few, length-append lines found);
   }

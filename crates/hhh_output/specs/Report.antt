@@ -2,7 +2,7 @@
 use Rattle.std.specs.Prelude.{ℕ, ◌≡◌, ◌≤◌, ◌↔◌, List, Contains, pos, ◌≤ℤ◌}
 use Rattle.prefix_lattice.specs.{PrefixValue, IsPrefix, node_of, key_of}
 use Rattle.shard_state.specs.{CutValue, positions_of, total_of_cut}
-use Rattle.cut_merge.specs.{span, monitored_at}
+use Rattle.cut_merge.specs.{merged_interval_in, monitored_at}
 use Rattle.conditioned_bounds.specs.{bound_of}
 use Rattle.hhh_output.specs.declared.line.Line.{Line}
 use Rattle.hhh_output.specs.declared.report.Report.{Report}
@@ -15,11 +15,11 @@ IsMonitored cut prefix = Contains (monitored_at cut (node_of prefix)) (key_of pr
 
 -- the low of a prefix in a cut
 abbrev pub low_in : CutValue → PrefixValue → ℕ
-low_in cut prefix = (span cut prefix).low
+low_in cut prefix = (merged_interval_in cut prefix).low
 
 -- the high of a prefix in a cut
 abbrev pub high_in : CutValue → PrefixValue → ℕ
-high_in cut prefix = (span cut prefix).high
+high_in cut prefix = (merged_interval_in cut prefix).high
 
 -- the bound of a prefix over some lines is at least the threshold
 abbrev pub IsUnexplained : CutValue → ℕ → List PrefixValue → PrefixValue → Type 0

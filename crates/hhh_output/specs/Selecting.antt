@@ -1,7 +1,10 @@
 -- How the lines of a report are selected among the candidates of merged tables, which no public contract cites.
-use Rattle.std.specs.Prelude.{ℕ, ◌≡◌, ◌≢◌, ◌+◌, ◌-◌, ◌*◌, ◌<◌, ◌≤◌, ◌==◌, ◌↔◌, zero, suc, List, length, if◌then◌else◌, All, AllPairs, Contains, pos, ◌≤ℤ◌}
+use Rattle.std.specs.Prelude.{ℕ, ◌≡◌, ◌≢◌, ◌+◌, ◌-◌, ◌*◌, ◌<◌, ◌≤◌, ◌==◌, ◌↔◌, zero, suc, List, length}
+use Rattle.std.specs.Prelude.{if◌then◌else◌, All, AllPairs, Contains, pos, ◌≤ℤ◌}
 use Rattle.std.specs.declared.cmp.Ordering.TheVariants.{Less}
-use Rattle.prefix_lattice.specs.{NodeValue, IsNode, node_at, level_of, PrefixValue, IsPrefix, node_of, key_of, IsKeyOf, report_order}
+use Rattle.prefix_lattice.specs.{NodeValue, IsNode, node_at, level_of, PrefixValue, IsPrefix, node_of, key_of}
+use Rattle.prefix_lattice.specs.{IsKeyOf, report_order, deepest_level, node_count}
+use Rattle.shard_state.specs.{most_snapshots, most_capacity}
 use Rattle.cut_merge.specs.{MergedValue, interval_for, candidates_at}
 use Rattle.conditioned_bounds.specs.{bound_of}
 use Rattle.hhh_output.specs.declared.line.Line.{Line}
@@ -30,7 +33,7 @@ pub record IsSelected (merged : MergedValue) (threshold : ℕ) (lines : List Pre
 
 -- the most candidates of a node: 128 shards, each with a table of at most 4096 entries
 abbrev pub most_candidates : ℕ
-most_candidates = 524288
+most_candidates = most_snapshots * most_capacity
 
 -- the candidates of each node are distinct keys of the node, at most 524,288 of them
 pub record AreCandidates (merged : MergedValue) : Type 0 where
@@ -46,21 +49,24 @@ nodes_before level (suc place) = nodes_before level place + (if level_of (node_a
 -- how many nodes this many levels have, from level 8 down
 abbrev pub nodes_down : ℕ → ℕ
 nodes_down zero = 0
-nodes_down (suc levels) = nodes_down levels + nodes_before (8 - levels) 25
+nodes_down (suc levels) = nodes_down levels + nodes_before (deepest_level - levels) node_count
 
 -- no two of these lines have the same prefix
 abbrev pub AreDistinct : List Line → Type 0
 AreDistinct lines = AllPairs (λ line other. line.prefix ≢ other.prefix) lines
 
 -- these lines are exactly those of a level that merged tables give over the reported lines, in the order of a report
-pub record AreOfLevel (merged : MergedValue) (threshold : ℕ) (reported : List PrefixValue) (level : ℕ) (found : List Line) : Type 0 where
-  pub members : (line : Line) → Contains found line ↔ ((level_of (node_of line.prefix) ≡ level) × IsSelected merged threshold reported line)
+pub record AreOfLevel (merged : MergedValue) (threshold : ℕ) (reported : List PrefixValue) (level : ℕ)
+    (found : List Line) : Type 0 where
+  pub members : (line : Line)
+      → Contains found line ↔ ((level_of (node_of line.prefix) ≡ level) × IsSelected merged threshold reported line)
   pub rising : AllPairs (λ line later. report_order line.prefix later.prefix ≡ Less) found
-  pub few : length found ≤ nodes_before level 25 * most_candidates
+  pub few : length found ≤ nodes_before level node_count * most_candidates
 
 -- these lines are exactly those of this many levels, from level 8 down, that merged tables give over them
 pub record AreDownTo (merged : MergedValue) (threshold levels : ℕ) (lines : List Line) : Type 0 where
-  pub above : (line : Line) → Contains lines line → 8 < level_of (node_of line.prefix) + levels
-  pub members : (line : Line) → 8 < level_of (node_of line.prefix) + levels → Contains lines line ↔ IsSelected merged threshold (prefixes_of lines) line
+  pub above : (line : Line) → Contains lines line → deepest_level < level_of (node_of line.prefix) + levels
+  pub members : (line : Line) → deepest_level < level_of (node_of line.prefix) + levels
+      → Contains lines line ↔ IsSelected merged threshold (prefixes_of lines) line
   pub rising : AllPairs (λ line later. report_order line.prefix later.prefix ≡ Less) lines
   pub few : length lines ≤ nodes_down levels * most_candidates

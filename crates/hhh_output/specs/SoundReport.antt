@@ -1,7 +1,8 @@
 -- What a report says of the records themselves: eight tests over the plain lists, without tables or bounds.
-use Rattle.std.specs.Prelude.{ℕ, ◌≡◌, ◌+◌, ◌-◌, ◌*◌, ◌<◌, ◌≤◌, List, length, All, Contains}
+use Rattle.std.specs.Prelude.{ℕ, ◌≡◌, ◌+◌, ◌*◌, ◌<◌, ◌≤◌, List, length, All, Contains}
 use Rattle.std.specs.List.{AllZip}
-use Rattle.prefix_lattice.specs.{RecordValue, PrefixValue, IsPrefix, weight_of, total_weight, conditioned_weight, closest, kept_pairs}
+use Rattle.prefix_lattice.specs.{RecordValue, PrefixValue, IsPrefix, weight_of, total_weight, conditioned_weight}
+use Rattle.prefix_lattice.specs.{closest, kept_pairs, Holds, IsNarrow}
 use Rattle.shard_state.specs.{records_before}
 use Rattle.hhh_output.specs.declared.line.Line.{Line}
 use Rattle.hhh_output.specs.declared.report.Report.{Report}
@@ -9,13 +10,12 @@ use Rattle.hhh_output.specs.Lines.{prefixes_of}
 use Rattle.hhh_output.specs.Threshold.{IsThreshold}
 
 -- the interval of a line holds the exact weight of its prefix over some records
-pub record HoldsWeight (records : List RecordValue) (line : Line) : Type 0 where
-  pub low : line.lo ≤ weight_of line.prefix records
-  pub high : weight_of line.prefix records ≤ line.hi
+abbrev pub HoldsWeight : List RecordValue → Line → Type 0
+HoldsWeight records line = Holds line.lo line.hi (weight_of line.prefix records)
 
 -- the interval of a line is no wider than the total over the capacity
-abbrev pub IsNarrow : ℕ → ℕ → Line → Type 0
-IsNarrow capacity total line = (line.hi - line.lo) * capacity ≤ total
+abbrev pub IsNarrowLine : ℕ → ℕ → Line → Type 0
+IsNarrowLine capacity total line = IsNarrow line.lo line.hi capacity total
 
 -- the conditioned weight of a line is at least the threshold less the widths of the intervals that it was judged by:
 -- its own, those of its closest lines and of the meets of their kept pairs, each at most the total over the capacity
@@ -30,8 +30,10 @@ pub record IsSound (report : Report) (lists : List (List RecordValue)) (capacity
   pub total : report.total ≡ total_weight (records_before lists report.positions)
   pub threshold : IsThreshold phi report.total report.threshold
   pub interval : All (HoldsWeight (records_before lists report.positions)) report.lines
-  pub width : All (IsNarrow capacity report.total) report.lines
+  pub width : All (IsNarrowLine capacity report.total) report.lines
   pub heavy : All (λ line. report.threshold ≤ line.hi) report.lines
-  pub justified : All (IsJustified capacity report.threshold (prefixes_of report.lines) (records_before lists report.positions)) report.lines
+  pub justified : All
+      (IsJustified capacity report.threshold (prefixes_of report.lines) (records_before lists report.positions))
+      report.lines
   pub complete : (prefix : PrefixValue) → IsPrefix prefix → ¬ Contains (prefixes_of report.lines) prefix
       → conditioned_weight prefix (prefixes_of report.lines) (records_before lists report.positions) < report.threshold

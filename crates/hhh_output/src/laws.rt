@@ -1,6 +1,6 @@
 //! Laws of reports, each the contract of a function that does nothing.
 
-ghost use Rattle.std.specs.Prelude.{◌≡◌, ℕ, ◌*◌, ◌≤◌, List, All, Some, length, slice_get};
+ghost use Rattle.std.specs.Prelude.{◌≡◌, ℕ, ◌≤◌, List, All, Some, length, slice_get};
 ghost use Rattle.prefix_lattice.specs.{RecordValue};
 ghost use Rattle.shard_state.specs.{CutValue, IsCut, positions_of, CutStandsFor, CoreValue, HasShape, IsCore, capacity_of, run, BasesStand, ReadsEach, lists_of};
 ghost use Rattle.shard_state.specs.declared.event.Event.{Event};
@@ -8,9 +8,10 @@ ghost use Rattle.hhh_output.specs.declared.report.Report.{Report};
 ghost use Rattle.hhh_output.specs.Lines.{AreLines};
 ghost use Rattle.hhh_output.specs.Report.{IsReportOf, AreSame};
 ghost use Rattle.hhh_output.specs.SoundReport.{IsSound};
+ghost use Rattle.hhh_output.specs.Threshold.{IsWideShare};
 
 use conditioned_bounds::{bounds_hold, only_prefixes_are_asked};
-use cut_merge::{spans_are_narrow, spans_hold_weights};
+use cut_merge::{merged_intervals_are_narrow, merged_intervals_hold_weights};
 use prefix_lattice::{prefixes_are_ordered, report_order_is_total};
 use shard_state::{runs_stand, snapshots_hold_weights, standing_cuts_are_equal};
 
@@ -37,13 +38,13 @@ pub fn standing_cuts_have_one_report()
 /// The report of a cut that represents lists of records is sound over them.
 pub fn reports_are_sound()
     ensures { (cut : CutValue) (lists : List (List RecordValue)) (phi : ℕ) (report : Report) → IsCut cut → CutStandsFor cut lists
-        → All (λ list. All (λ rec. 1 ≤ rec.weight) list) lists → 2000000 ≤ phi * cut.capacity → AreLines report.lines
+        → All (λ list. All (λ rec. 1 ≤ rec.weight) list) lists → IsWideShare phi cut.capacity → AreLines report.lines
         → IsReportOf cut phi report → IsSound report lists cut.capacity phi }
 {
     report_order_is_total();
     snapshots_hold_weights();
-    spans_hold_weights();
-    spans_are_narrow();
+    merged_intervals_hold_weights();
+    merged_intervals_are_narrow();
     only_prefixes_are_asked();
     bounds_hold();
 }
@@ -55,7 +56,7 @@ pub fn reports_of_the_core_are_sound()
         → All (HasShape (length core.shards) (capacity_of core.shards)) core.cuts → BasesStand core.shards
         → All (λ list. All (λ rec. 1 ≤ rec.weight) list) (lists_of core.shards)
         → slice_get (run core events).cuts caller ≡ Some cut → ReadsEach caller core events → IsCut cut
-        → 2000000 ≤ phi * cut.capacity → AreLines report.lines → IsReportOf cut phi report
+        → IsWideShare phi cut.capacity → AreLines report.lines → IsReportOf cut phi report
         → IsSound report (lists_of core.shards) cut.capacity phi }
 {
     runs_stand();

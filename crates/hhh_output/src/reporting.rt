@@ -1,15 +1,16 @@
 //! The report of a cut.
 
-ghost use Rattle.std.specs.Prelude.{◌≡◌, ◌*◌, ◌≤◌, ◌<◌, ◌^◌, List, All, IfOk};
-ghost use Rattle.prefix_lattice.specs.{RecordValue};
+ghost use Rattle.std.specs.Prelude.{◌≡◌, ◌≤◌, ◌<◌, List, All, IfOk};
+ghost use Rattle.prefix_lattice.specs.{RecordValue, total_limit};
 ghost use Rattle.shard_state.specs.{total_of_cut, CutStandsFor};
 ghost use Rattle.hhh_output.specs.Report.{IsReportOf};
 ghost use Rattle.hhh_output.specs.SoundReport.{IsSound};
+ghost use Rattle.hhh_output.specs.Threshold.{million, IsWideShare};
 
 use crate::selecting::select_lines;
 use crate::{Report, reports_are_sound, threshold};
 use conditioned_bounds::only_prefixes_are_asked;
-use cut_merge::{Merged, monitored_keys_are_few, spans_are_narrow};
+use cut_merge::{Merged, merged_intervals_are_narrow, monitored_keys_are_few};
 use shard_state::Cut;
 use std::alloc::{AllocError, Global};
 
@@ -25,16 +26,16 @@ use std::alloc::{AllocError, Global};
 /// tables counted is below 2^60. The only error is that memory runs out.
 pub fn report_of(alloc: Global, cut: &Cut, phi: u32) -> Result<Report, AllocError>
     requires some { 1 ≤ phi }
-    requires most { phi ≤ 1000000 }
-    requires wide { 2000000 ≤ phi * cut.now.capacity }
-    requires bounded { total_of_cut cut.now < 2 ^ 60 }
+    requires most { phi ≤ million }
+    requires wide { IsWideShare phi cut.now.capacity }
+    requires bounded { total_of_cut cut.now < total_limit }
     ensures report { IfOk result (IsReportOf cut.now phi) }
     ensures sound { IfOk result (λ report. (lists : List (List RecordValue)) → CutStandsFor cut.now lists
         → All (λ list. All (λ rec. 1 ≤ rec.weight) list) lists → IsSound report lists cut.now.capacity phi) }
 {
     reports_are_sound();
     monitored_keys_are_few();
-    spans_are_narrow();
+    merged_intervals_are_narrow();
     only_prefixes_are_asked();
     let positions = cut.positions(alloc)?;
     let merged = Merged::of(alloc, cut)?;

@@ -1,8 +1,10 @@
 -- Worked examples of the definitions, most by computing.
-use Rattle.std.proofs.Common.{ℕ, ◌≡◌, ◌-◌, ◌^◌, [], ◌∷◌, length, length-append, ap, None, Some, Ok, Err, true, false, refl, arith}
+use Rattle.std.proofs.Common.{ℕ, ◌≡◌, ◌-◌, ◌^◌, [], ◌∷◌, length, length-append, ap, None, Some, Ok, Err, true}
+use Rattle.std.proofs.Common.{false, refl, arith}
 use Rattle.outside_io.specs.Faults.{counted, Rose, FailsByFault}
 use Rattle.outside_io.specs.Pieces.{IsBeginning, AppendsBeginning}
-use Rattle.outside_io.specs.MemorySink.{MemorySinkState, room_left, write_fails, accepted, sink_after_fault, sink_after_bytes}
+use Rattle.outside_io.specs.MemorySink.{MemorySinkState, room_left, write_fails, accepted, sink_after_fault}
+use Rattle.outside_io.specs.MemorySink.{sink_after_bytes}
 use Rattle.outside_io.specs.MemorySource.{MemorySourceState, read_fails, given, source_after_fault, source_after_bytes}
 
 pub first_fault_is_counted : counted 0 ≡ 1
@@ -64,7 +66,8 @@ piece_that_fits_in_part = refl
 pub bytes_accepted : accepted sink 5 ≡ 1
 bytes_accepted = refl
 
-pub sink_after_a_byte : sink_after_bytes sink (7 ∷ 8 ∷ []) 1 ≡ record { taken = 1 ∷ 2 ∷ 7 ∷ []; room = 3; fails = 4 ∷ []; calls = 4; faults = 0 }
+pub sink_after_a_byte : sink_after_bytes sink (7 ∷ 8 ∷ []) 1
+    ≡ record { taken = 1 ∷ 2 ∷ 7 ∷ []; room = 3; fails = 4 ∷ []; calls = 4; faults = 0 }
 sink_after_a_byte = refl
 
 -- the call number 4 fails, whatever the piece
@@ -81,7 +84,8 @@ full_sink_fails = refl
 pub full_sink_takes_an_empty_piece : write_fails full_sink 0 ≡ false
 full_sink_takes_an_empty_piece = refl
 
-pub sink_with_one_fault : sink_after_fault sink ≡ record { taken = 1 ∷ 2 ∷ []; room = 3; fails = 4 ∷ []; calls = 4; faults = 1 }
+pub sink_with_one_fault : sink_after_fault sink
+    ≡ record { taken = 1 ∷ 2 ∷ []; room = 3; fails = 4 ∷ []; calls = 4; faults = 1 }
 sink_with_one_fault = refl
 
 -- a source of three bytes that gives two at a time, and whose call number 0 fails
@@ -91,7 +95,8 @@ source = record { left = 1 ∷ 2 ∷ 3 ∷ []; fails = 0 ∷ []; step = 2; calls
 pub first_call_fails : read_fails source ≡ true
 first_call_fails = refl
 
-pub source_with_one_fault : source_after_fault source ≡ record { left = 1 ∷ 2 ∷ 3 ∷ []; fails = 0 ∷ []; step = 2; calls = 1; faults = 1 }
+pub source_with_one_fault : source_after_fault source
+    ≡ record { left = 1 ∷ 2 ∷ 3 ∷ []; fails = 0 ∷ []; step = 2; calls = 1; faults = 1 }
 source_with_one_fault = refl
 
 pub second_call_gives : read_fails (source_after_fault source) ≡ false
@@ -100,7 +105,8 @@ second_call_gives = refl
 pub bytes_given : given source 10 ≡ 2
 bytes_given = refl
 
-pub source_after_two_bytes : source_after_bytes source 2 ≡ record { left = 3 ∷ []; fails = 0 ∷ []; step = 2; calls = 1; faults = 0 }
+pub source_after_two_bytes : source_after_bytes source 2
+    ≡ record { left = 3 ∷ []; fails = 0 ∷ []; step = 2; calls = 1; faults = 0 }
 source_after_two_bytes = refl
 
 -- with one byte left no more is given, whatever the step and the room

@@ -1,5 +1,6 @@
 -- What a call gives of the bytes that a source in memory has left.
-use Rattle.std.proofs.Common.{◌≡◌, ℕ, ◌<◌, ◌≤◌, List, [], ◌++◌, length, take, drop, min, sym, ap, ◌∙◌, arith, length-take-le, take-append-drop}
+use Rattle.std.proofs.Common.{◌≡◌, ℕ, ◌<◌, ◌≤◌, List, [], ◌++◌, length, take, drop, min, sym, ap, ◌∙◌, arith}
+use Rattle.std.proofs.Common.{length-take-le, take-append-drop}
 use Rattle.std.proofs.lemmas.List.{take_at}
 use Rattle.std.proofs.Math.ListN.{drop_of_length-le}
 
@@ -7,10 +8,13 @@ use Rattle.std.proofs.Math.ListN.{drop_of_length-le}
 pub given_then_left : (left room filled after : List ℕ) (count : ℕ) → count ≤ length left
     → filled ≡ take count left ++ drop count room → after ≡ drop count left → left ≡ take count filled ++ after
 given_then_left left room filled after count fits is_filled is_after =
-    let front : take count (take count left ++ drop count room) ≡ take count left = take_at (take count left) (drop count room) count (length-take-le count left fits) in
-    sym (ap (λ l. take count l ++ after) is_filled ∙ ap (λ l. l ++ after) front ∙ ap (λ l. take count left ++ l) is_after ∙ take-append-drop count left)
+    let front : take count (take count left ++ drop count room) ≡ take count left =
+    take_at (take count left) (drop count room) count (length-take-le count left fits) in
+    sym (ap (λ l. take count l ++ after) is_filled ∙ ap (λ l. l ++ after) front
+    ∙ ap (λ l. take count left ++ l) is_after ∙ take-append-drop count left)
 
 -- a call with room that gives nothing meets the end
 pub none_at_end : (left after : List ℕ) (step room count : ℕ) → 1 ≤ step → 0 < room
     → count ≡ min (min step room) (length left) → count ≡ 0 → after ≡ drop count left → after ≡ []
-none_at_end left after step room count has_step has_room is_count none is_after = is_after ∙ drop_of_length-le left (omega arith)
+none_at_end left after step room count has_step has_room is_count none is_after =
+    is_after ∙ drop_of_length-le left (omega arith)

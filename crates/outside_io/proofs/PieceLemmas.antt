@@ -1,5 +1,6 @@
 -- A text that is written a piece at a time.
-use Rattle.std.proofs.Common.{◌≡◌, ℕ, ◌<◌, List, [], ◌++◌, Option, None, Some, refl, sym, ap, ◌∙◌, append_assoc, append-nil, take, drop, subst, take-append-drop, length, length-append, arith}
+use Rattle.std.proofs.Common.{◌≡◌, ℕ, ◌<◌, List, [], ◌++◌, Option, None, Some, refl, sym, ap, ◌∙◌, append_assoc}
+use Rattle.std.proofs.Common.{append-nil, take, drop, subst, take-append-drop, length, length-append, arith}
 use Rattle.std.specs.Io.KnownBytes.{Appends, Keeps}
 use Rattle.std.proofs.KnownBytes.{Appends-nil, Appends-trans}
 use Rattle.outside_io.specs.Pieces.{AppendsBeginning}
@@ -16,10 +17,13 @@ none_sent taken text = record { front = []; joined = refl; appended = Appends-ni
 
 -- one more piece is sent
 pub more_sent : (old mid new : Option (List ℕ)) (text rest : List ℕ) (count : ℕ)
-    → IsSent old mid text rest → Appends mid new (take count rest) → (after : List ℕ) → after ≡ drop count rest → IsSent old new text after
+    → IsSent old mid text rest → Appends mid new (take count rest) → (after : List ℕ) → after ≡ drop count rest
+    → IsSent old new text after
 more_sent old mid new text rest count sent took after is_after = subst (IsSent old new text) (sym is_after) (record {
   front = sent.front ++ take count rest;
-  joined = sent.joined ∙ ap (λ l. sent.front ++ l) (sym (take-append-drop count rest)) ∙ sym (append_assoc sent.front (take count rest) (drop count rest));
+  joined =
+      sent.joined ∙ ap (λ l. sent.front ++ l) (sym (take-append-drop count rest))
+      ∙ sym (append_assoc sent.front (take count rest) (drop count rest));
   appended = Appends-trans old mid new sent.front (take count rest) sent.appended took;
 })
 
@@ -28,7 +32,8 @@ pub all_sent : (old new : Option (List ℕ)) (text : List ℕ) → IsSent old ne
 all_sent old new text sent = subst (Appends old new) (sym (sent.joined ∙ append-nil sent.front)) sent.appended
 
 -- what was appended stays where a call takes nothing
-kept_appended : (old mid new : Option (List ℕ)) (front : List ℕ) → Appends old mid front → Keeps mid new → Appends old new front
+kept_appended : (old mid new : Option (List ℕ)) (front : List ℕ) → Appends old mid front → Keeps mid new
+    → Appends old new front
 kept_appended None mid new front took kept = tt
 kept_appended (Some x) None new front took kept = absurd took
 kept_appended (Some x) (Some y) None front took kept = absurd kept

@@ -1,15 +1,20 @@
 -- Worked examples of captures, of their headers and frames, and of first faults.
-use Rattle.std.proofs.Common.{inl, inr, ℕ, zero, suc, ◌≡◌, ◌<◌, ◌≤◌, true, false, List, [], ◌∷◌, ◌++◌, length, take, replicate, slice_index, Some, None, refl, arith}
+use Rattle.std.proofs.Common.{inl, inr, ℕ, zero, suc, ◌≡◌, ◌<◌, ◌≤◌, true, false, List, [], ◌∷◌, ◌++◌, length, take}
+use Rattle.std.proofs.Common.{replicate, slice_index, Some, None, refl, arith, ◌+◌, ◌^◌}
 use Rattle.pcap_frames.specs.declared.file_order.FileOrder.TheVariants.{Big, Little}
 use Rattle.pcap_frames.specs.declared.fault.CaptureFault.{CaptureFault}
-use Rattle.pcap_frames.specs.declared.fault.FaultKind.TheVariants.{ShortHeader, NotCapture, Version, Link, LongFrame, CutFrame, TooManyFrames}
+use Rattle.pcap_frames.specs.declared.fault.FaultKind.TheVariants.{ShortHeader, NotCapture, Version, Link}
+use Rattle.pcap_frames.specs.declared.fault.FaultKind.TheVariants.{LongFrame, CutFrame, TooManyFrames}
 use Rattle.pcap_frames.specs.declared.frame.Frame.{Frame}
 use Rattle.pcap_frames.specs.FileOrder.{number_at}
 use Rattle.pcap_frames.specs.Frame.{FrameValue, content_of}
 use Rattle.pcap_frames.specs.Header.{IsHeader, is_magic, magic_order, fields_fault, header_fault, fault_at}
 use Rattle.pcap_frames.specs.Frames.{frame_at, BeginsFrame, BeginsFrames, needed, frame_fault, IsFrame, AreFrames}
-use Rattle.pcap_frames.specs.Capture.{Splits, IsCapture, ShowsInHeader, ShowsInFrames, ShowsFault, EndsInHeader, EndsInFrame, EndsInside, HasFaultAfter, HasFault}
+use Rattle.pcap_frames.specs.Capture.{Splits, IsCapture, ShowsInHeader, ShowsInFrames, ShowsFault, EndsInHeader}
+use Rattle.pcap_frames.specs.Capture.{EndsInFrame, EndsInside, HasFaultAfter, HasFault}
 use Rattle.pcap_frames.proofs.CaptureLawLemmas.{files_decided}
+use Rattle.pcap_frames.specs.FileFormat.{file_header_length, frame_header_length, head_length, kept_length}
+use Rattle.pcap_frames.specs.FileFormat.{most_captured, most_frames}
 
 -- the header of a little-endian capture
 abbrev pub header : List ℕ
@@ -28,6 +33,28 @@ capture = header ++ frame_bytes
 
 abbrev pub cut_file : List ℕ
 cut_file = header ++ take 18 frame_bytes
+
+-- ---- sizes and limits
+
+pub length_of_the_file_header : length header ≡ file_header_length
+length_of_the_file_header = refl
+
+-- three captured bytes come after the header of their frame
+pub length_of_a_frame_header : length frame_bytes ≡ frame_header_length + 3
+length_of_a_frame_header = refl
+
+-- two hardware addresses, two tags, the type and an IPv4 header
+pub length_of_a_head : 6 + 6 + 4 + 4 + 2 + 20 ≡ head_length
+length_of_a_head = refl
+
+pub length_of_what_is_kept : kept_length ≡ 58
+length_of_what_is_kept = refl
+
+pub most_bytes_of_a_frame : most_captured ≡ 2 ^ 18
+most_bytes_of_a_frame = refl
+
+pub most_frames_of_a_capture : most_frames ≡ 2 ^ 24
+most_frames_of_a_capture = refl
 
 -- ---- the file header
 
@@ -91,7 +118,9 @@ unfolding number_at
 frame_at_the_front = refl
 
 -- of 45 captured bytes the head has 42
-pub head_of_a_greater_frame : frame_at Little (take 8 frame_bytes ++ 45 ∷ 0 ∷ 0 ∷ 0 ∷ 60 ∷ 0 ∷ 0 ∷ 0 ∷ replicate 45 7) ≡ record { head = replicate 42 7; captured = 45; original = 60 }
+pub head_of_a_greater_frame : frame_at Little
+    (take 8 frame_bytes ++ 45 ∷ 0 ∷ 0 ∷ 0 ∷ 60 ∷ 0 ∷ 0 ∷ 0 ∷ replicate 45 7)
+    ≡ record { head = replicate 42 7; captured = 45; original = 60 }
 unfolding number_at
 head_of_a_greater_frame = refl
 
@@ -146,10 +175,21 @@ pub header_alone : IsCapture header []
 header_alone = (Little, record { header = header_and_more [] (omega arith); begins = refl; limit = omega arith })
 
 pub header_a_frame_and_a_rest : Splits cut_file Little [] (take 18 frame_bytes)
-header_a_frame_and_a_rest = record { header = header_and_more (take 18 frame_bytes) (omega arith); begins = refl; limit = omega arith }
+header_a_frame_and_a_rest = record {
+  header = header_and_more (take 18 frame_bytes) (omega arith);
+  begins = refl;
+  limit = omega arith;
+}
 
 pub header_and_frame : IsCapture capture (frame ∷ [])
-header_and_frame = (Little, record { header = header_and_more frame_bytes (omega arith); begins = (whole_frame, refl); limit = omega arith })
+header_and_frame = (
+  Little,
+  record {
+    header = header_and_more frame_bytes (omega arith);
+    begins = (whole_frame, refl);
+    limit = omega arith;
+  },
+)
 
 pub empty_header : EndsInHeader [] [] (fault_at ShortHeader 0)
 unfolding header_fault
@@ -199,7 +239,8 @@ pub fault_of_a_cut_file : HasFaultAfter cut_file [] (fault_at CutFrame 24)
 fault_of_a_cut_file = inr (inr cut_frame)
 
 pub cut_file_is_no_capture : (frames : List FrameValue) → IsCapture cut_file frames → ⊥
-cut_file_is_no_capture frames is = files_decided.never_both cut_file frames (fault_at CutFrame 24) is ([], fault_of_a_cut_file)
+cut_file_is_no_capture frames is =
+    files_decided.never_both cut_file frames (fault_at CutFrame 24) is ([], fault_of_a_cut_file)
 
 pub capture_has_no_fault : (fault : CaptureFault) → HasFault capture fault → ⊥
 capture_has_no_fault fault = files_decided.never_both capture (frame ∷ []) fault header_and_frame
@@ -227,5 +268,6 @@ long_frame = (frame ∷ [], inl (inr long_frame_behind_another))
 
 -- ---- what a visitor is shown
 
-pub content_of_a_frame : (shown : Frame) → shown.head.now ≡ 7 ∷ 8 ∷ 9 ∷ [] → shown.captured ≡ 3 → shown.original ≡ 100 → content_of shown ≡ frame
+pub content_of_a_frame : (shown : Frame) → shown.head.now ≡ 7 ∷ 8 ∷ 9 ∷ [] → shown.captured ≡ 3
+    → shown.original ≡ 100 → content_of shown ≡ frame
 content_of_a_frame shown head captured original = cc

@@ -1,5 +1,6 @@
 -- Worked examples of what a reader keeps, answers and shows, between two pieces of a capture.
-use Rattle.std.proofs.Common.{inl, ℕ, ◌≡◌, ◌≤◌, List, [], ◌∷◌, ◌++◌, length, take, Some, None, Ok, Err, refl, ap, sym, subst₂, ◌∙◌, append-nil, subst, arith}
+use Rattle.std.proofs.Common.{inl, ℕ, ◌≡◌, ◌≤◌, List, [], ◌∷◌, ◌++◌, length, take, Some, None, Ok, Err, refl, ap}
+use Rattle.std.proofs.Common.{sym, subst₂, ◌∙◌, append-nil, subst, arith}
 use Rattle.pcap_frames.specs.declared.fault.FaultKind.TheVariants.{NotCapture, CutFrame}
 use Rattle.pcap_frames.specs.declared.fault.FeedFault.TheVariants.{Refused, OutOfMemory}
 use Rattle.pcap_frames.specs.declared.file_order.FileOrder.TheVariants.{Little}
@@ -10,14 +11,17 @@ use Rattle.pcap_frames.specs.FileOrder.{number_at}
 use Rattle.pcap_frames.specs.Frame.{FrameValue}
 use Rattle.pcap_frames.specs.Header.{magic_order, header_fault, fault_at}
 use Rattle.pcap_frames.specs.Frames.{frame_at, needed, frame_fault}
-use Rattle.pcap_frames.specs.ReaderState.{FramePlace, ReaderState, InHeader, InFrames, AtFault, LacksMemory, IsPartHeader, IsBehind, ReaderStandsFor, Completes, HasStopped, Advances}
+use Rattle.pcap_frames.specs.ReaderState.{FramePlace, ReaderState, InHeader, InFrames, AtFault, LacksMemory}
+use Rattle.pcap_frames.specs.ReaderState.{IsPartHeader, IsBehind, ReaderRepresents, Completes, HasStopped, Advances}
 use Rattle.pcap_frames.specs.FrontValue.{FrontValue}
 use Rattle.pcap_frames.specs.Part.{frame_place, state_of, IsWithin, IsInStage}
 use Rattle.pcap_frames.specs.Steps.{held_frames, SplitsFrame, Takes, ShowsFront, LacksRoom}
 use Rattle.pcap_frames.specs.Visitor.{Sees, IsAlike}
 use Rattle.pcap_frames.specs.Feeding.{IsAnswerOf, IfMemory, Feeds, SeesBeginning, IsAnswerTo, IsEndOf}
 use Rattle.pcap_frames.proofs.CaptureLawLemmas.{files_decided, fronts_decided}
-use Rattle.pcap_frames.proofs.Examples.{header, frame_bytes, frame, capture, cut_file, header_and_more, header_a_frame_and_a_rest, whole_frame, frame_of_three_bytes, header_and_frame, compressed_header, fault_of_a_cut_file}
+use Rattle.pcap_frames.proofs.Examples.{header, frame_bytes, frame, capture, cut_file, header_and_more}
+use Rattle.pcap_frames.proofs.Examples.{header_a_frame_and_a_rest, whole_frame, frame_of_three_bytes}
+use Rattle.pcap_frames.proofs.Examples.{header_and_frame, compressed_header, fault_of_a_cut_file}
 
 -- ---- a visitor
 
@@ -71,7 +75,8 @@ pub part_is_in_its_stage : IsInStage stage.Frames part
 part_is_in_its_stage = part_of_a_frame
 
 -- a whole frame is never kept
-pub whole_frame_is_in_no_stage : IsInStage stage.Frames (record part { kept = record { first = frame_bytes; came = 19 } }) → ⊥
+pub whole_frame_is_in_no_stage : IsInStage stage.Frames
+    (record part { kept = record { first = frame_bytes; came = 19 } }) → ⊥
 unfolding number_at needed
 whole_frame_is_in_no_stage within = omega (arith, within.cut)
 
@@ -88,14 +93,16 @@ reader_behind_the_header = record {
   came_is = refl;
 }
 
-pub reader_stands_for_the_cut_file : ReaderStandsFor (InFrames at) cut_file []
-reader_stands_for_the_cut_file = reader_behind_the_header
+pub reader_represents_the_cut_file : ReaderRepresents (InFrames at) cut_file []
+reader_represents_the_cut_file = reader_behind_the_header
 
 pub cut_file_completes_no_frame : Completes cut_file []
-cut_file_completes_no_frame = (InFrames at, reader_stands_for_the_cut_file)
+cut_file_completes_no_frame = (InFrames at, reader_represents_the_cut_file)
 
 pub cut_file_completes_not_its_frame : Completes cut_file (frame ∷ []) → ⊥
-cut_file_completes_not_its_frame completes = absurd (let same : frame ∷ [] ≡ [] = fronts_decided.one cut_file [] (frame ∷ []) cut_file_completes_no_frame completes in cc)
+cut_file_completes_not_its_frame completes =
+    absurd (let same : frame ∷ []
+    ≡ [] = fronts_decided.one cut_file [] (frame ∷ []) cut_file_completes_no_frame completes in cc)
 
 pub reader_in_a_frame_goes_on : HasStopped (InFrames at) → ⊥
 reader_in_a_frame_goes_on stopped = stopped
@@ -105,7 +112,9 @@ reader_in_a_frame_answers_ok = refl
 
 -- a cut file shows no fault, since it goes on to a capture
 pub cut_file_is_not_refused : IsAnswerTo {T = ℕ} cut_file (Ok 1)
-cut_file_is_not_refused frames fault shows = files_decided.never_both capture (frame ∷ []) fault header_and_frame (frames, fronts_decided.shown cut_file (9 ∷ []) frames fault shows)
+cut_file_is_not_refused frames fault shows =
+    files_decided.never_both capture (frame ∷ []) fault header_and_frame
+    (frames, fronts_decided.shown cut_file (9 ∷ []) frames fault shows)
 
 pub cut_file_ends_with_a_fault : IsEndOf cut_file [] (Err (Refused (fault_at CutFrame 24)))
 cut_file_ends_with_a_fault = fault_of_a_cut_file
@@ -132,7 +141,7 @@ part_of_a_header = record { kept_is = refl; short = omega arith; none_shown = re
 pub whole_header_is_no_part : IsPartHeader header header [] → ⊥
 whole_header_is_no_part part = omega (arith, part.short)
 
-header_alone_is_passed : ReaderStandsFor (InFrames before_frame) header []
+header_alone_is_passed : ReaderRepresents (InFrames before_frame) header []
 unfolding needed frame_fault
 header_alone_is_passed = record {
   rest = [];
@@ -145,11 +154,15 @@ header_alone_is_passed = record {
   came_is = refl;
 }
 
-pub reader_behind_the_frame : ReaderStandsFor (InFrames behind_frame) capture (frame ∷ [])
+pub reader_behind_the_frame : ReaderRepresents (InFrames behind_frame) capture (frame ∷ [])
 unfolding needed frame_fault
 reader_behind_the_frame = record {
   rest = [];
-  splits = record { header = header_and_more frame_bytes (omega arith); begins = (whole_frame, refl); limit = omega arith };
+  splits = record {
+    header = header_and_more frame_bytes (omega arith);
+    begins = (whole_frame, refl);
+    limit = omega arith;
+  };
   none_shown = refl;
   cut = omega arith;
   count_is = refl;
@@ -162,10 +175,11 @@ pub capture_completes_the_frame : Completes capture (frame ∷ [])
 capture_completes_the_frame = (InFrames behind_frame, reader_behind_the_frame)
 
 -- a reader in the header knows all its bytes
-in_header_advances : (new : ReaderState) (kept bytes : List ℕ) (given : List FrameValue) → ReaderStandsFor new (kept ++ bytes) given → Advances (InHeader kept) new bytes given
+in_header_advances : (new : ReaderState) (kept bytes : List ℕ) (given : List FrameValue)
+    → ReaderRepresents new (kept ++ bytes) given → Advances (InHeader kept) new bytes given
 in_header_advances new kept bytes given stands = record {
-  reads = λ before frames part. subst (λ l. ReaderStandsFor new (l ++ bytes) (frames ++ given)) part.kept_is
-      (subst (λ l. ReaderStandsFor new (kept ++ bytes) (l ++ given)) (sym part.no_frame) stands);
+  reads = λ before frames part. subst (λ l. ReaderRepresents new (l ++ bytes) (frames ++ given)) part.kept_is
+      (subst (λ l. ReaderRepresents new (kept ++ bytes) (l ++ given)) (sym part.no_frame) stands);
 }
 
 pub header_advances_by_its_last_byte : Advances (InHeader (take 23 header)) (InFrames before_frame) (0 ∷ []) []
@@ -194,14 +208,31 @@ album_saw_a_beginning = record {
 -- ---- steps of that reader
 
 pub header_is_taken : Takes (InHeader (take 23 header)) (InFrames before_frame) piece frame_bytes []
-header_is_taken = record { front = 0 ∷ []; joined = refl; some = omega arith; advances = header_advances_by_its_last_byte }
+header_is_taken = record {
+  front = 0 ∷ [];
+  joined = refl;
+  some = omega arith;
+  advances = header_advances_by_its_last_byte;
+}
 
 pub frame_is_split_off : SplitsFrame Little (frame_bytes ++ 1 ∷ []) (1 ∷ []) frame
 unfolding number_at
-frame_is_split_off = record { front = frame_bytes; joined = refl; header = omega arith; limit = omega arith; whole = refl; frame_is = refl }
+frame_is_split_off = record {
+  front = frame_bytes;
+  joined = refl;
+  header = omega arith;
+  limit = omega arith;
+  whole = refl;
+  frame_is = refl;
+}
 
 pub header_shows_no_frame : ShowsFront album [] [] (InHeader (take 23 header)) (InFrames before_frame) piece frame_bytes
-header_shows_no_frame = record { given = []; takes = header_is_taken; are_frames = tt; sees = λ before held. held ∙ sym (append-nil before) }
+header_shows_no_frame = record {
+  given = [];
+  takes = header_is_taken;
+  are_frames = tt;
+  sees = λ before held. held ∙ sym (append-nil before);
+}
 
 pub album_without_room : LacksRoom album [] [] (InHeader (take 23 header)) piece
 album_without_room = record {
@@ -213,9 +244,11 @@ album_without_room = record {
 }
 
 -- a frame that came to its end by another piece
-pub frame_that_was_held : (held : HeldFrame) → held.order ≡ Little → held.kept.first ≡ frame_bytes → held_frames (Some held) ≡ frame ∷ []
+pub frame_that_was_held : (held : HeldFrame) → held.order ≡ Little → held.kept.first ≡ frame_bytes
+    → held_frames (Some held) ≡ frame ∷ []
 unfolding number_at
-frame_that_was_held held order first = subst₂ (λ o bytes. frame_at o bytes ∷ [] ≡ frame ∷ []) (sym order) (sym first) refl
+frame_that_was_held held order first =
+    subst₂ (λ o bytes. frame_at o bytes ∷ [] ≡ frame ∷ []) (sym order) (sym first) refl
 
 pub no_frame_was_held : held_frames None ≡ []
 no_frame_was_held = refl
@@ -225,13 +258,14 @@ no_frame_was_held = refl
 pub compressed_file_is_refused : IsAnswerTo {T = ℕ} (0x1f ∷ 0x8b ∷ 8 ∷ 0 ∷ []) (Err (Refused (fault_at NotCapture 0)))
 compressed_file_is_refused = ([], inl compressed_header)
 
-pub reader_of_a_compressed_file : ReaderStandsFor (AtFault (fault_at NotCapture 0)) (0x1f ∷ 0x8b ∷ 8 ∷ 0 ∷ []) []
+pub reader_of_a_compressed_file : ReaderRepresents (AtFault (fault_at NotCapture 0)) (0x1f ∷ 0x8b ∷ 8 ∷ 0 ∷ []) []
 reader_of_a_compressed_file = inl compressed_header
 
 pub reader_at_a_fault_has_stopped : HasStopped (AtFault (fault_at NotCapture 0))
 reader_at_a_fault_has_stopped = tt
 
-pub reader_at_a_fault_answers_it : IsAnswerOf {T = ℕ} (AtFault (fault_at NotCapture 0)) (Err (Refused (fault_at NotCapture 0)))
+pub reader_at_a_fault_answers_it : IsAnswerOf {T = ℕ} (AtFault (fault_at NotCapture 0))
+    (Err (Refused (fault_at NotCapture 0)))
 reader_at_a_fault_answers_it = refl
 
 pub reader_at_a_fault_answers_nothing_else : IsAnswerOf {T = ℕ} (AtFault (fault_at NotCapture 0)) (Ok 1) → ⊥
@@ -239,8 +273,9 @@ reader_at_a_fault_answers_nothing_else answer = cc
 
 -- ---- want of memory
 
-pub reader_without_memory_stands_for_nothing : (bytes : List ℕ) (frames : List FrameValue) → ReaderStandsFor LacksMemory bytes frames → ⊥
-reader_without_memory_stands_for_nothing bytes frames stands = stands
+pub reader_without_memory_represents_nothing : (bytes : List ℕ) (frames : List FrameValue)
+    → ReaderRepresents LacksMemory bytes frames → ⊥
+reader_without_memory_represents_nothing bytes frames stands = stands
 
 pub other_fact_where_memory_ran_out : IfMemory {T = ℕ} (Err OutOfMemory) (1 ≤ 0) (0 ≤ 1)
 other_fact_where_memory_ran_out = omega arith

@@ -1,4 +1,5 @@
--- Worked examples of what reading a source answers, and of what its visitor saw: of a capture of one frame, and of the file that
+-- Worked examples of what reading a source answers, and of what its visitor saw: of a capture of one frame, and of
+-- the file that
 -- it is without its last byte.
 use Rattle.std.proofs.Common.{◌≡◌, [], ◌∷◌, ◌++◌, length, Some, Ok, Err, refl, ap, sym, ◌∙◌, append-nil, arith}
 use Rattle.pcap_frames.specs.declared.fault.FaultKind.TheVariants.{CutFrame, LongFrame}
@@ -9,7 +10,8 @@ use Rattle.pcap_frames.specs.Capture.{IsOfTheEnd}
 use Rattle.pcap_frames.specs.Visitor.{Sees}
 use Rattle.pcap_frames.specs.Reading.{refusal_of, SeesCapture, SeesBeforeFault, SeesFront, SeesPart, IsSeen, IsReadOf}
 use Rattle.pcap_frames.proofs.CaptureLawLemmas.{files_decided}
-use Rattle.pcap_frames.proofs.Examples.{frame, capture, cut_file, frame_of_three_bytes, header_and_frame, fault_of_a_cut_file, cut_file_is_no_capture, capture_has_no_fault}
+use Rattle.pcap_frames.proofs.Examples.{frame, capture, cut_file, frame_of_three_bytes, header_and_frame}
+use Rattle.pcap_frames.proofs.Examples.{fault_of_a_cut_file, cut_file_is_no_capture, capture_has_no_fault}
 use Rattle.pcap_frames.proofs.ExamplesOfReaders.{album, cut_file_completes_no_frame, capture_completes_the_frame}
 
 -- the album put a frame behind what it held, or nothing
@@ -54,7 +56,8 @@ nothing_is_seen_of_a_cut_frame = record {
 }
 
 -- that a frame is cut is not known before the source is at its end
-pub cut_frame_is_seen_at_the_end : SeesBeforeFault album [] [] (Some (cut_file ++ 9 ∷ [])) (Some (9 ∷ [])) (fault_at CutFrame 24) → ⊥
+pub cut_frame_is_seen_at_the_end : SeesBeforeFault album [] [] (Some (cut_file ++ 9 ∷ [])) (Some (9 ∷ []))
+    (fault_at CutFrame 24) → ⊥
 cut_frame_is_seen_at_the_end seen = absurd (let none_left : 9 ∷ [] ≡ [] = seen.at_end tt in cc)
 
 pub only_the_end_cuts_a_frame : IsOfTheEnd CutFrame × (IsOfTheEnd LongFrame → ⊥)
@@ -62,7 +65,14 @@ only_the_end_cuts_a_frame = (tt, λ ends. ends)
 
 -- the call behind the piece that was the cut file failed
 pub front_is_seen : SeesFront album [] [] (Some capture) (Some (9 ∷ []))
-front_is_seen = record { front = cut_file; frames = []; consumed = refl; completes = cut_file_completes_no_frame; are_frames = tt; sees = sees_nothing }
+front_is_seen = record {
+  front = cut_file;
+  frames = [];
+  consumed = refl;
+  completes = cut_file_completes_no_frame;
+  are_frames = tt;
+  sees = sees_nothing;
+}
 
 -- the whole capture was read, and memory for its frame lacked
 pub part_is_seen : SeesPart album [] [] (Some capture) (Some [])
@@ -77,8 +87,10 @@ part_is_seen = record {
   sees = sees_nothing;
 }
 
-pub seen_at_each_answer : IsSeen album [] (frame ∷ []) (Some capture) (Some []) (Ok 1) × IsSeen album [] [] (Some cut_file) (Some []) (Err (Capture (fault_at CutFrame 24)))
-    × IsSeen album [] [] (Some capture) (Some (9 ∷ [])) (Err ReadFault) × IsSeen album [] [] (Some capture) (Some []) (Err OutOfMemory)
+pub seen_at_each_answer : IsSeen album [] (frame ∷ []) (Some capture) (Some []) (Ok 1)
+    × IsSeen album [] [] (Some cut_file) (Some []) (Err (Capture (fault_at CutFrame 24)))
+    × IsSeen album [] [] (Some capture) (Some (9 ∷ [])) (Err ReadFault)
+    × IsSeen album [] [] (Some capture) (Some []) (Err OutOfMemory)
 seen_at_each_answer = (whole_capture_is_seen, nothing_is_seen_of_a_cut_frame, front_is_seen, part_is_seen)
 
 pub capture_is_read : IsReadOf capture (Ok 1)
@@ -86,7 +98,8 @@ capture_is_read = ((frame ∷ [], header_and_frame, refl), capture_has_no_fault)
 
 pub count_is_of_frames : IsReadOf capture (Ok 2) → ⊥
 count_is_of_frames ((frames, is, counted), none) =
-    let same : frames ≡ frame ∷ [] = files_decided.one_list capture (frame ∷ []) frames header_and_frame is in omega (arith, counted, ap length same)
+    let same : frames ≡ frame ∷ [] = files_decided.one_list capture (frame ∷ []) frames header_and_frame is in
+    omega (arith, counted, ap length same)
 
 pub cut_file_is_refused : IsReadOf cut_file (Err (Capture (fault_at CutFrame 24)))
 cut_file_is_refused = (([], fault_of_a_cut_file), cut_file_is_no_capture)

@@ -1,5 +1,6 @@
 -- The file header under more bytes.
-use Rattle.std.proofs.Common.{ℕ, ◌≡◌, ◌≤◌, false, ltb, eqb, Option, Some, None, List, ◌++◌, length, refl, ◌∙◌, arith, length-append, inl, inr}
+use Rattle.std.proofs.Common.{ℕ, ◌≡◌, ◌≤◌, false, ltb, eqb, Option, Some, None, List, ◌++◌, length, refl, ◌∙◌}
+use Rattle.std.proofs.Common.{arith, length-append, inl, inr}
 use Rattle.std.proofs.lemmas.Bool.{ltb-false, le-ltb, eqb-true, eq-eqb, cases_Bool}
 use Rattle.pcap_frames.specs.declared.file_order.FileOrder.{FileOrder}
 use Rattle.pcap_frames.specs.declared.file_order.FileOrder.TheVariants.{Big, Little}
@@ -18,10 +19,19 @@ magic_order-append bytes more fits =
 pub header_fault-whole : (order : FileOrder) (bytes : List ℕ) → IsHeader order bytes → header_fault bytes ≡ None
 unfolding header_fault
 header_fault-whole order bytes header =
-    rw (le-ltb (length bytes) 4 (omega arith), header.magic, le-ltb (length bytes) 8 (omega arith), eq-eqb _ 2 header.major, eq-eqb _ 4 header.minor, le-ltb (length bytes) 24 header.whole, eq-eqb _ 1 header.link) refl
+    rw (
+      le-ltb (length bytes) 4 (omega arith),
+      header.magic,
+      le-ltb (length bytes) 8 (omega arith),
+      eq-eqb _ 2 header.major,
+      eq-eqb _ 4 header.minor,
+      le-ltb (length bytes) 24 header.whole,
+      eq-eqb _ 1 header.link,
+    ) refl
 
 -- 24 bytes whose magic shows an order and whose fields show nothing wrong are a whole header
-fields_right : (order : FileOrder) (bytes : List ℕ) → magic_order bytes ≡ Some order → 24 ≤ length bytes → fields_fault (Some order) bytes ≡ None → IsHeader order bytes
+fields_right : (order : FileOrder) (bytes : List ℕ) → magic_order bytes ≡ Some order → 24 ≤ length bytes
+    → fields_fault (Some order) bytes ≡ None → IsHeader order bytes
 fields_right order bytes magic whole none =
     let short : ltb (length bytes) 8 ≡ false = le-ltb (length bytes) 8 (omega arith) in
     let long : ltb (length bytes) 24 ≡ false = le-ltb (length bytes) 24 whole in
@@ -32,25 +42,34 @@ fields_right order bytes magic whole none =
         | inr minor ↦ absurd (let wrong = rw minor at second in cc)
         | inl minor ↦ let third = rw minor at second in elim (cases_Bool (eqb (number_at order 4 20 bytes) 1)) [
           | inr link ↦ absurd (let wrong = rw link at third in cc)
-          | inl link ↦ record { whole = whole; magic = magic; major = eqb-true _ 2 major; minor = eqb-true _ 4 minor; link = eqb-true _ 1 link }
+          | inl link ↦ record {
+            whole = whole;
+            magic = magic;
+            major = eqb-true _ 2 major;
+            minor = eqb-true _ 4 minor;
+            link = eqb-true _ 1 link;
+          }
         ]
       ]
     ]
 
 -- the magic of a header that shows nothing wrong
-right_by_magic : (magic : Option FileOrder) (bytes : List ℕ) → magic_order bytes ≡ magic → 24 ≤ length bytes → fields_fault magic bytes ≡ None → (order : FileOrder) × IsHeader order bytes
+right_by_magic : (magic : Option FileOrder) (bytes : List ℕ) → magic_order bytes ≡ magic → 24 ≤ length bytes
+    → fields_fault magic bytes ≡ None → (order : FileOrder) × IsHeader order bytes
 right_by_magic None bytes is whole none = absurd cc
 right_by_magic (Some order) bytes is whole none = (order, fields_right order bytes is whole none)
 
 -- 24 bytes that show nothing wrong are a whole header
-pub header_whole : (bytes : List ℕ) → 24 ≤ length bytes → header_fault bytes ≡ None → (order : FileOrder) × IsHeader order bytes
+pub header_whole : (bytes : List ℕ) → 24 ≤ length bytes → header_fault bytes ≡ None
+    → (order : FileOrder) × IsHeader order bytes
 unfolding header_fault
 header_whole bytes whole none =
     let long : ltb (length bytes) 4 ≡ false = le-ltb (length bytes) 4 (omega arith) in
     right_by_magic (magic_order bytes) bytes refl whole (rw long at none)
 
 -- the order of a header that shows nothing wrong is that of its magic
-pub header_of_order : (order : FileOrder) (bytes : List ℕ) → 24 ≤ length bytes → header_fault bytes ≡ None → magic_order bytes ≡ Some order → IsHeader order bytes
+pub header_of_order : (order : FileOrder) (bytes : List ℕ) → 24 ≤ length bytes → header_fault bytes ≡ None
+    → magic_order bytes ≡ Some order → IsHeader order bytes
 unfolding header_fault
 header_of_order order bytes whole none magic =
     let long : ltb (length bytes) 4 ≡ false = le-ltb (length bytes) 4 (omega arith) in
@@ -71,7 +90,8 @@ IsHeader-append order bytes more header = record {
 }
 
 -- the fields' fault stays under more bytes
-fields_fault-append : (magic : Option FileOrder) (bytes more : List ℕ) (fault : CaptureFault) → fields_fault magic bytes ≡ Some fault → fields_fault magic (bytes ++ more) ≡ Some fault
+fields_fault-append : (magic : Option FileOrder) (bytes more : List ℕ) (fault : CaptureFault)
+    → fields_fault magic bytes ≡ Some fault → fields_fault magic (bytes ++ more) ≡ Some fault
 fields_fault-append None bytes more fault shown = shown
 fields_fault-append (Some order) bytes more fault shown = elim (cases_Bool (ltb (length bytes) 8)) [
   | inl short ↦ absurd (let wrong = rw short at shown in cc)
@@ -82,26 +102,30 @@ fields_fault-append (Some order) bytes more fault shown = elim (cases_Bool (ltb 
       rw (longer, number_at-append order 2 4 bytes more (omega arith), number_at-append order 2 6 bytes more eight) (
       elim (cases_Bool (eqb (number_at order 2 4 bytes) 2)) [
         | inr major ↦ rw major (rw major at first)
-        | inl major ↦ let second = rw major at first in rw major (elim (cases_Bool (eqb (number_at order 2 6 bytes) 4)) [
-          | inr minor ↦ rw minor (rw minor at second)
-          | inl minor ↦ let third = rw minor at second in rw minor (elim (cases_Bool (ltb (length bytes) 24)) [
-            | inl part ↦ absurd (let wrong = rw part at third in cc)
-            | inr all ↦
-                let whole : 24 ≤ length bytes = ltb-false (length bytes) 24 all in
-                let long : ltb (length (bytes ++ more)) 24 ≡ false = le-ltb _ 24 (omega (arith, length-append bytes more)) in
-                rw (long, number_at-append order 4 20 bytes more whole) (rw all at third)
-          ])
-        ])
+        | inl major ↦ let second = rw major at first in
+            rw major (elim (cases_Bool (eqb (number_at order 2 6 bytes) 4)) [
+              | inr minor ↦ rw minor (rw minor at second)
+              | inl minor ↦ let third = rw minor at second in rw minor (elim (cases_Bool (ltb (length bytes) 24)) [
+                | inl part ↦ absurd (let wrong = rw part at third in cc)
+                | inr all ↦
+                    let whole : 24 ≤ length bytes = ltb-false (length bytes) 24 all in
+                    let long : ltb (length (bytes ++ more)) 24 ≡ false =
+                    le-ltb _ 24 (omega (arith, length-append bytes more)) in
+                    rw (long, number_at-append order 4 20 bytes more whole) (rw all at third)
+              ])
+            ])
       ])
 ]
 
 -- a fault that the header shows stays under more bytes
-pub header_fault-append : (bytes more : List ℕ) (fault : CaptureFault) → header_fault bytes ≡ Some fault → header_fault (bytes ++ more) ≡ Some fault
+pub header_fault-append : (bytes more : List ℕ) (fault : CaptureFault) → header_fault bytes ≡ Some fault
+    → header_fault (bytes ++ more) ≡ Some fault
 unfolding header_fault
 header_fault-append bytes more fault shown = elim (cases_Bool (ltb (length bytes) 4)) [
   | inl short ↦ absurd (let wrong = rw short at shown in cc)
   | inr past ↦
       let four : 4 ≤ length bytes = ltb-false (length bytes) 4 past in
       let longer : ltb (length (bytes ++ more)) 4 ≡ false = le-ltb _ 4 (omega (arith, length-append bytes more)) in
-      rw (longer, magic_order-append bytes more four) (fields_fault-append (magic_order bytes) bytes more fault (rw past at shown))
+      rw (longer, magic_order-append bytes more four)
+      (fields_fault-append (magic_order bytes) bytes more fault (rw past at shown))
 ]

@@ -1,5 +1,6 @@
 -- Frames under more bytes, and one frame more.
-use Rattle.std.proofs.Common.{ℕ, ◌≡◌, ◌+◌, ◌*◌, ◌≤◌, ◌<◌, true, false, ltb, eqb, Some, List, [], ◌∷◌, ◌++◌, length, drop, refl, sym, ap, ◌∙◌, arith, length-append, length-drop, subst, inl, inr}
+use Rattle.std.proofs.Common.{ℕ, ◌≡◌, ◌+◌, ◌*◌, ◌≤◌, ◌<◌, true, false, ltb, eqb, Some, List, [], ◌∷◌, ◌++◌, length}
+use Rattle.std.proofs.Common.{drop, refl, sym, ap, ◌∙◌, arith, length-append, length-drop, subst, inl, inr}
 use Rattle.std.proofs.lemmas.Bool.{ltb-true, ltb-false, lt-ltb, le-ltb, cases_Bool, cases_lt}
 use Rattle.std.proofs.lemmas.List.{take-append-le, drop-append-le}
 use Rattle.pcap_frames.specs.declared.file_order.FileOrder.{FileOrder}
@@ -10,7 +11,8 @@ use Rattle.pcap_frames.specs.Frames.{frame_at, BeginsFrame, BeginsFrames, needed
 use Rattle.pcap_frames.proofs.NumberLemmas.{number_at-append}
 
 -- what a frame says stays under more bytes
-pub frame_at-append : (order : FileOrder) (bytes more : List ℕ) → 16 ≤ length bytes → 16 + number_at order 4 8 bytes ≤ length bytes → frame_at order (bytes ++ more) ≡ frame_at order bytes
+pub frame_at-append : (order : FileOrder) (bytes more : List ℕ) → 16 ≤ length bytes
+    → 16 + number_at order 4 8 bytes ≤ length bytes → frame_at order (bytes ++ more) ≡ frame_at order bytes
 frame_at-append order bytes more header room =
     rw (
       number_at-append order 4 8 bytes more (omega arith),
@@ -20,7 +22,8 @@ frame_at-append order bytes more header room =
     ) refl
 
 -- a frame stays under more bytes
-pub BeginsFrame-append : (order : FileOrder) (bytes more : List ℕ) (frame : FrameValue) → BeginsFrame order bytes frame → BeginsFrame order (bytes ++ more) frame
+pub BeginsFrame-append : (order : FileOrder) (bytes more : List ℕ) (frame : FrameValue)
+    → BeginsFrame order bytes frame → BeginsFrame order (bytes ++ more) frame
 BeginsFrame-append order bytes more frame begins =
     let captured : frame.captured ≡ number_at order 4 8 bytes = ap (λ f. f.captured) begins.is_frame in
     let room : 16 + number_at order 4 8 bytes ≤ length bytes = omega (arith, begins.room) in record {
@@ -31,7 +34,8 @@ BeginsFrame-append order bytes more frame begins =
     }
 
 -- frames stay under more bytes
-pub BeginsFrames-append : (order : FileOrder) (bytes : List ℕ) (frames : List FrameValue) (rest more : List ℕ) → BeginsFrames order bytes frames rest → BeginsFrames order (bytes ++ more) frames (rest ++ more)
+pub BeginsFrames-append : (order : FileOrder) (bytes : List ℕ) (frames : List FrameValue) (rest more : List ℕ)
+    → BeginsFrames order bytes frames rest → BeginsFrames order (bytes ++ more) frames (rest ++ more)
 BeginsFrames-append order bytes [] rest more begins = ap (λ l. l ++ more) begins
 BeginsFrames-append order bytes (frame ∷ frames) rest more begins =
     let behind = drop-append-le (16 + frame.captured) bytes more begins.0.room in (
@@ -40,33 +44,41 @@ BeginsFrames-append order bytes (frame ∷ frames) rest more begins =
     )
 
 -- one frame more
-pub BeginsFrames-more : (order : FileOrder) (bytes : List ℕ) (frames : List FrameValue) (rest : List ℕ) (frame : FrameValue) → BeginsFrames order bytes frames rest → BeginsFrame order rest frame → BeginsFrames order bytes (frames ++ frame ∷ []) (drop (16 + frame.captured) rest)
-BeginsFrames-more order bytes [] rest frame begins next = (subst (λ l. BeginsFrame order l frame) begins next, ap (drop (16 + frame.captured)) begins)
-BeginsFrames-more order bytes (first ∷ frames) rest frame begins next = (begins.0, BeginsFrames-more order (drop (16 + first.captured) bytes) frames rest frame begins.1 next)
+pub BeginsFrames-more : (order : FileOrder) (bytes : List ℕ) (frames : List FrameValue) (rest : List ℕ)
+    (frame : FrameValue) → BeginsFrames order bytes frames rest → BeginsFrame order rest frame
+    → BeginsFrames order bytes (frames ++ frame ∷ []) (drop (16 + frame.captured) rest)
+BeginsFrames-more order bytes [] rest frame begins next =
+    (subst (λ l. BeginsFrame order l frame) begins next, ap (drop (16 + frame.captured)) begins)
+BeginsFrames-more order bytes (first ∷ frames) rest frame begins next =
+    (begins.0, BeginsFrames-more order (drop (16 + first.captured) bytes) frames rest frame begins.1 next)
 
 -- the rest is no longer than the bytes, by the limit on frames
-pub BeginsFrames-length : (order : FileOrder) (bytes : List ℕ) (frames : List FrameValue) (rest : List ℕ) → BeginsFrames order bytes frames rest → length bytes ≤ 262160 * length frames + length rest
+pub BeginsFrames-length : (order : FileOrder) (bytes : List ℕ) (frames : List FrameValue) (rest : List ℕ)
+    → BeginsFrames order bytes frames rest → length bytes ≤ 262160 * length frames + length rest
 BeginsFrames-length order bytes [] rest begins = omega (arith, ap length begins)
 BeginsFrames-length order bytes (frame ∷ frames) rest begins =
     let behind = BeginsFrames-length order (drop (16 + frame.captured) bytes) frames rest begins.1 in
     omega (arith, begins.0.limit, length-drop (16 + frame.captured) bytes)
 
 -- the rest is no longer than the bytes
-pub BeginsFrames-shorter : (order : FileOrder) (bytes : List ℕ) (frames : List FrameValue) (rest : List ℕ) → BeginsFrames order bytes frames rest → length rest ≤ length bytes
+pub BeginsFrames-shorter : (order : FileOrder) (bytes : List ℕ) (frames : List FrameValue) (rest : List ℕ)
+    → BeginsFrames order bytes frames rest → length rest ≤ length bytes
 BeginsFrames-shorter order bytes [] rest begins = omega (arith, ap length begins)
 BeginsFrames-shorter order bytes (frame ∷ frames) rest begins =
     let behind = BeginsFrames-shorter order (drop (16 + frame.captured) bytes) frames rest begins.1 in
     omega (arith, length-drop (16 + frame.captured) bytes)
 
 -- a frame that is whole leaves nothing needed
-pub needed-whole : (order : FileOrder) (bytes : List ℕ) (frame : FrameValue) → BeginsFrame order bytes frame → needed order bytes ≤ length bytes
+pub needed-whole : (order : FileOrder) (bytes : List ℕ) (frame : FrameValue) → BeginsFrame order bytes frame
+    → needed order bytes ≤ length bytes
 unfolding needed
 needed-whole order bytes frame begins =
     let captured : frame.captured ≡ number_at order 4 8 bytes = ap (λ f. f.captured) begins.is_frame in
     rw (le-ltb (length bytes) 16 begins.header) (omega (arith, begins.room))
 
 -- what a frame needs, behind its header
-pub needed-header : (order : FileOrder) (bytes : List ℕ) → 16 ≤ length bytes → needed order bytes ≡ 16 + number_at order 4 8 bytes
+pub needed-header : (order : FileOrder) (bytes : List ℕ) → 16 ≤ length bytes
+    → needed order bytes ≡ 16 + number_at order 4 8 bytes
 unfolding needed
 needed-header order bytes header = rw (le-ltb (length bytes) 16 header) refl
 
@@ -83,7 +95,8 @@ needed_least order bytes = elim (cases_lt (length bytes) 16) [
 ]
 
 -- a fault shown behind frames stays under more bytes
-pub frame_fault-append : (order : FileOrder) (count place : ℕ) (rest more : List ℕ) (fault : CaptureFault) → frame_fault order count place rest ≡ Some fault → frame_fault order count place (rest ++ more) ≡ Some fault
+pub frame_fault-append : (order : FileOrder) (count place : ℕ) (rest more : List ℕ) (fault : CaptureFault)
+    → frame_fault order count place rest ≡ Some fault → frame_fault order count place (rest ++ more) ≡ Some fault
 unfolding frame_fault
 frame_fault-append order count place rest more fault shown = elim (cases_Bool (ltb 0 (length rest))) [
   | inr none ↦ absurd (let wrong = rw none at shown in cc)
@@ -97,7 +110,8 @@ frame_fault-append order count place rest more fault shown = elim (cases_Bool (l
           | inl short ↦ absurd (let wrong = rw short at second in cc)
           | inr past ↦
               let header : 16 ≤ length rest = ltb-false (length rest) 16 past in
-              let longer : ltb (length (rest ++ more)) 16 ≡ false = le-ltb _ 16 (omega (arith, length-append rest more)) in
+              let longer : ltb (length (rest ++ more)) 16 ≡ false =
+              le-ltb _ 16 (omega (arith, length-append rest more)) in
               rw (longer, number_at-append order 4 8 rest more (omega arith)) (rw past at second)
         ])
       ])

@@ -1,5 +1,7 @@
 -- What each step of a reader leaves.
-use Rattle.std.proofs.Common.{ℕ, ◌≡◌, ◌+◌, ◌-◌, ◌≤◌, ◌<◌, true, false, ltb, eqb, min, Some, None, List, [], ◌∷◌, ◌++◌, length, take, drop, refl, sym, ap, ◌∙◌, arith, length-append, length-take, subst, inl, inr, append-nil, append_assoc}
+use Rattle.std.proofs.Common.{ℕ, ◌≡◌, ◌+◌, ◌-◌, ◌≤◌, ◌<◌, true, false, ltb, eqb, min, Some, None, List, [], ◌∷◌}
+use Rattle.std.proofs.Common.{◌++◌, length, take, drop, refl, sym, ap, ◌∙◌, arith, length-append, length-take}
+use Rattle.std.proofs.Common.{subst, inl, inr, append-nil, append_assoc}
 use Rattle.std.proofs.lemmas.Bool.{ltb-false, lt-ltb, le-ltb, eqb-false, eq-eqb, cases_Bool, cases_lt}
 use Rattle.std.proofs.lemmas.List.{take_all, take-take, take-append-le, drop-take, drop_all, nil_from_length}
 use Rattle.pcap_frames.specs.declared.file_order.FileOrder.{FileOrder}
@@ -9,7 +11,8 @@ use Rattle.pcap_frames.specs.Frame.{FrameValue}
 use Rattle.pcap_frames.specs.Header.{IsHeader, magic_order, header_fault}
 use Rattle.pcap_frames.specs.Frames.{frame_at, BeginsFrame, BeginsFrames, needed, frame_fault}
 use Rattle.pcap_frames.specs.Capture.{ShowsFault}
-use Rattle.pcap_frames.specs.ReaderState.{FramePlace, ReaderState, InHeader, InFrames, AtFault, LacksMemory, IsBehind, ReaderStandsFor, Advances}
+use Rattle.pcap_frames.specs.ReaderState.{FramePlace, ReaderState, InHeader, InFrames, AtFault, LacksMemory}
+use Rattle.pcap_frames.specs.ReaderState.{IsBehind, ReaderRepresents, Advances}
 use Rattle.pcap_frames.specs.Steps.{SplitsFrame, Takes}
 use Rattle.pcap_frames.proofs.NumberLemmas.{number_at-take, number_at-append}
 use Rattle.pcap_frames.proofs.FileHeaderLemmas.{header_of_order}
@@ -23,14 +26,17 @@ pub take-take_append : (n : ℕ) (xs ys : List ℕ) → take n (take n xs ++ ys)
 take-take_append n xs ys = elim (cases_lt n (length xs)) [
   | inl longer ↦
       let room : length (take n xs) ≡ n = omega (arith, length-take n xs) in
-      take-append-le n (take n xs) ys (omega arith) ∙ take-take n n xs (omega arith) ∙ sym (take-append-le n xs ys (omega arith))
+      take-append-le n (take n xs) ys (omega arith) ∙ take-take n n xs (omega arith)
+      ∙ sym (take-append-le n xs ys (omega arith))
   | inr short ↦ ap (λ l. take n (l ++ ys)) (take_all n xs short)
 ]
 
 -- the least of two fronts
 pub take-take_take : (n m : ℕ) (xs : List ℕ) → take n (take m (take n xs)) ≡ take n (take m xs)
 take-take_take n m xs = elim (cases_lt n m) [
-  | inl longer ↦ ap (take n) (take_all m (take n xs) (omega (arith, length-take n xs))) ∙ take-take n n xs (omega arith) ∙ sym (take-take n m xs (omega arith))
+  | inl longer ↦
+      ap (take n) (take_all m (take n xs) (omega (arith, length-take n xs))) ∙ take-take n n xs (omega arith)
+      ∙ sym (take-take n m xs (omega arith))
   | inr short ↦ ap (take n) (take-take m n xs short)
 ]
 
@@ -50,23 +56,35 @@ some_test-take m xs fits = elim (cases_lt 0 (length xs)) [
 -- the first 58 bytes say what a frame needs
 pub needed-take : (order : FileOrder) (rest : List ℕ) → needed order (take 58 rest) ≡ needed order rest
 unfolding needed
-needed-take order rest = rw (length_test-take 16 58 rest (omega arith), number_at-take order 4 8 58 rest (omega arith)) refl
+needed-take order rest =
+    rw (length_test-take 16 58 rest (omega arith), number_at-take order 4 8 58 rest (omega arith)) refl
 
 -- the first 58 bytes show what a rest shows
-pub frame_fault-take : (order : FileOrder) (count place : ℕ) (rest : List ℕ) → frame_fault order count place (take 58 rest) ≡ frame_fault order count place rest
+pub frame_fault-take : (order : FileOrder) (count place : ℕ) (rest : List ℕ)
+    → frame_fault order count place (take 58 rest) ≡ frame_fault order count place rest
 unfolding frame_fault
 frame_fault-take order count place rest =
-    rw (some_test-take 58 rest (omega arith), length_test-take 16 58 rest (omega arith), number_at-take order 4 8 58 rest (omega arith)) refl
+    rw (
+      some_test-take 58 rest (omega arith),
+      length_test-take 16 58 rest (omega arith),
+      number_at-take order 4 8 58 rest (omega arith),
+    ) refl
 
 -- the first 58 bytes hold what a frame says
 pub frame_at-take : (order : FileOrder) (rest : List ℕ) → frame_at order (take 58 rest) ≡ frame_at order rest
 frame_at-take order rest =
-    rw (number_at-take order 4 8 58 rest (omega arith), number_at-take order 4 12 58 rest (omega arith), drop-take 16 42 rest, take-take_take 42 (number_at order 4 8 rest) (drop 16 rest)) refl
+    rw (
+      number_at-take order 4 8 58 rest (omega arith),
+      number_at-take order 4 12 58 rest (omega arith),
+      drop-take 16 42 rest,
+      take-take_take 42 (number_at order 4 8 rest) (drop 16 rest),
+    ) refl
 
 -- ---- a rest that shows no fault
 
 -- a rest with a frame header that shows no fault stands before the limit on frames and isn't long
-pub right_frame : (order : FileOrder) (count place : ℕ) (rest : List ℕ) → frame_fault order count place rest ≡ None → 16 ≤ length rest → (count ≡ 16777216 → ⊥) × (number_at order 4 8 rest ≤ 262144)
+pub right_frame : (order : FileOrder) (count place : ℕ) (rest : List ℕ) → frame_fault order count place rest ≡ None
+    → 16 ≤ length rest → (count ≡ 16777216 → ⊥) × (number_at order 4 8 rest ≤ 262144)
 unfolding frame_fault
 right_frame order count place rest none header =
     let some : ltb 0 (length rest) ≡ true = lt-ltb 0 (length rest) (omega arith) in
@@ -81,13 +99,15 @@ right_frame order count place rest none header =
     ]
 
 -- a byte behind as many frames as the limit allows is a fault
-pub full_is_fault : (order : FileOrder) (count place : ℕ) (rest : List ℕ) → frame_fault order count place rest ≡ None → count ≡ 16777216 → 0 < length rest → ⊥
+pub full_is_fault : (order : FileOrder) (count place : ℕ) (rest : List ℕ)
+    → frame_fault order count place rest ≡ None → count ≡ 16777216 → 0 < length rest → ⊥
 unfolding frame_fault
 full_is_fault order count place rest none full some =
     let first = rw (lt-ltb 0 (length rest) some, eq-eqb count 16777216 full) at none in cc
 
 -- what a frame that shows no fault needs is bounded
-pub needed_bound : (order : FileOrder) (count place : ℕ) (rest : List ℕ) → frame_fault order count place rest ≡ None → needed order rest ≤ 262160
+pub needed_bound : (order : FileOrder) (count place : ℕ) (rest : List ℕ) → frame_fault order count place rest ≡ None
+    → needed order rest ≤ 262160
 needed_bound order count place rest none = elim (cases_lt (length rest) 16) [
   | inl short ↦ omega (arith, needed-part order rest short)
   | inr past ↦ omega (arith, needed-header order rest past, (right_frame order count place rest none past).1)
@@ -98,18 +118,26 @@ pub needed_at_none : (order : FileOrder) (rest : List ℕ) → rest ≡ [] → n
 needed_at_none order rest none = needed-part order rest (omega (arith, ap length none))
 
 -- a frame needs no less when more of it came
-pub needed_more : (order : FileOrder) (kept front now : List ℕ) → now ≡ take 58 (kept ++ front) → needed order kept ≤ needed order now
+pub needed_more : (order : FileOrder) (kept front now : List ℕ) → now ≡ take 58 (kept ++ front)
+    → needed order kept ≤ needed order now
 needed_more order kept front now is =
-    let same : needed order now ≡ needed order (kept ++ front) = ap (needed order) is ∙ needed-take order (kept ++ front) in
+    let same : needed order now ≡ needed order (kept ++ front) =
+    ap (needed order) is ∙ needed-take order (kept ++ front) in
     elim (cases_lt (length kept) 16) [
       | inl short ↦ omega (arith, needed-part order kept short, needed_least order now)
       | inr past ↦
           let longer : 16 ≤ length (kept ++ front) = omega (arith, length-append kept front) in
-          omega (arith, needed-header order kept past, needed-header order (kept ++ front) longer, number_at-append order 4 8 kept front (omega arith))
+          omega (
+            arith,
+            needed-header order kept past,
+            needed-header order (kept ++ front) longer,
+            number_at-append order 4 8 kept front (omega arith),
+          )
     ]
 
 -- the kept bytes of a whole frame have its header and its head
-pub held_fits : (order : FileOrder) (count place came : ℕ) (now : List ℕ) → frame_fault order count place now ≡ None → length now ≡ min 58 came → needed order now ≤ came
+pub held_fits : (order : FileOrder) (count place came : ℕ) (now : List ℕ) → frame_fault order count place now ≡ None
+    → length now ≡ min 58 came → needed order now ≤ came
     → (16 ≤ length now) × (number_at order 4 8 now ≤ 262144) × (16 + min 42 (number_at order 4 8 now) ≤ length now)
 held_fits order count place came now none size whole =
     let past : 16 ≤ length now = omega (arith, needed_least order now) in
@@ -124,16 +152,18 @@ frame_fault-nil order count place = refl
 -- ---- steps in the file header
 
 -- a new reader stands for no bytes
-pub new_stands : ReaderStandsFor (InHeader []) [] []
+pub new_stands : ReaderRepresents (InHeader []) [] []
 unfolding header_fault
 new_stands = record { kept_is = refl; short = omega arith; none_shown = refl; no_frame = refl }
 
 -- the front of the header that is kept is all of it
-kept_all : (kept front now : List ℕ) → now ≡ take 58 (kept ++ front) → length kept + length front ≤ 24 → now ≡ kept ++ front
+kept_all : (kept front now : List ℕ) → now ≡ take 58 (kept ++ front) → length kept + length front ≤ 24
+    → now ≡ kept ++ front
 kept_all kept front now is fits = is ∙ take_all 58 (kept ++ front) (omega (arith, length-append kept front))
 
 -- less than a header, still
-pub still_header : (kept front now : List ℕ) → now ≡ take 58 (kept ++ front) → length kept + length front < 24 → header_fault now ≡ None → Advances (InHeader kept) (InHeader now) front []
+pub still_header : (kept front now : List ℕ) → now ≡ take 58 (kept ++ front) → length kept + length front < 24
+    → header_fault now ≡ None → Advances (InHeader kept) (InHeader now) front []
 still_header kept front now is short none =
     let all : now ≡ kept ++ front = kept_all kept front now is (omega arith) in
     record {
@@ -147,7 +177,9 @@ still_header kept front now is short none =
     }
 
 -- the header shows a fault
-pub faulty_header : (kept front now : List ℕ) (fault : CaptureFault) → now ≡ take 58 (kept ++ front) → length kept + length front ≤ 24 → header_fault now ≡ Some fault → Advances (InHeader kept) (AtFault fault) front []
+pub faulty_header : (kept front now : List ℕ) (fault : CaptureFault) → now ≡ take 58 (kept ++ front)
+    → length kept + length front ≤ 24 → header_fault now ≡ Some fault
+    → Advances (InHeader kept) (AtFault fault) front []
 faulty_header kept front now fault is fits shown =
     let all : now ≡ kept ++ front = kept_all kept front now is fits in
     record {
@@ -162,17 +194,26 @@ abbrev pub first_place : FileOrder → FramePlace
 first_place order = record { order = order; count = 0; place = 24; kept = []; came = 0 }
 
 -- the header is whole
-pub whole_header : (kept front now : List ℕ) (order : FileOrder) → now ≡ take 58 (kept ++ front) → length kept + length front ≡ 24 → header_fault now ≡ None → magic_order now ≡ Some order → Advances (InHeader kept) (InFrames (first_place order)) front []
+pub whole_header : (kept front now : List ℕ) (order : FileOrder) → now ≡ take 58 (kept ++ front)
+    → length kept + length front ≡ 24 → header_fault now ≡ None → magic_order now ≡ Some order
+    → Advances (InHeader kept) (InFrames (first_place order)) front []
 whole_header kept front now order is whole none magic =
     let all : now ≡ kept ++ front = kept_all kept front now is (omega arith) in
     record {
       reads = λ before frames stands.
           let same : now ≡ before ++ front = all ∙ ap (λ l. l ++ front) stands.kept_is in
-          let size : length (before ++ front) ≡ 24 = omega (arith, ap length stands.kept_is, length-append before front) in
-          let header : IsHeader order (before ++ front) = header_of_order order (before ++ front) (omega arith) (subst (λ l. header_fault l ≡ None) same none) (subst (λ l. magic_order l ≡ Some order) same magic) in
+          let size : length (before ++ front) ≡ 24 =
+          omega (arith, ap length stands.kept_is, length-append before front) in
+          let header : IsHeader order (before ++ front) =
+          header_of_order order (before ++ front) (omega arith) (subst (λ l. header_fault l ≡ None) same none)
+          (subst (λ l. magic_order l ≡ Some order) same magic) in
           subst (IsBehind (first_place order) (before ++ front)) (sym (append-nil frames ∙ stands.no_frame)) (record {
             rest = [];
-            splits = record { header = header; begins = sym (drop_all 24 (before ++ front) (omega arith)); limit = omega arith };
+            splits = record {
+              header = header;
+              begins = sym (drop_all 24 (before ++ front) (omega arith));
+              limit = omega arith;
+            };
             none_shown = frame_fault-nil order 0 24;
             cut = omega (arith, needed_least order []);
             count_is = refl;
@@ -185,20 +226,34 @@ whole_header kept front now order is whole none magic =
 -- ---- steps behind some frames
 
 -- the first bytes of the rest, after more of it came
-kept_more : (at : FramePlace) (before front now : List ℕ) (frames : List FrameValue) (stands : IsBehind at before frames) → now ≡ take 58 (at.kept ++ front) → now ≡ take 58 (stands.rest ++ front)
-kept_more at before front now frames stands is = is ∙ ap (λ l. take 58 (l ++ front)) stands.kept_is ∙ take-take_append 58 stands.rest front
+kept_more : (at : FramePlace) (before front now : List ℕ) (frames : List FrameValue)
+    (stands : IsBehind at before frames) → now ≡ take 58 (at.kept ++ front) → now ≡ take 58 (stands.rest ++ front)
+kept_more at before front now frames stands is =
+    is ∙ ap (λ l. take 58 (l ++ front)) stands.kept_is ∙ take-take_append 58 stands.rest front
 
 -- more of a frame came, and it isn't whole
-part_so_far : (at : FramePlace) (front now : List ℕ) → now ≡ take 58 (at.kept ++ front) → frame_fault at.order at.count at.place now ≡ None → at.came + length front < needed at.order now
+part_so_far : (at : FramePlace) (front now : List ℕ) → now ≡ take 58 (at.kept ++ front)
+    → frame_fault at.order at.count at.place now ≡ None → at.came + length front < needed at.order now
     → Advances (InFrames at) (InFrames (record at { kept = now; came = at.came + length front })) front []
 part_so_far at front now is none cut = record {
   reads = λ before frames stands.
       let same : now ≡ take 58 (stands.rest ++ front) = kept_more at before front now frames stands is in
-      subst (IsBehind (record at { kept = now; came = at.came + length front }) (before ++ front)) (sym (append-nil frames)) (record {
+      subst (IsBehind (record at { kept = now; came = at.came + length front }) (before ++ front))
+      (sym (append-nil frames)) (record {
         rest = stands.rest ++ front;
         splits = Splits-append before front at.order frames stands.rest stands.splits;
-        none_shown = sym (frame_fault-take at.order at.count at.place (stands.rest ++ front)) ∙ sym (ap (frame_fault at.order at.count at.place) same) ∙ none;
-        cut = omega (arith, cut, ap (needed at.order) same, needed-take at.order (stands.rest ++ front), stands.came_is, length-append stands.rest front);
+        none_shown =
+            sym (frame_fault-take at.order at.count at.place (stands.rest ++ front))
+            ∙ sym (ap (frame_fault at.order at.count at.place) same) ∙ none;
+        cut =
+            omega (
+              arith,
+              cut,
+              ap (needed at.order) same,
+              needed-take at.order (stands.rest ++ front),
+              stands.came_is,
+              length-append stands.rest front,
+            );
         count_is = stands.count_is;
         place_is = omega (arith, stands.place_is, length-append stands.rest front, length-append before front);
         kept_is = same;
@@ -207,23 +262,33 @@ part_so_far at front now is none cut = record {
 }
 
 -- the same, by how many bytes came
-pub part_of_frame : (at : FramePlace) (front now : List ℕ) (total : ℕ) → now ≡ take 58 (at.kept ++ front) → total ≡ at.came + length front → frame_fault at.order at.count at.place now ≡ None → total < needed at.order now
+pub part_of_frame : (at : FramePlace) (front now : List ℕ) (total : ℕ) → now ≡ take 58 (at.kept ++ front)
+    → total ≡ at.came + length front → frame_fault at.order at.count at.place now ≡ None
+    → total < needed at.order now
     → Advances (InFrames at) (InFrames (record at { kept = now; came = total })) front []
 part_of_frame at front now total is sum none cut =
-    subst (λ n. Advances (InFrames at) (InFrames (record at { kept = now; came = n })) front []) (sym sum) (part_so_far at front now is none (omega arith))
+    subst (λ n. Advances (InFrames at) (InFrames (record at { kept = now; came = n })) front []) (sym sum)
+    (part_so_far at front now is none (omega arith))
 
 -- the rest shows a fault
-pub faulty_frame : (at : FramePlace) (front now : List ℕ) (fault : CaptureFault) → now ≡ take 58 (at.kept ++ front) → frame_fault at.order at.count at.place now ≡ Some fault → Advances (InFrames at) (AtFault fault) front []
+pub faulty_frame : (at : FramePlace) (front now : List ℕ) (fault : CaptureFault) → now ≡ take 58 (at.kept ++ front)
+    → frame_fault at.order at.count at.place now ≡ Some fault → Advances (InFrames at) (AtFault fault) front []
 faulty_frame at front now fault is shown = record {
   reads = λ before frames stands.
       let same : now ≡ take 58 (stands.rest ++ front) = kept_more at before front now frames stands is in
-      let place : at.place ≡ length (before ++ front) - length (stands.rest ++ front) = omega (arith, stands.place_is, length-append stands.rest front, length-append before front) in
-      let here : frame_fault at.order at.count at.place (stands.rest ++ front) ≡ Some fault = sym (frame_fault-take at.order at.count at.place (stands.rest ++ front)) ∙ sym (ap (frame_fault at.order at.count at.place) same) ∙ shown in
+      let place : at.place ≡ length (before ++ front) - length (stands.rest ++ front) =
+      omega (arith, stands.place_is, length-append stands.rest front, length-append before front) in
+      let here : frame_fault at.order at.count at.place (stands.rest ++ front) ≡ Some fault =
+      sym (frame_fault-take at.order at.count at.place (stands.rest ++ front))
+      ∙ sym (ap (frame_fault at.order at.count at.place) same) ∙ shown in
       subst (λ l. ShowsFault (before ++ front) l fault) (sym (append-nil frames)) (inr (record {
         order = at.order;
         rest = stands.rest ++ front;
         splits = Splits-append before front at.order frames stands.rest stands.splits;
-        shown = subst (λ p. frame_fault at.order (length frames) p (stands.rest ++ front) ≡ Some fault) place (subst (λ n. frame_fault at.order n at.place (stands.rest ++ front) ≡ Some fault) stands.count_is here);
+        shown =
+            subst (λ p. frame_fault at.order (length frames) p (stands.rest ++ front) ≡ Some fault) place
+            (subst (λ n. frame_fault at.order n at.place (stands.rest ++ front) ≡ Some fault) stands.count_is
+            here);
       }));
 }
 
@@ -232,19 +297,32 @@ abbrev pub next_place : FramePlace → ℕ → FramePlace
 next_place at size = record { order = at.order; count = at.count + 1; place = at.place + size; kept = []; came = 0 }
 
 -- the rest is one frame
-one_frame : (at : FramePlace) (before front : List ℕ) (frames : List FrameValue) (stands : IsBehind at before frames) → BeginsFrame at.order (stands.rest ++ front) (frame_at at.order (stands.rest ++ front))
+one_frame : (at : FramePlace) (before front : List ℕ) (frames : List FrameValue)
+    (stands : IsBehind at before frames)
+    → BeginsFrame at.order (stands.rest ++ front) (frame_at at.order (stands.rest ++ front))
     → length (stands.rest ++ front) ≡ 16 + number_at at.order 4 8 (stands.rest ++ front) → (at.count ≡ 16777216 → ⊥)
-    → IsBehind (next_place at (length (stands.rest ++ front))) (before ++ front) (frames ++ frame_at at.order (stands.rest ++ front) ∷ [])
+    → IsBehind (next_place at (length (stands.rest ++ front))) (before ++ front)
+    (frames ++ frame_at at.order (stands.rest ++ front) ∷ [])
 one_frame at before front frames stands begins size room =
     let rest = stands.rest ++ front in
     let splits = Splits-append before front at.order frames stands.rest stands.splits in
-    let none : drop (16 + number_at at.order 4 8 (stands.rest ++ front)) (stands.rest ++ front) ≡ [] = drop_all _ (stands.rest ++ front) (omega arith) in record {
+    let none : drop (16 + number_at at.order 4 8 (stands.rest ++ front)) (stands.rest ++ front) ≡ [] =
+    drop_all _ (stands.rest ++ front) (omega arith) in record {
       rest = [];
       splits = record {
         header = splits.header;
-        begins = subst (BeginsFrames at.order (drop 24 (before ++ front)) (frames ++ frame_at at.order (stands.rest ++ front) ∷ [])) none
-            (BeginsFrames-more at.order (drop 24 (before ++ front)) frames (stands.rest ++ front) _ splits.begins begins);
-        limit = omega (arith, stands.splits.limit, stands.count_is, length-append frames (frame_at at.order (stands.rest ++ front) ∷ []));
+        begins =
+            subst (BeginsFrames at.order (drop 24 (before ++ front))
+            (frames ++ frame_at at.order (stands.rest ++ front) ∷ [])) none
+            (BeginsFrames-more at.order (drop 24 (before ++ front)) frames (stands.rest ++ front) _ splits.begins
+            begins);
+        limit =
+            omega (
+              arith,
+              stands.splits.limit,
+              stands.count_is,
+              length-append frames (frame_at at.order (stands.rest ++ front) ∷ []),
+            );
       };
       none_shown = frame_fault-nil at.order _ _;
       cut = omega (arith, needed_least at.order []);
@@ -255,57 +333,107 @@ one_frame at before front frames stands begins size room =
     }
 
 -- the kept frame is whole
-whole_so_far : (at : FramePlace) (front now : List ℕ) → now ≡ take 58 (at.kept ++ front) → frame_fault at.order at.count at.place now ≡ None → 16 ≤ at.came + length front → at.came + length front ≡ needed at.order now
+whole_so_far : (at : FramePlace) (front now : List ℕ) → now ≡ take 58 (at.kept ++ front)
+    → frame_fault at.order at.count at.place now ≡ None → 16 ≤ at.came + length front
+    → at.came + length front ≡ needed at.order now
     → Advances (InFrames at) (InFrames (next_place at (at.came + length front))) front (frame_at at.order now ∷ [])
 whole_so_far at front now is none header size = record {
   reads = λ before frames stands.
       let same : now ≡ take 58 (stands.rest ++ front) = kept_more at before front now frames stands is in
-      let here : frame_fault at.order at.count at.place (stands.rest ++ front) ≡ None = sym (frame_fault-take at.order at.count at.place (stands.rest ++ front)) ∙ sym (ap (frame_fault at.order at.count at.place) same) ∙ none in
-      let came : at.came + length front ≡ length (stands.rest ++ front) = omega (arith, stands.came_is, length-append stands.rest front) in
+      let here : frame_fault at.order at.count at.place (stands.rest ++ front) ≡ None =
+      sym (frame_fault-take at.order at.count at.place (stands.rest ++ front))
+      ∙ sym (ap (frame_fault at.order at.count at.place) same) ∙ none in
+      let came : at.came + length front ≡ length (stands.rest ++ front) =
+      omega (arith, stands.came_is, length-append stands.rest front) in
       let past : 16 ≤ length (stands.rest ++ front) = omega arith in
       let right = right_frame at.order at.count at.place (stands.rest ++ front) here past in
       let whole : length (stands.rest ++ front) ≡ 16 + number_at at.order 4 8 (stands.rest ++ front) =
-      sym came ∙ size ∙ ap (needed at.order) same ∙ needed-take at.order (stands.rest ++ front) ∙ needed-header at.order (stands.rest ++ front) past in
-      let begins : BeginsFrame at.order (stands.rest ++ front) (frame_at at.order (stands.rest ++ front)) = record { header = past; is_frame = refl; limit = right.1; room = omega (arith, whole) } in
-      let frame_is : frame_at at.order now ≡ frame_at at.order (stands.rest ++ front) = ap (frame_at at.order) same ∙ frame_at-take at.order (stands.rest ++ front) in
+      sym came ∙ size ∙ ap (needed at.order) same ∙ needed-take at.order (stands.rest ++ front)
+      ∙ needed-header at.order (stands.rest ++ front) past in
+      let begins : BeginsFrame at.order (stands.rest ++ front) (frame_at at.order (stands.rest ++ front)) = record {
+        header = past;
+        is_frame = refl;
+        limit = right.1;
+        room = omega (arith, whole);
+      } in
+      let frame_is : frame_at at.order now ≡ frame_at at.order (stands.rest ++ front) =
+      ap (frame_at at.order) same ∙ frame_at-take at.order (stands.rest ++ front) in
       subst (λ n. IsBehind (next_place at n) (before ++ front) (frames ++ frame_at at.order now ∷ [])) (sym came)
-      (subst (λ f. IsBehind (next_place at (length (stands.rest ++ front))) (before ++ front) (frames ++ f ∷ [])) (sym frame_is)
+      (subst (λ f. IsBehind (next_place at (length (stands.rest ++ front))) (before ++ front) (frames ++ f ∷ []))
+      (sym frame_is)
       (one_frame at before front frames stands begins whole right.0));
 }
 
 -- the same, by how many bytes came
-pub whole_frame : (at : FramePlace) (front now : List ℕ) (total size : ℕ) → now ≡ take 58 (at.kept ++ front) → total ≡ at.came + length front → frame_fault at.order at.count at.place now ≡ None → total ≡ needed at.order now → size ≡ needed at.order now
+pub whole_frame : (at : FramePlace) (front now : List ℕ) (total size : ℕ) → now ≡ take 58 (at.kept ++ front)
+    → total ≡ at.came + length front → frame_fault at.order at.count at.place now ≡ None
+    → total ≡ needed at.order now → size ≡ needed at.order now
     → Advances (InFrames at) (InFrames (next_place at size)) front (frame_at at.order now ∷ [])
 whole_frame at front now total size is sum none whole is_size =
-    subst (λ n. Advances (InFrames at) (InFrames (next_place at n)) front (frame_at at.order now ∷ [])) (sym sum ∙ whole ∙ sym is_size)
+    subst (λ n. Advances (InFrames at) (InFrames (next_place at n)) front (frame_at at.order now ∷ []))
+    (sym sum ∙ whole ∙ sym is_size)
     (whole_so_far at front now is none (omega (arith, needed_least at.order now)) (sym sum ∙ whole))
 
 -- a frame stands whole in the piece, and nothing of it came before
-frame_in_piece : (at : FramePlace) (front : List ℕ) → at.came ≡ 0 → at.kept ≡ [] → at.count < 16777216 → 16 ≤ length front → number_at at.order 4 8 front ≤ 262144 → length front ≡ 16 + number_at at.order 4 8 front
+frame_in_piece : (at : FramePlace) (front : List ℕ) → at.came ≡ 0 → at.kept ≡ [] → at.count < 16777216
+    → 16 ≤ length front → number_at at.order 4 8 front ≤ 262144 → length front ≡ 16 + number_at at.order 4 8 front
     → Advances (InFrames at) (InFrames (next_place at (length front))) front (frame_at at.order front ∷ [])
 frame_in_piece at front none empty room past fits whole = record {
   reads = λ before frames stands.
       let nothing : stands.rest ≡ [] = nil_from_length stands.rest (sym stands.came_is ∙ none) in
       let same : stands.rest ++ front ≡ front = ap (λ l. l ++ front) nothing in
-      let begins : BeginsFrame at.order front (frame_at at.order front) = record { header = past; is_frame = refl; limit = fits; room = omega (arith, whole) } in
+      let begins : BeginsFrame at.order front (frame_at at.order front) = record {
+        header = past;
+        is_frame = refl;
+        limit = fits;
+        room = omega (arith, whole);
+      } in
       subst (λ l. IsBehind (next_place at (length l)) (before ++ front) (frames ++ frame_at at.order l ∷ [])) same
-      (one_frame at before front frames stands (subst (λ l. BeginsFrame at.order l (frame_at at.order l)) (sym same) begins)
+      (one_frame at before front frames stands
+      (subst (λ l. BeginsFrame at.order l (frame_at at.order l)) (sym same) begins)
       (subst (λ l. length l ≡ 16 + number_at at.order 4 8 l) (sym same) whole) (λ full. omega arith));
 }
 
 -- the same, as a step over the piece
-pub frame_at_front : (at : FramePlace) (piece rest : List ℕ) (frame : FrameValue) (size : ℕ) → SplitsFrame at.order piece rest frame → at.came ≡ 0 → at.kept ≡ [] → at.count < 16777216 → size ≡ length piece - length rest
-    → Takes (InFrames at) (InFrames (record at { count = at.count + 1; place = at.place + size })) piece rest (frame ∷ [])
+pub frame_at_front : (at : FramePlace) (piece rest : List ℕ) (frame : FrameValue) (size : ℕ)
+    → SplitsFrame at.order piece rest frame → at.came ≡ 0 → at.kept ≡ [] → at.count < 16777216
+    → size ≡ length piece - length rest
+    → Takes (InFrames at) (InFrames (record at { count = at.count + 1; place = at.place + size })) piece rest
+    (frame ∷ [])
 frame_at_front at piece rest frame size splits none empty room is_size =
-    let front_is : length splits.front ≡ size = omega (arith, ap length splits.joined, length-append splits.front rest) in
+    let front_is : length splits.front ≡ size =
+    omega (arith, ap length splits.joined, length-append splits.front rest) in
     let step = frame_in_piece at splits.front none empty room splits.header splits.limit splits.whole in
-    let kept = subst (λ l. Advances (InFrames at) (InFrames (record { order = at.order; count = at.count + 1; place = at.place + length splits.front; kept = l; came = 0 })) splits.front (frame_at at.order splits.front ∷ [])) (sym empty) step in
-    let came = subst (λ n. Advances (InFrames at) (InFrames (record { order = at.order; count = at.count + 1; place = at.place + length splits.front; kept = at.kept; came = n })) splits.front (frame_at at.order splits.front ∷ [])) (sym none) kept in
-    let shown = subst (λ f. Advances (InFrames at) (InFrames (record at { count = at.count + 1; place = at.place + length splits.front })) splits.front (f ∷ [])) (sym splits.frame_is) came in record {
+    let kept =
+    subst (λ l.
+    Advances (InFrames at)
+    (InFrames (record {
+      order = at.order;
+      count = at.count + 1;
+      place = at.place + length splits.front;
+      kept = l;
+      came = 0;
+    })) splits.front (frame_at at.order splits.front ∷ [])) (sym empty) step in
+    let came =
+    subst (λ n.
+    Advances (InFrames at)
+    (InFrames (record {
+      order = at.order;
+      count = at.count + 1;
+      place = at.place + length splits.front;
+      kept = at.kept;
+      came = n;
+    })) splits.front (frame_at at.order splits.front ∷ [])) (sym none) kept in
+    let shown = subst (λ f. Advances (InFrames at)
+    (InFrames (record at { count = at.count + 1; place = at.place + length splits.front })) splits.front (f ∷ []))
+    (sym splits.frame_is) came in record {
       front = splits.front;
       joined = splits.joined;
       some = omega (arith, splits.header);
-      advances = subst (λ n. Advances (InFrames at) (InFrames (record at { count = at.count + 1; place = at.place + n })) splits.front (frame ∷ [])) front_is shown;
+      advances =
+          subst (λ n.
+          Advances (InFrames at) (InFrames (record at { count = at.count + 1; place = at.place + n }))
+          splits.front (frame ∷ [])) front_is shown;
     }
 
 -- ---- steps of a reader that has stopped, and steps one after another
@@ -314,7 +442,8 @@ frame_at_front at piece rest frame size splits none empty room is_size =
 pub stays_at_fault : (fault : CaptureFault) (front : List ℕ) → Advances (AtFault fault) (AtFault fault) front []
 stays_at_fault fault front = record {
   reads = λ before frames stands.
-      subst (λ l. ShowsFault (before ++ front) l fault) (sym (append-nil frames)) (ShowsFault-append before front frames fault stands);
+      subst (λ l. ShowsFault (before ++ front) l fault) (sym (append-nil frames))
+      (ShowsFault-append before front frames fault stands);
 }
 
 -- a reader without memory stands for nothing
@@ -325,14 +454,17 @@ stays_without_memory front = record { reads = λ before frames stands. absurd st
 pub Advances-nil : (state : ReaderState) → Advances state state [] []
 Advances-nil state = record {
   reads = λ before frames stands.
-      subst (λ l. ReaderStandsFor state l (frames ++ [])) (sym (append-nil before)) (subst (ReaderStandsFor state before) (sym (append-nil frames)) stands);
+      subst (λ l. ReaderRepresents state l (frames ++ [])) (sym (append-nil before))
+      (subst (ReaderRepresents state before) (sym (append-nil frames)) stands);
 }
 
 -- one step after another
-pub Advances-trans : (old mid new : ReaderState) (front more : List ℕ) (given others : List FrameValue) → Advances old mid front given → Advances mid new more others → Advances old new (front ++ more) (given ++ others)
+pub Advances-trans : (old mid new : ReaderState) (front more : List ℕ) (given others : List FrameValue)
+    → Advances old mid front given → Advances mid new more others
+    → Advances old new (front ++ more) (given ++ others)
 Advances-trans old mid new front more given others first second = record {
   reads = λ before frames stands.
-      subst (λ l. ReaderStandsFor new l (frames ++ (given ++ others))) (append_assoc before front more)
-      (subst (ReaderStandsFor new ((before ++ front) ++ more)) (append_assoc frames given others)
+      subst (λ l. ReaderRepresents new l (frames ++ (given ++ others))) (append_assoc before front more)
+      (subst (ReaderRepresents new ((before ++ front) ++ more)) (append_assoc frames given others)
       (second.reads (before ++ front) (frames ++ given) (first.reads before frames stands)));
 }

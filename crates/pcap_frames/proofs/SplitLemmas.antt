@@ -1,5 +1,6 @@
 -- Two splits of a file into frames, and a split under more bytes.
-use Rattle.std.proofs.Common.{ℕ, ◌≡◌, ◌+◌, ◌-◌, ◌≤◌, Some, List, [], ◌∷◌, ◌++◌, length, drop, refl, sym, ap, ◌∙◌, arith, length-append, subst, inl, inr, ◌⊎◌, append-nil}
+use Rattle.std.proofs.Common.{ℕ, ◌≡◌, ◌+◌, ◌-◌, ◌≤◌, Some, List, [], ◌∷◌, ◌++◌, length, drop, refl, sym, ap, ◌∙◌}
+use Rattle.std.proofs.Common.{arith, length-append, subst, inl, inr, ◌⊎◌, append-nil}
 use Rattle.std.proofs.lemmas.List.{drop-append-le, nil_from_length}
 use Rattle.pcap_frames.specs.declared.file_order.FileOrder.{FileOrder}
 use Rattle.pcap_frames.specs.declared.fault.CaptureFault.{CaptureFault}
@@ -10,19 +11,24 @@ use Rattle.pcap_frames.proofs.FileHeaderLemmas.{IsHeader-append, header_fault-ap
 use Rattle.pcap_frames.proofs.FrameListLemmas.{BeginsFrames-append, frame_fault-append}
 
 -- a split stays under more bytes, which go to its rest
-pub Splits-append : (bytes more : List ℕ) (order : FileOrder) (frames : List FrameValue) (rest : List ℕ) → Splits bytes order frames rest → Splits (bytes ++ more) order frames (rest ++ more)
+pub Splits-append : (bytes more : List ℕ) (order : FileOrder) (frames : List FrameValue) (rest : List ℕ)
+    → Splits bytes order frames rest → Splits (bytes ++ more) order frames (rest ++ more)
 Splits-append bytes more order frames rest splits = record {
   header = IsHeader-append order bytes more splits.header;
-  begins = rw (drop-append-le 24 bytes more splits.header.whole) (BeginsFrames-append order (drop 24 bytes) frames rest more splits.begins);
+  begins =
+      rw (drop-append-le 24 bytes more splits.header.whole)
+      (BeginsFrames-append order (drop 24 bytes) frames rest more splits.begins);
   limit = splits.limit;
 }
 
 -- the rest keeps its place under more bytes
-pub place-append : (bytes rest more : List ℕ) → length (bytes ++ more) - length (rest ++ more) ≡ length bytes - length rest
+pub place-append : (bytes rest more : List ℕ)
+    → length (bytes ++ more) - length (rest ++ more) ≡ length bytes - length rest
 place-append bytes rest more = omega (arith, length-append bytes more, length-append rest more)
 
 -- a fault that is shown stays under more bytes
-pub ShowsFault-append : (bytes more : List ℕ) (frames : List FrameValue) (fault : CaptureFault) → ShowsFault bytes frames fault → ShowsFault (bytes ++ more) frames fault
+pub ShowsFault-append : (bytes more : List ℕ) (frames : List FrameValue) (fault : CaptureFault)
+    → ShowsFault bytes frames fault → ShowsFault (bytes ++ more) frames fault
 ShowsFault-append bytes more frames fault (inl shows) = inl (record {
   shown = header_fault-append bytes more fault shows.shown;
   none_before = shows.none_before;
@@ -31,7 +37,9 @@ ShowsFault-append bytes more frames fault (inr shows) = inr (record {
   order = shows.order;
   rest = shows.rest ++ more;
   splits = Splits-append bytes more shows.order frames shows.rest shows.splits;
-  shown = subst (λ place. frame_fault shows.order (length frames) place (shows.rest ++ more) ≡ Some fault) (sym (place-append bytes shows.rest more))
+  shown =
+      subst (λ place. frame_fault shows.order (length frames) place (shows.rest ++ more) ≡ Some fault)
+      (sym (place-append bytes shows.rest more))
       (frame_fault-append shows.order (length frames) _ shows.rest more fault shows.shown);
 })
 
@@ -40,23 +48,31 @@ abbrev pub IsLast : FileOrder → ℕ → List FrameValue → List ℕ → Type 
 IsLast order limit frames rest = ((frame : FrameValue) → BeginsFrame order rest frame → ⊥) ⊎ (limit ≤ length frames)
 
 -- frames that begin the bytes begin any frames that are the last
-pub last_begins : (order : FileOrder) (bytes : List ℕ) (limit : ℕ) (frames others : List FrameValue) (rest last : List ℕ)
-    → BeginsFrames order bytes frames rest → BeginsFrames order bytes others last → length frames ≤ limit → IsLast order limit others last
+pub last_begins : (order : FileOrder) (bytes : List ℕ) (limit : ℕ) (frames others : List FrameValue)
+    (rest last : List ℕ)
+    → BeginsFrames order bytes frames rest → BeginsFrames order bytes others last → length frames ≤ limit
+    → IsLast order limit others last
     → (more : List FrameValue) × (others ≡ frames ++ more) × BeginsFrames order rest more last
-last_begins order bytes limit [] others rest last here there fits is_last = (others, refl, subst (λ l. BeginsFrames order l others last) (sym here) there)
-last_begins order bytes limit (frame ∷ frames) [] rest last here there fits (inl none) = absurd (none frame (subst (λ l. BeginsFrame order l frame) (sym there) here.0))
+last_begins order bytes limit [] others rest last here there fits is_last =
+    (others, refl, subst (λ l. BeginsFrames order l others last) (sym here) there)
+last_begins order bytes limit (frame ∷ frames) [] rest last here there fits (inl none) =
+    absurd (none frame (subst (λ l. BeginsFrame order l frame) (sym there) here.0))
 last_begins order bytes limit (frame ∷ frames) [] rest last here there fits (inr full) = absurd (omega arith)
 last_begins order bytes limit (frame ∷ frames) (other ∷ others) rest last here there fits is_last =
     let same : other ≡ frame = there.0.is_frame ∙ sym here.0.is_frame in
     let behind = last_begins order (drop (16 + frame.captured) bytes) (limit - 1) frames others rest last here.1
-    (subst (λ (f : FrameValue). BeginsFrames order (drop (16 + f.captured) bytes) others last) same there.1) (omega arith)
+    (subst (λ (f : FrameValue). BeginsFrames order (drop (16 + f.captured) bytes) others last) same there.1)
+    (omega arith)
     (elim is_last [ inl none ↦ inl none | inr full ↦ inr (omega arith) ]) in
-    let joined : other ∷ others ≡ (frame ∷ frames) ++ behind.0 = ap (λ f. f ∷ others) same ∙ ap (λ l. frame ∷ l) behind.1 in
+    let joined : other ∷ others ≡ (frame ∷ frames) ++ behind.0 =
+    ap (λ f. f ∷ others) same ∙ ap (λ l. frame ∷ l) behind.1 in
     (behind.0, joined, behind.2)
 
 -- two lists that are the last and begin the same bytes are one, and so are their rests
-pub last_is_one : (order : FileOrder) (bytes : List ℕ) (limit : ℕ) (frames others : List FrameValue) (rest last : List ℕ)
-    → BeginsFrames order bytes frames rest → BeginsFrames order bytes others last → length frames ≤ limit → length others ≤ limit
+pub last_is_one : (order : FileOrder) (bytes : List ℕ) (limit : ℕ) (frames others : List FrameValue)
+    (rest last : List ℕ)
+    → BeginsFrames order bytes frames rest → BeginsFrames order bytes others last → length frames ≤ limit
+    → length others ≤ limit
     → IsLast order limit frames rest → IsLast order limit others last → (others ≡ frames) × (last ≡ rest)
 last_is_one order bytes limit frames others rest last here there fits fits_too is_last is_last_too =
     let more = last_begins order bytes limit frames others rest last here there fits is_last_too in

@@ -7,7 +7,8 @@ use Rattle.pcap_frames.specs.declared.fault.CaptureFault.{CaptureFault}
 use Rattle.pcap_frames.specs.Frame.{FrameValue}
 use Rattle.pcap_frames.specs.Frames.{AreFrames}
 use Rattle.pcap_frames.specs.Capture.{IsCapture, ShowsFault, HasFaultAfter}
-use Rattle.pcap_frames.specs.ReaderState.{ReaderState, InHeader, InFrames, AtFault, LacksMemory, ReaderStandsFor, Completes, Advances}
+use Rattle.pcap_frames.specs.ReaderState.{ReaderState, InHeader, InFrames, AtFault, LacksMemory, ReaderRepresents}
+use Rattle.pcap_frames.specs.ReaderState.{Completes, Advances}
 use Rattle.pcap_frames.specs.Visitor.{Sees}
 
 -- what a reader in this state returns
@@ -24,18 +25,21 @@ IfMemory (Err (Refused fault)) P Q = P
 IfMemory (Err OutOfMemory) P Q = Q
 
 -- the reader was fed these bytes, and the visitor saw the frames that they complete
-pub record Feeds {V : Type 0} (stands_for : V → List FrameValue → Type 0) (seen saw : V) (old new : ReaderState) (bytes : List ℕ) : Type 0 where
+pub record Feeds {V : Type 0} (represents : V → List FrameValue → Type 0) (seen saw : V) (old new : ReaderState)
+    (bytes : List ℕ) : Type 0 where
   pub given : List FrameValue
   pub advances : Advances old new bytes given
   pub are_frames : AreFrames given
-  pub sees : Sees stands_for seen saw given
+  pub sees : Sees represents seen saw given
 
 -- the visitor saw the first of the frames that these bytes complete: none, some or all
-pub record SeesBeginning {V : Type 0} (stands_for : V → List FrameValue → Type 0) (seen saw : V) (old : ReaderState) (bytes : List ℕ) : Type 0 where
+pub record SeesBeginning {V : Type 0} (represents : V → List FrameValue → Type 0) (seen saw : V) (old : ReaderState)
+    (bytes : List ℕ) : Type 0 where
   pub given : List FrameValue
   pub are_frames : AreFrames given
-  pub sees : Sees stands_for seen saw given
-  pub begins : (before : List ℕ) (frames more : List FrameValue) → ReaderStandsFor old before frames → Completes (before ++ bytes) (frames ++ more) → IsBeginning given more
+  pub sees : Sees represents seen saw given
+  pub begins : (before : List ℕ) (frames more : List FrameValue) → ReaderRepresents old before frames
+      → Completes (before ++ bytes) (frames ++ more) → IsBeginning given more
 
 -- bytes are refused exactly where they show a fault, unless memory ran out
 abbrev pub IsAnswerTo : {T : Type 0} → List ℕ → Result T FeedFault → Type 0

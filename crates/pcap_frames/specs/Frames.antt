@@ -1,6 +1,7 @@
 -- The frames after the file header: a frame header of ts_sec, ts_sub, incl_len and orig_len, four bytes each, and then
 -- incl_len captured bytes (pcap-savefile).
-use Rattle.std.specs.Prelude.{ℕ, ◌≡◌, ◌+◌, ◌≤◌, ◌<◌, ◌^◌, ◌==◌, nat_lt, if◌then◌else◌, min, Option, Some, None, List, [], ◌∷◌, length, take, drop, slice_index}
+use Rattle.std.specs.Prelude.{ℕ, ◌≡◌, ◌+◌, ◌≤◌, ◌<◌, ◌^◌, ◌==◌, nat_lt, if◌then◌else◌, min, Option, Some, None}
+use Rattle.std.specs.Prelude.{List, [], ◌∷◌, length, take, drop, slice_index}
 use Rattle.pcap_frames.specs.FileFormat.{frame_header_length, most_captured, most_frames, head_length}
 use Rattle.std.specs.List.{AllByRecursion}
 use Rattle.pcap_frames.specs.declared.file_order.FileOrder.{FileOrder}
@@ -33,7 +34,9 @@ BeginsFrames order bytes (frame ∷ frames) rest =
 
 -- the least number of bytes that the frame at the front takes, as far as its header is known
 unfoldable pub needed : FileOrder → List ℕ → ℕ
-needed order bytes = if nat_lt (length bytes) frame_header_length then frame_header_length else frame_header_length + number_at order 4 8 bytes
+needed order bytes =
+    if nat_lt (length bytes) frame_header_length then frame_header_length else frame_header_length
+    + number_at order 4 8 bytes
 
 -- the first fault that a rest shows after this many frames, however the file continues; its offset is that of the rest
 unfoldable pub frame_fault : FileOrder → ℕ → ℕ → List ℕ → Option CaptureFault

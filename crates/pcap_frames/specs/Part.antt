@@ -9,7 +9,13 @@ use Rattle.pcap_frames.specs.ReaderState as state
 
 -- this part as a place after some frames
 abbrev pub frame_place : FramePart → state.FramePlace
-frame_place part = record { order = part.order; count = part.count; place = part.place; kept = part.kept.first; came = part.kept.came }
+frame_place part = record {
+  order = part.order;
+  count = part.count;
+  place = part.place;
+  kept = part.kept.first;
+  came = part.kept.came;
+}
 
 -- the state of a reader with this part
 abbrev pub state_of : Stage → FramePart → state.ReaderState

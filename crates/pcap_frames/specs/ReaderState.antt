@@ -43,15 +43,15 @@ pub record IsBehind (at : FramePlace) (bytes : List ℕ) (frames : List FrameVal
   pub came_is : at.came ≡ length rest
 
 -- a reader in this state represents these bytes at the front of a file, which contain these whole frames
-abbrev pub ReaderStandsFor : ReaderState → List ℕ → List FrameValue → Type 0
-ReaderStandsFor (InHeader kept) bytes frames = IsPartHeader kept bytes frames
-ReaderStandsFor (InFrames at) bytes frames = IsBehind at bytes frames
-ReaderStandsFor (AtFault fault) bytes frames = ShowsFault bytes frames fault
-ReaderStandsFor LacksMemory bytes frames = ⊥
+abbrev pub ReaderRepresents : ReaderState → List ℕ → List FrameValue → Type 0
+ReaderRepresents (InHeader kept) bytes frames = IsPartHeader kept bytes frames
+ReaderRepresents (InFrames at) bytes frames = IsBehind at bytes frames
+ReaderRepresents (AtFault fault) bytes frames = ShowsFault bytes frames fault
+ReaderRepresents LacksMemory bytes frames = ⊥
 
 -- the bytes at the front of a file contain exactly these whole frames
 abbrev pub Completes : List ℕ → List FrameValue → Type 0
-Completes bytes frames = (state : ReaderState) × ReaderStandsFor state bytes frames
+Completes bytes frames = (state : ReaderState) × ReaderRepresents state bytes frames
 
 -- a reader that takes no more bytes
 abbrev pub HasStopped : ReaderState → Type 0
@@ -62,4 +62,5 @@ HasStopped LacksMemory = ⊤
 
 -- whatever bytes the reader represented, it now represents them followed by these bytes, which complete these frames
 pub record Advances (old new : ReaderState) (bytes : List ℕ) (given : List FrameValue) : Type 0 where
-  pub reads : (before : List ℕ) (frames : List FrameValue) → ReaderStandsFor old before frames → ReaderStandsFor new (before ++ bytes) (frames ++ given)
+  pub reads : (before : List ℕ) (frames : List FrameValue) → ReaderRepresents old before frames
+      → ReaderRepresents new (before ++ bytes) (frames ++ given)

@@ -20,39 +20,43 @@ refusal_of (feed.Refused fault) = Capture fault
 refusal_of feed.OutOfMemory = OutOfMemory
 
 -- the visitor saw this many frames, the whole capture where the source's bytes are known, and the source is at its end
-pub record SeesCapture {V : Type 0} (stands_for : V → List FrameValue → Type 0) (seen saw : V) (left now : Option (List ℕ)) (count : ℕ) : Type 0 where
+pub record SeesCapture {V : Type 0} (represents : V → List FrameValue → Type 0) (seen saw : V)
+    (left now : Option (List ℕ)) (count : ℕ) : Type 0 where
   pub frames : List FrameValue
   pub counted : length frames ≡ count
   pub limit : count ≤ most_frames
   pub are_frames : AreFrames frames
-  pub sees : Sees stands_for seen saw frames
+  pub sees : Sees represents seen saw frames
   pub capture : IfSome left (λ file. IsCapture file frames)
   pub at_end : IsAtEnd now
 
 -- a front of the source was read, with this first fault after the frames that the visitor saw; it is the file's first
 -- where the source's bytes are known; if the end of the file makes the fault, the source was read to its end
-pub record SeesBeforeFault {V : Type 0} (stands_for : V → List FrameValue → Type 0) (seen saw : V) (left now : Option (List ℕ)) (fault : CaptureFault) : Type 0 where
+pub record SeesBeforeFault {V : Type 0} (represents : V → List FrameValue → Type 0) (seen saw : V)
+    (left now : Option (List ℕ)) (fault : CaptureFault) : Type 0 where
   pub front : List ℕ
   pub frames : List FrameValue
   pub consumed : Consumes left now front
   pub fault_of_front : HasFaultAfter front frames fault
   pub limit : length frames ≤ most_frames
   pub are_frames : AreFrames frames
-  pub sees : Sees stands_for seen saw frames
+  pub sees : Sees represents seen saw frames
   pub first : IfSome left (λ file. HasFaultAfter file frames fault)
   pub at_end : IsOfTheEnd fault.kind → IsAtEnd now
 
 -- a front of the source was read, and the visitor saw the frames that it completes
-pub record SeesFront {V : Type 0} (stands_for : V → List FrameValue → Type 0) (seen saw : V) (left now : Option (List ℕ)) : Type 0 where
+pub record SeesFront {V : Type 0} (represents : V → List FrameValue → Type 0) (seen saw : V)
+    (left now : Option (List ℕ)) : Type 0 where
   pub front : List ℕ
   pub frames : List FrameValue
   pub consumed : Consumes left now front
   pub completes : Completes front frames
   pub are_frames : AreFrames frames
-  pub sees : Sees stands_for seen saw frames
+  pub sees : Sees represents seen saw frames
 
 -- a front of the source was read, and the visitor saw the first of the frames that it completes: none, some or all
-pub record SeesPart {V : Type 0} (stands_for : V → List FrameValue → Type 0) (seen saw : V) (left now : Option (List ℕ)) : Type 0 where
+pub record SeesPart {V : Type 0} (represents : V → List FrameValue → Type 0) (seen saw : V)
+    (left now : Option (List ℕ)) : Type 0 where
   pub front : List ℕ
   pub all : List FrameValue
   pub frames : List FrameValue
@@ -60,19 +64,21 @@ pub record SeesPart {V : Type 0} (stands_for : V → List FrameValue → Type 0)
   pub completes : Completes front all
   pub begins : IsBeginning frames all
   pub are_frames : AreFrames frames
-  pub sees : Sees stands_for seen saw frames
+  pub sees : Sees represents seen saw frames
 
 -- what the visitor saw, for each result
-abbrev pub IsSeen : {V : Type 0} → (V → List FrameValue → Type 0) → V → V → Option (List ℕ) → Option (List ℕ) → Result ℕ ReadRefusal → Type 0
-IsSeen stands_for seen saw left now (Ok count) = SeesCapture stands_for seen saw left now count
-IsSeen stands_for seen saw left now (Err (Capture fault)) = SeesBeforeFault stands_for seen saw left now fault
-IsSeen stands_for seen saw left now (Err ReadFault) = SeesFront stands_for seen saw left now
-IsSeen stands_for seen saw left now (Err OutOfMemory) = SeesPart stands_for seen saw left now
+abbrev pub IsSeen : {V : Type 0} → (V → List FrameValue → Type 0) → V → V → Option (List ℕ) → Option (List ℕ)
+    → Result ℕ ReadRefusal → Type 0
+IsSeen represents seen saw left now (Ok count) = SeesCapture represents seen saw left now count
+IsSeen represents seen saw left now (Err (Capture fault)) = SeesBeforeFault represents seen saw left now fault
+IsSeen represents seen saw left now (Err ReadFault) = SeesFront represents seen saw left now
+IsSeen represents seen saw left now (Err OutOfMemory) = SeesPart represents seen saw left now
 
 -- a capture is read, and a file with a fault is refused for it, unless a read failed or memory ran out
 abbrev pub IsReadOf : List ℕ → Result ℕ ReadRefusal → Type 0
 IsReadOf file (Ok count) =
-    ((frames : List FrameValue) × IsCapture file frames × (length frames ≡ count)) × ((fault : CaptureFault) → HasFault file fault → ⊥)
+    ((frames : List FrameValue) × IsCapture file frames × (length frames ≡ count))
+    × ((fault : CaptureFault) → HasFault file fault → ⊥)
 IsReadOf file (Err (Capture fault)) = HasFault file fault × ((frames : List FrameValue) → IsCapture file frames → ⊥)
 IsReadOf file (Err ReadFault) = ⊤
 IsReadOf file (Err OutOfMemory) = ⊤

@@ -26,19 +26,21 @@ pub record Takes (old new : ReaderState) (piece rest : List ℕ) (given : List F
   pub advances : Advances old new front given
 
 -- the reader took a front of the piece, and the visitor saw the frames that it completes
-pub record ShowsFront {V : Type 0} (stands_for : V → List FrameValue → Type 0) (seen saw : V) (old new : ReaderState) (piece rest : List ℕ) : Type 0 where
+pub record ShowsFront {V : Type 0} (represents : V → List FrameValue → Type 0) (seen saw : V)
+    (old new : ReaderState) (piece rest : List ℕ) : Type 0 where
   pub given : List FrameValue
   pub takes : Takes old new piece rest given
   pub are_frames : AreFrames given
-  pub sees : Sees stands_for seen saw given
+  pub sees : Sees represents seen saw given
 
 -- the visitor ran out of memory for the frame that a front of the piece completes
-pub record LacksRoom {V : Type 0} (stands_for : V → List FrameValue → Type 0) (seen saw : V) (old : ReaderState) (piece : List ℕ) : Type 0 where
+pub record LacksRoom {V : Type 0} (represents : V → List FrameValue → Type 0) (seen saw : V) (old : ReaderState)
+    (piece : List ℕ) : Type 0 where
   pub after : ReaderState
   pub rest : List ℕ
   pub frame : FrameValue
   pub takes : Takes old after piece rest (frame ∷ [])
-  pub alike : IsAlike stands_for seen saw
+  pub alike : IsAlike represents seen saw
 
 -- the frame that was held, if any
 abbrev pub held_frames : Option HeldFrame → List FrameValue

@@ -1,6 +1,7 @@
 //! One frame of a capture, as it is shown to a visitor.
 
 ghost use Rattle.std.specs.Prelude.{◌≡◌, ◌≤◌, length, min};
+ghost use Rattle.pcap_frames.specs.FileFormat.{head_length as head_size, most_captured};
 
 /// A frame: what was captured of one packet, and how long the packet was on the wire.
 #[derive(Clone, Copy)]
@@ -11,6 +12,6 @@ pub struct Frame<'a> {
     pub captured: u32,
     /// The length on the wire in bytes. It may be smaller or greater than `captured`.
     pub original: u32,
-    pub ghost head_length: { length head.now ≡ min 42 captured },
-    pub ghost captured_limit: { captured ≤ 262144 },
+    pub ghost head_length: { length head.now ≡ min head_size captured },
+    pub ghost captured_limit: { captured ≤ most_captured },
 }

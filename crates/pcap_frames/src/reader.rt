@@ -8,7 +8,7 @@ mod part;
 ghost use Rattle.std.specs.Prelude.{◌≡◌, ℕ, ◌<◌, List, [], ◌∷◌, ◌++◌, length, IfOk, OnOk, OnErr, IfSome, IfNone, IsTrue, ◌↔◌};
 ghost use Rattle.pcap_frames.specs.Frame.{FrameValue};
 ghost use Rattle.pcap_frames.specs.Steps.{held_frames};
-ghost use Rattle.pcap_frames.specs.ReaderState.{InHeader, ReaderStandsFor, HasStopped};
+ghost use Rattle.pcap_frames.specs.ReaderState.{InHeader, ReaderRepresents, HasStopped};
 ghost use Rattle.pcap_frames.specs.Feeding.{IsAnswerOf, IfMemory, Feeds, SeesBeginning, IsAnswerTo, IsEndOf};
 
 use crate::header::fault_at;
@@ -45,7 +45,7 @@ impl FrameReader {
     /// A reader that was fed no bytes.
     pub fn new() -> FrameReader
         ensures empty { result ≡ InHeader [] }
-        ensures stands { ReaderStandsFor result [] [] }
+        ensures stands { ReaderRepresents result [] [] }
     {
         FrameReader {
             stage: Stage::Header,
@@ -83,8 +83,8 @@ impl FrameReader {
         visitor: &mut V,
     ) -> Result<&'a [u8], AllocError>
         requires { 0 < length piece.now }
-        ensures ok { IfOk result (λ rest. ShowsFront V.stands_for visitor.old visitor.new self.old self.new piece.now rest.now) }
-        ensures err { OnErr result (LacksRoom V.stands_for visitor.old visitor.new self.old piece.now) }
+        ensures ok { IfOk result (λ rest. ShowsFront V.represents visitor.old visitor.new self.old self.new piece.now rest.now) }
+        ensures err { OnErr result (LacksRoom V.represents visitor.old visitor.new self.old piece.now) }
     {
         if let Some((frame, rest)) = self.whole_frame(piece) {
             visitor.frame(&frame)?;
@@ -99,8 +99,8 @@ impl FrameReader {
 
     /// Shows the visitor the frames that the piece completes.
     fn show_all<V: FrameVisitor>(&mut self, piece: &[u8], visitor: &mut V) -> Result<(), AllocError>
-        ensures ok { OnOk result (Feeds V.stands_for visitor.old visitor.new self.old self.new piece.now) }
-        ensures err { OnErr result (SeesBeginning V.stands_for visitor.old visitor.new self.old piece.now) }
+        ensures ok { OnOk result (Feeds V.represents visitor.old visitor.new self.old self.new piece.now) }
+        ensures err { OnErr result (SeesBeginning V.represents visitor.old visitor.new self.old piece.now) }
     {
         let mut rest = piece;
         while !rest.is_empty() {
@@ -135,12 +135,12 @@ impl FrameReader {
     pub fn feed<V: FrameVisitor>(&mut self, piece: &[u8], visitor: &mut V) -> Result<(), FeedFault>
         // What the reader represents, and what the visitor saw.
         ensures fed { IfMemory result
-            (Feeds V.stands_for visitor.old visitor.new self.old self.new piece.now)
-            (SeesBeginning V.stands_for visitor.old visitor.new self.old piece.now) }
+            (Feeds V.represents visitor.old visitor.new self.old self.new piece.now)
+            (SeesBeginning V.represents visitor.old visitor.new self.old piece.now) }
 
         // When each result is returned.
         ensures answer { IsAnswerOf self.new result }
-        ensures exact { (before : List ℕ) (frames : List FrameValue) → ReaderStandsFor self.old before frames
+        ensures exact { (before : List ℕ) (frames : List FrameValue) → ReaderRepresents self.old before frames
             → IsAnswerTo (before ++ piece.now) result }
 
         // After a fault, or after memory ran out, nothing changes.
@@ -164,7 +164,7 @@ impl FrameReader {
     /// returns that again.
     pub fn finish(self) -> Result<u64, FeedFault>
         ensures stopped { HasStopped self → IsAnswerOf self result }
-        ensures end { (file : List ℕ) (frames : List FrameValue) → ReaderStandsFor self file frames → IsEndOf file frames result }
+        ensures end { (file : List ℕ) (frames : List FrameValue) → ReaderRepresents self file frames → IsEndOf file frames result }
     {
         match self.stage {
             Stage::Header => Err(FeedFault::Refused(fault_at(

@@ -23,7 +23,7 @@ pub fn read_frames<S: Source, V: FrameVisitor>(
     requires { 0 < length buffer.old }
 
     // What the visitor saw: the frames of the capture, those before the fault, or some of them.
-    ensures seen { IsSeen V.stands_for visitor.old visitor.new (S.left source.old) (S.left source.new) result }
+    ensures seen { IsSeen V.represents visitor.old visitor.new (S.left source.old) (S.left source.new) result }
 
     // When each result is returned.
     ensures exact { IfSome (S.left source.old) (λ file. IsReadOf file result) }

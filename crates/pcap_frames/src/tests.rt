@@ -89,7 +89,7 @@ impl Album {
 impl FrameVisitor for Album {
     ghost use Rattle.std.specs.Prelude.{◌≡◌, length, vec_len};
 
-    ghost stands_for = { λ album frames. vec_len album.frames ≡ length frames };
+    ghost represents = { λ album frames. vec_len album.frames ≡ length frames };
 
     fn frame(&mut self, frame: &Frame<'_>) -> Result<(), AllocError> {
         if self.frames.len() == self.room {

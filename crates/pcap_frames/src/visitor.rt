@@ -10,11 +10,11 @@ use std::alloc::AllocError;
 /// Takes the frames of a capture one by one, in the order of the file.
 pub trait FrameVisitor {
     /// The visitor's state represents these frames.
-    ghost stands_for: { Self → List FrameValue → Type 0 };
+    ghost represents: { Self → List FrameValue → Type 0 };
 
     /// Takes the next frame. After an error, which means that memory ran out, the visitor represents the same frames
     /// as before.
     fn frame(&mut self, frame: &Frame<'_>) -> Result<(), AllocError>
-        ensures seen { OnOk result (Sees stands_for self.old self.new (content_of frame.now ∷ [])) }
-        ensures unchanged { OnErr result (IsAlike stands_for self.old self.new) };
+        ensures seen { OnOk result (Sees represents self.old self.new (content_of frame.now ∷ [])) }
+        ensures unchanged { OnErr result (IsAlike represents self.old self.new) };
 }

@@ -1,10 +1,13 @@
 -- Addresses and their leading bytes.
-use Rattle.std.proofs.Common.{◌≡◌, ℕ, ◌+◌, ◌-◌, ◌*◌, ◌/◌, ◌^◌, ◌<◌, ◌≤◌, eqb, Bool, true, false, zero, suc, List, [], ◌∷◌, length, take, get_or, refl, sym, ap, ◌∙◌, arith, subst}
+use Rattle.std.proofs.Common.{◌≡◌, ℕ, ◌+◌, ◌-◌, ◌*◌, ◌/◌, ◌^◌, ◌<◌, ◌≤◌, eqb, Bool, true, false, zero, suc, List}
+use Rattle.std.proofs.Common.{[], ◌∷◌, length, take, get_or, refl, sym, ap, ◌∙◌, arith, subst}
 use Rattle.std.proofs.lemmas.Bool.{false≢true, eqb-true, eq-eqb, and_parts, and_from}
 use Rattle.std.proofs.lemmas.Nat.{pow-add}
-use Rattle.std.proofs.Math.Nat.{pow-zero, pow-suc, div-lt_iff_lt-mul, mul-div_cancel, mul-lt-mul_of_pos_right, div-mul-le_self}
+use Rattle.std.proofs.Math.Nat.{pow-zero, pow-suc, div-lt_iff_lt-mul, mul-div_cancel, mul-lt-mul_of_pos_right}
+use Rattle.std.proofs.Math.Nat.{div-mul-le_self}
 use Rattle.prefix_lattice.specs.KeptBytes.{digits, number_from, address_bytes, address_of, begins_with, AreLeadingBytes}
-use Rattle.prefix_lattice.proofs.DigitLemmas.{length-digits, number_from-digits, take-digits, digits_small, same_digits, number_small}
+use Rattle.prefix_lattice.proofs.DigitLemmas.{length-digits, number_from-digits, take-digits, digits_small}
+use Rattle.prefix_lattice.proofs.DigitLemmas.{same_digits, number_small}
 use Rattle.prefix_lattice.proofs.ListFrontLemmas.{begins_with-front, begins_with-shorter_list}
 
 -- the first bytes of an address are the digits of its high part
@@ -20,7 +23,9 @@ length-leading n address few = ap length (leading_digits n address few) ∙ leng
 pub leading_bytes : (n address : ℕ) → n ≤ 4 → AreLeadingBytes (take n (address_bytes address))
 leading_bytes n address few = record {
   few = omega (arith, length-leading n address few);
-  bytes = λ place. subst (λ l. get_or l place 0 < 256) (sym (leading_digits n address few)) (digits_small 256 n (address / 256 ^ (4 - n)) place (omega arith));
+  bytes = λ place.
+      subst (λ l. get_or l place 0 < 256) (sym (leading_digits n address few))
+      (digits_small 256 n (address / 256 ^ (4 - n)) place (omega arith));
 }
 
 -- the two parts of an address together have four bytes
@@ -35,14 +40,17 @@ some_unit (suc k) = omega (arith, pow-suc 256 k, some_unit k)
 
 -- the high part of an address has at most as many digits as bytes are kept
 high_small : (n address : ℕ) → n ≤ 4 → address < 2 ^ 32 → address / 256 ^ (4 - n) < 256 ^ n
-high_small n address few small = (div-lt_iff_lt-mul (some_unit (4 - n))).1 (subst (λ bound. address < bound) (sym (parts n few)) small)
+high_small n address few small =
+    (div-lt_iff_lt-mul (some_unit (4 - n))).1 (subst (λ bound. address < bound) (sym (parts n few)) small)
 
 -- the address of the first bytes of an address is that address with the others set to zero
-pub address_of-leading : (n address : ℕ) → n ≤ 4 → address < 2 ^ 32 → address_of (take n (address_bytes address)) ≡ address / 256 ^ (4 - n) * 256 ^ (4 - n)
+pub address_of-leading : (n address : ℕ) → n ≤ 4 → address < 2 ^ 32
+    → address_of (take n (address_bytes address)) ≡ address / 256 ^ (4 - n) * 256 ^ (4 - n)
 address_of-leading n address few small =
     let high = address / 256 ^ (4 - n) in
     let spelled : number_from 256 0 (take n (address_bytes address)) ≡ high =
-    ap (number_from 256 0) (leading_digits n address few) ∙ number_from-digits 256 n high (omega arith) (high_small n address few small) in
+    ap (number_from 256 0) (leading_digits n address few)
+    ∙ number_from-digits 256 n high (omega arith) (high_small n address few small) in
     ap (λ m. number_from 256 0 (take n (address_bytes address)) * 256 ^ (4 - m)) (length-leading n address few)
     ∙ ap (λ m. m * 256 ^ (4 - n)) spelled
 
@@ -54,14 +62,16 @@ address_of-small front leading =
     subst (λ bound. address_of front < bound) (parts n leading.few) (mul-lt-mul_of_pos_right number (some_unit (4 - n)))
 
 -- leading bytes that spell one address are the same, where they are as many
-pub same_leading : (xs ys : List ℕ) → AreLeadingBytes xs → AreLeadingBytes ys → length xs ≡ length ys → address_of xs ≡ address_of ys → xs ≡ ys
+pub same_leading : (xs ys : List ℕ) → AreLeadingBytes xs → AreLeadingBytes ys → length xs ≡ length ys
+    → address_of xs ≡ address_of ys → xs ≡ ys
 same_leading xs ys xs_leading ys_leading same_length same =
     let unit = 256 ^ (4 - length xs) in
     let numbers : number_from 256 0 xs * unit ≡ number_from 256 0 ys * unit =
     same ∙ ap (λ m. number_from 256 0 ys * 256 ^ (4 - m)) (sym same_length) in
     let has_unit : 0 < unit = some_unit (4 - length xs) in
     let spelled : number_from 256 0 xs ≡ number_from 256 0 ys =
-    sym (mul-div_cancel (number_from 256 0 xs) has_unit) ∙ ap (λ m. m / unit) numbers ∙ mul-div_cancel (number_from 256 0 ys) has_unit in
+    sym (mul-div_cancel (number_from 256 0 xs) has_unit) ∙ ap (λ m. m / unit) numbers
+    ∙ mul-div_cancel (number_from 256 0 ys) has_unit in
     (same_digits 256 0 0 xs ys same_length xs_leading.bytes ys_leading.bytes spelled).1
 
 -- two tests that hold together are one
@@ -84,11 +94,14 @@ pub take-begins_with : (bytes front : List ℕ) → begins_with bytes front ≡ 
 take-begins_with bytes [] begins = refl
 take-begins_with [] (b ∷ front) begins = absurd (false≢true begins)
 take-begins_with (x ∷ bytes) (b ∷ front) begins =
-    let both : (eqb x b ≡ true) × (begins_with bytes front ≡ true) = and_parts (eqb x b) (begins_with bytes front) begins in
-    ap (λ d. d ∷ take (length front) bytes) (eqb-true x b both.0) ∙ ap (λ l. b ∷ l) (take-begins_with bytes front both.1)
+    let both : (eqb x b ≡ true) × (begins_with bytes front ≡ true) =
+    and_parts (eqb x b) (begins_with bytes front) begins in
+    ap (λ d. d ∷ take (length front) bytes) (eqb-true x b both.0)
+    ∙ ap (λ l. b ∷ l) (take-begins_with bytes front both.1)
 
 -- setting the last bytes to zero leaves the first ones
-pub leading-masked : (n address : ℕ) → n ≤ 4 → take n (address_bytes (address / 256 ^ (4 - n) * 256 ^ (4 - n))) ≡ take n (address_bytes address)
+pub leading-masked : (n address : ℕ) → n ≤ 4
+    → take n (address_bytes (address / 256 ^ (4 - n) * 256 ^ (4 - n))) ≡ take n (address_bytes address)
 leading-masked n address few =
     let unit = 256 ^ (4 - n) in
     leading_digits n (address / unit * unit) few
@@ -101,12 +114,17 @@ masked_small n address small = omega (arith, div-mul-le_self address (256 ^ (4 -
 
 -- the address of its own first bytes, once the last ones are zero
 pub address_of-masked : (n address : ℕ) → n ≤ 4 → address < 2 ^ 32
-    → address_of (take n (address_bytes (address / 256 ^ (4 - n) * 256 ^ (4 - n)))) ≡ address / 256 ^ (4 - n) * 256 ^ (4 - n)
-address_of-masked n address few small = ap address_of (leading-masked n address few) ∙ address_of-leading n address few small
+    → address_of (take n (address_bytes (address / 256 ^ (4 - n) * 256 ^ (4 - n))))
+    ≡ address / 256 ^ (4 - n) * 256 ^ (4 - n)
+address_of-masked n address few small =
+    ap address_of (leading-masked n address few) ∙ address_of-leading n address few small
 
--- an address begins with the first bytes of another, whose last bytes are zero, where both are the same once its last bytes are zero too
-pub begins_with-leading : (n address other : ℕ) → n ≤ 4 → address < 2 ^ 32 → other < 2 ^ 32 → address_of (take n (address_bytes other)) ≡ other
-    → begins_with (address_bytes address) (take n (address_bytes other)) ≡ eqb (address / 256 ^ (4 - n) * 256 ^ (4 - n)) other
+-- an address begins with the first bytes of another, whose last bytes are zero, where both are the same once its
+-- last bytes are zero too
+pub begins_with-leading : (n address other : ℕ) → n ≤ 4 → address < 2 ^ 32 → other < 2 ^ 32
+    → address_of (take n (address_bytes other)) ≡ other
+    → begins_with (address_bytes address) (take n (address_bytes other))
+    ≡ eqb (address / 256 ^ (4 - n) * 256 ^ (4 - n)) other
 begins_with-leading n address other few small other_small masked =
     let unit = 256 ^ (4 - n) in
     let front = take n (address_bytes other) in
@@ -118,15 +136,20 @@ begins_with-leading n address other few small other_small masked =
     ∙ ap address_of (sym as_many ∙ take-begins_with (address_bytes address) front begins)
     ∙ masked))
     (λ same. begins_with-take (address_bytes address) front
-    (as_many ∙ sym (leading-masked n address few) ∙ ap (λ m. take n (address_bytes m)) (eqb-true (address / unit * unit) other same)))
+    (as_many ∙ sym (leading-masked n address few)
+    ∙ ap (λ m. take n (address_bytes m)) (eqb-true (address / unit * unit) other same)))
 
 -- the first bytes of an address begin with those of another that are as many at most, where the address does
-pub kept-begins_with : (n m address other : ℕ) → m ≤ n → n ≤ 4 → begins_with (take n (address_bytes address)) (take m (address_bytes other)) ≡ begins_with (address_bytes address) (take m (address_bytes other))
+pub kept-begins_with : (n m address other : ℕ) → m ≤ n → n ≤ 4
+    → begins_with (take n (address_bytes address)) (take m (address_bytes other))
+    ≡ begins_with (address_bytes address) (take m (address_bytes other))
 kept-begins_with n m address other fewer few =
-    begins_with-front (address_bytes address) (take m (address_bytes other)) n (omega (arith, length-leading m other (omega arith)))
+    begins_with-front (address_bytes address) (take m (address_bytes other)) n
+    (omega (arith, length-leading m other (omega arith)))
 
 -- the first bytes of an address don't begin with more of another's
-pub kept-begins_with_no_more : (n m address other : ℕ) → n < m → m ≤ 4 → begins_with (take n (address_bytes address)) (take m (address_bytes other)) ≡ false
+pub kept-begins_with_no_more : (n m address other : ℕ) → n < m → m ≤ 4
+    → begins_with (take n (address_bytes address)) (take m (address_bytes other)) ≡ false
 kept-begins_with_no_more n m address other more few =
     begins_with-shorter_list (take n (address_bytes address)) (take m (address_bytes other))
     (omega (arith, length-leading n address (omega arith), length-leading m other few))

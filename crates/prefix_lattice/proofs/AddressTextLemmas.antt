@@ -7,7 +7,8 @@ use Rattle.prefix_lattice.proofs.TextCutLemmas.{Lacks, first_cut, next_number, d
 
 -- what stands behind the first, the second and the third number of an address
 abbrev pub behind_first : ℕ → List ℕ
-behind_first address = decimal (address / 256 / 256 % 256) ++ 46 ∷ (decimal (address / 256 % 256) ++ 46 ∷ decimal (address % 256))
+behind_first address =
+    decimal (address / 256 / 256 % 256) ++ 46 ∷ (decimal (address / 256 % 256) ++ 46 ∷ decimal (address % 256))
 
 abbrev pub behind_second : ℕ → List ℕ
 behind_second address = decimal (address / 256 % 256) ++ 46 ∷ decimal (address % 256)
@@ -28,17 +29,20 @@ own_cut number rest small = record {
 pub first_number : (text before after : List ℕ) (address : ℕ) → IsCut text before after → text ≡ address_text address
     → (before ≡ decimal (address / 256 / 256 / 256 % 256)) × (after ≡ behind_first address)
 first_number text before after address cut spelled =
-    next_number text before after (behind_first address) (address / 256 / 256 / 256 % 256) (omega arith) cut.is_before cut.joined spelled
+    next_number text before after (behind_first address) (address / 256 / 256 / 256 % 256) (omega arith)
+    cut.is_before cut.joined spelled
 
 pub second_number : (text before after : List ℕ) (address : ℕ) → IsCut text before after → text ≡ behind_first address
     → (before ≡ decimal (address / 256 / 256 % 256)) × (after ≡ behind_second address)
 second_number text before after address cut spelled =
-    next_number text before after (behind_second address) (address / 256 / 256 % 256) (omega arith) cut.is_before cut.joined spelled
+    next_number text before after (behind_second address) (address / 256 / 256 % 256) (omega arith) cut.is_before
+    cut.joined spelled
 
 pub third_number : (text before after : List ℕ) (address : ℕ) → IsCut text before after → text ≡ behind_second address
     → (before ≡ decimal (address / 256 % 256)) × (after ≡ decimal (address % 256))
 third_number text before after address cut spelled =
-    next_number text before after (decimal (address % 256)) (address / 256 % 256) (omega arith) cut.is_before cut.joined spelled
+    next_number text before after (decimal (address % 256)) (address / 256 % 256) (omega arith) cut.is_before
+    cut.joined spelled
 
 -- the four numbers of an address, once its text is cut at three dots
 pub record AreNumbers (address : ℕ) (first second third fourth : List ℕ) : Type 0 where
@@ -47,8 +51,10 @@ pub record AreNumbers (address : ℕ) (first second third fourth : List ℕ) : T
   pub third_is : third ≡ decimal (address / 256 % 256)
   pub fourth_is : fourth ≡ decimal (address % 256)
 
-pub cut_numbers : (address : ℕ) (text first after_first second after_second third fourth : List ℕ) → text ≡ address_text address
-    → IsCut text first after_first → IsCut after_first second after_second → IsCut after_second third fourth → AreNumbers address first second third fourth
+pub cut_numbers : (address : ℕ) (text first after_first second after_second third fourth : List ℕ)
+    → text ≡ address_text address
+    → IsCut text first after_first → IsCut after_first second after_second → IsCut after_second third fourth
+    → AreNumbers address first second third fourth
 cut_numbers address text first after_first second after_second third fourth spelled cut_first cut_second cut_third =
     let one = first_number text first after_first address cut_first spelled in
     let two = second_number after_first second after_second address cut_second one.1 in
@@ -60,8 +66,10 @@ pub address_lacks : (byte address : ℕ) → byte < 48 → eqb 46 byte ≡ false
 address_lacks byte address low no_dot =
     let number : (n : ℕ) → n < 256 → Lacks byte (decimal n) = λ n small. decimal_lacks byte n low (omega arith) in
     let joined : (n : ℕ) (rest : List ℕ) → n < 256 → Lacks byte rest → Lacks byte (decimal n ++ 46 ∷ rest) =
-    λ n rest small lacks. lacks-append byte (decimal n) (46 ∷ rest) (number n small) (lacks-cons byte 46 rest no_dot lacks) in
-    joined _ _ (omega arith) (joined _ _ (omega arith) (joined _ _ (omega arith) (number (address % 256) (omega arith))))
+    λ n rest small lacks.
+    lacks-append byte (decimal n) (46 ∷ rest) (number n small) (lacks-cons byte 46 rest no_dot lacks) in
+    joined _ _ (omega arith)
+    (joined _ _ (omega arith) (joined _ _ (omega arith) (number (address % 256) (omega arith))))
 
 -- an address has no slash
 pub address_lacks_slash : (address : ℕ) → Lacks 47 (address_text address)
@@ -69,16 +77,25 @@ address_lacks_slash address = address_lacks 47 address (omega arith) refl
 
 -- the numbers of an address tell it
 same_numbers : (address other : ℕ) → address < 2 ^ 32 → other < 2 ^ 32
-    → address / 256 / 256 / 256 % 256 ≡ other / 256 / 256 / 256 % 256 → address / 256 / 256 % 256 ≡ other / 256 / 256 % 256
+    → address / 256 / 256 / 256 % 256 ≡ other / 256 / 256 / 256 % 256
+    → address / 256 / 256 % 256 ≡ other / 256 / 256 % 256
     → address / 256 % 256 ≡ other / 256 % 256 → address % 256 ≡ other % 256 → address ≡ other
 same_numbers address other small other_small first second third fourth = omega arith
 
 -- a text spells one address
-pub one_address : (address other : ℕ) → address < 2 ^ 32 → other < 2 ^ 32 → address_text address ≡ address_text other → address ≡ other
+pub one_address : (address other : ℕ) → address < 2 ^ 32 → other < 2 ^ 32
+    → address_text address ≡ address_text other → address ≡ other
 one_address address other small other_small same =
-    let one = first_number (address_text address) (decimal (address / 256 / 256 / 256 % 256)) (behind_first address) other (own_cut _ _ (omega arith)) same in
-    let two = second_number (behind_first address) (decimal (address / 256 / 256 % 256)) (behind_second address) other (own_cut _ _ (omega arith)) one.1 in
-    let three = third_number (behind_second address) (decimal (address / 256 % 256)) (decimal (address % 256)) other (own_cut _ _ (omega arith)) two.1 in
+    let one =
+    first_number (address_text address) (decimal (address / 256 / 256 / 256 % 256)) (behind_first address)
+    other (own_cut _ _ (omega arith)) same in
+    let two =
+    second_number (behind_first address) (decimal (address / 256 / 256 % 256)) (behind_second address) other
+    (own_cut _ _ (omega arith)) one.1 in
+    let three =
+    third_number (behind_second address) (decimal (address / 256 % 256)) (decimal (address % 256)) other
+    (own_cut _ _ (omega arith)) two.1 in
     same_numbers address other small other_small
     (decimal_injective _ _ (omega arith) (omega arith) one.0) (decimal_injective _ _ (omega arith) (omega arith) two.0)
-    (decimal_injective _ _ (omega arith) (omega arith) three.0) (decimal_injective _ _ (omega arith) (omega arith) three.1)
+    (decimal_injective _ _ (omega arith) (omega arith) three.0)
+    (decimal_injective _ _ (omega arith) (omega arith) three.1)

@@ -1,5 +1,6 @@
 -- Counts of elements and of pairs of elements, in whatever order they stand.
-use Rattle.std.proofs.Common.{◌≡◌, ℕ, ◌+◌, ltb, suc, Bool, true, false, cond, List, [], ◌∷◌, length, Option, None, Some, ◌⊎◌, inl, inr, refl, sym, ap, ◌∙◌, arith}
+use Rattle.std.proofs.Common.{◌≡◌, ℕ, ◌+◌, ltb, suc, Bool, true, false, cond, List, [], ◌∷◌, length, Option, None}
+use Rattle.std.proofs.Common.{Some, ◌⊎◌, inl, inr, refl, sym, ap, ◌∙◌, arith}
 use Rattle.std.specs.List.{count_by, filter, filter_map, cons_option}
 use Rattle.std.proofs.lemmas.Bool.{false≢true, false_from_ne_true}
 use Rattle.std.proofs.lemmas.List.Sums.{sum_by-cons}
@@ -9,13 +10,21 @@ use Rattle.prefix_lattice.proofs.ElementLemmas.{Among}
 abbrev pub tally : Bool → ℕ
 tally test = cond test 1 0
 
-pub count_by-cons : {X : Type 0} (test : X → Bool) (x : X) (xs : List X) → count_by test (x ∷ xs) ≡ tally (test x) + count_by test xs
+pub count_by-cons : {X : Type 0} (test : X → Bool) (x : X) (xs : List X)
+    → count_by test (x ∷ xs) ≡ tally (test x) + count_by test xs
 count_by-cons test x xs = sum_by-cons (λ y. cond (test y) 1 0) x xs
 
 -- a test that fails at each element counts none
-pub count_by-none : {X : Type 0} (test : X → Bool) (xs : List X) → ((x : X) → Among x xs → test x ≡ false) → count_by test xs ≡ 0
+pub count_by-none : {X : Type 0} (test : X → Bool) (xs : List X) → ((x : X) → Among x xs → test x ≡ false)
+    → count_by test xs ≡ 0
 count_by-none test [] fails = refl
-count_by-none test (x ∷ xs) fails = omega (arith, count_by-cons test x xs, ap tally (fails x (inl refl)), count_by-none test xs (λ y among. fails y (inr among)))
+count_by-none test (x ∷ xs) fails =
+    omega (
+      arith,
+      count_by-cons test x xs,
+      ap tally (fails x (inl refl)),
+      count_by-none test xs (λ y among. fails y (inr among)),
+    )
 
 -- the test of what an option holds
 abbrev pub passes_some : {Y : Type 0} → (Y → Bool) → Option Y → Bool
@@ -23,17 +32,22 @@ passes_some test None = false
 passes_some test (Some y) = test y
 
 -- what is made of some elements is counted where it is made
-pub count_by-filter_map : {X Y : Type 0} (test : Y → Bool) (made : X → Option Y) (xs : List X) → count_by test (filter_map made xs) ≡ count_by (λ x. passes_some test (made x)) xs
+pub count_by-filter_map : {X Y : Type 0} (test : Y → Bool) (made : X → Option Y) (xs : List X)
+    → count_by test (filter_map made xs) ≡ count_by (λ x. passes_some test (made x)) xs
 count_by-filter_map test made [] = refl
 count_by-filter_map {X} {Y} test made (x ∷ xs) =
-    by_option (made x) ∙ ap (λ n. tally (passes_some test (made x)) + n) (count_by-filter_map test made xs) ∙ sym (count_by-cons (λ z. passes_some test (made z)) x xs)
+    by_option (made x) ∙ ap (λ n. tally (passes_some test (made x)) + n) (count_by-filter_map test made xs)
+    ∙ sym (count_by-cons (λ z. passes_some test (made z)) x xs)
   where
-    by_option : (o : Option Y) → count_by test (cons_option o (filter_map made xs)) ≡ tally (passes_some test o) + count_by test (filter_map made xs)
+    by_option : (o : Option Y)
+        → count_by test (cons_option o (filter_map made xs))
+        ≡ tally (passes_some test o) + count_by test (filter_map made xs)
     by_option None = omega arith
     by_option (Some y) = count_by-cons test y (filter_map made xs)
 
 -- a count of elements that pass another test too needs those alone
-pub count_by-filter : {X : Type 0} (test other : X → Bool) (xs : List X) → ((x : X) → test x ≡ true → other x ≡ true) → count_by test (filter other xs) ≡ count_by test xs
+pub count_by-filter : {X : Type 0} (test other : X → Bool) (xs : List X)
+    → ((x : X) → test x ≡ true → other x ≡ true) → count_by test (filter other xs) ≡ count_by test xs
 count_by-filter test other [] implies = refl
 count_by-filter test other (x ∷ xs) implies = by_test (count_by-filter test other xs implies) (other x) refl
   where
@@ -50,7 +64,8 @@ pair_count test [] = 0
 pair_count test (x ∷ xs) = count_by (test x) xs + pair_count test xs
 
 -- a count of pairs whose members pass another test needs the elements that pass it alone
-pub pair_count-filter : {X : Type 0} (test : X → X → Bool) (other : X → Bool) (xs : List X) → ((x y : X) → test x y ≡ true → (other x ≡ true) × (other y ≡ true))
+pub pair_count-filter : {X : Type 0} (test : X → X → Bool) (other : X → Bool) (xs : List X)
+    → ((x y : X) → test x y ≡ true → (other x ≡ true) × (other y ≡ true))
     → pair_count test (filter other xs) ≡ pair_count test xs
 pair_count-filter test other [] implies = refl
 pair_count-filter test other (x ∷ xs) implies = by_test (pair_count-filter test other xs implies) (other x) refl
@@ -60,7 +75,8 @@ pair_count-filter test other (x ∷ xs) implies = by_test (pair_count-filter tes
     by_test rest true is = omega (arith, count_by-filter (test x) other xs (λ y passes. (implies x y passes).1), rest)
     by_test rest false is =
         let none : count_by (test x) xs ≡ 0 =
-        count_by-none (test x) xs (λ y among. false_from_ne_true (test x y) (λ passes. false≢true (sym is ∙ (implies x y passes).0))) in
+        count_by-none (test x) xs
+        (λ y among. false_from_ne_true (test x y) (λ passes. false≢true (sym is ∙ (implies x y passes).0))) in
         omega (arith, none, rest)
 
 -- puts an element before the first one that is no smaller
@@ -76,13 +92,15 @@ in_order size (x ∷ xs) = put size x (in_order size xs)
 -- what is put among others is one of them
 pub among-put : {X : Type 0} (size : X → ℕ) (z x : X) (xs : List X) → Among z (put size x xs) → (z ≡ x) ⊎ Among z xs
 among-put size z x [] among = among
-among-put size z x (y ∷ ys) among = by_test (λ later. behind (among-put size z x ys later)) (ltb (size y) (size x)) among
+among-put size z x (y ∷ ys) among =
+    by_test (λ later. behind (among-put size z x ys later)) (ltb (size y) (size x)) among
   where
     behind : ((z ≡ x) ⊎ Among z ys) → (z ≡ x) ⊎ Among z (y ∷ ys)
     behind (inl same) = inl same
     behind (inr later) = inr (inr later)
 
-    by_test : (Among z (put size x ys) → (z ≡ x) ⊎ Among z (y ∷ ys)) → (b : Bool) → Among z (cond b (y ∷ put size x ys) (x ∷ y ∷ ys)) → (z ≡ x) ⊎ Among z (y ∷ ys)
+    by_test : (Among z (put size x ys) → (z ≡ x) ⊎ Among z (y ∷ ys)) → (b : Bool)
+        → Among z (cond b (y ∷ put size x ys) (x ∷ y ∷ ys)) → (z ≡ x) ⊎ Among z (y ∷ ys)
     by_test in_rest true (inl same) = inr (inl same)
     by_test in_rest true (inr later) = in_rest later
     by_test in_rest false either = either
@@ -91,7 +109,8 @@ pub put-among : {X : Type 0} (size : X → ℕ) (z x : X) (xs : List X) → (z �
 put-among size z x [] among = among
 put-among size z x (y ∷ ys) among = by_test (put-among size z x ys) (ltb (size y) (size x)) among
   where
-    by_test : ((z ≡ x) ⊎ Among z ys → Among z (put size x ys)) → (b : Bool) → (z ≡ x) ⊎ Among z (y ∷ ys) → Among z (cond b (y ∷ put size x ys) (x ∷ y ∷ ys))
+    by_test : ((z ≡ x) ⊎ Among z ys → Among z (put size x ys)) → (b : Bool) → (z ≡ x) ⊎ Among z (y ∷ ys)
+        → Among z (cond b (y ∷ put size x ys) (x ∷ y ∷ ys))
     by_test in_rest true (inl same) = inr (in_rest (inl same))
     by_test in_rest true (inr (inl same)) = inl same
     by_test in_rest true (inr (inr later)) = inr (in_rest (inr later))
@@ -111,7 +130,8 @@ among-in_order size z (x ∷ xs) among = either (among-in_order size z xs) (amon
     either in_rest (inr later) = inr (in_rest later)
 
 -- counts don't tell where an element was put
-pub count_by-put : {X : Type 0} (size : X → ℕ) (test : X → Bool) (x : X) (xs : List X) → count_by test (put size x xs) ≡ tally (test x) + count_by test xs
+pub count_by-put : {X : Type 0} (size : X → ℕ) (test : X → Bool) (x : X) (xs : List X)
+    → count_by test (put size x xs) ≡ tally (test x) + count_by test xs
 count_by-put size test x [] = count_by-cons test x []
 count_by-put size test x (y ∷ ys) = by_test (count_by-put size test x ys) (ltb (size y) (size x))
   where
@@ -120,15 +140,19 @@ count_by-put size test x (y ∷ ys) = by_test (count_by-put size test x ys) (ltb
     by_test rest true = omega (arith, count_by-cons test y (put size x ys), rest, count_by-cons test y ys)
     by_test rest false = count_by-cons test x (y ∷ ys)
 
-pub count_by-in_order : {X : Type 0} (size : X → ℕ) (test : X → Bool) (xs : List X) → count_by test (in_order size xs) ≡ count_by test xs
+pub count_by-in_order : {X : Type 0} (size : X → ℕ) (test : X → Bool) (xs : List X)
+    → count_by test (in_order size xs) ≡ count_by test xs
 count_by-in_order size test [] = refl
-count_by-in_order size test (x ∷ xs) = omega (arith, count_by-put size test x (in_order size xs), count_by-in_order size test xs, count_by-cons test x xs)
+count_by-in_order size test (x ∷ xs) =
+    omega
+    (arith, count_by-put size test x (in_order size xs), count_by-in_order size test xs, count_by-cons test x xs)
 
 pub length-put : {X : Type 0} (size : X → ℕ) (x : X) (xs : List X) → length (put size x xs) ≡ suc (length xs)
 length-put size x [] = refl
 length-put size x (y ∷ ys) = by_test (length-put size x ys) (ltb (size y) (size x))
   where
-    by_test : length (put size x ys) ≡ suc (length ys) → (b : Bool) → length (cond b (y ∷ put size x ys) (x ∷ y ∷ ys)) ≡ suc (suc (length ys))
+    by_test : length (put size x ys) ≡ suc (length ys) → (b : Bool)
+        → length (cond b (y ∷ put size x ys) (x ∷ y ∷ ys)) ≡ suc (suc (length ys))
     by_test rest true = ap suc rest
     by_test rest false = refl
 
@@ -137,17 +161,22 @@ length-in_order size [] = refl
 length-in_order size (x ∷ xs) = length-put size x (in_order size xs) ∙ ap suc (length-in_order size xs)
 
 -- nor do counts of pairs, where the test is the same both ways
-pub pair_count-put : {X : Type 0} (size : X → ℕ) (test : X → X → Bool) (turned : (x y : X) → test x y ≡ test y x) (x : X) (xs : List X)
+pub pair_count-put : {X : Type 0} (size : X → ℕ) (test : X → X → Bool) (turned : (x y : X) → test x y ≡ test y x)
+    (x : X) (xs : List X)
     → pair_count test (put size x xs) ≡ count_by (test x) xs + pair_count test xs
 pair_count-put size test turned x [] = refl
 pair_count-put size test turned x (y ∷ ys) = by_test (pair_count-put size test turned x ys) (ltb (size y) (size x))
   where
     by_test : pair_count test (put size x ys) ≡ count_by (test x) ys + pair_count test ys → (b : Bool)
-        → pair_count test (cond b (y ∷ put size x ys) (x ∷ y ∷ ys)) ≡ count_by (test x) (y ∷ ys) + (count_by (test y) ys + pair_count test ys)
-    by_test rest true = omega (arith, count_by-put size (test y) x ys, ap tally (turned y x), rest, count_by-cons (test x) y ys)
+        → pair_count test (cond b (y ∷ put size x ys) (x ∷ y ∷ ys))
+        ≡ count_by (test x) (y ∷ ys) + (count_by (test y) ys + pair_count test ys)
+    by_test rest true =
+        omega (arith, count_by-put size (test y) x ys, ap tally (turned y x), rest, count_by-cons (test x) y ys)
     by_test rest false = refl
 
-pub pair_count-in_order : {X : Type 0} (size : X → ℕ) (test : X → X → Bool) (turned : (x y : X) → test x y ≡ test y x) (xs : List X) → pair_count test (in_order size xs) ≡ pair_count test xs
+pub pair_count-in_order : {X : Type 0} (size : X → ℕ) (test : X → X → Bool)
+    (turned : (x y : X) → test x y ≡ test y x) (xs : List X)
+    → pair_count test (in_order size xs) ≡ pair_count test xs
 pair_count-in_order size test turned [] = refl
 pair_count-in_order size test turned (x ∷ xs) =
     pair_count-put size test turned x (in_order size xs)

@@ -1,26 +1,35 @@
 -- Digits of a number and the number that digits spell.
-use Rattle.std.proofs.Common.{◌≡◌, ℕ, ◌+◌, ◌*◌, ◌/◌, ◌%◌, ◌^◌, ◌<◌, ◌≤◌, zero, suc, List, [], ◌∷◌, ◌++◌, length, take, get_or, refl, sym, ap, ◌∙◌, arith, subst, length-append, take_all}
+use Rattle.std.proofs.Common.{◌≡◌, ℕ, ◌+◌, ◌*◌, ◌/◌, ◌%◌, ◌^◌, ◌<◌, ◌≤◌, zero, suc, List, [], ◌∷◌, ◌++◌, length}
+use Rattle.std.proofs.Common.{take, get_or, refl, sym, ap, ◌∙◌, arith, subst, length-append, take_all}
 use Rattle.std.proofs.lemmas.List.{take-append-le}
 use Rattle.std.proofs.lemmas.Nat.{div-add-mod', div-mul-add}
-use Rattle.std.proofs.Math.Nat.{pow-zero, pow-suc, pow-succ', div-one, div-div-eq-div-mul, div-lt_iff_lt-mul, mul-le-mul_right, mul_assoc}
+use Rattle.std.proofs.Math.Nat.{pow-zero, pow-suc, pow-succ', div-one, div-div-eq-div-mul, div-lt_iff_lt-mul}
+use Rattle.std.proofs.Math.Nat.{mul-le-mul_right, mul_assoc}
 use Rattle.prefix_lattice.specs.KeptBytes.{digits, number_from}
 
 -- as many digits as asked
 pub length-digits : (base count number : ℕ) → length (digits base count number) ≡ count
 length-digits base zero number = refl
 length-digits base (suc count) number =
-    omega (arith, length-append (digits base count (number / base)) (number % base ∷ []), length-digits base count (number / base))
+    omega (
+      arith,
+      length-append (digits base count (number / base)) (number % base ∷ []),
+      length-digits base count (number / base),
+    )
 
 -- one more digit at the end
-number_from-append : (base high digit : ℕ) (front : List ℕ) → number_from base high (front ++ digit ∷ []) ≡ number_from base high front * base + digit
+number_from-append : (base high digit : ℕ) (front : List ℕ)
+    → number_from base high (front ++ digit ∷ []) ≡ number_from base high front * base + digit
 number_from-append base high digit [] = refl
 number_from-append base high digit (d ∷ front) = number_from-append base (high * base + d) digit front
 
 -- a number is spelled by its digits
-pub number_from-digits : (base count number : ℕ) → 0 < base → number < base ^ count → number_from base 0 (digits base count number) ≡ number
+pub number_from-digits : (base count number : ℕ) → 0 < base → number < base ^ count
+    → number_from base 0 (digits base count number) ≡ number
 number_from-digits base zero number has_base small = omega (arith, pow-zero base)
 number_from-digits base (suc count) number has_base small =
-    let smaller : number / base < base ^ count = (div-lt_iff_lt-mul has_base).1 (subst (λ bound. number < bound) (pow-suc base count) small) in
+    let smaller : number / base < base ^ count =
+    (div-lt_iff_lt-mul has_base).1 (subst (λ bound. number < bound) (pow-suc base count) small) in
     number_from-append base 0 (number % base) (digits base count (number / base))
     ∙ ap (λ high. high * base + number % base) (number_from-digits base count (number / base) has_base smaller)
     ∙ div-add-mod' number base
@@ -30,27 +39,34 @@ pub take-digits : (base n k number : ℕ) → take n (digits base (n + k) number
 take-digits base n zero number =
     let all : n + 0 ≡ n = omega arith in
     let whole : number / base ^ 0 ≡ number = ap (λ unit. number / unit) (pow-zero base) ∙ div-one number in
-    ap (λ m. take n (digits base m number)) all ∙ take_all n (digits base n number) (omega (arith, length-digits base n number)) ∙ ap (digits base n) (sym whole)
+    ap (λ m. take n (digits base m number)) all
+    ∙ take_all n (digits base n number) (omega (arith, length-digits base n number))
+    ∙ ap (digits base n) (sym whole)
 take-digits base n (suc k) number =
     let one_more : n + suc k ≡ suc (n + k) = omega arith in
-    let higher : number / base / base ^ k ≡ number / base ^ suc k = div-div-eq-div-mul number base (base ^ k) ∙ ap (λ m. number / m) (sym (pow-succ' base k)) in
+    let higher : number / base / base ^ k ≡ number / base ^ suc k =
+    div-div-eq-div-mul number base (base ^ k) ∙ ap (λ m. number / m) (sym (pow-succ' base k)) in
     ap (λ m. take n (digits base m number)) one_more
-    ∙ take-append-le n (digits base (n + k) (number / base)) (number % base ∷ []) (omega (arith, length-digits base (n + k) (number / base)))
+    ∙ take-append-le n (digits base (n + k) (number / base)) (number % base ∷ [])
+    (omega (arith, length-digits base (n + k) (number / base)))
     ∙ take-digits base n k (number / base)
     ∙ ap (digits base n) higher
 
 -- a bound on each of some numbers and on one more
-push_small : (bound y : ℕ) (xs : List ℕ) (place : ℕ) → 0 < bound → ((k : ℕ) → get_or xs k 0 < bound) → y < bound → get_or (xs ++ y ∷ []) place 0 < bound
+push_small : (bound y : ℕ) (xs : List ℕ) (place : ℕ) → 0 < bound → ((k : ℕ) → get_or xs k 0 < bound) → y < bound
+    → get_or (xs ++ y ∷ []) place 0 < bound
 push_small bound y [] zero has_bound small y_small = y_small
 push_small bound y [] (suc place) has_bound small y_small = has_bound
 push_small bound y (x ∷ xs) zero has_bound small y_small = small 0
-push_small bound y (x ∷ xs) (suc place) has_bound small y_small = push_small bound y xs place has_bound (λ k. small (suc k)) y_small
+push_small bound y (x ∷ xs) (suc place) has_bound small y_small =
+    push_small bound y xs place has_bound (λ k. small (suc k)) y_small
 
 -- each digit is below the base
 pub digits_small : (base count number place : ℕ) → 0 < base → get_or (digits base count number) place 0 < base
 digits_small base zero number place has_base = has_base
 digits_small base (suc count) number place has_base =
-    push_small base (number % base) (digits base count (number / base)) place has_base (λ k. digits_small base count (number / base) k has_base) (omega arith)
+    push_small base (number % base) (digits base count (number / base)) place has_base
+    (λ k. digits_small base count (number / base) k has_base) (omega arith)
 
 -- digits below the base, as many of them, spell one number in one way
 pub same_digits : (base high other : ℕ) (xs ys : List ℕ) → length xs ≡ length ys
@@ -61,21 +77,26 @@ same_digits base high other [] (y ∷ ys) same_length xs_small ys_small same = a
 same_digits base high other (x ∷ xs) [] same_length xs_small ys_small same = absurd (omega arith)
 same_digits base high other (x ∷ xs) (y ∷ ys) same_length xs_small ys_small same =
     let rest : (high * base + x ≡ other * base + y) × (xs ≡ ys) =
-    same_digits base (high * base + x) (other * base + y) xs ys (omega arith) (λ place. xs_small (suc place)) (λ place. ys_small (suc place)) same in
+    same_digits base (high * base + x) (other * base + y) xs ys (omega arith) (λ place. xs_small (suc place))
+    (λ place. ys_small (suc place)) same in
     let x_small : x < base = xs_small 0 in
     let y_small : y < base = ys_small 0 in
-    let same_high : high ≡ other = sym (div-mul-add high base x x_small) ∙ ap (λ n. n / base) rest.0 ∙ div-mul-add other base y y_small in
+    let same_high : high ≡ other =
+    sym (div-mul-add high base x x_small) ∙ ap (λ n. n / base) rest.0 ∙ div-mul-add other base y y_small in
     let same_first : x ≡ y = omega (arith, rest.0, ap (λ h. h * base) same_high) in
     (same_high, ap (λ d. d ∷ xs) same_first ∙ ap (λ l. y ∷ l) rest.1)
 
 -- digits below the base spell a number below a power of it
-pub number_small : (base high : ℕ) (xs : List ℕ) → ((place : ℕ) → get_or xs place 0 < base) → number_from base high xs < (high + 1) * base ^ length xs
+pub number_small : (base high : ℕ) (xs : List ℕ) → ((place : ℕ) → get_or xs place 0 < base)
+    → number_from base high xs < (high + 1) * base ^ length xs
 number_small base high [] small = subst (λ unit. high < (high + 1) * unit) (sym (pow-zero base)) (omega arith)
 number_small base high (x ∷ xs) small =
-    let rest : number_from base (high * base + x) xs < (high * base + x + 1) * base ^ length xs = number_small base (high * base + x) xs (λ place. small (suc place)) in
+    let rest : number_from base (high * base + x) xs < (high * base + x + 1) * base ^ length xs =
+    number_small base (high * base + x) xs (λ place. small (suc place)) in
     let x_small : x < base = small 0 in
     let step : high * base + x + 1 ≤ (high + 1) * base = omega arith in
-    let wider : (high * base + x + 1) * base ^ length xs ≤ (high + 1) * base * base ^ length xs = mul-le-mul_right (base ^ length xs) step in
+    let wider : (high * base + x + 1) * base ^ length xs ≤ (high + 1) * base * base ^ length xs =
+    mul-le-mul_right (base ^ length xs) step in
     let regrouped : (high + 1) * base ^ suc (length xs) ≡ (high + 1) * base * base ^ length xs =
     ap (λ p. (high + 1) * p) (pow-succ' base (length xs)) ∙ sym (mul_assoc (high + 1) base (base ^ length xs)) in
     omega (arith, rest, wider, regrouped)

@@ -1,12 +1,18 @@
 -- Worked examples of addresses, records, nodes, prefixes and keys, and of the lattice.
 use Rattle.std.proofs.Common.{◌≡◌, ℕ, ◌<◌, zero, suc, [], ◌∷◌, slice_index, ap, true, false, None, Some, refl, arith}
+use Rattle.std.proofs.Common.{◌+◌, ◌*◌, ◌^◌, length}
 use Rattle.std.specs.declared.cmp.Ordering.TheVariants.{Less, Equal, Greater}
 use Rattle.prefix_lattice.specs.Record.{RecordValue}
-use Rattle.prefix_lattice.specs.Node.{NodeValue, IsNode, index_of, node_at, level_of}
-use Rattle.prefix_lattice.specs.Prefix.{IsKeyOf, HasKey, PrefixValue, IsPrefix, covers, weight_of, total_weight, node_of, prefix_at, key_of}
+use Rattle.prefix_lattice.specs.Node.{NodeValue, IsNode, index_of, node_at, level_of, node_count, deepest_level}
+use Rattle.prefix_lattice.specs.Prefix.{IsKeyOf, HasKey, PrefixValue, IsPrefix, covers, weight_of, total_weight}
+use Rattle.prefix_lattice.specs.Prefix.{node_of, prefix_at, key_of}
 use Rattle.prefix_lattice.specs.KeptBytes.{digits, number_from, address_bytes, address_of, begins_with, AreLeadingBytes}
-use Rattle.prefix_lattice.specs.Lattice.{under, same_prefix, strictly_under, longer_side, prefix_of_sides, meet, ShareAddresses, report_order}
+use Rattle.prefix_lattice.specs.KeptBytes.{address_length}
+use Rattle.prefix_lattice.specs.Lattice.{under, same_prefix, strictly_under, longer_side, prefix_of_sides, meet}
+use Rattle.prefix_lattice.specs.Lattice.{ShareAddresses, report_order}
 use Rattle.prefix_lattice.proofs.MeetLemmas.{meet-some}
+use Rattle.prefix_lattice.specs.Limits.{most_records, most_shards, total_limit}
+use Rattle.prefix_lattice.specs.Interval.{Holds, IsNarrow}
 
 -- 100 bytes from 10.1.2.3 to 20.1.2.3
 abbrev pub packet : RecordValue
@@ -190,7 +196,13 @@ other_sources_do_not_meet = refl
 
 -- both cover the packet's pair of addresses
 pub addresses_are_shared : ShareAddresses from_ten to_twenty
-addresses_are_shared = record { pair = packet; is_source = omega arith; is_dest = omega arith; covered = refl; covered_by_other = refl }
+addresses_are_shared = record {
+  pair = packet;
+  is_source = omega arith;
+  is_dest = omega arith;
+  covered = refl;
+  covered_by_other = refl;
+}
 
 pub no_address_is_shared : ShareAddresses from_ten from_eleven → ⊥
 no_address_is_shared shares =
@@ -219,3 +231,37 @@ destinations_rise_last = refl
 
 pub each_stands_where_it_is : report_order prefix prefix ≡ Equal
 each_stands_where_it_is = refl
+
+-- ---- sizes and limits
+
+pub length_of_an_address : length (address_bytes 0x0a010203) ≡ address_length
+length_of_an_address = refl
+
+-- the node of whole addresses is the last one, and of the deepest level
+pub nodes_up_to_whole_addresses : index_of (record { source_bytes = 4; dest_bytes = 4 }) + 1 ≡ node_count
+nodes_up_to_whole_addresses = refl
+
+pub level_of_whole_addresses : level_of (record { source_bytes = 4; dest_bytes = 4 }) ≡ deepest_level
+level_of_whole_addresses = refl
+
+pub records_are_few : most_records ≡ 2 ^ 24
+records_are_few = refl
+
+-- the least that the records of all shards stay below
+pub limit_of_a_total : most_shards * (most_records * 2 ^ 32) ≡ total_limit
+limit_of_a_total = refl
+
+-- ---- intervals
+
+pub weight_within : Holds 4 6 5
+weight_within = record { low = omega arith; high = omega arith }
+
+pub weight_above : Holds 4 5 6 → ⊥
+weight_above holds = omega (arith, holds.high)
+
+-- an interval that is 2 wide is narrow for three entries of a table with a total of 6, not for four
+pub width_for_three_entries : IsNarrow 4 6 3 6
+width_for_three_entries = omega arith
+
+pub too_wide_for_four : IsNarrow 4 6 4 6 → ⊥
+too_wide_for_four narrow = omega (arith, narrow)

@@ -5,7 +5,9 @@ use Rattle.std.proofs.lemmas.List.Kept.{AllPairs-cons}
 use Rattle.prefix_lattice.specs.Record.{RecordValue}
 use Rattle.prefix_lattice.specs.Prefix.{PrefixValue}
 use Rattle.prefix_lattice.specs.Lattice.{strictly_under, meet}
-use Rattle.prefix_lattice.specs.ClosestLines.{lines_under, one_covers, conditioned_weight, greatest, closest, under_third, unless_under_third, kept_meet, kept_among, kept_pairs, AreIncomparable, covering_count, ObeysStaircase}
+use Rattle.prefix_lattice.specs.ClosestLines.{lines_under, one_covers, conditioned_weight, greatest, closest}
+use Rattle.prefix_lattice.specs.ClosestLines.{under_third, unless_under_third, kept_meet, kept_among, kept_pairs}
+use Rattle.prefix_lattice.specs.ClosestLines.{AreIncomparable, covering_count, ObeysStaircase}
 use Rattle.prefix_lattice.proofs.Examples.{packet, answer, prefix, root, to_twenty, from_ten_to_twenty}
 
 -- the root and three under it, of which the first is under the other two
@@ -23,7 +25,8 @@ pub lines_that_cover_no_answer : one_covers (lines_under root lines) answer ≡ 
 lines_that_cover_no_answer = refl
 
 -- a line explains the packet, and leaves the answer
-pub conditioned_by_a_line : conditioned_weight root (from_ten_to_twenty ∷ root ∷ []) (packet ∷ answer ∷ packet ∷ []) ≡ 60
+pub conditioned_by_a_line : conditioned_weight root (from_ten_to_twenty ∷ root ∷ []) (packet ∷ answer ∷ packet ∷ [])
+    ≡ 60
 conditioned_by_a_line = refl
 
 -- a line explains nothing of itself
@@ -100,15 +103,23 @@ neighbours_are_kept = refl
 
 pub stairs_are_incomparable : AreIncomparable stairs
 stairs_are_incomparable = record {
-  distinct = pairs (λ line other. line ≢ other) (λ same. omega (arith, ap (λ p. length p.dest) same)) (λ same. omega (arith, ap (λ p. length p.dest) same))
+  distinct =
+      pairs (λ line other. line ≢ other) (λ same. omega (arith, ap (λ p. length p.dest) same))
+      (λ same. omega (arith, ap (λ p. length p.dest) same))
       (λ same. omega (arith, ap (λ p. length p.dest) same));
-  none_under = pairs (λ line other. (strictly_under line other ≡ false) × (strictly_under other line ≡ false)) (refl, refl) (refl, refl) (refl, refl);
+  none_under =
+      pairs (λ line other. (strictly_under line other ≡ false) × (strictly_under other line ≡ false)) (refl, refl)
+      (refl, refl) (refl, refl);
 }
   where
-    pairs : (R : PrefixValue → PrefixValue → Type 0) → R lowest_step middle_step → R lowest_step highest_step → R middle_step highest_step → AllPairs R stairs
+    pairs : (R : PrefixValue → PrefixValue → Type 0) → R lowest_step middle_step → R lowest_step highest_step
+        → R middle_step highest_step → AllPairs R stairs
     pairs R one two three =
-        AllPairs-cons R lowest_step (middle_step ∷ highest_step ∷ []) (All-cons (R lowest_step) middle_step (highest_step ∷ []) one (All-cons (R lowest_step) highest_step [] two (All-nil (R lowest_step))))
-        (AllPairs-cons R middle_step (highest_step ∷ []) (All-cons (R middle_step) highest_step [] three (All-nil (R middle_step)))
+        AllPairs-cons R lowest_step (middle_step ∷ highest_step ∷ [])
+        (All-cons (R lowest_step) middle_step (highest_step ∷ []) one
+        (All-cons (R lowest_step) highest_step [] two (All-nil (R lowest_step))))
+        (AllPairs-cons R middle_step (highest_step ∷ [])
+        (All-cons (R middle_step) highest_step [] three (All-nil (R middle_step)))
         (AllPairs-cons R highest_step [] (All-nil (R highest_step)) (λ i j d before within. absurd (omega arith))))
 
 pub lines_under_one_another_are_comparable : AreIncomparable lines → ⊥

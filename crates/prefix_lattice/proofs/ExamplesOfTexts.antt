@@ -1,8 +1,12 @@
 -- Worked examples of the texts of prefixes, and of their faults.
-use Rattle.std.proofs.Common.{◌≡◌, ℕ, ◌*◌, ◌≤◌, List, [], ◌∷◌, drop, slice_index, codes, decimal, inl, inr, refl, ap, arith}
+use Rattle.std.proofs.Common.{◌≡◌, ℕ, ◌*◌, ◌≤◌, List, [], ◌∷◌, drop, slice_index, codes, decimal, inl, inr, refl}
+use Rattle.std.proofs.Common.{ap, arith, length}
 use Rattle.std.specs.Fmt.{digits}
 use Rattle.std.proofs.lemmas.Fmt.{decimal_injective}
-use Rattle.prefix_lattice.specs.PrefixText.{dot, slash, space, address_text, side_text_of, side_text, prefix_text, source_part, dest_part, SpellsSide, IsAddressText, before_slash, HasLength, HasLooseBits, HasSideFault, SpellsPrefix, HasPrefixFault, WritesPart}
+use Rattle.prefix_lattice.specs.PrefixText.{dot, slash, space, address_text, side_text_of, side_text, prefix_text}
+use Rattle.prefix_lattice.specs.PrefixText.{source_part, dest_part, SpellsSide, IsAddressText, before_slash}
+use Rattle.prefix_lattice.specs.PrefixText.{HasLength, HasLooseBits, HasSideFault, SpellsPrefix, HasPrefixFault}
+use Rattle.prefix_lattice.specs.PrefixText.{WritesPart, longest_prefix_text, longest_side_text}
 use Rattle.prefix_lattice.specs.declared.prefix_fault.Side.TheVariants.{Source, Dest}
 use Rattle.prefix_lattice.specs.declared.prefix_fault.PrefixFault.TheVariants.{BadAddress, BadLength, LooseBits}
 use Rattle.prefix_lattice.proofs.AddressTextLemmas.{first_number, second_number}
@@ -62,8 +66,12 @@ four_numbers_are_an_address = (0x0a010203, omega arith, refl)
 pub three_numbers_are_no_address : IsAddressText (codes "10.1.2") → ⊥
 three_numbers_are_no_address is_address =
     let address = is_address.0 in
-    let one = first_number (codes "10.1.2") (codes "10") (codes "1.2") address (record { is_before = refl; joined = refl }) is_address.2 in
-    let two = second_number (codes "1.2") (codes "1") (codes "2") address (record { is_before = refl; joined = refl }) one.1 in
+    let one =
+    first_number (codes "10.1.2") (codes "10") (codes "1.2") address
+    (record { is_before = refl; joined = refl }) is_address.2 in
+    let two =
+    second_number (codes "1.2") (codes "1") (codes "2") address (record { is_before = refl; joined = refl })
+    one.1 in
     no_next_number (codes "2") _ _ (omega arith) refl two.1
 
 pub text_before_the_slash : before_slash (codes "10.0.0.0/8") ≡ codes "10.0.0.0"
@@ -88,7 +96,14 @@ fifteen_is_no_length has_length =
 
 pub bits_past_a_length : HasLooseBits (codes "10.1.2.0/16")
 unfolding digits
-bits_past_a_length = record { address = 0x0a010200; bytes = 2; is_address = omega arith; is_length = omega arith; spelled = refl; loose = λ none. omega (arith, none) }
+bits_past_a_length = record {
+  address = 0x0a010200;
+  bytes = 2;
+  is_address = omega arith;
+  is_length = omega arith;
+  spelled = refl;
+  loose = λ none. omega (arith, none);
+}
 
 pub fault_of_three_numbers : HasSideFault Source (codes "10.1.2/8") (BadAddress Source)
 fault_of_three_numbers = (refl, three_numbers_are_no_address)
@@ -117,3 +132,14 @@ part_that_was_written = record { ends = refl; written = refl }
 
 pub byte_that_did_not_stay : WritesPart (codes "xxxxxx") (codes "xx10yx") 2 4 (codes "10") → ⊥
 byte_that_did_not_stay writes = omega (arith, ap (λ l. slice_index l 4) writes.written)
+
+pub longest_side : length (side_text (255 ∷ 255 ∷ 255 ∷ 255 ∷ [])) ≡ longest_side_text
+unfolding digits
+longest_side = refl
+
+-- no text is longer than that of 255.255.255.255/32 255.255.255.255/32
+pub longest_text :
+    length (prefix_text (record { source = 255 ∷ 255 ∷ 255 ∷ 255 ∷ []; dest = 255 ∷ 255 ∷ 255 ∷ 255 ∷ [] }))
+    ≡ longest_prefix_text
+unfolding digits
+longest_text = refl

@@ -5,7 +5,8 @@ use Rattle.prefix_lattice.specs.KeptBytes.{address_bytes, address_of, begins_wit
 use Rattle.prefix_lattice.specs.Record.{RecordValue}
 use Rattle.prefix_lattice.specs.Node.{NodeValue}
 use Rattle.prefix_lattice.specs.Prefix.{PrefixValue, IsPrefix, covers, node_of, prefix_at, key_of}
-use Rattle.prefix_lattice.proofs.AddressLemmas.{leading_bytes, length-leading, address_of-small, same_leading, same_truth, begins_with-take, take-begins_with}
+use Rattle.prefix_lattice.proofs.AddressLemmas.{leading_bytes, length-leading, address_of-small, same_leading}
+use Rattle.prefix_lattice.proofs.AddressLemmas.{same_truth, begins_with-take, take-begins_with}
 
 -- an address begins with its own first bytes
 begins_with-own : (n address : ℕ) → n ≤ 4 → begins_with (address_bytes address) (take n (address_bytes address)) ≡ true
@@ -13,54 +14,75 @@ begins_with-own n address few = begins_with-take (address_bytes address) (take n
     (ap (λ m. take m (address_bytes address)) (length-leading n address few))
 
 -- a record is covered by its prefix at a node
-pub covers-prefix_at : (node : NodeValue) (rec : RecordValue) → node.source_bytes ≤ 4 → node.dest_bytes ≤ 4 → covers (prefix_at node rec) rec ≡ true
-covers-prefix_at node rec few_source few_dest = and_from _ _ (begins_with-own node.source_bytes rec.src few_source) (begins_with-own node.dest_bytes rec.dst few_dest)
+pub covers-prefix_at : (node : NodeValue) (rec : RecordValue) → node.source_bytes ≤ 4 → node.dest_bytes ≤ 4
+    → covers (prefix_at node rec) rec ≡ true
+covers-prefix_at node rec few_source few_dest =
+    and_from _ _ (begins_with-own node.source_bytes rec.src few_source)
+    (begins_with-own node.dest_bytes rec.dst few_dest)
 
 -- no other prefix of the node covers it
-pub only_prefix_at : (node : NodeValue) (rec : RecordValue) (other : PrefixValue) → node_of other ≡ node → covers other rec ≡ true → other ≡ prefix_at node rec
+pub only_prefix_at : (node : NodeValue) (rec : RecordValue) (other : PrefixValue) → node_of other ≡ node
+    → covers other rec ≡ true → other ≡ prefix_at node rec
 only_prefix_at node rec other of_node covered =
-    let both : (begins_with (address_bytes rec.src) other.source ≡ true) × (begins_with (address_bytes rec.dst) other.dest ≡ true) =
+    let both : (begins_with (address_bytes rec.src) other.source ≡ true)
+    × (begins_with (address_bytes rec.dst) other.dest ≡ true) =
     and_parts _ _ covered in
     let source : other.source ≡ take node.source_bytes (address_bytes rec.src) =
-    sym (take-begins_with (address_bytes rec.src) other.source both.0) ∙ ap (λ (n : NodeValue). take n.source_bytes (address_bytes rec.src)) of_node in
+    sym (take-begins_with (address_bytes rec.src) other.source both.0)
+    ∙ ap (λ (n : NodeValue). take n.source_bytes (address_bytes rec.src)) of_node in
     let dest : other.dest ≡ take node.dest_bytes (address_bytes rec.dst) =
-    sym (take-begins_with (address_bytes rec.dst) other.dest both.1) ∙ ap (λ (n : NodeValue). take n.dest_bytes (address_bytes rec.dst)) of_node in
+    sym (take-begins_with (address_bytes rec.dst) other.dest both.1)
+    ∙ ap (λ (n : NodeValue). take n.dest_bytes (address_bytes rec.dst)) of_node in
     let with_source : _ → PrefixValue = λ s. record { source = s; dest = other.dest } in
-    let with_dest : _ → PrefixValue = λ d. record { source = take node.source_bytes (address_bytes rec.src); dest = d } in
+    let with_dest : _ → PrefixValue =
+    λ d. record { source = take node.source_bytes (address_bytes rec.src); dest = d } in
     ap with_source source ∙ ap with_dest dest
 
 -- two prefixes of one node with one key are one
-pub same_key : (prefix other : PrefixValue) → IsPrefix prefix → IsPrefix other → node_of prefix ≡ node_of other → key_of prefix ≡ key_of other → prefix ≡ other
+pub same_key : (prefix other : PrefixValue) → IsPrefix prefix → IsPrefix other → node_of prefix ≡ node_of other
+    → key_of prefix ≡ key_of other → prefix ≡ other
 same_key prefix other valid other_valid of_node same =
     let dest_small : address_of prefix.dest < 2 ^ 32 = address_of-small prefix.dest valid.dest in
     let other_small : address_of other.dest < 2 ^ 32 = address_of-small other.dest other_valid.dest in
     let sources : address_of prefix.source ≡ address_of other.source = omega arith in
     let dests : address_of prefix.dest ≡ address_of other.dest = omega arith in
-    let source : prefix.source ≡ other.source = same_leading _ _ valid.source other_valid.source (ap (λ (n : NodeValue). n.source_bytes) of_node) sources in
-    let dest : prefix.dest ≡ other.dest = same_leading _ _ valid.dest other_valid.dest (ap (λ (n : NodeValue). n.dest_bytes) of_node) dests in
+    let source : prefix.source ≡ other.source =
+    same_leading _ _ valid.source other_valid.source (ap (λ (n : NodeValue). n.source_bytes) of_node) sources in
+    let dest : prefix.dest ≡ other.dest =
+    same_leading _ _ valid.dest other_valid.dest (ap (λ (n : NodeValue). n.dest_bytes) of_node) dests in
     let with_source : _ → PrefixValue = λ s. record { source = s; dest = prefix.dest } in
     let with_dest : _ → PrefixValue = λ d. record { source = other.source; dest = d } in
     ap with_source source ∙ ap with_dest dest
 
 -- a prefix covers a record where the record's prefix at its node has its key
-pub covers-by_key : (prefix : PrefixValue) (rec : RecordValue) → IsPrefix prefix → covers prefix rec ≡ eqb (key_of (prefix_at (node_of prefix) rec)) (key_of prefix)
+pub covers-by_key : (prefix : PrefixValue) (rec : RecordValue) → IsPrefix prefix
+    → covers prefix rec ≡ eqb (key_of (prefix_at (node_of prefix) rec)) (key_of prefix)
 covers-by_key prefix rec valid =
     let node = node_of prefix in
     let own = prefix_at node rec in
-    let own_valid : IsPrefix own = record { source = leading_bytes node.source_bytes rec.src valid.source.few; dest = leading_bytes node.dest_bytes rec.dst valid.dest.few } in
+    let own_valid : IsPrefix own = record {
+      source = leading_bytes node.source_bytes rec.src valid.source.few;
+      dest = leading_bytes node.dest_bytes rec.dst valid.dest.few;
+    } in
     let lengths : _ → _ → NodeValue = λ m n. record { source_bytes = m; dest_bytes = n } in
     let own_node : node_of own ≡ node =
     ap (λ m. lengths m (length own.dest)) (length-leading node.source_bytes rec.src valid.source.few)
     ∙ ap (λ m. lengths node.source_bytes m) (length-leading node.dest_bytes rec.dst valid.dest.few) in
     same_truth (covers prefix rec) (eqb (key_of own) (key_of prefix))
     (λ covered. eq-eqb (key_of own) (key_of prefix) (ap key_of (sym (only_prefix_at node rec prefix refl covered))))
-    (λ same. subst (λ p. covers p rec ≡ true) (same_key own prefix own_valid valid own_node (eqb-true (key_of own) (key_of prefix) same)) (covers-prefix_at node rec valid.source.few valid.dest.few))
+    (λ same.
+    subst (λ p. covers p rec ≡ true)
+    (same_key own prefix own_valid valid own_node (eqb-true (key_of own) (key_of prefix) same))
+    (covers-prefix_at node rec valid.source.few valid.dest.few))
 
 -- what is made of a record's first bytes is its prefix at the node
-pub made_at : (node : NodeValue) (rec : RecordValue) (m n : ℕ) (source dest : List ℕ) → m ≡ node.source_bytes → n ≡ node.dest_bytes
+pub made_at : (node : NodeValue) (rec : RecordValue) (m n : ℕ) (source dest : List ℕ) → m ≡ node.source_bytes
+    → n ≡ node.dest_bytes
     → source ≡ take m (address_bytes rec.src) → dest ≡ take n (address_bytes rec.dst)
     → (made : PrefixValue) → made.source ≡ source → made.dest ≡ dest → made ≡ prefix_at node rec
 made_at node rec m n source dest of_m of_n from_source from_dest made is_source is_dest =
     let with_source : _ → PrefixValue = λ s. record { source = s; dest = made.dest } in
-    let with_dest : _ → PrefixValue = λ d. record { source = take node.source_bytes (address_bytes rec.src); dest = d } in
-    ap with_source (is_source ∙ from_source ∙ ap (λ k. take k (address_bytes rec.src)) of_m) ∙ ap with_dest (is_dest ∙ from_dest ∙ ap (λ k. take k (address_bytes rec.dst)) of_n)
+    let with_dest : _ → PrefixValue =
+    λ d. record { source = take node.source_bytes (address_bytes rec.src); dest = d } in
+    ap with_source (is_source ∙ from_source ∙ ap (λ k. take k (address_bytes rec.src)) of_m)
+    ∙ ap with_dest (is_dest ∙ from_dest ∙ ap (λ k. take k (address_bytes rec.dst)) of_n)

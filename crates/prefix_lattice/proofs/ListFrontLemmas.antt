@@ -1,5 +1,6 @@
 -- Lists that begin with others.
-use Rattle.std.proofs.Common.{◌≡◌, ℕ, ◌<◌, ◌≤◌, max, eqb, Bool, true, false, ◌&&◌, zero, suc, List, [], ◌∷◌, length, take, refl, sym, ap, ◌∙◌, arith, Some, None, cond, inl, inr, ◌⊎◌, subst}
+use Rattle.std.proofs.Common.{◌≡◌, ℕ, ◌<◌, ◌≤◌, max, eqb, Bool, true, false, ◌&&◌, zero, suc, List, [], ◌∷◌, length}
+use Rattle.std.proofs.Common.{take, refl, sym, ap, ◌∙◌, arith, Some, None, cond, inl, inr, ◌⊎◌, subst}
 use Rattle.std.proofs.lemmas.Bool.{false≢true, eqb-true, eq-eqb, and_parts, and_from, cases_lt, false_from_ne_true}
 use Rattle.prefix_lattice.specs.KeptBytes.{begins_with}
 use Rattle.prefix_lattice.specs.Lattice.{longer_side}
@@ -9,14 +10,16 @@ begins_with-refl [] = refl
 begins_with-refl (x ∷ xs) = and_from (eqb x x) (begins_with xs xs) (eq-eqb x x refl) (begins_with-refl xs)
 
 -- what begins a front of a list begins the list
-pub begins_with-trans : (xs ys zs : List ℕ) → begins_with xs ys ≡ true → begins_with ys zs ≡ true → begins_with xs zs ≡ true
+pub begins_with-trans : (xs ys zs : List ℕ) → begins_with xs ys ≡ true → begins_with ys zs ≡ true
+    → begins_with xs zs ≡ true
 begins_with-trans xs ys [] first second = refl
 begins_with-trans xs [] (z ∷ zs) first second = absurd (false≢true second)
 begins_with-trans [] (y ∷ ys) (z ∷ zs) first second = absurd (false≢true first)
 begins_with-trans (x ∷ xs) (y ∷ ys) (z ∷ zs) first second =
     let firsts : (eqb x y ≡ true) × (begins_with xs ys ≡ true) = and_parts (eqb x y) (begins_with xs ys) first in
     let seconds : (eqb y z ≡ true) × (begins_with ys zs ≡ true) = and_parts (eqb y z) (begins_with ys zs) second in
-    and_from (eqb x z) (begins_with xs zs) (eq-eqb x z (eqb-true x y firsts.0 ∙ eqb-true y z seconds.0)) (begins_with-trans xs ys zs firsts.1 seconds.1)
+    and_from (eqb x z) (begins_with xs zs) (eq-eqb x z (eqb-true x y firsts.0 ∙ eqb-true y z seconds.0))
+    (begins_with-trans xs ys zs firsts.1 seconds.1)
 
 -- two lists that begin each other are the same
 pub begins_with-antisym : (xs ys : List ℕ) → begins_with xs ys ≡ true → begins_with ys xs ≡ true → xs ≡ ys
@@ -37,14 +40,16 @@ begins_with-length (x ∷ xs) (y ∷ ys) begins =
     omega arith
 
 -- of two lists that begin one list the shorter begins the longer
-pub begins_with-shorter : (xs ys zs : List ℕ) → begins_with xs ys ≡ true → begins_with xs zs ≡ true → length zs ≤ length ys → begins_with ys zs ≡ true
+pub begins_with-shorter : (xs ys zs : List ℕ) → begins_with xs ys ≡ true → begins_with xs zs ≡ true
+    → length zs ≤ length ys → begins_with ys zs ≡ true
 begins_with-shorter xs ys [] first second shorter = refl
 begins_with-shorter xs [] (z ∷ zs) first second shorter = absurd (omega arith)
 begins_with-shorter [] (y ∷ ys) (z ∷ zs) first second shorter = absurd (false≢true first)
 begins_with-shorter (x ∷ xs) (y ∷ ys) (z ∷ zs) first second shorter =
     let firsts : (eqb x y ≡ true) × (begins_with xs ys ≡ true) = and_parts (eqb x y) (begins_with xs ys) first in
     let seconds : (eqb x z ≡ true) × (begins_with xs zs ≡ true) = and_parts (eqb x z) (begins_with xs zs) second in
-    and_from (eqb y z) (begins_with ys zs) (eq-eqb y z (sym (eqb-true x y firsts.0) ∙ eqb-true x z seconds.0)) (begins_with-shorter xs ys zs firsts.1 seconds.1 (omega arith))
+    and_from (eqb y z) (begins_with ys zs) (eq-eqb y z (sym (eqb-true x y firsts.0) ∙ eqb-true x z seconds.0))
+    (begins_with-shorter xs ys zs firsts.1 seconds.1 (omega arith))
 
 -- the front of a list begins with what begins the list and is no longer
 pub begins_with-front : (xs ys : List ℕ) (n : ℕ) → length ys ≤ n → begins_with (take n xs) ys ≡ begins_with xs ys
@@ -55,7 +60,8 @@ begins_with-front (x ∷ xs) (y ∷ ys) (suc n) enough = ap (λ b. eqb x y && b)
 
 -- a shorter list doesn't begin with a longer one
 pub begins_with-shorter_list : (xs ys : List ℕ) → length xs < length ys → begins_with xs ys ≡ false
-begins_with-shorter_list xs ys shorter = false_from_ne_true (begins_with xs ys) (λ begins. omega (arith, begins_with-length xs ys begins))
+begins_with-shorter_list xs ys shorter =
+    false_from_ne_true (begins_with xs ys) (λ begins. omega (arith, begins_with-length xs ys begins))
 
 -- the longer of two lists is the one that begins with the other
 pub cases_longer : (front other longer : List ℕ) → longer_side front other ≡ Some longer
@@ -70,10 +76,12 @@ cases_longer front other longer = by_tests (begins_with front other) (begins_wit
     by_tests false false is_first is_second same = absurd (cc)
 
 -- the longer of two lists begins with both
-pub longer-begins : (front other longer : List ℕ) → longer_side front other ≡ Some longer → (begins_with longer front ≡ true) × (begins_with longer other ≡ true)
+pub longer-begins : (front other longer : List ℕ) → longer_side front other ≡ Some longer
+    → (begins_with longer front ≡ true) × (begins_with longer other ≡ true)
 longer-begins front other longer found = of_case (cases_longer front other longer found)
   where
-    of_case : ((longer ≡ front) × (begins_with front other ≡ true)) ⊎ ((longer ≡ other) × (begins_with other front ≡ true))
+    of_case : ((longer ≡ front) × (begins_with front other ≡ true))
+        ⊎ ((longer ≡ other) × (begins_with other front ≡ true))
         → (begins_with longer front ≡ true) × (begins_with longer other ≡ true)
     of_case (inl is) = rw is.0 (begins_with-refl front, is.1)
     of_case (inr is) = rw is.0 (is.1, begins_with-refl other)
@@ -84,17 +92,20 @@ pub record IsLonger (bytes front other longer : List ℕ) : Type 0 where
   pub begins : begins_with bytes longer ≡ true
   pub is_length : length longer ≡ max (length front) (length other)
 
-pub longer_of : (bytes front other : List ℕ) → begins_with bytes front ≡ true → begins_with bytes other ≡ true → (longer : List ℕ) × IsLonger bytes front other longer
+pub longer_of : (bytes front other : List ℕ) → begins_with bytes front ≡ true → begins_with bytes other ≡ true
+    → (longer : List ℕ) × IsLonger bytes front other longer
 longer_of bytes front other begins begins_other = by_length (cases_lt (length front) (length other))
   where
-    by_tests : (first second : Bool) → begins_with front other ≡ first → begins_with other front ≡ second → length front < length other
+    by_tests : (first second : Bool) → begins_with front other ≡ first → begins_with other front ≡ second
+        → length front < length other
         → cond first (Some front) (cond second (Some other) None) ≡ Some other
     by_tests true second is_first is_second shorter = absurd (omega (arith, begins_with-length front other is_first))
     by_tests false true is_first is_second shorter = refl
     by_tests false false is_first is_second shorter =
         absurd (false≢true (sym is_second ∙ begins_with-shorter bytes other front begins_other begins (omega arith)))
 
-    by_length : ((length front < length other) ⊎ (length other ≤ length front)) → (longer : List ℕ) × IsLonger bytes front other longer
+    by_length : ((length front < length other) ⊎ (length other ≤ length front))
+        → (longer : List ℕ) × IsLonger bytes front other longer
     by_length (inl shorter) = (
       other,
       record {
@@ -106,17 +117,21 @@ longer_of bytes front other begins begins_other = by_length (cases_lt (length fr
     by_length (inr longer) = (
       front,
       record {
-        is = ap (λ test. cond test (Some front) (cond (begins_with other front) (Some other) None)) (begins_with-shorter bytes front other begins begins_other longer);
+        is =
+            ap (λ test. cond test (Some front) (cond (begins_with other front) (Some other) None))
+            (begins_with-shorter bytes front other begins begins_other longer);
         begins = begins;
         is_length = omega arith;
       },
     )
 
 -- the longer of two lists is one of them
-pub longer-either : (P : List ℕ → Type 0) (front other longer : List ℕ) → longer_side front other ≡ Some longer → P front → P other → P longer
+pub longer-either : (P : List ℕ → Type 0) (front other longer : List ℕ) → longer_side front other ≡ Some longer
+    → P front → P other → P longer
 longer-either P front other longer found at_front at_other = of_case (cases_longer front other longer found)
   where
-    of_case : ((longer ≡ front) × (begins_with front other ≡ true)) ⊎ ((longer ≡ other) × (begins_with other front ≡ true)) → P longer
+    of_case : ((longer ≡ front) × (begins_with front other ≡ true))
+        ⊎ ((longer ≡ other) × (begins_with other front ≡ true)) → P longer
     of_case (inl is) = subst P (sym is.0) at_front
     of_case (inr is) = subst P (sym is.0) at_other
 
@@ -125,7 +140,8 @@ pub longer_side-turned : (front other : List ℕ) → longer_side front other �
 longer_side-turned front other = by_tests (begins_with front other) (begins_with other front) refl refl
   where
     by_tests : (first second : Bool) → begins_with front other ≡ first → begins_with other front ≡ second
-        → cond first (Some front) (cond second (Some other) None) ≡ cond second (Some other) (cond first (Some front) None)
+        → cond first (Some front) (cond second (Some other) None)
+        ≡ cond second (Some other) (cond first (Some front) None)
     by_tests true true is_first is_second = ap Some (begins_with-antisym front other is_first is_second)
     by_tests true false is_first is_second = refl
     by_tests false true is_first is_second = refl

@@ -24,4 +24,5 @@ AllPairs-head R x xs pairs = λ place default within. pairs 0 (suc place) defaul
 
 -- and of each pair of the tail
 pub AllPairs-tail : {X : Type 0} (R : X → X → Type 0) (x : X) (xs : List X) → AllPairs R (x ∷ xs) → AllPairs R xs
-AllPairs-tail R x xs pairs = λ earlier later default before within. pairs (suc earlier) (suc later) default (omega arith) (omega arith)
+AllPairs-tail R x xs pairs = λ earlier later default before within.
+    pairs (suc earlier) (suc later) default (omega arith) (omega arith)

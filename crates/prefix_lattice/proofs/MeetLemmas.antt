@@ -1,31 +1,45 @@
 -- Which prefix is under which, and the greatest under two.
-use Rattle.std.proofs.Common.{◌≡◌, ◌≢◌, ◌↔◌, ℕ, ◌-◌, ◌*◌, ◌/◌, ◌^◌, ◌<◌, ◌≤◌, max, Bool, true, false, ◌&&◌, not, List, length, take, Option, Some, None, is_some, IfSome, IsSomeAnd, ◌⊎◌, inl, inr, refl, sym, ap, ◌∙◌, arith, subst}
+use Rattle.std.proofs.Common.{◌≡◌, ◌≢◌, ◌↔◌, ℕ, ◌-◌, ◌*◌, ◌/◌, ◌^◌, ◌<◌, ◌≤◌, max, Bool, true, false, ◌&&◌, not}
+use Rattle.std.proofs.Common.{List, length, take, Option, Some, None, is_some, IfSome, IsSomeAnd, ◌⊎◌, inl, inr}
+use Rattle.std.proofs.Common.{refl, sym, ap, ◌∙◌, arith, subst}
 use Rattle.std.proofs.lemmas.Bool.{false≢true, and_parts, and_from, cases_lt}
 use Rattle.std.proofs.Math.Nat.{mul-div_cancel}
 use Rattle.prefix_lattice.specs.KeptBytes.{number_from, address_bytes, address_of, begins_with, AreLeadingBytes}
 use Rattle.prefix_lattice.specs.Node.{level_of}
 use Rattle.prefix_lattice.specs.Record.{RecordValue}
 use Rattle.prefix_lattice.specs.Prefix.{PrefixValue, IsPrefix, covers, node_of}
-use Rattle.prefix_lattice.specs.Lattice.{under, same_prefix, strictly_under, longer_side, prefix_of_sides, meet, ShareAddresses}
-use Rattle.prefix_lattice.proofs.AddressLemmas.{some_unit, leading_bytes, length-leading, address_of-small, address_of-leading, same_leading, begins_with-take}
-use Rattle.prefix_lattice.proofs.ListFrontLemmas.{begins_with-refl, begins_with-trans, begins_with-antisym, begins_with-length, begins_with-shorter, longer-begins, longer_of, longer-either, longer_side-turned}
+use Rattle.prefix_lattice.specs.Lattice.{under, same_prefix, strictly_under, longer_side, prefix_of_sides, meet}
+use Rattle.prefix_lattice.specs.Lattice.{ShareAddresses}
+use Rattle.prefix_lattice.proofs.AddressLemmas.{some_unit, leading_bytes, length-leading, address_of-small}
+use Rattle.prefix_lattice.proofs.AddressLemmas.{address_of-leading, same_leading, begins_with-take}
+use Rattle.prefix_lattice.proofs.ListFrontLemmas.{begins_with-refl, begins_with-trans, begins_with-antisym}
+use Rattle.prefix_lattice.proofs.ListFrontLemmas.{begins_with-length, begins_with-shorter, longer-begins, longer_of}
+use Rattle.prefix_lattice.proofs.ListFrontLemmas.{longer-either, longer_side-turned}
 
-pub under_parts : (lower upper : PrefixValue) → under lower upper ≡ true → (begins_with lower.source upper.source ≡ true) × (begins_with lower.dest upper.dest ≡ true)
-under_parts lower upper is_under = and_parts (begins_with lower.source upper.source) (begins_with lower.dest upper.dest) is_under
+pub under_parts : (lower upper : PrefixValue) → under lower upper ≡ true
+    → (begins_with lower.source upper.source ≡ true) × (begins_with lower.dest upper.dest ≡ true)
+under_parts lower upper is_under =
+    and_parts (begins_with lower.source upper.source) (begins_with lower.dest upper.dest) is_under
 
-pub covers_parts : (prefix : PrefixValue) (rec : RecordValue) → covers prefix rec ≡ true → (begins_with (address_bytes rec.src) prefix.source ≡ true) × (begins_with (address_bytes rec.dst) prefix.dest ≡ true)
-covers_parts prefix rec covered = and_parts (begins_with (address_bytes rec.src) prefix.source) (begins_with (address_bytes rec.dst) prefix.dest) covered
+pub covers_parts : (prefix : PrefixValue) (rec : RecordValue) → covers prefix rec ≡ true
+    → (begins_with (address_bytes rec.src) prefix.source ≡ true)
+    × (begins_with (address_bytes rec.dst) prefix.dest ≡ true)
+covers_parts prefix rec covered =
+    and_parts (begins_with (address_bytes rec.src) prefix.source) (begins_with (address_bytes rec.dst) prefix.dest)
+    covered
 
 -- each prefix is under itself
 pub under-refl : (prefix : PrefixValue) → under prefix prefix ≡ true
 under-refl prefix = and_from _ _ (begins_with-refl prefix.source) (begins_with-refl prefix.dest)
 
 -- what is under a prefix is under all that it is under
-pub under-trans : (lower middle upper : PrefixValue) → under lower middle ≡ true → under middle upper ≡ true → under lower upper ≡ true
+pub under-trans : (lower middle upper : PrefixValue) → under lower middle ≡ true → under middle upper ≡ true
+    → under lower upper ≡ true
 under-trans lower middle upper first second =
     let firsts = under_parts lower middle first in
     let seconds = under_parts middle upper second in
-    and_from _ _ (begins_with-trans lower.source middle.source upper.source firsts.0 seconds.0) (begins_with-trans lower.dest middle.dest upper.dest firsts.1 seconds.1)
+    and_from _ _ (begins_with-trans lower.source middle.source upper.source firsts.0 seconds.0)
+    (begins_with-trans lower.dest middle.dest upper.dest firsts.1 seconds.1)
 
 -- two prefixes with the same sides are the same
 pub same_sides : (prefix other : PrefixValue) → prefix.source ≡ other.source → prefix.dest ≡ other.dest → prefix ≡ other
@@ -35,15 +49,21 @@ same_sides prefix other sources dests =
     ap with_source sources ∙ ap with_dest dests
 
 -- two prefixes that are under each other are the same
-pub under-antisym : (prefix other : PrefixValue) → under prefix other ≡ true → under other prefix ≡ true → prefix ≡ other
+pub under-antisym : (prefix other : PrefixValue) → under prefix other ≡ true → under other prefix ≡ true
+    → prefix ≡ other
 under-antisym prefix other first second =
     let firsts = under_parts prefix other first in
     let seconds = under_parts other prefix second in
-    same_sides prefix other (begins_with-antisym prefix.source other.source firsts.0 seconds.0) (begins_with-antisym prefix.dest other.dest firsts.1 seconds.1)
+    same_sides prefix other (begins_with-antisym prefix.source other.source firsts.0 seconds.0)
+    (begins_with-antisym prefix.dest other.dest firsts.1 seconds.1)
 
 -- strictly under is under and not equal
-pub strictly-differs : (lower upper : PrefixValue) → (strictly_under lower upper ≡ true) ↔ ((under lower upper ≡ true) × (lower ≢ upper))
-strictly-differs lower upper = (apart (under lower upper) (under upper lower) refl refl, together (under lower upper) (under upper lower) refl refl)
+pub strictly-differs : (lower upper : PrefixValue)
+    → (strictly_under lower upper ≡ true) ↔ ((under lower upper ≡ true) × (lower ≢ upper))
+strictly-differs lower upper = (
+  apart (under lower upper) (under upper lower) refl refl,
+  together (under lower upper) (under upper lower) refl refl,
+)
   where
     apart : (first second : Bool) → under lower upper ≡ first → under upper lower ≡ second
         → (first && not (first && second)) ≡ true → (first ≡ true) × (lower ≢ upper)
@@ -59,8 +79,11 @@ strictly-differs lower upper = (apart (under lower upper) (under upper lower) re
     together false second is_first is_second strictly = strictly.0
 
 -- how strictly under is computed
-pub strictly-is : (lower upper : PrefixValue) (first second : Bool) → first ≡ under lower upper → second ≡ under upper lower → (first && not second) ≡ strictly_under lower upper
-strictly-is lower upper first second is_first is_second = by_first first second ∙ ap (λ b. b && not (b && second)) is_first ∙ ap (λ b. under lower upper && not (under lower upper && b)) is_second
+pub strictly-is : (lower upper : PrefixValue) (first second : Bool) → first ≡ under lower upper
+    → second ≡ under upper lower → (first && not second) ≡ strictly_under lower upper
+strictly-is lower upper first second is_first is_second =
+    by_first first second ∙ ap (λ b. b && not (b && second)) is_first
+    ∙ ap (λ b. under lower upper && not (under lower upper && b)) is_second
   where
     by_first : (first second : Bool) → (first && not second) ≡ (first && not (first && second))
     by_first true second = refl
@@ -70,37 +93,49 @@ strictly-is lower upper first second is_first is_second = by_first first second 
 pub strictly_by_tests : (lower upper : PrefixValue) (back : Bool) → under lower upper ≡ true → back ≡ under upper lower
     → (not back ≡ true) ↔ ((under lower upper ≡ true) × (lower ≢ upper))
 strictly_by_tests lower upper back is_under is_back =
-    let is_strictly : not back ≡ strictly_under lower upper = strictly-is lower upper true back (sym is_under) is_back in
-    subst (λ (test : Bool). (test ≡ true) ↔ ((under lower upper ≡ true) × (lower ≢ upper))) (sym is_strictly) (strictly-differs lower upper)
+    let is_strictly : not back ≡ strictly_under lower upper =
+    strictly-is lower upper true back (sym is_under) is_back in
+    subst (λ (test : Bool). (test ≡ true) ↔ ((under lower upper ≡ true) × (lower ≢ upper))) (sym is_strictly)
+    (strictly-differs lower upper)
 
 -- what is under a prefix, and not strictly, is that prefix
-pub same_unless_strictly : (lower upper : PrefixValue) → under lower upper ≡ true → strictly_under lower upper ≡ false → lower ≡ upper
+pub same_unless_strictly : (lower upper : PrefixValue) → under lower upper ≡ true
+    → strictly_under lower upper ≡ false → lower ≡ upper
 same_unless_strictly lower upper is_under not_strictly = by_test (under upper lower) refl
   where
     by_test : (second : Bool) → under upper lower ≡ second → lower ≡ upper
     by_test true is_second = under-antisym lower upper is_under is_second
-    by_test false is_second = absurd (false≢true (sym not_strictly ∙ sym (strictly-is lower upper true false (sym is_under) (sym is_second))))
+    by_test false is_second =
+        absurd
+        (false≢true (sym not_strictly ∙ sym (strictly-is lower upper true false (sym is_under) (sym is_second))))
 
 -- going up strictly the level falls
-pub strictly-level : (lower upper : PrefixValue) → strictly_under lower upper ≡ true → level_of (node_of upper) < level_of (node_of lower)
+pub strictly-level : (lower upper : PrefixValue) → strictly_under lower upper ≡ true
+    → level_of (node_of upper) < level_of (node_of lower)
 strictly-level lower upper strictly = by_level (cases_lt (level_of (node_of upper)) (level_of (node_of lower)))
   where
     parts : (under lower upper ≡ true) × (lower ≢ upper)
     parts = (strictly-differs lower upper).0 strictly
 
-    by_level : (level_of (node_of upper) < level_of (node_of lower)) ⊎ (level_of (node_of lower) ≤ level_of (node_of upper)) → level_of (node_of upper) < level_of (node_of lower)
+    by_level : (level_of (node_of upper) < level_of (node_of lower))
+        ⊎ (level_of (node_of lower) ≤ level_of (node_of upper))
+        → level_of (node_of upper) < level_of (node_of lower)
     by_level (inl falls) = falls
     by_level (inr no_fall) =
         let sides = under_parts lower upper parts.0 in
-        let sources : length upper.source ≤ length lower.source = begins_with-length lower.source upper.source sides.0 in
+        let sources : length upper.source ≤ length lower.source =
+        begins_with-length lower.source upper.source sides.0 in
         let dests : length upper.dest ≤ length lower.dest = begins_with-length lower.dest upper.dest sides.1 in
         let back : under upper lower ≡ true =
-        and_from _ _ (begins_with-shorter lower.source upper.source lower.source sides.0 (begins_with-refl lower.source) (omega arith))
+        and_from _ _
+        (begins_with-shorter lower.source upper.source lower.source sides.0 (begins_with-refl lower.source)
+        (omega arith))
         (begins_with-shorter lower.dest upper.dest lower.dest sides.1 (begins_with-refl lower.dest) (omega arith)) in
         absurd (parts.1 (under-antisym lower upper parts.0 back))
 
 -- what is under a prefix that is strictly under another is strictly under that one
-pub strictly-trans : (lower middle upper : PrefixValue) → under lower middle ≡ true → strictly_under middle upper ≡ true → strictly_under lower upper ≡ true
+pub strictly-trans : (lower middle upper : PrefixValue) → under lower middle ≡ true
+    → strictly_under middle upper ≡ true → strictly_under lower upper ≡ true
 strictly-trans lower middle upper is_under strictly =
     let parts = (strictly-differs middle upper).0 strictly in
     (strictly-differs lower upper).1 (
@@ -112,21 +147,26 @@ pub same_prefix-refl : (prefix : PrefixValue) → same_prefix prefix prefix ≡ 
 same_prefix-refl prefix = and_from _ _ (under-refl prefix) (under-refl prefix)
 
 -- a record that a prefix covers is covered by all that the prefix is under
-pub covers-up : (lower upper : PrefixValue) (rec : RecordValue) → under lower upper ≡ true → covers lower rec ≡ true → covers upper rec ≡ true
+pub covers-up : (lower upper : PrefixValue) (rec : RecordValue) → under lower upper ≡ true → covers lower rec ≡ true
+    → covers upper rec ≡ true
 covers-up lower upper rec is_under covered =
     let sides = under_parts lower upper is_under in
     let covers_sides = covers_parts lower rec covered in
-    and_from _ _ (begins_with-trans (address_bytes rec.src) lower.source upper.source covers_sides.0 sides.0) (begins_with-trans (address_bytes rec.dst) lower.dest upper.dest covers_sides.1 sides.1)
+    and_from _ _ (begins_with-trans (address_bytes rec.src) lower.source upper.source covers_sides.0 sides.0)
+    (begins_with-trans (address_bytes rec.dst) lower.dest upper.dest covers_sides.1 sides.1)
 
 -- the sides of a meet are the longer of the two lists on each side
 pub record HasLongerSides (prefix other lowest : PrefixValue) : Type 0 where
   pub source : longer_side prefix.source other.source ≡ Some lowest.source
   pub dest : longer_side prefix.dest other.dest ≡ Some lowest.dest
 
-pub meet_sides : (prefix other lowest : PrefixValue) → meet prefix other ≡ Some lowest → HasLongerSides prefix other lowest
-meet_sides prefix other lowest = of_sides (longer_side prefix.source other.source) (longer_side prefix.dest other.dest) refl refl
+pub meet_sides : (prefix other lowest : PrefixValue) → meet prefix other ≡ Some lowest
+    → HasLongerSides prefix other lowest
+meet_sides prefix other lowest =
+    of_sides (longer_side prefix.source other.source) (longer_side prefix.dest other.dest) refl refl
   where
-    of_sides : (source dest : Option (List ℕ)) → longer_side prefix.source other.source ≡ source → longer_side prefix.dest other.dest ≡ dest
+    of_sides : (source dest : Option (List ℕ)) → longer_side prefix.source other.source ≡ source
+        → longer_side prefix.dest other.dest ≡ dest
         → prefix_of_sides source dest ≡ Some lowest → HasLongerSides prefix other lowest
     of_sides (Some source) (Some dest) is_source is_dest same =
         let whole : record { source = source; dest = dest } ≡ lowest = cc in
@@ -138,18 +178,21 @@ meet_sides prefix other lowest = of_sides (longer_side prefix.source other.sourc
     of_sides None dest is_source is_dest same = absurd (cc)
 
 -- a meet is under both
-pub meet-under : (prefix other lowest : PrefixValue) → meet prefix other ≡ Some lowest → (under lowest prefix ≡ true) × (under lowest other ≡ true)
+pub meet-under : (prefix other lowest : PrefixValue) → meet prefix other ≡ Some lowest
+    → (under lowest prefix ≡ true) × (under lowest other ≡ true)
 meet-under prefix other lowest found =
     let sides = meet_sides prefix other lowest found in
     let sources = longer-begins prefix.source other.source lowest.source sides.source in
     let dests = longer-begins prefix.dest other.dest lowest.dest sides.dest in
     (and_from _ _ sources.0 dests.0, and_from _ _ sources.1 dests.1)
 
-pub meet_under_both : (prefix other : PrefixValue) (found : Option PrefixValue) → found ≡ meet prefix other → IfSome found (λ lowest. (under lowest prefix ≡ true) × (under lowest other ≡ true))
+pub meet_under_both : (prefix other : PrefixValue) (found : Option PrefixValue) → found ≡ meet prefix other
+    → IfSome found (λ lowest. (under lowest prefix ≡ true) × (under lowest other ≡ true))
 meet_under_both prefix other None is = tt
 meet_under_both prefix other (Some lowest) is = meet-under prefix other lowest (sym is)
 
--- where two lists begin with both sides of two prefixes, the prefixes meet, and the lists begin with the sides of the meet
+-- where two lists begin with both sides of two prefixes, the prefixes meet, and the lists begin with the sides of
+-- the meet
 pub record IsMeet (prefix other lowest : PrefixValue) (source dest : List ℕ) : Type 0 where
   pub is : meet prefix other ≡ Some lowest
   pub source_begins : begins_with source lowest.source ≡ true
@@ -157,14 +200,18 @@ pub record IsMeet (prefix other lowest : PrefixValue) (source dest : List ℕ) :
   pub source_length : length lowest.source ≡ max (length prefix.source) (length other.source)
   pub dest_length : length lowest.dest ≡ max (length prefix.dest) (length other.dest)
 
-pub meet_of : (prefix other : PrefixValue) (source dest : List ℕ) → begins_with source prefix.source ≡ true → begins_with source other.source ≡ true
-    → begins_with dest prefix.dest ≡ true → begins_with dest other.dest ≡ true → (lowest : PrefixValue) × IsMeet prefix other lowest source dest
+pub meet_of : (prefix other : PrefixValue) (source dest : List ℕ) → begins_with source prefix.source ≡ true
+    → begins_with source other.source ≡ true
+    → begins_with dest prefix.dest ≡ true → begins_with dest other.dest ≡ true
+    → (lowest : PrefixValue) × IsMeet prefix other lowest source dest
 meet_of prefix other source dest source_begins source_other dest_begins dest_other =
     let on_source = longer_of source prefix.source other.source source_begins source_other in
     let on_dest = longer_of dest prefix.dest other.dest dest_begins dest_other in (
       record { source = on_source.0; dest = on_dest.0 },
       record {
-        is = ap (λ s. prefix_of_sides s (longer_side prefix.dest other.dest)) on_source.1.is ∙ ap (λ d. prefix_of_sides (Some on_source.0) d) on_dest.1.is;
+        is =
+            ap (λ s. prefix_of_sides s (longer_side prefix.dest other.dest)) on_source.1.is
+            ∙ ap (λ d. prefix_of_sides (Some on_source.0) d) on_dest.1.is;
         source_begins = on_source.1.begins;
         dest_begins = on_dest.1.begins;
         source_length = on_source.1.is_length;
@@ -187,40 +234,49 @@ meet-covers prefix other rec covered covered_by_other =
     meet_of prefix other (address_bytes rec.src) (address_bytes rec.dst) sides.0 others.0 sides.1 others.1
 
 -- a prefix under two others is under their meet
-pub meet-greatest : (prefix other lower : PrefixValue) → under lower prefix ≡ true → under lower other ≡ true → IsSomeAnd (meet prefix other) (λ lowest. under lower lowest ≡ true)
+pub meet-greatest : (prefix other lower : PrefixValue) → under lower prefix ≡ true → under lower other ≡ true
+    → IsSomeAnd (meet prefix other) (λ lowest. under lower lowest ≡ true)
 meet-greatest prefix other lower is_under under_other =
     let sides = under_parts lower prefix is_under in
     let others = under_parts lower other under_other in
     let found = meet_of prefix other lower.source lower.dest sides.0 others.0 sides.1 others.1 in
-    subst (λ o. IsSomeAnd o (λ lowest. under lower lowest ≡ true)) (sym found.1.is) (and_from _ _ found.1.source_begins found.1.dest_begins)
+    subst (λ o. IsSomeAnd o (λ lowest. under lower lowest ≡ true)) (sym found.1.is)
+    (and_from _ _ found.1.source_begins found.1.dest_begins)
 
 -- the meet of two prefixes is a prefix
-pub meet-IsPrefix : (prefix other lowest : PrefixValue) → IsPrefix prefix → IsPrefix other → meet prefix other ≡ Some lowest → IsPrefix lowest
+pub meet-IsPrefix : (prefix other lowest : PrefixValue) → IsPrefix prefix → IsPrefix other
+    → meet prefix other ≡ Some lowest → IsPrefix lowest
 meet-IsPrefix prefix other lowest valid other_valid found =
     let sides = meet_sides prefix other lowest found in
     record {
-      source = longer-either AreLeadingBytes prefix.source other.source lowest.source sides.source valid.source other_valid.source;
+      source =
+          longer-either AreLeadingBytes prefix.source other.source lowest.source sides.source valid.source
+          other_valid.source;
       dest = longer-either AreLeadingBytes prefix.dest other.dest lowest.dest sides.dest valid.dest other_valid.dest;
     }
 
 -- the address of leading bytes has zeros after them
-whole_address : (front : List ℕ) → address_of front / 256 ^ (4 - length front) * 256 ^ (4 - length front) ≡ address_of front
+whole_address : (front : List ℕ)
+    → address_of front / 256 ^ (4 - length front) * 256 ^ (4 - length front) ≡ address_of front
 whole_address front =
     let unit = 256 ^ (4 - length front) in
     ap (λ m. m * unit) (mul-div_cancel (number_from 256 0 front) (some_unit (4 - length front)))
 
 -- the address of leading bytes begins with them
-begins_with-address_of : (front : List ℕ) → AreLeadingBytes front → begins_with (address_bytes (address_of front)) front ≡ true
+begins_with-address_of : (front : List ℕ) → AreLeadingBytes front
+    → begins_with (address_bytes (address_of front)) front ≡ true
 begins_with-address_of front leading =
     let n = length front in
     let own = take n (address_bytes (address_of front)) in
     let small = address_of-small front leading in
     begins_with-take (address_bytes (address_of front)) front
-    (same_leading own front (leading_bytes n (address_of front) leading.few) leading (length-leading n (address_of front) leading.few)
+    (same_leading own front (leading_bytes n (address_of front) leading.few) leading
+    (length-leading n (address_of front) leading.few)
     (address_of-leading n (address_of front) leading.few small ∙ whole_address front))
 
 -- two prefixes share a pair of addresses exactly where they meet
-pub meet-some : (prefix other : PrefixValue) → IsPrefix prefix → IsPrefix other → (is_some (meet prefix other) ≡ true) ↔ ShareAddresses prefix other
+pub meet-some : (prefix other : PrefixValue) → IsPrefix prefix → IsPrefix other
+    → (is_some (meet prefix other) ≡ true) ↔ ShareAddresses prefix other
 meet-some prefix other valid other_valid = (shared (meet prefix other) refl, found)
   where
     shared : (o : Option PrefixValue) → meet prefix other ≡ o → is_some o ≡ true → ShareAddresses prefix other
@@ -228,7 +284,9 @@ meet-some prefix other valid other_valid = (shared (meet prefix other) refl, fou
     shared (Some lowest) is some =
         let lowest_valid = meet-IsPrefix prefix other lowest valid other_valid is in
         let own : RecordValue = record { src = address_of lowest.source; dst = address_of lowest.dest; weight = 1 } in
-        let covered : covers lowest own ≡ true = and_from _ _ (begins_with-address_of lowest.source lowest_valid.source) (begins_with-address_of lowest.dest lowest_valid.dest) in
+        let covered : covers lowest own ≡ true =
+        and_from _ _ (begins_with-address_of lowest.source lowest_valid.source)
+        (begins_with-address_of lowest.dest lowest_valid.dest) in
         let both = meet-under prefix other lowest is in
         record {
           pair = own;

@@ -7,7 +7,8 @@ use Rattle.prefix_lattice.specs.declared.prefix_fault.PrefixFault.{PrefixFault}
 use Rattle.prefix_lattice.proofs.SideTextLemmas.{one_side, no_side_fault, one_side_fault}
 
 -- two texts spell one prefix at most
-pub one_prefix : (source dest : List ℕ) (prefix other : PrefixValue) → SpellsPrefix source dest prefix → SpellsPrefix source dest other → prefix ≡ other
+pub one_prefix : (source dest : List ℕ) (prefix other : PrefixValue) → SpellsPrefix source dest prefix
+    → SpellsPrefix source dest other → prefix ≡ other
 one_prefix source dest prefix other spells spells_other =
     let with_source : _ → PrefixValue = λ s. record { source = s; dest = prefix.dest } in
     let with_dest : _ → PrefixValue = λ d. record { source = other.source; dest = d } in
@@ -15,28 +16,45 @@ one_prefix source dest prefix other spells spells_other =
     ∙ ap with_dest (one_side dest prefix.dest other.dest spells.dest spells_other.dest)
 
 -- texts that spell a prefix have no fault
-pub no_prefix_fault : (source dest : List ℕ) (prefix : PrefixValue) (fault : PrefixFault) → SpellsPrefix source dest prefix → HasPrefixFault source dest fault → ⊥
-no_prefix_fault source dest prefix fault spells (inl has) = no_side_fault Source source prefix.source fault spells.source has
+pub no_prefix_fault : (source dest : List ℕ) (prefix : PrefixValue) (fault : PrefixFault)
+    → SpellsPrefix source dest prefix → HasPrefixFault source dest fault → ⊥
+no_prefix_fault source dest prefix fault spells (inl has) =
+    no_side_fault Source source prefix.source fault spells.source has
 no_prefix_fault source dest prefix fault spells (inr has) = no_side_fault Dest dest prefix.dest fault spells.dest has.1
 
 -- two texts have one fault at most
-pub one_prefix_fault : (source dest : List ℕ) (fault other : PrefixFault) → HasPrefixFault source dest fault → HasPrefixFault source dest other → fault ≡ other
-one_prefix_fault source dest fault other (inl has) (inl has_other) = one_side_fault Source source fault other has has_other
-one_prefix_fault source dest fault other (inl has) (inr has_other) = absurd (no_side_fault Source source has_other.0.0 fault has_other.0.1 has)
-one_prefix_fault source dest fault other (inr has) (inl has_other) = absurd (no_side_fault Source source has.0.0 other has.0.1 has_other)
-one_prefix_fault source dest fault other (inr has) (inr has_other) = one_side_fault Dest dest fault other has.1 has_other.1
+pub one_prefix_fault : (source dest : List ℕ) (fault other : PrefixFault) → HasPrefixFault source dest fault
+    → HasPrefixFault source dest other → fault ≡ other
+one_prefix_fault source dest fault other (inl has) (inl has_other) =
+    one_side_fault Source source fault other has has_other
+one_prefix_fault source dest fault other (inl has) (inr has_other) =
+    absurd (no_side_fault Source source has_other.0.0 fault has_other.0.1 has)
+one_prefix_fault source dest fault other (inr has) (inl has_other) =
+    absurd (no_side_fault Source source has.0.0 other has.0.1 has_other)
+one_prefix_fault source dest fault other (inr has) (inr has_other) =
+    one_side_fault Dest dest fault other has.1 has_other.1
 
 -- an answer that spells its prefix or has its fault is the one answer
-pub exactly_prefix : (source dest : List ℕ) (result : Result PrefixValue PrefixFault) → IfOk result (SpellsPrefix source dest) → IfErr result (HasPrefixFault source dest)
-    → (prefix : PrefixValue) → (result ≡ Ok prefix → SpellsPrefix source dest prefix) × (SpellsPrefix source dest prefix → result ≡ Ok prefix)
-exactly_prefix source dest (Ok found) ok fault prefix =
-    (λ same. subst (SpellsPrefix source dest) (cc same) ok, λ spells. ap Ok (one_prefix source dest found prefix ok spells))
+pub exactly_prefix : (source dest : List ℕ) (result : Result PrefixValue PrefixFault)
+    → IfOk result (SpellsPrefix source dest) → IfErr result (HasPrefixFault source dest)
+    → (prefix : PrefixValue)
+    → (result ≡ Ok prefix → SpellsPrefix source dest prefix)
+    × (SpellsPrefix source dest prefix → result ≡ Ok prefix)
+exactly_prefix source dest (Ok found) ok fault prefix = (
+  λ same. subst (SpellsPrefix source dest) (cc same) ok,
+  λ spells. ap Ok (one_prefix source dest found prefix ok spells),
+)
 exactly_prefix source dest (Err found) ok fault prefix =
     (λ same. cc same, λ spells. absurd (no_prefix_fault source dest prefix found spells fault))
 
-pub exactly_fault : (source dest : List ℕ) (result : Result PrefixValue PrefixFault) → IfOk result (SpellsPrefix source dest) → IfErr result (HasPrefixFault source dest)
-    → (other : PrefixFault) → (result ≡ Err other → HasPrefixFault source dest other) × (HasPrefixFault source dest other → result ≡ Err other)
+pub exactly_fault : (source dest : List ℕ) (result : Result PrefixValue PrefixFault)
+    → IfOk result (SpellsPrefix source dest) → IfErr result (HasPrefixFault source dest)
+    → (other : PrefixFault)
+    → (result ≡ Err other → HasPrefixFault source dest other)
+    × (HasPrefixFault source dest other → result ≡ Err other)
 exactly_fault source dest (Ok found) ok fault other =
     (λ same. cc same, λ has. absurd (no_prefix_fault source dest found other ok has))
-exactly_fault source dest (Err found) ok fault other =
-    (λ same. subst (HasPrefixFault source dest) (cc same) fault, λ has. ap Err (one_prefix_fault source dest found other fault has))
+exactly_fault source dest (Err found) ok fault other = (
+  λ same. subst (HasPrefixFault source dest) (cc same) fault,
+  λ has. ap Err (one_prefix_fault source dest found other fault has),
+)

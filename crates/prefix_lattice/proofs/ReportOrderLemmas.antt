@@ -28,17 +28,22 @@ same_number : (x y : ℕ) → nat_cmp x y ≡ Equal → x ≡ y
 same_number x y tied = ranked x y Equal (sym tied)
 
 -- prefixes that tie in a report are the same
-tied_prefixes : (prefix other : PrefixValue) → IsPrefix prefix → IsPrefix other → report_order prefix other ≡ Equal → prefix ≡ other
+tied_prefixes : (prefix other : PrefixValue) → IsPrefix prefix → IsPrefix other → report_order prefix other ≡ Equal
+    → prefix ≡ other
 tied_prefixes prefix other valid other_valid tied =
     let by_level = then_parts (nat_cmp (level_of (node_of other)) (level_of (node_of prefix))) _ tied in
     let by_source = then_parts (nat_cmp (address_of prefix.source) (address_of other.source)) _ by_level.1 in
     let by_length = then_parts (nat_cmp (length prefix.source) (length other.source)) _ by_source.1 in
-    let levels : length other.source + length other.dest ≡ length prefix.source + length prefix.dest = same_number _ _ by_level.0 in
+    let levels : length other.source + length other.dest ≡ length prefix.source + length prefix.dest =
+    same_number _ _ by_level.0 in
     let lengths : length prefix.source ≡ length other.source = same_number _ _ by_length.0 in
     same_sides prefix other
     (same_leading prefix.source other.source valid.source other_valid.source lengths (same_number _ _ by_source.0))
     (same_leading prefix.dest other.dest valid.dest other_valid.dest (omega arith) (same_number _ _ by_length.1))
 
-pub report_order-apart : (prefix other : PrefixValue) → IsPrefix prefix → IsPrefix other → (report_order prefix other ≡ Equal) ↔ (prefix ≡ other)
-report_order-apart prefix other valid other_valid =
-    (tied_prefixes prefix other valid other_valid, λ same. ap (report_order prefix) (sym same) ∙ tied_itself report_order-total prefix)
+pub report_order-apart : (prefix other : PrefixValue) → IsPrefix prefix → IsPrefix other
+    → (report_order prefix other ≡ Equal) ↔ (prefix ≡ other)
+report_order-apart prefix other valid other_valid = (
+  tied_prefixes prefix other valid other_valid,
+  λ same. ap (report_order prefix) (sym same) ∙ tied_itself report_order-total prefix,
+)

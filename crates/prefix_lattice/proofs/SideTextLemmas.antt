@@ -1,9 +1,11 @@
 -- The text of one side of a prefix: it spells one side at most, and has a fault exactly where it spells none.
-use Rattle.std.proofs.Common.{◌≡◌, ℕ, ◌-◌, ◌*◌, ◌%◌, ◌^◌, ◌<◌, ◌≤◌, List, ◌∷◌, ◌++◌, length, decimal, refl, sym, ap, ◌∙◌, arith}
+use Rattle.std.proofs.Common.{◌≡◌, ℕ, ◌-◌, ◌*◌, ◌%◌, ◌^◌, ◌<◌, ◌≤◌, List, ◌∷◌, ◌++◌, length, decimal, refl, sym, ap}
+use Rattle.std.proofs.Common.{◌∙◌, arith}
 use Rattle.std.proofs.lemmas.Fmt.{decimal_injective}
 use Rattle.std.proofs.Math.Nat.{mul-mod_left}
 use Rattle.prefix_lattice.specs.KeptBytes.{number_from, address_of}
-use Rattle.prefix_lattice.specs.PrefixText.{address_text, side_text_of, before_slash, IsAddressText, HasLength, SpellsSide, HasSideFault}
+use Rattle.prefix_lattice.specs.PrefixText.{address_text, side_text_of, before_slash, IsAddressText, HasLength}
+use Rattle.prefix_lattice.specs.PrefixText.{SpellsSide, HasSideFault}
 use Rattle.prefix_lattice.specs.declared.prefix_fault.Side.{Side}
 use Rattle.prefix_lattice.specs.declared.prefix_fault.PrefixFault.{PrefixFault}
 use Rattle.prefix_lattice.specs.declared.prefix_fault.PrefixFault.TheVariants.{BadAddress, BadLength, LooseBits}
@@ -12,11 +14,15 @@ use Rattle.prefix_lattice.proofs.AddressTextLemmas.{address_lacks_slash, one_add
 use Rattle.prefix_lattice.proofs.TextCutLemmas.{first_cut, same_cut}
 
 -- what stands before the slash of an address and a length is the address
-pub before_length : (text : List ℕ) (address bytes : ℕ) → text ≡ side_text_of address bytes → before_slash text ≡ address_text address
-before_length text address bytes spelled = ap before_slash spelled ∙ first_cut 47 (address_text address) (decimal (8 * bytes)) (address_lacks_slash address)
+pub before_length : (text : List ℕ) (address bytes : ℕ) → text ≡ side_text_of address bytes
+    → before_slash text ≡ address_text address
+before_length text address bytes spelled =
+    ap before_slash spelled
+    ∙ first_cut 47 (address_text address) (decimal (8 * bytes)) (address_lacks_slash address)
 
 -- an address and a length have an address
-pub has_address : (text : List ℕ) (address bytes : ℕ) → address < 2 ^ 32 → text ≡ side_text_of address bytes → IsAddressText (before_slash text)
+pub has_address : (text : List ℕ) (address bytes : ℕ) → address < 2 ^ 32 → text ≡ side_text_of address bytes
+    → IsAddressText (before_slash text)
 has_address text address bytes small spelled = (address, small, before_length text address bytes spelled)
 
 -- an address and a length have a length
@@ -28,16 +34,20 @@ has_length text address bytes few spelled =
 pub one_side_text : (address bytes other others : ℕ) → address < 2 ^ 32 → other < 2 ^ 32 → bytes ≤ 4 → others ≤ 4
     → side_text_of address bytes ≡ side_text_of other others → (address ≡ other) × (bytes ≡ others)
 one_side_text address bytes other others small other_small few few_others same =
-    let cut = same_cut 47 (side_text_of address bytes) (address_text address) (decimal (8 * bytes)) (address_text other) (decimal (8 * others))
-    (sym (first_cut 47 (address_text address) (decimal (8 * bytes)) (address_lacks_slash address))) refl same (address_lacks_slash other) in
-    let lengths : 8 * bytes ≡ 8 * others = decimal_injective (8 * bytes) (8 * others) (omega arith) (omega arith) cut.1 in
+    let cut = same_cut 47 (side_text_of address bytes) (address_text address) (decimal (8 * bytes))
+    (address_text other) (decimal (8 * others))
+    (sym (first_cut 47 (address_text address) (decimal (8 * bytes)) (address_lacks_slash address))) refl same
+    (address_lacks_slash other) in
+    let lengths : 8 * bytes ≡ 8 * others =
+    decimal_injective (8 * bytes) (8 * others) (omega arith) (omega arith) cut.1 in
     (one_address address other small other_small cut.0, omega arith)
 
 -- a text spells one side at most
 pub one_side : (text front other : List ℕ) → SpellsSide text front → SpellsSide text other → front ≡ other
 one_side text front other spells spells_other =
     let same = one_side_text (address_of front) (length front) (address_of other) (length other)
-    (address_of-small front spells.leading) (address_of-small other spells_other.leading) spells.leading.few spells_other.leading.few
+    (address_of-small front spells.leading) (address_of-small other spells_other.leading) spells.leading.few
+    spells_other.leading.few
     (sym spells.spelled ∙ spells_other.spelled) in
     same_leading front other spells.leading spells_other.leading same.1 same.0
 
@@ -46,28 +56,35 @@ nothing_loose : (front : List ℕ) → address_of front % 256 ^ (4 - length fron
 nothing_loose front = mul-mod_left (number_from 256 0 front) (256 ^ (4 - length front))
 
 -- a text that spells a side has no fault
-pub no_side_fault : (side : Side) (text front : List ℕ) (fault : PrefixFault) → SpellsSide text front → HasSideFault side text fault → ⊥
+pub no_side_fault : (side : Side) (text front : List ℕ) (fault : PrefixFault) → SpellsSide text front
+    → HasSideFault side text fault → ⊥
 no_side_fault side text front (BadAddress at) spells has =
     has.1 (has_address text (address_of front) (length front) (address_of-small front spells.leading) spells.spelled)
-no_side_fault side text front (BadLength at) spells has = has.2 (has_length text (address_of front) (length front) spells.leading.few spells.spelled)
+no_side_fault side text front (BadLength at) spells has =
+    has.2 (has_length text (address_of front) (length front) spells.leading.few spells.spelled)
 no_side_fault side text front (LooseBits at) spells has =
     let loose = has.1 in
-    let same = one_side_text loose.address loose.bytes (address_of front) (length front) loose.is_address (address_of-small front spells.leading) loose.is_length spells.leading.few
+    let same = one_side_text loose.address loose.bytes (address_of front) (length front) loose.is_address
+    (address_of-small front spells.leading) loose.is_length spells.leading.few
     (sym loose.spelled ∙ spells.spelled) in
-    loose.loose (ap (λ a. a % 256 ^ (4 - loose.bytes)) same.0 ∙ ap (λ n. address_of front % 256 ^ (4 - n)) same.1 ∙ nothing_loose front)
+    loose.loose (ap (λ a. a % 256 ^ (4 - loose.bytes)) same.0 ∙ ap (λ n. address_of front % 256 ^ (4 - n)) same.1
+    ∙ nothing_loose front)
 
 -- a text has one fault at most
-pub one_side_fault : (side : Side) (text : List ℕ) (fault other : PrefixFault) → HasSideFault side text fault → HasSideFault side text other → fault ≡ other
+pub one_side_fault : (side : Side) (text : List ℕ) (fault other : PrefixFault) → HasSideFault side text fault
+    → HasSideFault side text other → fault ≡ other
 one_side_fault side text (BadAddress at) (BadAddress at') has has_other = ap BadAddress (has.0 ∙ sym has_other.0)
 one_side_fault side text (BadAddress at) (BadLength at') has has_other = absurd (has.1 has_other.1)
 one_side_fault side text (BadAddress at) (LooseBits at') has has_other =
-    let loose = has_other.1 in absurd (has.1 (has_address text loose.address loose.bytes loose.is_address loose.spelled))
+    let loose = has_other.1 in
+    absurd (has.1 (has_address text loose.address loose.bytes loose.is_address loose.spelled))
 one_side_fault side text (BadLength at) (BadAddress at') has has_other = absurd (has_other.1 has.1)
 one_side_fault side text (BadLength at) (BadLength at') has has_other = ap BadLength (has.0 ∙ sym has_other.0)
 one_side_fault side text (BadLength at) (LooseBits at') has has_other =
     let loose = has_other.1 in absurd (has.2 (has_length text loose.address loose.bytes loose.is_length loose.spelled))
 one_side_fault side text (LooseBits at) (BadAddress at') has has_other =
-    let loose = has.1 in absurd (has_other.1 (has_address text loose.address loose.bytes loose.is_address loose.spelled))
+    let loose = has.1 in
+    absurd (has_other.1 (has_address text loose.address loose.bytes loose.is_address loose.spelled))
 one_side_fault side text (LooseBits at) (BadLength at') has has_other =
     let loose = has.1 in absurd (has_other.2 (has_length text loose.address loose.bytes loose.is_length loose.spelled))
 one_side_fault side text (LooseBits at) (LooseBits at') has has_other = ap LooseBits (has.0 ∙ sym has_other.0)

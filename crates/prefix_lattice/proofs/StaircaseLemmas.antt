@@ -1,7 +1,9 @@
 -- The staircase of incomparable prefixes: the kept pairs of the chain that covers a record are its neighbours.
-use Rattle.std.proofs.Common.{◌≡◌, ◌≢◌, ◌+◌, ◌<◌, ◌≤◌, true, false, ◌&&◌, ◌||◌, not, List, [], ◌∷◌, length, ◌⊎◌, inl, inr, refl, sym, ap, ◌∙◌, arith, subst}
+use Rattle.std.proofs.Common.{◌≡◌, ◌≢◌, ◌+◌, ◌<◌, ◌≤◌, true, false, ◌&&◌, ◌||◌, not, List, [], ◌∷◌, length, ◌⊎◌}
+use Rattle.std.proofs.Common.{inl, inr, refl, sym, ap, ◌∙◌, arith, subst}
 use Rattle.std.specs.List.{filter}
-use Rattle.std.proofs.lemmas.Bool.{false≢true, false_from_ne_true, and_parts, and_from, or_parts, or_from, not-true, not_from_false}
+use Rattle.std.proofs.lemmas.Bool.{false≢true, false_from_ne_true, and_parts, and_from, or_parts, or_from, not-true}
+use Rattle.std.proofs.lemmas.Bool.{not_from_false}
 use Rattle.std.proofs.lemmas.List.Sums.{length-filter}
 use Rattle.std.proofs.lemmas.List.Kept.{AllPairs-filter}
 use Rattle.prefix_lattice.specs.KeptBytes.{address_bytes}
@@ -10,26 +12,33 @@ use Rattle.prefix_lattice.specs.Prefix.{PrefixValue, covers}
 use Rattle.prefix_lattice.specs.Lattice.{under, same_prefix}
 use Rattle.prefix_lattice.specs.ClosestLines.{under_third, kept_pairs, AreIncomparable, covering_count, ObeysStaircase}
 use Rattle.prefix_lattice.proofs.ElementLemmas.{Among, list_any-false, list_any-true, among-filter, filter-among}
-use Rattle.prefix_lattice.proofs.CountLemmas.{tally, count_by-cons, count_by-none, pair_count, pair_count-filter, in_order, in_order-among, among-in_order, length-in_order, pair_count-in_order}
+use Rattle.prefix_lattice.proofs.CountLemmas.{tally, count_by-cons, count_by-none, pair_count, pair_count-filter}
+use Rattle.prefix_lattice.proofs.CountLemmas.{in_order, in_order-among, among-in_order, length-in_order}
+use Rattle.prefix_lattice.proofs.CountLemmas.{pair_count-in_order}
 use Rattle.prefix_lattice.proofs.MeetLemmas.{IsMeet, under-antisym, same_prefix-refl, covers-up, meet-covers}
 use Rattle.prefix_lattice.proofs.KeptPairLemmas.{keeps, kept-count, keeps-turned, keeps-is, keeps-covers}
-use Rattle.prefix_lattice.proofs.ChainLemmas.{kept_source, kept_dest, IsStep, Descends, IsChain, under-by_lengths, lengths-by_under, one_under, in_order-chain}
+use Rattle.prefix_lattice.proofs.ChainLemmas.{kept_source, kept_dest, IsStep, Descends, IsChain, under-by_lengths}
+use Rattle.prefix_lattice.proofs.ChainLemmas.{lengths-by_under, one_under, in_order-chain}
 
 -- a step and the later ones: no further member that covers the record keeps more source bytes than the step
-pub record AreRest (members : List PrefixValue) (rec : RecordValue) (step : PrefixValue) (later : List PrefixValue) : Type 0 where
+pub record AreRest (members : List PrefixValue) (rec : RecordValue) (step : PrefixValue) (later : List PrefixValue)
+    : Type 0 where
   pub steps : (prefix : PrefixValue) → Among prefix (step ∷ later) → IsStep members rec prefix
   pub chain : IsChain (step ∷ later)
-  pub all : (prefix : PrefixValue) → IsStep members rec prefix → (kept_source prefix ≤ kept_source step) ⊎ Among prefix later
+  pub all : (prefix : PrefixValue) → IsStep members rec prefix
+      → (kept_source prefix ≤ kept_source step) ⊎ Among prefix later
 
 -- what follows the next step
-rest-tail : (members : List PrefixValue) (rec : RecordValue) (step next : PrefixValue) (later : List PrefixValue) → AreRest members rec step (next ∷ later) → AreRest members rec next later
+rest-tail : (members : List PrefixValue) (rec : RecordValue) (step next : PrefixValue) (later : List PrefixValue)
+    → AreRest members rec step (next ∷ later) → AreRest members rec next later
 rest-tail members rec step next later rest = record {
   steps = λ prefix among. rest.steps prefix (inr among);
   chain = rest.chain.1;
   all = λ prefix is_step. either prefix (rest.all prefix is_step);
 }
   where
-    either : (prefix : PrefixValue) → (kept_source prefix ≤ kept_source step) ⊎ Among prefix (next ∷ later) → (kept_source prefix ≤ kept_source next) ⊎ Among prefix later
+    either : (prefix : PrefixValue) → (kept_source prefix ≤ kept_source step) ⊎ Among prefix (next ∷ later)
+        → (kept_source prefix ≤ kept_source next) ⊎ Among prefix later
     either prefix (inl less) =
         let descends = rest.chain.0 next (inl refl) in
         inl (omega (arith, descends.source, less))
@@ -37,30 +46,39 @@ rest-tail members rec step next later rest = record {
     either prefix (inr (inr among)) = inr among
 
 -- the meet of a step and the next one is under no third member
-no_third : (members : List PrefixValue) (rec : RecordValue) (step next lowest : PrefixValue) (later : List PrefixValue) → AreIncomparable members → AreRest members rec step (next ∷ later)
-    → IsMeet step next lowest (address_bytes rec.src) (address_bytes rec.dst) → under_third members step next lowest ≡ false
+no_third : (members : List PrefixValue) (rec : RecordValue) (step next lowest : PrefixValue)
+    (later : List PrefixValue) → AreIncomparable members → AreRest members rec step (next ∷ later)
+    → IsMeet step next lowest (address_bytes rec.src) (address_bytes rec.dst)
+    → under_third members step next lowest ≡ false
 no_third members rec step next lowest later incomparable rest found =
     list_any-false (λ third. under lowest third && not (same_prefix third step || same_prefix third next)) members
     (λ third among. false_from_ne_true _ (λ passes.
     let parts = and_parts (under lowest third) (not (same_prefix third step || same_prefix third next)) passes in
     let neither = or_parts (same_prefix third step) (same_prefix third next) (not-true _ parts.1) in
     let covered = and_from _ _ found.source_begins found.dest_begins in
-    let is_step : IsStep members rec third = record { among = among; covered = covers-up lowest third rec parts.0 covered } in
+    let is_step : IsStep members rec third = record {
+      among = among;
+      covered = covers-up lowest third rec parts.0 covered;
+    } in
     is_one third is_step parts.0 neither.0 neither.1 (rest.all third is_step)))
   where
     descends : Descends step next
     descends = rest.chain.0 next (inl refl)
 
     is_first : (third : PrefixValue) → third ≡ step → same_prefix third step ≡ false → ⊥
-    is_first third same other = false≢true (sym other ∙ subst (λ p. same_prefix third p ≡ true) same (same_prefix-refl third))
+    is_first third same other =
+        false≢true (sym other ∙ subst (λ p. same_prefix third p ≡ true) same (same_prefix-refl third))
 
-    is_one : (third : PrefixValue) → IsStep members rec third → under lowest third ≡ true → same_prefix third step ≡ false → same_prefix third next ≡ false
+    is_one : (third : PrefixValue) → IsStep members rec third → under lowest third ≡ true
+        → same_prefix third step ≡ false → same_prefix third next ≡ false
         → (kept_source third ≤ kept_source step) ⊎ Among third (next ∷ later) → ⊥
     is_one third is_step is_under not_step not_next (inl less) =
         let lengths = lengths-by_under lowest third is_under in
         let first_step = rest.steps step (inl refl) in
         let dests : kept_dest third ≤ kept_dest step = omega (arith, found.dest_length, descends.dest, lengths.1) in
-        let same = one_under members step third incomparable first_step.among is_step.among (under-by_lengths rec step third first_step.covered is_step.covered less dests) in
+        let same =
+        one_under members step third incomparable first_step.among is_step.among
+        (under-by_lengths rec step third first_step.covered is_step.covered less dests) in
         is_first third (sym same) not_step
     is_one third is_step is_under not_step not_next (inr (inl same)) =
         false≢true (sym not_next ∙ subst (λ p. same_prefix third p ≡ true) same (same_prefix-refl third))
@@ -70,15 +88,19 @@ no_third members rec step next lowest later incomparable rest found =
         absurd (omega (arith, found.source_length, descends.source, lengths.0, further.source))
 
 -- a step and the next one are a kept pair, and their meet covers the record
-next-kept : (members : List PrefixValue) (rec : RecordValue) (step next : PrefixValue) (later : List PrefixValue) → AreIncomparable members → AreRest members rec step (next ∷ later)
+next-kept : (members : List PrefixValue) (rec : RecordValue) (step next : PrefixValue) (later : List PrefixValue)
+    → AreIncomparable members → AreRest members rec step (next ∷ later)
     → keeps members rec step next ≡ true
 next-kept members rec step next later incomparable rest =
-    let found = meet-covers step next rec (rest.steps step (inl refl)).covered (rest.steps next (inr (inl refl))).covered in
-    keeps-is members rec step next found.0 false found.1.is (no_third members rec step next found.0 later incomparable rest found.1)
+    let found =
+    meet-covers step next rec (rest.steps step (inl refl)).covered (rest.steps next (inr (inl refl))).covered in
+    keeps-is members rec step next found.0 false found.1.is
+    (no_third members rec step next found.0 later incomparable rest found.1)
     ∙ and_from _ _ found.1.source_begins found.1.dest_begins
 
 -- a step and one behind the next are no kept pair: their meet is under the next
-later-not_kept : (members : List PrefixValue) (rec : RecordValue) (step next : PrefixValue) (later : List PrefixValue) → AreRest members rec step (next ∷ later)
+later-not_kept : (members : List PrefixValue) (rec : RecordValue) (step next : PrefixValue)
+    (later : List PrefixValue) → AreRest members rec step (next ∷ later)
     → (last : PrefixValue) → Among last later → keeps members rec step last ≡ false
 later-not_kept members rec step next later rest last among =
     let first_step = rest.steps step (inl refl) in
@@ -93,7 +115,8 @@ later-not_kept members rec step next later rest last among =
     let is_under = under-by_lengths rec found.0 next covered next_step.covered sources dests in
     let not_first = false_from_ne_true (same_prefix next step) (λ same. other next step descends.source same) in
     let not_last = false_from_ne_true (same_prefix next last) (λ same. turned next last further.source same) in
-    let third = list_any-true (λ p. under found.0 p && not (same_prefix p step || same_prefix p last)) next members next_step.among
+    let third = list_any-true (λ p. under found.0 p && not (same_prefix p step || same_prefix p last)) next members
+    next_step.among
     (and_from _ _ is_under (not_from_false _ (or_from _ _ not_first not_last))) in
     keeps-is members rec step last found.0 true found.1.is third
   where
@@ -108,7 +131,8 @@ later-not_kept members rec step next later rest last among =
         absurd (omega (arith, less, ap kept_source (under-antisym prefix next both.0 both.1)))
 
 -- the kept pairs of a chain are its neighbours, one fewer than its steps
-neighbours-count : (members : List PrefixValue) (rec : RecordValue) (step : PrefixValue) (later : List PrefixValue) → AreIncomparable members → AreRest members rec step later
+neighbours-count : (members : List PrefixValue) (rec : RecordValue) (step : PrefixValue) (later : List PrefixValue)
+    → AreIncomparable members → AreRest members rec step later
     → pair_count (keeps members rec) (step ∷ later) + 1 ≡ length (step ∷ later)
 neighbours-count members rec step [] incomparable rest = refl
 neighbours-count members rec step (next ∷ later) incomparable rest =
@@ -137,7 +161,8 @@ staircase members rec incomparable some =
     ∙ sym (pair_count-in_order kept_source (keeps members rec) (keeps-turned members rec) (covering members rec)) in
     let steps : length (chain_of members rec) ≡ covering_count rec members =
     length-in_order kept_source (covering members rec) ∙ length-filter (λ prefix. covers prefix rec) members in
-    let whole : pair_count (keeps members rec) (chain_of members rec) + 1 ≡ length (chain_of members rec) = by_chain (chain_of members rec) is_chain are_steps all (omega arith) in
+    let whole : pair_count (keeps members rec) (chain_of members rec) + 1 ≡ length (chain_of members rec) =
+    by_chain (chain_of members rec) is_chain are_steps all (omega arith) in
     omega arith
   where
     is_step : (prefix : PrefixValue) → Among prefix (covering members rec) → IsStep members rec prefix
@@ -146,20 +171,28 @@ staircase members rec incomparable some =
         record { among = kept.0; covered = kept.1 }
 
     is_chain : IsChain (chain_of members rec)
-    is_chain = in_order-chain members rec (covering members rec) incomparable (AllPairs-filter (λ prefix other. prefix ≢ other) (λ prefix. covers prefix rec) members incomparable.distinct) is_step
+    is_chain =
+        in_order-chain members rec (covering members rec) incomparable
+        (AllPairs-filter (λ prefix other. prefix ≢ other) (λ prefix. covers prefix rec) members
+        incomparable.distinct) is_step
 
     are_steps : (prefix : PrefixValue) → Among prefix (chain_of members rec) → IsStep members rec prefix
     are_steps prefix among = is_step prefix (among-in_order kept_source prefix (covering members rec) among)
 
     all : (prefix : PrefixValue) → IsStep members rec prefix → Among prefix (chain_of members rec)
-    all prefix step = in_order-among kept_source prefix (covering members rec) (filter-among (λ p. covers p rec) prefix members step.among step.covered)
+    all prefix step =
+        in_order-among kept_source prefix (covering members rec)
+        (filter-among (λ p. covers p rec) prefix members step.among step.covered)
 
-    first_or_later : (prefix step : PrefixValue) (later : List PrefixValue) → Among prefix (step ∷ later) → (kept_source prefix ≤ kept_source step) ⊎ Among prefix later
+    first_or_later : (prefix step : PrefixValue) (later : List PrefixValue) → Among prefix (step ∷ later)
+        → (kept_source prefix ≤ kept_source step) ⊎ Among prefix later
     first_or_later prefix step later (inl same) = inl (omega (arith, ap kept_source same))
     first_or_later prefix step later (inr among) = inr among
 
-    by_chain : (chain : List PrefixValue) → IsChain chain → ((prefix : PrefixValue) → Among prefix chain → IsStep members rec prefix)
-        → ((prefix : PrefixValue) → IsStep members rec prefix → Among prefix chain) → 1 ≤ length chain → pair_count (keeps members rec) chain + 1 ≡ length chain
+    by_chain : (chain : List PrefixValue) → IsChain chain
+        → ((prefix : PrefixValue) → Among prefix chain → IsStep members rec prefix)
+        → ((prefix : PrefixValue) → IsStep members rec prefix → Among prefix chain) → 1 ≤ length chain
+        → pair_count (keeps members rec) chain + 1 ≡ length chain
     by_chain [] chain steps each some_step = absurd (omega arith)
     by_chain (step ∷ later) chain steps each some_step = neighbours-count members rec step later incomparable (record {
       steps = steps;

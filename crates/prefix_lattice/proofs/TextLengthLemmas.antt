@@ -32,8 +32,18 @@ length-bits bytes few = length-decimal-le 2 (8 * bytes) (omega arith) (omega ari
 
 pub length-side_text : (front : List ℕ) → AreLeadingBytes front → length (side_text front) ≤ 18
 length-side_text front leading =
-    omega (arith, length-append (address_text (address_of front)) (47 ∷ decimal (8 * length front)), length-address_text (address_of front), length-bits (length front) leading.few)
+    omega (
+      arith,
+      length-append (address_text (address_of front)) (47 ∷ decimal (8 * length front)),
+      length-address_text (address_of front),
+      length-bits (length front) leading.few,
+    )
 
 pub length-prefix_text : (prefix : PrefixValue) → IsPrefix prefix → length (prefix_text prefix) ≤ 37
 length-prefix_text prefix valid =
-    omega (arith, length-append (side_text prefix.source) (32 ∷ side_text prefix.dest), length-side_text prefix.source valid.source, length-side_text prefix.dest valid.dest)
+    omega (
+      arith,
+      length-append (side_text prefix.source) (32 ∷ side_text prefix.dest),
+      length-side_text prefix.source valid.source,
+      length-side_text prefix.dest valid.dest,
+    )

@@ -1,5 +1,6 @@
 -- What reported prefixes explain of the weight of another prefix (Mitzenmacher, Steinke, Thaler 2012).
-use Rattle.std.specs.Prelude.{ℕ, ◌≡◌, ◌≢◌, ◌+◌, ◌≤◌, ◌&&◌, ◌||◌, not, Bool, false, List, [], ◌∷◌, ◌++◌, Option, None, Some, filter, sum_by, count_by, AllPairs, if◌then◌else◌}
+use Rattle.std.specs.Prelude.{ℕ, ◌≡◌, ◌≢◌, ◌+◌, ◌≤◌, ◌&&◌, ◌||◌, not, Bool, false, List, [], ◌∷◌, ◌++◌, Option}
+use Rattle.std.specs.Prelude.{None, Some, filter, sum_by, count_by, AllPairs, if◌then◌else◌}
 use Rattle.std.specs.List.{list_any, filter_map}
 use Rattle.prefix_lattice.specs.Record.{RecordValue}
 use Rattle.prefix_lattice.specs.Prefix.{PrefixValue, covers}
@@ -16,7 +17,8 @@ one_covers lines rec = list_any (λ line. covers line rec) lines
 -- the conditioned weight of a prefix: the weight of the records that it covers and no line strictly under it covers
 abbrev pub conditioned_weight : PrefixValue → List PrefixValue → List RecordValue → ℕ
 conditioned_weight prefix lines records =
-    sum_by (λ rec. rec.weight) (filter (λ rec. covers prefix rec && not (one_covers (lines_under prefix lines) rec)) records)
+    sum_by (λ rec. rec.weight)
+    (filter (λ rec. covers prefix rec && not (one_covers (lines_under prefix lines) rec)) records)
 
 -- the members that are strictly under no other member
 abbrev pub greatest : List PrefixValue → List PrefixValue
@@ -28,12 +30,14 @@ closest prefix lines = greatest (lines_under prefix lines)
 
 -- a prefix is under some member other than these two
 abbrev pub under_third : List PrefixValue → PrefixValue → PrefixValue → PrefixValue → Bool
-under_third members first second prefix = list_any (λ third. under prefix third && not (same_prefix third first || same_prefix third second)) members
+under_third members first second prefix =
+    list_any (λ third. under prefix third && not (same_prefix third first || same_prefix third second)) members
 
 -- the prefix, unless it is under a third member
 abbrev pub unless_under_third : List PrefixValue → PrefixValue → PrefixValue → Option PrefixValue → Option PrefixValue
 unless_under_third members first second None = None
-unless_under_third members first second (Some prefix) = if under_third members first second prefix then None else Some prefix
+unless_under_third members first second (Some prefix) =
+    if under_third members first second prefix then None else Some prefix
 
 -- the meet of a pair of members, if the pair is kept: the meet exists and is under no third member
 abbrev pub kept_meet : List PrefixValue → PrefixValue → PrefixValue → Option PrefixValue
@@ -51,7 +55,8 @@ kept_pairs members = kept_among members members
 -- distinct prefixes, none of which is strictly under another
 pub record AreIncomparable (members : List PrefixValue) : Type 0 where
   pub distinct : AllPairs (λ prefix other. prefix ≢ other) members
-  pub none_under : AllPairs (λ prefix other. (strictly_under prefix other ≡ false) × (strictly_under other prefix ≡ false)) members
+  pub none_under : AllPairs
+      (λ prefix other. (strictly_under prefix other ≡ false) × (strictly_under other prefix ≡ false)) members
 
 -- how many of these prefixes cover the record
 abbrev pub covering_count : RecordValue → List PrefixValue → ℕ
@@ -60,4 +65,5 @@ covering_count rec prefixes = count_by (λ prefix. covers prefix rec) prefixes
 -- the staircase law: if n of these prefixes cover a record and n is at least 1, exactly n - 1 of their kept pairs
 -- have a meet that covers it
 abbrev pub ObeysStaircase : List PrefixValue → RecordValue → Type 0
-ObeysStaircase members rec = 1 ≤ covering_count rec members → covering_count rec (kept_pairs members) + 1 ≡ covering_count rec members
+ObeysStaircase members rec =
+    1 ≤ covering_count rec members → covering_count rec (kept_pairs members) + 1 ≡ covering_count rec members

@@ -21,7 +21,8 @@ strictly_under lower upper = under lower upper && not (same_prefix lower upper)
 
 -- the longer of two lists of kept bytes, if it begins with the other
 abbrev pub longer_side : List ℕ → List ℕ → Option (List ℕ)
-longer_side front other = if begins_with front other then Some front else (if begins_with other front then Some other else None)
+longer_side front other =
+    if begins_with front other then Some front else (if begins_with other front then Some other else None)
 
 -- the prefix with these two sides, if both are present
 abbrev pub prefix_of_sides : Option (List ℕ) → Option (List ℕ) → Option PrefixValue

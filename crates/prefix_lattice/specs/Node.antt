@@ -27,3 +27,7 @@ node_at index = record { source_bytes = index / 5; dest_bytes = index % 5 }
 -- how many bytes a node keeps of both addresses together
 abbrev pub level_of : NodeValue → ℕ
 level_of node = node.source_bytes + node.dest_bytes
+
+-- the level of the most specific prefixes, which keep all bytes of both addresses
+abbrev pub deepest_level : ℕ
+deepest_level = 2 * address_length

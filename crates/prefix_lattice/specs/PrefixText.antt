@@ -1,5 +1,6 @@
 -- The text of a prefix: how it is spelled, and what is wrong with a text that spells no prefix.
-use Rattle.std.specs.Prelude.{ℕ, ◌≡◌, ◌≢◌, ◌-◌, ◌*◌, ◌^◌, ◌%◌, ◌<◌, ◌≤◌, ◌⊎◌, ◌==◌, List, ◌∷◌, ◌++◌, length, map, decimal, ◌+◌, take, drop}
+use Rattle.std.specs.Prelude.{ℕ, ◌≡◌, ◌≢◌, ◌-◌, ◌*◌, ◌^◌, ◌%◌, ◌<◌, ◌≤◌, ◌⊎◌, ◌==◌, List, ◌∷◌, ◌++◌, length, map}
+use Rattle.std.specs.Prelude.{decimal, ◌+◌, take, drop}
 use Rattle.std.specs.List.{join_with_byte, before_first, after_first}
 use Rattle.prefix_lattice.specs.KeptBytes.{address_bytes, address_of, AreLeadingBytes, address_length}
 use Rattle.prefix_lattice.specs.Prefix.{PrefixValue}
@@ -28,6 +29,10 @@ side_text_of address bytes = address_text address ++ slash ∷ decimal (8 * byte
 abbrev pub side_text : List ℕ → List ℕ
 side_text front = side_text_of (address_of front) (length front)
 
+-- the most bytes of the text of a side, as of `255.255.255.255/32`
+abbrev pub longest_side_text : ℕ
+longest_side_text = 18
+
 -- the space that separates the two sides of a prefix
 abbrev pub space : ℕ
 space = 32
@@ -35,6 +40,10 @@ space = 32
 -- how a prefix is spelled: its source, a space and its destination
 abbrev pub prefix_text : PrefixValue → List ℕ
 prefix_text prefix = side_text prefix.source ++ space ∷ side_text prefix.dest
+
+-- the most bytes of the text of a prefix: two sides and a space
+abbrev pub longest_prefix_text : ℕ
+longest_prefix_text = 2 * longest_side_text + 1
 
 -- the part of a text before its first space
 abbrev pub source_part : List ℕ → List ℕ
@@ -83,7 +92,8 @@ pub record SpellsPrefix (source_text dest_text : List ℕ) (prefix : PrefixValue
 
 -- what is wrong with the two texts: the source is checked completely before the destination
 abbrev pub HasPrefixFault : List ℕ → List ℕ → PrefixFault → Type 0
-HasPrefixFault source dest fault = HasSideFault Source source fault ⊎ (((front : List ℕ) × SpellsSide source front) × HasSideFault Dest dest fault)
+HasPrefixFault source dest fault =
+    HasSideFault Source source fault ⊎ (((front : List ℕ) × SpellsSide source front) × HasSideFault Dest dest fault)
 
 -- this part was written from this offset on, and other bytes are unchanged
 pub record WritesPart (old new : List ℕ) (start end : ℕ) (part : List ℕ) : Type 0 where

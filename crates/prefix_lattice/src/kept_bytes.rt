@@ -1,7 +1,7 @@
 //! One half of a prefix: some leading bytes of an address.
 
 ghost use Rattle.std.specs.Prelude.{◌≡◌, ◌≢◌, ◌≤◌, ◌-◌, ◌*◌, ◌/◌, ◌%◌, ◌^◌, length, take, IfSome, IfNone};
-ghost use Rattle.prefix_lattice.specs.KeptBytes.{address_bytes, address_of, begins_with, AreLeadingBytes};
+ghost use Rattle.prefix_lattice.specs.KeptBytes.{address_bytes, address_of, address_length, begins_with, AreLeadingBytes};
 ghost use Rattle.prefix_lattice.specs.Lattice.{longer_side};
 
 use std::marker::Model;
@@ -15,14 +15,14 @@ pub struct KeptBytes {
 
 impl Model for KeptBytes {
     ghost use Rattle.std.specs.Prelude.{◌≡◌, ◌<◌, ◌≤◌, ◌^◌, ℕ, List, take, length};
-    ghost use Rattle.prefix_lattice.specs.KeptBytes.{address_bytes, address_of};
+    ghost use Rattle.prefix_lattice.specs.KeptBytes.{address_bytes, address_of, address_length};
 
     ghost Value = { List ℕ };
 
     ghost view = { λ k. take k.bytes (address_bytes k.address) };
 
     // The bytes that are not kept are zero.
-    ghost invariant = { λ k. (k.bytes ≤ 4) × (k.address < 2 ^ 32)
+    ghost invariant = { λ k. (k.bytes ≤ address_length) × (k.address < 2 ^ 32)
         × (address_of (take k.bytes (address_bytes k.address)) ≡ k.address) };
 
     ghost inverse = { λ front. record { address = address_of front; bytes = length front } };
@@ -31,7 +31,7 @@ impl Model for KeptBytes {
 impl KeptBytes {
     /// The first `bytes` bytes of this address.
     pub fn of(address: u32, bytes: u8) -> KeptBytes
-        requires { bytes ≤ 4 }
+        requires { bytes ≤ address_length }
         ensures { result ≡ take bytes (address_bytes address) }
     {
         KeptBytes {
@@ -42,9 +42,9 @@ impl KeptBytes {
 
     /// The first `bytes` bytes of this address, if all bytes after them are zero.
     pub fn exact(address: u32, bytes: u8) -> Option<KeptBytes>
-        requires { bytes ≤ 4 }
+        requires { bytes ≤ address_length }
         ensures some { IfSome result (λ kept. (kept ≡ take bytes (address_bytes address)) × (address_of kept ≡ address)) }
-        ensures none { IfNone result (address % 256 ^ (4 - bytes) ≢ 0) }
+        ensures none { IfNone result (address % 256 ^ (address_length - bytes) ≢ 0) }
     {
         let kept = KeptBytes::of(address, bytes);
         if kept.address() == address {
@@ -104,8 +104,8 @@ impl KeptBytes {
 
 // The address with all bytes after the first `bytes` set to zero.
 fn masked(address: u32, bytes: u8) -> u32
-    requires { bytes ≤ 4 }
-    ensures { result ≡ address / 256 ^ (4 - bytes) * 256 ^ (4 - bytes) }
+    requires { bytes ≤ address_length }
+    ensures { result ≡ address / 256 ^ (address_length - bytes) * 256 ^ (address_length - bytes) }
 {
     match bytes {
         0 => 0,

@@ -6,7 +6,7 @@ ghost use Rattle.prefix_lattice.specs.Node.{level_of};
 ghost use Rattle.prefix_lattice.specs.Record.{RecordValue};
 ghost use Rattle.prefix_lattice.specs.Prefix.{PrefixValue, IsPrefix, covers, node_of};
 ghost use Rattle.prefix_lattice.specs.Lattice.{under, strictly_under, meet, report_order};
-ghost use Rattle.prefix_lattice.specs.PrefixText.{space, source_part, dest_part, prefix_text, SpellsPrefix};
+ghost use Rattle.prefix_lattice.specs.PrefixText.{space, source_part, dest_part, prefix_text, SpellsPrefix, longest_prefix_text};
 ghost use Rattle.prefix_lattice.specs.ClosestLines.{lines_under, one_covers, closest, kept_pairs, AreIncomparable, ObeysStaircase};
 
 use std::cmp::Ordering;
@@ -37,7 +37,7 @@ pub fn prefix_texts_read_back()
     ensures read { (prefix : PrefixValue) → IsPrefix prefix → SpellsPrefix (source_part (prefix_text prefix)) (dest_part (prefix_text prefix)) prefix }
     ensures written { (source dest : List ℕ) (prefix : PrefixValue) → SpellsPrefix source dest prefix → prefix_text prefix ≡ source ++ space ∷ dest }
     ensures apart { (prefix other : PrefixValue) → IsPrefix prefix → IsPrefix other → prefix_text prefix ≡ prefix_text other → prefix ≡ other }
-    ensures short { (prefix : PrefixValue) → IsPrefix prefix → length (prefix_text prefix) ≤ 37 }
+    ensures short { (prefix : PrefixValue) → IsPrefix prefix → length (prefix_text prefix) ≤ longest_prefix_text }
 {}
 
 /// A law of lines: the lines closest to a prefix cover the same records as all lines under it, and the closest of

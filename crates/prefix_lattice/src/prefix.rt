@@ -1,7 +1,7 @@
 //! Prefixes of pairs of addresses.
 
 ghost use Rattle.std.specs.Prelude.{◌≡◌, ◌==◌, ◌↔◌, ◌≤◌, ℕ, List, true, IfOk, IfErr, IfSome, IfNone, IsSome};
-ghost use Rattle.prefix_lattice.specs.Node.{NodeValue, IsNode, level_of};
+ghost use Rattle.prefix_lattice.specs.Node.{NodeValue, IsNode, level_of, deepest_level};
 ghost use Rattle.prefix_lattice.specs.Record.{RecordValue};
 ghost use Rattle.prefix_lattice.specs.KeptBytes.{address_of};
 ghost use Rattle.prefix_lattice.specs.Prefix.{IsKeyOf, HasKey, PrefixValue, IsPrefix, covers, node_of, prefix_at, key_of};
@@ -98,7 +98,7 @@ impl Prefix {
     /// How many bytes are kept of both addresses together, 0 to 8.
     pub fn level(&self) -> u8
         ensures value { result ≡ level_of (node_of self.now) }
-        ensures few { result ≤ 8 }
+        ensures few { result ≤ deepest_level }
     {
         self.source.len() + self.dest.len()
     }

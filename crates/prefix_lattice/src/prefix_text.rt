@@ -2,7 +2,8 @@
 
 ghost use Rattle.std.specs.Prelude.{◌≡◌, ◌≢◌, ◌==◌, ◌<◌, ◌≤◌, ◌*◌, ◌^◌, ◌++◌, ◌∷◌, ℕ, length, position, decimal, IfSome, IfNone, IfOk, IfErr};
 ghost use Rattle.std.specs.List.{before_first};
-ghost use Rattle.prefix_lattice.specs.PrefixText.{address_text, SpellsSide, HasSideFault};
+ghost use Rattle.prefix_lattice.specs.PrefixText.{address_text, slash, SpellsSide, HasSideFault};
+ghost use Rattle.prefix_lattice.specs.KeptBytes.{address_length};
 
 use crate::kept_bytes::KeptBytes;
 use crate::{PrefixFault, Side, number_of};
@@ -29,7 +30,7 @@ pub fn parse_side(text: &[u8], side: Side) -> Result<KeptBytes, PrefixFault>
 
 // What is wrong with a text that has no slash.
 fn without_length(text: &[u8], side: Side) -> PrefixFault
-    requires { before_first (λ byte. byte == 47) text.now ≡ text.now }
+    requires { before_first (λ byte. byte == slash) text.now ≡ text.now }
     ensures { HasSideFault side text.now result }
 {
     match address_of_text(text) {
@@ -83,8 +84,8 @@ fn byte_of(text: &[u8]) -> Option<u8>
 
 // How many bytes a length in bits keeps, if it is 0, 8, 16, 24 or 32.
 fn kept_by(text: &[u8]) -> Option<u8>
-    ensures some { IfSome result (λ bytes. (bytes ≤ 4) × (text.now ≡ decimal (8 * bytes))) }
-    ensures none { IfNone result ((bytes : ℕ) → bytes ≤ 4 → text.now ≢ decimal (8 * bytes)) }
+    ensures some { IfSome result (λ bytes. (bytes ≤ address_length) × (text.now ≡ decimal (8 * bytes))) }
+    ensures none { IfNone result ((bytes : ℕ) → bytes ≤ address_length → text.now ≢ decimal (8 * bytes)) }
 {
     let Some(bits) = number_of(text) else {
         return None

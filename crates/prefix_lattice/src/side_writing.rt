@@ -1,7 +1,7 @@
 //! Writing one side of the text of a prefix.
 
 ghost use Rattle.std.specs.Prelude.{◌≡◌, ◌+◌, ◌≤◌, ◌∷◌, length, decimal};
-ghost use Rattle.prefix_lattice.specs.PrefixText.{WritesPart, address_text, side_text};
+ghost use Rattle.prefix_lattice.specs.PrefixText.{WritesPart, address_text, longest_side_text, side_text};
 
 use crate::decimal::write_number;
 use crate::kept_bytes::KeptBytes;
@@ -9,9 +9,9 @@ use crate::kept_bytes::KeptBytes;
 /// Writes an address, a slash and a length in bits at an offset of a text, and returns the offset after them. The text
 /// has room for the 18 bytes that they may need. Other bytes are unchanged.
 pub fn write_side(text: &mut [u8], at: usize, side: &KeptBytes) -> usize
-    requires { at + 18 ≤ length text.old }
+    requires { at + longest_side_text ≤ length text.old }
     ensures written { WritesPart text.old text.new at result (side_text side.now) }
-    ensures short { result ≤ at + 18 }
+    ensures short { result ≤ at + longest_side_text }
 {
     let end = write_address(text, at, side.address());
     write_behind(text, end, b'/', 8 * side.len())

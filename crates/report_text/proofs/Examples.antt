@@ -1,5 +1,6 @@
 -- Worked examples of the texts, most by computing.
 use Rattle.std.proofs.Common.{◌≡◌, ℕ, zero, suc, ◌^◌, ◌<◌, ◌≤◌, [], ◌∷◌, codes, refl, arith}
+use Rattle.std.proofs.Common.{◌-◌, length, decimal}
 use Rattle.std.proofs.Math.ListN.{replicate}
 use Rattle.std.proofs.lemmas.List.Elements.{All-nil, All-cons, All-from_recursion}
 use Rattle.std.specs.Fmt.{digits}
@@ -9,7 +10,10 @@ use Rattle.frame_records.specs.declared.records.Records.{Records}
 use Rattle.hhh_output.specs.declared.line.Line.{Line}
 use Rattle.hhh_output.specs.declared.report.Report.{Report}
 use Rattle.report_text.specs.declared.mark.Mark.TheVariants.{Opened, Saved}
-use Rattle.report_text.specs.ReportText.{ArePositions, IsTold, IsTellable, text_line, number_line, positions_line, mark_name, line_text, lines_text, mark_text, report_text, tail_text}
+use Rattle.report_text.specs.ReportText.{ArePositions, IsShowableLine, IsShowable, text_line, number_line}
+use Rattle.report_text.specs.ReportText.{positions_line}
+use Rattle.report_text.specs.ReportText.{mark_name, line_text, lines_text, mark_text, report_text, tail_text}
+use Rattle.report_text.specs.ReportText.{longest_number, longest_line}
 use Rattle.report_text.proofs.OrderedListLemmas.{one_line_in_order}
 
 -- 100 bytes from 10.1.2.3 to 20.1.2.3
@@ -23,6 +27,22 @@ wide = record { prefix = record { source = 10 ∷ []; dest = [] }; lo = 60; hi =
 pub text_of_a_line : line_text line ≡ codes "line 10.1.2.3/32 20.1.2.3/32 100 100\n"
 unfolding digits
 text_of_a_line = refl
+
+-- the greatest number of 64 bits
+pub longest_number_of_64_bits : length (decimal (2 ^ 64 - 1)) ≡ longest_number
+unfolding digits
+longest_number_of_64_bits = refl
+
+-- the line of the widest prefix with the greatest numbers
+pub longest_line_of_a_report :
+    length (line_text (record {
+      prefix = record { source = 255 ∷ 255 ∷ 255 ∷ 255 ∷ []; dest = 255 ∷ 255 ∷ 255 ∷ 255 ∷ [] };
+      lo = 2 ^ 64 - 1;
+      hi = 2 ^ 64 - 1;
+    }))
+    ≡ longest_line
+unfolding digits
+longest_line_of_a_report = refl
 
 pub text_of_zero : number_line (codes "total") 0 ≡ codes "total 0\n"
 unfolding digits
@@ -45,11 +65,14 @@ pub positions_of_three_shards : ArePositions (0 ∷ 7 ∷ 16777216 ∷ [])
 positions_of_three_shards = record {
   some = omega arith;
   few = omega arith;
-  within = All-from_recursion (λ (position : ℕ). position ≤ 16777216) (0 ∷ 7 ∷ 16777216 ∷ []) (omega arith, (omega arith, (omega arith, tt)));
+  within =
+      All-from_recursion (λ (position : ℕ). position ≤ 16777216) (0 ∷ 7 ∷ 16777216 ∷ [])
+      (omega arith, (omega arith, (omega arith, tt)));
 }
 
 pub no_position_is_past_the_frames_of_a_capture : ¬ ArePositions (16777217 ∷ [])
-no_position_is_past_the_frames_of_a_capture are = let most : 16777217 ≤ 16777216 = are.within 0 0 (omega arith) in omega (arith, most)
+no_position_is_past_the_frames_of_a_capture are =
+    let most : 16777217 ≤ 16777216 = are.within 0 0 (omega arith) in omega (arith, most)
 
 pub no_shard_is_none : ¬ ArePositions []
 no_shard_is_none are = omega (arith, are.some)
@@ -65,20 +88,31 @@ pub text_of_a_saved_shard : mark_text Saved (1 ∷ []) ≡ codes "saved 1\n"
 unfolding digits
 text_of_a_saved_shard = refl
 
-pub text_of_two_lines : lines_text (line ∷ wide ∷ []) ≡ codes "line 10.1.2.3/32 20.1.2.3/32 100 100\nline 10.0.0.0/8 0.0.0.0/0 60 100\n"
+pub text_of_two_lines : lines_text (line ∷ wide ∷ [])
+    ≡ codes "line 10.1.2.3/32 20.1.2.3/32 100 100\nline 10.0.0.0/8 0.0.0.0/0 60 100\n"
 unfolding digits
 text_of_two_lines = refl
 
 -- what is reported of one record of one shard, where every prefix that carries weight is heavy
 abbrev report : Report
-report = record { positions = 1 ∷ []; total = 100; threshold = 1; lines = line ∷ []; are_lines = one_line_in_order line (omega arith) }
+report = record {
+  positions = 1 ∷ [];
+  total = 100;
+  threshold = 1;
+  lines = line ∷ [];
+  are_lines = one_line_in_order line (omega arith);
+}
 
-pub text_of_a_report : report_text report ≡ codes "report\nat 1\ntotal 100\nthreshold 1\nline 10.1.2.3/32 20.1.2.3/32 100 100\ndone\n"
+pub text_of_a_report : report_text report
+    ≡ codes "report\nat 1\ntotal 100\nthreshold 1\nline 10.1.2.3/32 20.1.2.3/32 100 100\ndone\n"
 unfolding digits
 text_of_a_report = refl
 
 line_names_a_prefix : IsPrefix line.prefix
-line_names_a_prefix = record { source = record { few = omega arith; bytes = source }; dest = record { few = omega arith; bytes = dest } }
+line_names_a_prefix = record {
+  source = record { few = omega arith; bytes = source };
+  dest = record { few = omega arith; bytes = dest };
+}
   where
     source : (place : ℕ) → slice_index (10 ∷ 1 ∷ 2 ∷ 3 ∷ []) place < 256
     source zero = omega arith
@@ -94,25 +128,28 @@ line_names_a_prefix = record { source = record { few = omega arith; bytes = sour
     dest (suc (suc (suc zero))) = omega arith
     dest (suc (suc (suc (suc place)))) = omega arith
 
-pub line_of_a_prefix_and_two_numbers : IsTold line
+pub line_of_a_prefix_and_two_numbers : IsShowableLine line
 line_of_a_prefix_and_two_numbers = record { is_prefix = line_names_a_prefix; low = omega arith; high = omega arith }
 
 -- an address of five bytes
-pub line_of_no_prefix : ¬ IsTold (record line { prefix = record { source = 10 ∷ 1 ∷ 2 ∷ 3 ∷ 4 ∷ []; dest = [] } })
+pub line_of_no_prefix : ¬ IsShowableLine
+    (record line { prefix = record { source = 10 ∷ 1 ∷ 2 ∷ 3 ∷ 4 ∷ []; dest = [] } })
 line_of_no_prefix told = let few : 5 ≤ 4 = told.is_prefix.source.few in omega (arith, few)
 
-pub line_of_a_number_that_is_too_great : ¬ IsTold (record line { hi = 2 ^ 64 })
+pub line_of_a_number_that_is_too_great : ¬ IsShowableLine (record line { hi = 2 ^ 64 })
 line_of_a_number_that_is_too_great told = omega (arith, told.high)
 
-pub report_that_can_be_told : IsTellable report
+pub report_that_can_be_told : IsShowable report
 report_that_can_be_told = record {
-  positions = All-cons (λ (position : ℕ). position < 2 ^ 64) 1 [] (omega arith) (All-nil (λ (position : ℕ). position < 2 ^ 64));
+  positions =
+      All-cons (λ (position : ℕ). position < 2 ^ 64) 1 [] (omega arith)
+      (All-nil (λ (position : ℕ). position < 2 ^ 64));
   total = omega arith;
   threshold = omega arith;
-  lines = All-cons IsTold line [] line_of_a_prefix_and_two_numbers (All-nil IsTold);
+  lines = All-cons IsShowableLine line [] line_of_a_prefix_and_two_numbers (All-nil IsShowableLine);
 }
 
-pub report_of_a_total_that_is_too_great : ¬ IsTellable (record report { total = 2 ^ 64 })
+pub report_of_a_total_that_is_too_great : ¬ IsShowable (record report { total = 2 ^ 64 })
 report_of_a_total_that_is_too_great tellable = omega (arith, tellable.total)
 
 -- seven frames, of which one was too short and two weren't IPv4

@@ -25,13 +25,16 @@ one_line_in_order line ordered = record {
 }
 
 -- two lines of which the first stands before the second are in order
-pub two_lines_in_order : (line later : Line) → line.lo ≤ line.hi → later.lo ≤ later.hi → report_order line.prefix later.prefix ≡ Less → AreLines (line ∷ later ∷ [])
+pub two_lines_in_order : (line later : Line) → line.lo ≤ line.hi → later.lo ≤ later.hi
+    → report_order line.prefix later.prefix ≡ Less → AreLines (line ∷ later ∷ [])
 two_lines_in_order line later ordered later_ordered less =
     let last = one_line_in_order later later_ordered in
     record {
       few = omega arith;
       ordered = All-cons IsOrdered line (later ∷ []) ordered last.ordered;
-      rising = AllPairs-cons Precedes line (later ∷ []) (All-cons (Precedes line) later [] less (λ place other within. absurd (omega arith))) last.rising;
+      rising =
+          AllPairs-cons Precedes line (later ∷ [])
+          (All-cons (Precedes line) later [] less (λ place other within. absurd (omega arith))) last.rising;
     }
 
 -- two places of records are positions

@@ -1,7 +1,7 @@
 -- The texts of reports and of the lines around them, and the positions that they can show.
-use Rattle.std.specs.Prelude.{ℕ, ◌≤◌, List, length, All, [], ◌∷◌, ◌++◌, map, codes, decimal, ◌<◌, ◌^◌}
+use Rattle.std.specs.Prelude.{ℕ, ◌+◌, ◌*◌, ◌≤◌, List, length, All, [], ◌∷◌, ◌++◌, map, codes, decimal, ◌<◌, ◌^◌}
 use Rattle.std.specs.List.{join_with_byte, flat_map}
-use Rattle.prefix_lattice.specs.{space, prefix_text, IsPrefix}
+use Rattle.prefix_lattice.specs.{space, prefix_text, IsPrefix, longest_prefix_text, most_records, most_shards}
 use Rattle.hhh_output.specs.declared.line.Line.{Line}
 use Rattle.hhh_output.specs.declared.report.Report.{Report}
 use Rattle.frame_records.specs.declared.records.Records.{Records}
@@ -11,8 +11,8 @@ use Rattle.report_text.specs.declared.mark.Mark.TheVariants.{Opened, Saved}
 -- one position for each of 1 to 16 shards, none above 16,777,216, the most frames that a capture can have
 pub record ArePositions (positions : List ℕ) : Type 0 where
   pub some : 1 ≤ length positions
-  pub few : length positions ≤ 16
-  pub within : All (λ position. position ≤ 16777216) positions
+  pub few : length positions ≤ most_shards
+  pub within : All (λ position. position ≤ most_records) positions
 
 -- a line of text: its words, joined by one space, and a line feed
 abbrev pub text_line : List (List ℕ) → List ℕ
@@ -25,6 +25,14 @@ number_line name number = text_line (name ∷ decimal number ∷ [])
 -- a line with a name and some positions
 abbrev pub positions_line : List ℕ → List ℕ → List ℕ
 positions_line name positions = text_line (name ∷ map decimal positions)
+
+-- the most bytes of a number of 64 bits in decimal
+abbrev pub longest_number : ℕ
+longest_number = 20
+
+-- the most bytes of a line of a report: `line`, a prefix and two numbers, each with a space or a line feed
+abbrev pub longest_line : ℕ
+longest_line = 4 + 1 + longest_prefix_text + 2 * (1 + longest_number) + 1
 
 -- a line of a report: `line`, the prefix, which is two words, its low and its high
 abbrev pub line_text : Line → List ℕ
@@ -61,14 +69,14 @@ tail_text records =
     ++ text_line (codes "end" ∷ [])
 
 -- the line shows a prefix, and its low and high are 64-bit numbers
-pub record IsTold (line : Line) : Type 0 where
+pub record IsShowableLine (line : Line) : Type 0 where
   pub is_prefix : IsPrefix line.prefix
   pub low : line.lo < 2 ^ 64
   pub high : line.hi < 2 ^ 64
 
 -- the numbers of the report are 64-bit numbers, and its lines show prefixes
-pub record IsTellable (report : Report) : Type 0 where
+pub record IsShowable (report : Report) : Type 0 where
   pub positions : All (λ position. position < 2 ^ 64) report.positions
   pub total : report.total < 2 ^ 64
   pub threshold : report.threshold < 2 ^ 64
-  pub lines : All IsTold report.lines
+  pub lines : All IsShowableLine report.lines

@@ -1,8 +1,8 @@
 //! Appending parts of a text within room that is already reserved.
 
 ghost use Rattle.std.specs.Prelude.{◌≡◌, ◌+◌, ◌*◌, ◌≤◌, ◌∷◌, ◌++◌, length, decimal, vec_len, vec_capacity};
-ghost use Rattle.prefix_lattice.specs.{prefix_text};
-ghost use Rattle.report_text.specs.ReportText.{line_text, lines_text, positions_line};
+ghost use Rattle.prefix_lattice.specs.{prefix_text, longest_prefix_text};
+ghost use Rattle.report_text.specs.ReportText.{line_text, lines_text, positions_line, longest_number, longest_line};
 
 use hhh_output::Line;
 use itoa::Buffer;
@@ -20,9 +20,9 @@ pub(crate) fn put(text: &mut Vec<u8>, bytes: &[u8])
 
 /// Appends bytes and a number in decimal to a text. A number needs at most 20 bytes.
 pub(crate) fn put_number(text: &mut Vec<u8>, before: &[u8], number: u64)
-    requires { vec_len text.old + length before.now + 20 ≤ vec_capacity text.old }
+    requires { vec_len text.old + length before.now + longest_number ≤ vec_capacity text.old }
     ensures text { text.new.items ≡ text.old.items ++ before.now ++ decimal number }
-    ensures length { vec_len text.new ≤ vec_len text.old + length before.now + 20 }
+    ensures length { vec_len text.new ≤ vec_len text.old + length before.now + longest_number }
     ensures room { vec_capacity text.old ≤ vec_capacity text.new }
 {
     let mut buffer = Buffer::new();
@@ -32,9 +32,9 @@ pub(crate) fn put_number(text: &mut Vec<u8>, before: &[u8], number: u64)
 
 /// Appends a line of positions to a text. A position needs at most 21 bytes, including the space before it.
 pub(crate) fn put_positions(text: &mut Vec<u8>, name: &[u8], positions: &[u64])
-    requires { vec_len text.old + length name.now + 21 * length positions.now + 1 ≤ vec_capacity text.old }
+    requires { vec_len text.old + length name.now + (1 + longest_number) * length positions.now + 1 ≤ vec_capacity text.old }
     ensures text { text.new.items ≡ text.old.items ++ positions_line name.now positions.now }
-    ensures length { vec_len text.new ≤ vec_len text.old + length name.now + 21 * length positions.now + 1 }
+    ensures length { vec_len text.new ≤ vec_len text.old + length name.now + (1 + longest_number) * length positions.now + 1 }
     ensures room { vec_capacity text.old ≤ vec_capacity text.new }
 {
     put(text, name);
@@ -46,9 +46,9 @@ pub(crate) fn put_positions(text: &mut Vec<u8>, name: &[u8], positions: &[u64])
 
 /// Appends the lines of a report to a text. A line needs at most 85 bytes.
 pub(crate) fn put_lines(text: &mut Vec<u8>, lines: &[Line])
-    requires { vec_len text.old + 85 * length lines.now ≤ vec_capacity text.old }
+    requires { vec_len text.old + longest_line * length lines.now ≤ vec_capacity text.old }
     ensures text { text.new.items ≡ text.old.items ++ lines_text lines.now }
-    ensures length { vec_len text.new ≤ vec_len text.old + 85 * length lines.now }
+    ensures length { vec_len text.new ≤ vec_len text.old + longest_line * length lines.now }
     ensures room { vec_capacity text.old ≤ vec_capacity text.new }
 {
     for line in lines {
@@ -57,9 +57,9 @@ pub(crate) fn put_lines(text: &mut Vec<u8>, lines: &[Line])
 }
 
 fn put_line(text: &mut Vec<u8>, line: &Line)
-    requires { vec_len text.old + 85 ≤ vec_capacity text.old }
+    requires { vec_len text.old + longest_line ≤ vec_capacity text.old }
     ensures text { text.new.items ≡ text.old.items ++ line_text line.now }
-    ensures length { vec_len text.new ≤ vec_len text.old + 85 }
+    ensures length { vec_len text.new ≤ vec_len text.old + longest_line }
     ensures room { vec_capacity text.old ≤ vec_capacity text.new }
 {
     put(text, b"line ");
@@ -70,9 +70,9 @@ fn put_line(text: &mut Vec<u8>, line: &Line)
 }
 
 fn put_prefix(text: &mut Vec<u8>, prefix: &Prefix)
-    requires { vec_len text.old + 37 ≤ vec_capacity text.old }
+    requires { vec_len text.old + longest_prefix_text ≤ vec_capacity text.old }
     ensures text { text.new.items ≡ text.old.items ++ prefix_text prefix.now }
-    ensures length { vec_len text.new ≤ vec_len text.old + 37 }
+    ensures length { vec_len text.new ≤ vec_len text.old + longest_prefix_text }
     ensures room { vec_capacity text.old ≤ vec_capacity text.new }
 {
     let mut written = [0; 37];

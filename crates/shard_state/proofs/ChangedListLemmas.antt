@@ -9,13 +9,15 @@ length-changed change zero (x ∷ xs) = refl
 length-changed change (suc place) (x ∷ xs) = ap suc (length-changed change place xs)
 
 -- the place that is changed
-pub changed_here : {X : Type 0} → (change : X → X) (place : ℕ) (xs : List X) (x : X) → slice_get xs place ≡ Some x → slice_get (changed change place xs) place ≡ Some (change x)
+pub changed_here : {X : Type 0} → (change : X → X) (place : ℕ) (xs : List X) (x : X) → slice_get xs place ≡ Some x
+    → slice_get (changed change place xs) place ≡ Some (change x)
 changed_here change place [] x is = cc is
 changed_here change zero (y ∷ xs) x is = let same : y ≡ x = cc is in ap (λ v. Some (change v)) same
 changed_here change (suc place) (y ∷ xs) x is = changed_here change place xs x is
 
 -- the others stay
-pub changed_there : {X : Type 0} → (change : X → X) (place other : ℕ) (xs : List X) → (place ≡ other → ⊥) → slice_get (changed change place xs) other ≡ slice_get xs other
+pub changed_there : {X : Type 0} → (change : X → X) (place other : ℕ) (xs : List X) → (place ≡ other → ⊥)
+    → slice_get (changed change place xs) other ≡ slice_get xs other
 changed_there change place other [] apart = refl
 changed_there change zero zero (y ∷ xs) apart = absurd (apart refl)
 changed_there change zero (suc other) (y ∷ xs) apart = refl
@@ -23,13 +25,15 @@ changed_there change (suc place) zero (y ∷ xs) apart = refl
 changed_there change (suc place) (suc other) (y ∷ xs) apart = changed_there change place other xs (λ same. apart (ap suc same))
 
 -- a change is a write
-pub changed_is_set : {X : Type 0} → (change : X → X) (place : ℕ) (xs : List X) (d : X) → place < length xs → changed change place xs ≡ slice_set xs place (change (get_or xs place d))
+pub changed_is_set : {X : Type 0} → (change : X → X) (place : ℕ) (xs : List X) (d : X) → place < length xs
+    → changed change place xs ≡ slice_set xs place (change (get_or xs place d))
 changed_is_set change place [] d within = absurd (omega arith)
 changed_is_set change zero (x ∷ xs) d within = refl
 changed_is_set change (suc place) (x ∷ xs) d within = ap (λ l. x ∷ l) (changed_is_set change place xs d (omega arith))
 
 -- what every change keeps
-pub All-changed : {X : Type 0} → (P : X → Type 0) (change : X → X) (place : ℕ) (xs : List X) → ((x : X) → P x → P (change x)) → All P xs → All P (changed change place xs)
+pub All-changed : {X : Type 0} → (P : X → Type 0) (change : X → X) (place : ℕ) (xs : List X)
+    → ((x : X) → P x → P (change x)) → All P xs → All P (changed change place xs)
 All-changed P change place [] keeps all = all
 All-changed P change zero (x ∷ xs) keeps all = All-cons P (change x) xs (keeps x (All-head P x xs all)) (All-tail P x xs all)
 All-changed P change (suc place) (x ∷ xs) keeps all =

@@ -60,11 +60,14 @@ pub record EmptyTables (capacity : ℕ) (tables : List TableValue) : Type 0 wher
   pub entries : map (λ (t : TableValue). t.entries) tables ≡ no_entries
   pub is_snapshot : IsSnapshot (record { capacity = capacity; position = 0; tables = map (λ (t : TableValue). t.entries) tables })
 
-pub made_empty : (capacity : ℕ) (tables : List TableValue) → tables ≡ replicate 25 (empty_table capacity) → 2 ≤ capacity → capacity ≤ 4096 → EmptyTables capacity tables
+pub made_empty : (capacity : ℕ) (tables : List TableValue) → tables ≡ replicate 25 (empty_table capacity)
+    → 2 ≤ capacity → capacity ≤ 4096 → EmptyTables capacity tables
 made_empty capacity tables are least most =
     let entries : map (λ (t : TableValue). t.entries) tables ≡ no_entries = ap (map (λ (t : TableValue). t.entries)) are ∙ entries_of_empty capacity in
     record {
-      alike = subst (All (λ (t : TableValue). t.capacity ≡ capacity)) (sym are) (All-replicate (λ (t : TableValue). t.capacity ≡ capacity) 25 (empty_table capacity) refl);
+      alike =
+          subst (All (λ (t : TableValue). t.capacity ≡ capacity)) (sym are)
+          (All-replicate (λ (t : TableValue). t.capacity ≡ capacity) 25 (empty_table capacity) refl);
       entries = entries;
       is_snapshot = subst (λ ts. IsSnapshot (record { capacity = capacity; position = 0; tables = ts })) (sym entries) (IsSnapshot-empty capacity least most);
     }

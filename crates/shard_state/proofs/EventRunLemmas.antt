@@ -1,5 +1,6 @@
 -- What a run of events leaves in the callers' cuts.
-use Rattle.std.proofs.Common.{◌≡◌, ℕ, ◌<◌, ◌≤◌, suc, true, false, cond, ◌&&◌, eqb, List, [], ◌∷◌, ◌++◌, length, slice_get, get_or, Some, option_map, All, refl, sym, ap, ◌∙◌, arith, subst}
+use Rattle.std.proofs.Common.{◌≡◌, ℕ, ◌<◌, ◌≤◌, suc, true, false, cond, ◌&&◌, eqb, List, [], ◌∷◌, ◌++◌, length}
+use Rattle.std.proofs.Common.{slice_get, get_or, Some, option_map, All, refl, sym, ap, ◌∙◌, arith, subst}
 use Rattle.std.specs.List.{AllZip}
 use Rattle.std.proofs.lemmas.List.{length-map}
 use Rattle.std.proofs.lemmas.List.Elements.{All-nil, All-cons, All-head, All-tail, All-get_or}
@@ -8,24 +9,29 @@ use Rattle.prefix_lattice.specs.{RecordValue}
 use Rattle.shard_state.specs.Snapshot.{SnapshotValue, SnapshotStandsFor}
 use Rattle.shard_state.specs.Cut.{CutValue, positions_of, CutStandsFor}
 use Rattle.shard_state.specs.ShardState.{ShardValue, IsShard, snapshot_of}
-use Rattle.shard_state.specs.ShardCore.{CoreValue, MovedOn, after, run, capacity_of, HasShape, IsCore, met, position_in, reads_of, last_of, NeverFall, latest, shard_in, snapshot_in, lists_of, BasesStand, ReadsEach}
+use Rattle.shard_state.specs.ShardCore.{CoreValue, MovedOn, after, run, capacity_of, HasShape, IsCore, met, position_in}
+use Rattle.shard_state.specs.ShardCore.{reads_of, last_of, NeverFall, latest, shard_in, snapshot_in, lists_of}
+use Rattle.shard_state.specs.ShardCore.{BasesStand, ReadsEach}
 use Rattle.shard_state.specs.declared.event.Event.{Event}
 use Rattle.shard_state.specs.declared.event.Event.TheVariants.{Fold, Read}
 use Rattle.shard_state.proofs.RepresentationLemmas.{stands-shard}
 use Rattle.shard_state.proofs.EventLemmas.{stands_after, snapshot_after, shapes_after, many_after, callers_after, capacity_after}
 
 -- reads may come in parts
-latest-append : (state : ShardValue) (before : SnapshotValue) (earlier later : List ℕ) → latest state before (earlier ++ later) ≡ latest state (latest state before earlier) later
+latest-append : (state : ShardValue) (before : SnapshotValue) (earlier later : List ℕ)
+    → latest state before (earlier ++ later) ≡ latest state (latest state before earlier) later
 latest-append state before [] later = refl
 latest-append state before (position ∷ earlier) later = latest-append state (snapshot_of (record state { position = position })) earlier later
 
 -- where the shard stands doesn't matter
-latest-moved : (state : ShardValue) (position : ℕ) (before : SnapshotValue) (reads : List ℕ) → latest (record state { position = position }) before reads ≡ latest state before reads
+latest-moved : (state : ShardValue) (position : ℕ) (before : SnapshotValue) (reads : List ℕ)
+    → latest (record state { position = position }) before reads ≡ latest state before reads
 latest-moved state position before [] = refl
 latest-moved state position before (met ∷ later) = latest-moved state position (snapshot_of (record state { position = met })) later
 
 -- a run leaves in each cut what its reads met last
-pub latest_after : (events : List Event) (core : CoreValue) (caller shard : ℕ) (state : ShardValue) (before : SnapshotValue) → slice_get core.shards shard ≡ Some state
+pub latest_after : (events : List Event) (core : CoreValue) (caller shard : ℕ) (state : ShardValue)
+    (before : SnapshotValue) → slice_get core.shards shard ≡ Some state
     → state.position ≤ length state.list → snapshot_in caller shard core.cuts ≡ Some before
     → snapshot_in caller shard (run core events).cuts ≡ Some (latest state before (reads_of caller shard core events))
 latest_after [] core caller shard state before is within holds = holds
@@ -59,7 +65,9 @@ never_fall (event ∷ rest) core caller shard state is within =
     let moved : MovedOn (after core event).shards shard state = stands_after core event shard state is within in
     let later = reads_of caller shard (after core event) rest in
     let rise : NeverFall state.position later =
-    lower state.position moved.position later moved.later (never_fall rest (after core event) caller shard (record state { position = moved.position }) moved.is moved.within) in
+    lower state.position moved.position later moved.later
+    (never_fall rest (after core event) caller shard (record state { position = moved.position }) moved.is
+    moved.within) in
     met_is (λ ps. NeverFall state.position (ps ++ later)) caller shard core.shards event state is rise (omega arith, rise)
 
 -- and are within its list
@@ -69,18 +77,23 @@ reads_within [] core caller shard state is within = All-nil (λ p. p ≤ length 
 reads_within (event ∷ rest) core caller shard state is within =
     let moved : MovedOn (after core event).shards shard state = stands_after core event shard state is within in
     let later = reads_of caller shard (after core event) rest in
-    let all : All (λ p. p ≤ length state.list) later = reads_within rest (after core event) caller shard (record state { position = moved.position }) moved.is moved.within in
-    met_is (λ ps. All (λ p. p ≤ length state.list) (ps ++ later)) caller shard core.shards event state is all (All-cons (λ p. p ≤ length state.list) state.position later within all)
+    let all : All (λ p. p ≤ length state.list) later =
+    reads_within rest (after core event) caller shard (record state { position = moved.position }) moved.is
+    moved.within in
+    met_is (λ ps. All (λ p. p ≤ length state.list) (ps ++ later)) caller shard core.shards event state is all
+    (All-cons (λ p. p ≤ length state.list) state.position later within all)
 
 -- the snapshot of the last read
 pub latest_is_last : (state : ShardValue) (before : SnapshotValue) (reads : List ℕ) (position : ℕ) → last_of reads ≡ Some position
     → latest state before reads ≡ snapshot_of (record state { position = position })
 latest_is_last state before [] position last = cc last
 latest_is_last state before (only ∷ []) position last = let same : only ≡ position = cc last in ap (λ p. snapshot_of (record state { position = p })) same
-latest_is_last state before (first ∷ next ∷ later) position last = latest_is_last state (snapshot_of (record state { position = first })) (next ∷ later) position last
+latest_is_last state before (first ∷ next ∷ later) position last =
+    latest_is_last state (snapshot_of (record state { position = first })) (next ∷ later) position last
 
 -- a snapshot that was read stands for the shard's list
-latest_stands : (state : ShardValue) (before : SnapshotValue) (reads : List ℕ) (least : ℕ) → SnapshotStandsFor state.base state.list → state.base.position ≤ least → NeverFall least reads
+latest_stands : (state : ShardValue) (before : SnapshotValue) (reads : List ℕ) (least : ℕ)
+    → SnapshotStandsFor state.base state.list → state.base.position ≤ least → NeverFall least reads
     → All (λ p. p ≤ length state.list) reads → SnapshotStandsFor before state.list → SnapshotStandsFor (latest state before reads) state.list
 latest_stands state before [] least base begun rise within stands = stands
 latest_stands state before (position ∷ later) least base begun rise within stands =
@@ -89,7 +102,8 @@ latest_stands state before (position ∷ later) least base begun rise within sta
     latest_stands state (snapshot_of (record state { position = position })) later position base from rise.1
     (All-tail (λ p. p ≤ length state.list) position later within) (stands-shard (record state { position = position }) base from here)
 
-pub read_stands : (state : ShardValue) (before : SnapshotValue) (reads : List ℕ) (least : ℕ) → SnapshotStandsFor state.base state.list → state.base.position ≤ least → NeverFall least reads
+pub read_stands : (state : ShardValue) (before : SnapshotValue) (reads : List ℕ) (least : ℕ)
+    → SnapshotStandsFor state.base state.list → state.base.position ≤ least → NeverFall least reads
     → All (λ p. p ≤ length state.list) reads → 1 ≤ length reads → SnapshotStandsFor (latest state before reads) state.list
 read_stands state before [] least base begun rise within some = absurd (omega arith)
 read_stands state before (position ∷ later) least base begun rise within some =
@@ -99,7 +113,8 @@ read_stands state before (position ∷ later) least base begun rise within some 
     (All-tail (λ p. p ≤ length state.list) position later within) (stands-shard (record state { position = position }) base from here)
 
 -- after a read a cut has tables of the shard's capacity
-latest_alike : (state : ShardValue) (before : SnapshotValue) (reads : List ℕ) → before.capacity ≡ state.base.capacity → (latest state before reads).capacity ≡ state.base.capacity
+latest_alike : (state : ShardValue) (before : SnapshotValue) (reads : List ℕ)
+    → before.capacity ≡ state.base.capacity → (latest state before reads).capacity ≡ state.base.capacity
 latest_alike state before [] alike = alike
 latest_alike state before (position ∷ later) alike = latest_alike state (snapshot_of (record state { position = position })) later refl
 
@@ -108,7 +123,8 @@ read_alike state before [] some = absurd (omega arith)
 read_alike state before (position ∷ later) some = latest_alike state (snapshot_of (record state { position = position })) later refl
 
 -- what a run keeps of shapes
-pub shapes_run : (events : List Event) (core : CoreValue) (shards capacity : ℕ) → All (HasShape shards capacity) core.cuts → All (HasShape shards capacity) (run core events).cuts
+pub shapes_run : (events : List Event) (core : CoreValue) (shards capacity : ℕ)
+    → All (HasShape shards capacity) core.cuts → All (HasShape shards capacity) (run core events).cuts
 shapes_run [] core shards capacity shapes = shapes
 shapes_run (event ∷ rest) core shards capacity shapes = shapes_run rest (after core event) shards capacity (shapes_after core event shards capacity shapes)
 
@@ -146,7 +162,8 @@ no_cut = record { capacity = 0; shards = [] }
 no_shard : ShardValue
 no_shard = record { list = []; base = record { capacity = 0; position = 0; tables = [] }; position = 0 }
 
-held : (caller shard shards capacity : ℕ) (cuts : List CutValue) → All (HasShape shards capacity) cuts → caller < length cuts → shard < shards → Held caller shard cuts
+held : (caller shard shards capacity : ℕ) (cuts : List CutValue) → All (HasShape shards capacity) cuts
+    → caller < length cuts → shard < shards → Held caller shard cuts
 held caller shard shards capacity cuts shapes in_cuts in_shards =
     let cut = get_or cuts caller no_cut in
     let shape : HasShape shards capacity cut = All-get_or (HasShape shards capacity) cuts caller no_cut in_cuts shapes in
@@ -190,7 +207,8 @@ stands_run events core caller cut is_core shapes bases is_cut reads =
     let kept : All IsShard core.shards = is_core.kept in
     let in_run : caller < length (run core events).cuts = slice_get_within (run core events).cuts caller cut is_cut in
     let shape : HasShape (length core.shards) (capacity_of core.shards) (get_or (run core events).cuts caller cut) =
-    All-get_or (HasShape (length core.shards) (capacity_of core.shards)) (run core events).cuts caller cut in_run (shapes_run events core (length core.shards) (capacity_of core.shards) shapes) in
+    All-get_or (HasShape (length core.shards) (capacity_of core.shards)) (run core events).cuts caller cut in_run
+    (shapes_run events core (length core.shards) (capacity_of core.shards) shapes) in
     let many : length cut.shards ≡ length core.shards =
     ap (λ (c : CutValue). length c.shards) (sym (get_or_from_slice_get (run core events).cuts caller cut cut is_cut)) ∙ shape.as_many in
     let list_of : ShardValue → List RecordValue = λ s. s.list in
@@ -221,8 +239,11 @@ stands_run events core caller cut is_core shapes bases is_cut reads =
           let stands : SnapshotStandsFor (latest state here.before met_here) state.list =
           read_stands state here.before met_here state.position base here.is_shard.begun (never_fall events core caller k state here.is here.is_shard.within)
           (reads_within events core caller k state here.is here.is_shard.within) (reads k in_shards) in
-          let same_snapshot : latest state here.before met_here ≡ snapshot = same_Some (latest state here.before met_here) snapshot (sym here.holds ∙ is_snapshot) in
-          let same_list : state.list ≡ list = same_Some state.list list (sym (slice_get-map list_of core.shards k ∙ ap (option_map list_of) here.is) ∙ is_list) in
+          let same_snapshot : latest state here.before met_here ≡ snapshot =
+          same_Some (latest state here.before met_here) snapshot (sym here.holds ∙ is_snapshot) in
+          let same_list : state.list ≡ list =
+          same_Some state.list list
+          (sym (slice_get-map list_of core.shards k ∙ ap (option_map list_of) here.is) ∙ is_list) in
           subst (λ s. SnapshotStandsFor s list) same_snapshot (subst (SnapshotStandsFor (latest state here.before met_here)) same_list stands));
     }
 
@@ -238,8 +259,11 @@ last_read events core caller shard position cut kept shapes in_shards is_cut las
     ∙ ap (λ s. Some (place s)) (latest_is_last here.state here.before (reads_of caller shard core events) position last)
 
 -- the position of a shard of a core is within its list
-pub shard_within : (core : CoreValue) (shard : ℕ) (state : ShardValue) → All IsShard core.shards → slice_get core.shards shard ≡ Some state → state.position ≤ length state.list
+pub shard_within : (core : CoreValue) (shard : ℕ) (state : ShardValue) → All IsShard core.shards
+    → slice_get core.shards shard ≡ Some state → state.position ≤ length state.list
 shard_within core shard state kept is =
     let in_shards : shard < length core.shards = slice_get_within core.shards shard state is in
-    let is_shard : IsShard state = subst IsShard (get_or_from_slice_get core.shards shard state no_shard is) (All-get_or IsShard core.shards shard no_shard in_shards kept) in
+    let is_shard : IsShard state =
+    subst IsShard (get_or_from_slice_get core.shards shard state no_shard is)
+    (All-get_or IsShard core.shards shard no_shard in_shards kept) in
     is_shard.within

@@ -4,9 +4,10 @@ use Rattle.std.proofs.lemmas.List.Elements.{All-from_recursion, All-head}
 use Rattle.prefix_lattice.specs.{RecordValue, node_at, IsKeyOf, PrefixValue}
 use Rattle.space_saving.specs.declared.entry.Entry.{Entry}
 use Rattle.space_saving.specs.{TableValue, HasSmallError}
-use Rattle.shard_state.specs.Snapshot.{adds_of, records_table, fold_at, fold_from, HasKeysOf, IsTableAt, fold_table, fold_tables, no_entries, empty_snapshot, entries_at, total_of}
+use Rattle.shard_state.specs.Snapshot.{adds_of, records_table, fold_at, fold_from, HasKeysOf, IsTableAt, fold_table}
+use Rattle.shard_state.specs.Snapshot.{fold_tables, no_entries, empty_snapshot, entries_at, total_of}
 use Rattle.shard_state.specs.ShardState.{ShardValue, IsShard, folded, snapshot_of}
-use Rattle.shard_state.specs.Weights.{Holds, HoldsWeightOver, interval_over, interval_of}
+use Rattle.shard_state.specs.Weights.{HoldsNarrowly, HoldsWeightOver, interval_over, interval_of}
 use Rattle.shard_state.proofs.EmptyTableLemmas.{IsSnapshot-empty}
 use Rattle.shard_state.proofs.ShardStateLemmas.{begun}
 
@@ -23,7 +24,8 @@ first = x ∷ x ∷ x ∷ x ∷ x ∷ u ∷ []
 abbrev pub entry : ℕ → ℕ → ℕ → Entry
 entry key count error = record { key = key; count = count; error = error }
 
-pub adds_of_whole_addresses : adds_of (node_at 24) (x ∷ u ∷ []) ≡ record { key = 0x0100000165000001; weight = 1 } ∷ record { key = 0x0200000166000001; weight = 1 } ∷ []
+pub adds_of_whole_addresses : adds_of (node_at 24) (x ∷ u ∷ [])
+    ≡ record { key = 0x0100000165000001; weight = 1 } ∷ record { key = 0x0200000166000001; weight = 1 } ∷ []
 adds_of_whole_addresses = refl
 
 -- the table of whole addresses: U stands at the head, since its count is the least
@@ -52,7 +54,9 @@ pub row_of_one_table : fold_tables 0 (root_table ∷ []) (x ∷ u ∷ []) ≡ fo
 row_of_one_table = refl
 
 pub key_of_three_bytes : HasKeysOf (node_at 23) (entry 0x0100000165000000 1 0 ∷ [])
-key_of_three_bytes = All-from_recursion (λ (e : Entry). IsKeyOf (node_at 23) e.key) (entry 0x0100000165000000 1 0 ∷ []) (record { source = refl; dest = refl }, tt)
+key_of_three_bytes =
+    All-from_recursion (λ (e : Entry). IsKeyOf (node_at 23) e.key) (entry 0x0100000165000000 1 0 ∷ [])
+    (record { source = refl; dest = refl }, tt)
 
 -- the last byte of the destination isn't kept
 pub key_with_a_loose_bit : HasKeysOf (node_at 23) (entry 0x0100000165000001 1 0 ∷ []) → ⊥
@@ -100,8 +104,12 @@ total_at_the_end = refl
 pub begun_shard : IsShard shard
 unfolding no_entries
 begun_shard =
-    let weighed = All-from_recursion (λ (r : RecordValue). 1 ≤ r.weight) first (omega arith, (omega arith, (omega arith, (omega arith, (omega arith, (omega arith, tt)))))) in
-    let bounded = All-from_recursion (λ (r : RecordValue). r.weight < 2 ^ 32) first (omega arith, (omega arith, (omega arith, (omega arith, (omega arith, (omega arith, tt)))))) in
+    let weighed =
+    All-from_recursion (λ (r : RecordValue). 1 ≤ r.weight) first
+    (omega arith, (omega arith, (omega arith, (omega arith, (omega arith, (omega arith, tt)))))) in
+    let bounded =
+    All-from_recursion (λ (r : RecordValue). r.weight < 2 ^ 32) first
+    (omega arith, (omega arith, (omega arith, (omega arith, (omega arith, (omega arith, tt)))))) in
     (begun first (empty_snapshot 4) 0 refl (IsSnapshot-empty 4 (omega arith) (omega arith)) (omega arith) (omega arith) weighed bounded refl).is_shard
 
 -- a shard counts no more than its records
@@ -120,11 +128,11 @@ unfolding no_entries
 interval_in_a_snapshot = refl
 
 pub five_are_held : HoldsWeightOver 4 from_one first
-five_are_held = record { low = omega arith; high = omega arith; width = omega arith }
+five_are_held = record { holds = record { low = omega arith; high = omega arith }; narrow = omega arith }
 
 -- 2 times 4 is more than 6
-pub interval_that_is_too_wide : Holds (record { low = 4; high = 6 }) 4 5 6 → ⊥
-interval_that_is_too_wide holds = omega (arith, holds.width)
+pub interval_that_is_too_wide : HoldsNarrowly (record { low = 4; high = 6 }) 4 5 6 → ⊥
+interval_that_is_too_wide holds = omega (arith, holds.narrow)
 
-pub interval_beside_the_weight : Holds (record { low = 4; high = 5 }) 4 6 6 → ⊥
-interval_beside_the_weight holds = omega (arith, holds.high)
+pub interval_beside_the_weight : HoldsNarrowly (record { low = 4; high = 5 }) 4 6 6 → ⊥
+interval_beside_the_weight holds = omega (arith, holds.holds.high)

@@ -1,14 +1,17 @@
 -- Worked examples of events, and of what reads leave.
-use Rattle.std.proofs.Common.{◌≡◌, zero, suc, ◌+◌, List, [], ◌∷◌, None, Some, refl, arith}
+use Rattle.std.proofs.Common.{◌≡◌, zero, suc, ◌+◌, List, [], ◌∷◌, None, Some, refl, arith, ◌*◌}
 use Rattle.std.proofs.lemmas.List.Elements.{All-from_recursion}
 use Rattle.shard_state.specs.Snapshot.{empty_snapshot, SnapshotStandsFor}
-use Rattle.shard_state.specs.Cut.{empty_cut}
+use Rattle.shard_state.specs.Cut.{empty_cut, most_snapshots}
 use Rattle.shard_state.specs.ShardState.{ShardValue, IsShard, folded, snapshot_of}
-use Rattle.shard_state.specs.ShardCore.{CoreValue, changed, with_read, after, run, capacity_of, AreShards, IsCore, HasShape, IsEventFor, position_in, met, reads_of, last_of, NeverFall, latest, shard_in, snapshot_in, lists_of, BasesStand, ReadsEach}
+use Rattle.shard_state.specs.ShardCore.{CoreValue, changed, with_read, after, run, capacity_of, AreShards, IsCore}
+use Rattle.shard_state.specs.ShardCore.{HasShape, IsEventFor, position_in, met, reads_of, last_of, NeverFall}
+use Rattle.shard_state.specs.ShardCore.{latest, shard_in, snapshot_in, lists_of, BasesStand, ReadsEach}
 use Rattle.shard_state.specs.declared.event.Event.{Event}
 use Rattle.shard_state.specs.declared.event.Event.TheVariants.{Fold, Read}
 use Rattle.shard_state.proofs.RepresentationLemmas.{stands-empty}
 use Rattle.shard_state.proofs.Examples.{first, shard, begun_shard}
+use Rattle.prefix_lattice.specs.{most_shards}
 
 pub second_changed : changed (λ n. n + 10) 1 (1 ∷ 2 ∷ 3 ∷ []) ≡ 1 ∷ 12 ∷ 3 ∷ []
 second_changed = refl
@@ -49,7 +52,11 @@ pub capacity_of_the_core : capacity_of core.shards ≡ 4
 capacity_of_the_core = refl
 
 pub one_shard_is_some : AreShards core.shards
-one_shard_is_some = record { some = omega arith; few = omega arith; alike = All-from_recursion (λ (s : ShardValue). s.base.capacity ≡ 4) core.shards (refl, tt) }
+one_shard_is_some = record {
+  some = omega arith;
+  few = omega arith;
+  alike = All-from_recursion (λ (s : ShardValue). s.base.capacity ≡ 4) core.shards (refl, tt);
+}
 
 pub core_of_one_shard : IsCore core.shards
 core_of_one_shard = record { are_shards = one_shard_is_some; kept = All-from_recursion IsShard core.shards (begun_shard, tt) }
@@ -138,3 +145,6 @@ both_callers_read_each (suc place) below = absurd (omega (arith, below))
 
 pub third_caller_reads_none : ReadsEach 2 core events → ⊥
 third_caller_reads_none each = let one = each 0 (omega arith) in omega (arith, one)
+
+pub snapshots_of_eight_times_the_shards : most_snapshots ≡ 8 * most_shards
+snapshots_of_eight_times_the_shards = refl

@@ -4,7 +4,9 @@ use Rattle.std.proofs.lemmas.List.Elements.{All-nil, All-cons, All-head}
 use Rattle.prefix_lattice.specs.{node_at, IsKeyOf}
 use Rattle.space_saving.specs.declared.entry.Entry.{Entry}
 use Rattle.space_saving.specs.{TableValue}
-use Rattle.shard_state.specs.Snapshot.{SnapshotValue, IsSnapshot, no_entries, empty_snapshot, entries_at, table_at, tables_of, total_of, IsLike, AreTables, AreParts, copied_from, SnapshotStandsFor}
+use Rattle.shard_state.specs.Snapshot.{SnapshotValue, IsSnapshot, no_entries, empty_snapshot, entries_at, table_at}
+use Rattle.shard_state.specs.Snapshot.{tables_of, total_of, IsLike, AreTables, AreParts, copied_from}
+use Rattle.shard_state.specs.Snapshot.{SnapshotStandsFor}
 use Rattle.shard_state.specs.Cut.{CutValue, IsCut, empty_cut, positions_of, total_of_cut, CutStandsFor, records_before}
 use Rattle.shard_state.specs.ShardState.{folded, snapshot_of}
 use Rattle.shard_state.proofs.EmptyTableLemmas.{empty_table, IsSnapshot-empty, IsCut-empty}
@@ -111,7 +113,10 @@ stands_for_no_shorter_list stands = omega (arith, stands.within)
 
 pub stands_for_two_lists : CutStandsFor cut (first ∷ (u ∷ u ∷ []) ∷ [])
 stands_for_two_lists = record {
-  alike = All-cons (λ (s : SnapshotValue). s.capacity ≡ 4) at_the_end (empty_snapshot 4 ∷ []) refl (All-cons (λ (s : SnapshotValue). s.capacity ≡ 4) (empty_snapshot 4) [] refl (All-nil (λ (s : SnapshotValue). s.capacity ≡ 4)));
+  alike =
+      All-cons (λ (s : SnapshotValue). s.capacity ≡ 4) at_the_end (empty_snapshot 4 ∷ []) refl
+      (All-cons (λ (s : SnapshotValue). s.capacity ≡ 4) (empty_snapshot 4) [] refl
+      (All-nil (λ (s : SnapshotValue). s.capacity ≡ 4)));
   shards = (stands_for_the_first, (stands-empty 4 (u ∷ u ∷ []), tt));
 }
 

@@ -10,7 +10,7 @@ use Rattle.space_saving.specs.{Interval, interval_in, total_count}
 use Rattle.shard_state.specs.Snapshot.{records_table, fold_at, SnapshotValue, IsSnapshot, empty_snapshot, entries_at, total_of, SnapshotStandsFor}
 use Rattle.shard_state.specs.Cut.{CutValue, IsCut, positions_of, total_of_cut, CutStandsFor, records_before}
 use Rattle.shard_state.specs.ShardState.{ShardValue, snapshot_of}
-use Rattle.shard_state.specs.Weights.{Holds, HoldsWeightOver, interval_of}
+use Rattle.shard_state.specs.Weights.{HoldsNarrowly, HoldsWeightOver, interval_of}
 use Rattle.prefix_lattice.proofs.NodePlaceLemmas.{IsNode-node_at, index_of-node_at}
 use Rattle.shard_state.proofs.EmptyTableLemmas.{none_at, length-no_entries}
 use Rattle.shard_state.proofs.TableFoldLemmas.{fold_at-append, entries_at-advanced, length-fold_from}
@@ -40,27 +40,31 @@ stands-shard shard stands begun within =
 pub record TablesHold : Type 0 where
   pub weight : (capacity : ℕ) (prefix : PrefixValue) (records : List RecordValue) → 1 ≤ capacity → IsPrefix prefix
       → All (λ (r : RecordValue). 1 ≤ r.weight) records → HoldsWeightOver capacity prefix records
-  pub total : (capacity : ℕ) (node : NodeValue) (records : List RecordValue) → 1 ≤ capacity → total_count (records_table capacity node records) ≡ total_weight records
+  pub total : (capacity : ℕ) (node : NodeValue) (records : List RecordValue) → 1 ≤ capacity
+      → total_count (records_table capacity node records) ≡ total_weight records
 
 pub total_stands : (snapshot : SnapshotValue) (list : List RecordValue) → TablesHold → SnapshotStandsFor snapshot list → 1 ≤ snapshot.capacity
     → total_of snapshot ≡ total_weight (take snapshot.position list)
 total_stands snapshot list hold stands some =
     ap total_count (stands.tables (node_at 0) (IsNode-node_at 0 (omega arith))) ∙ hold.total snapshot.capacity (node_at 0) (take snapshot.position list) some
 
-pub weight_stands : (snapshot : SnapshotValue) (list : List RecordValue) (prefix : PrefixValue) → TablesHold → SnapshotStandsFor snapshot list → 1 ≤ snapshot.capacity
+pub weight_stands : (snapshot : SnapshotValue) (list : List RecordValue) (prefix : PrefixValue) → TablesHold
+    → SnapshotStandsFor snapshot list → 1 ≤ snapshot.capacity
     → IsPrefix prefix → All (λ (r : RecordValue). 1 ≤ r.weight) list
-    → Holds (interval_of prefix snapshot) snapshot.capacity (weight_of prefix (take snapshot.position list)) (total_of snapshot)
+    → HoldsNarrowly (interval_of prefix snapshot) snapshot.capacity (weight_of prefix (take snapshot.position list)) (total_of snapshot)
 weight_stands snapshot list prefix hold stands some valid weighed =
     let records = take snapshot.position list in
     let capacity = snapshot.capacity in
     let is_node : IsNode (node_of prefix) = record { source = valid.source.few; dest = valid.dest.few } in
     let over = hold.weight capacity prefix records some valid (All-take (λ (r : RecordValue). 1 ≤ r.weight) snapshot.position list weighed) in
     let interval : List Entry → Interval = λ entries. interval_in (record { capacity = capacity; entries = entries }) (key_of prefix) in
-    subst (λ entries. Holds (interval entries) capacity (weight_of prefix records) (total_of snapshot)) (sym (stands.tables (node_of prefix) is_node))
-    (subst (Holds (interval (records_table capacity (node_of prefix) records)) capacity (weight_of prefix records)) (sym (total_stands snapshot list hold stands some)) over)
+    subst (λ entries. HoldsNarrowly (interval entries) capacity (weight_of prefix records) (total_of snapshot)) (sym (stands.tables (node_of prefix) is_node))
+    (subst (HoldsNarrowly (interval (records_table capacity (node_of prefix) records)) capacity (weight_of prefix records))
+    (sym (total_stands snapshot list hold stands some)) over)
 
 -- the totals of snapshots that stand for lists
-totals_before : (snapshots : List SnapshotValue) (lists : List (List RecordValue)) → TablesHold → AllZip SnapshotStandsFor snapshots lists → All IsSnapshot snapshots
+totals_before : (snapshots : List SnapshotValue) (lists : List (List RecordValue)) → TablesHold
+    → AllZip SnapshotStandsFor snapshots lists → All IsSnapshot snapshots
     → sum_by total_of snapshots ≡ total_weight (records_before lists (map (λ (s : SnapshotValue). s.position) snapshots))
 totals_before [] [] hold stand kept = refl
 totals_before [] (list ∷ lists) hold stand kept = absurd stand
@@ -84,7 +88,8 @@ one_snapshot : (snapshot other : SnapshotValue) (list : List RecordValue) → sn
 one_snapshot snapshot other list capacity position stands other_stands =
     let table : (place : ℕ) → place < length snapshot.tables → get_or snapshot.tables place [] ≡ get_or other.tables place [] = λ place within.
     let is_node : IsNode (node_at place) = IsNode-node_at place (omega (arith, within, stands.shape)) in
-    let at_place : (of : SnapshotValue) → entries_at (node_at place) of ≡ get_or of.tables place [] = λ of. ap (λ p. get_or of.tables p []) (index_of-node_at place) in
+    let at_place : (of : SnapshotValue) → entries_at (node_at place) of ≡ get_or of.tables place [] =
+    λ of. ap (λ p. get_or of.tables p []) (index_of-node_at place) in
     sym (at_place snapshot)
     ∙ stands.tables (node_at place) is_node
     ∙ (λ i. records_table (capacity i) (node_at place) (take (position i) list))
@@ -109,9 +114,12 @@ one_row (snapshot ∷ snapshots) (other ∷ others) (list ∷ lists) capacity al
     let same_position : snapshot.position ≡ other.position = cc in
     let later_positions : map position_of snapshots ≡ map position_of others = cc in
     let first : snapshot ≡ other =
-    one_snapshot snapshot other list (All-head IsAlike snapshot snapshots alike ∙ sym (All-head IsAlike other others other_alike)) same_position stand.0 other_stand.0 in
+    one_snapshot snapshot other list
+    (All-head IsAlike snapshot snapshots alike ∙ sym (All-head IsAlike other others other_alike)) same_position
+    stand.0 other_stand.0 in
     let rest : snapshots ≡ others =
-    one_row snapshots others lists capacity (All-tail IsAlike snapshot snapshots alike) (All-tail IsAlike other others other_alike) later_positions stand.1 other_stand.1 in
+    one_row snapshots others lists capacity (All-tail IsAlike snapshot snapshots alike)
+    (All-tail IsAlike other others other_alike) later_positions stand.1 other_stand.1 in
     λ i. first i ∷ rest i
 
 -- cuts of one capacity at the same positions that stand for the same lists are equal
@@ -120,5 +128,7 @@ pub one_cut : (cut other : CutValue) (lists : List (List RecordValue)) → cut.c
 one_cut cut other lists capacity positions stands other_stands =
     let other_alike : All (λ (s : SnapshotValue). s.capacity ≡ cut.capacity) other.shards =
     subst (λ c. All (λ (s : SnapshotValue). s.capacity ≡ c) other.shards) (sym capacity) other_stands.alike in
-    let shards : cut.shards ≡ other.shards = one_row cut.shards other.shards lists cut.capacity stands.alike other_alike positions stands.shards other_stands.shards in
+    let shards : cut.shards ≡ other.shards =
+    one_row cut.shards other.shards lists cut.capacity stands.alike other_alike positions stands.shards
+    other_stands.shards in
     λ i. record { capacity = capacity i; shards = shards i }

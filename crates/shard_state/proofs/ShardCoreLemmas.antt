@@ -9,13 +9,15 @@ use Rattle.shard_state.proofs.ChangedListLemmas.{changed_is_set, All-changed}
 use Rattle.shard_state.proofs.EventLemmas.{capacity-folded}
 
 -- a fold writes its shard
-pub fold_is_change : (shards : List ShardValue) (at block : ℕ) (before left : ShardValue) → at < length shards → before ≡ get_or shards at before → left ≡ folded block before
+pub fold_is_change : (shards : List ShardValue) (at block : ℕ) (before left : ShardValue) → at < length shards
+    → before ≡ get_or shards at before → left ≡ folded block before
     → slice_set shards at left ≡ changed (folded block) at shards
 fold_is_change shards at block before left within read is =
     ap (slice_set shards at) (is ∙ ap (folded block) read) ∙ sym (changed_is_set (folded block) at shards before within)
 
 -- and leaves a core
-pub IsCore-fold : (shards : List ShardValue) (at block : ℕ) (before left : ShardValue) → at < length shards → before ≡ get_or shards at before → left ≡ folded block before
+pub IsCore-fold : (shards : List ShardValue) (at block : ℕ) (before left : ShardValue) → at < length shards
+    → before ≡ get_or shards at before → left ≡ folded block before
     → IsShard left → IsCore shards → IsCore (slice_set shards at left)
 IsCore-fold shards at block before left within read is is_shard core =
     let same : slice_set shards at left ≡ changed (folded block) at shards = fold_is_change shards at block before left within read is in
@@ -34,7 +36,8 @@ IsCore-fold shards at block before left within read is is_shard core =
     }
 
 -- a read writes its caller's cut
-pub read_is_change : (shards : List ShardValue) (cuts : List CutValue) (caller at : ℕ) (state : ShardValue) (before left : CutValue) → caller < length cuts → at < length shards
+pub read_is_change : (shards : List ShardValue) (cuts : List CutValue) (caller at : ℕ) (state : ShardValue)
+    (before left : CutValue) → caller < length cuts → at < length shards
     → state ≡ get_or shards at state → before ≡ get_or cuts caller before → left ≡ record before { shards = slice_set before.shards at (snapshot_of state) }
     → slice_set cuts caller left ≡ changed (with_read at (slice_get shards at)) caller cuts
 read_is_change shards cuts caller at state before left in_cuts in_shards read_state read is =

@@ -57,7 +57,8 @@ further_tables : (shard : ShardValue) (to : ℕ) → IsShard shard → shard.pos
     ≡ fold_from 0 shard.base.capacity (snapshot_of shard).tables (slice_range shard.list shard.position to)
 further_tables shard to is later =
     ap (fold_from 0 shard.base.capacity shard.base.tables) (range_further shard.list shard.base.position shard.position to is.begun later)
-    ∙ fold_from-append 0 shard.base.capacity shard.base.tables (slice_range shard.list shard.base.position shard.position) (slice_range shard.list shard.position to)
+    ∙ fold_from-append 0 shard.base.capacity shard.base.tables
+    (slice_range shard.list shard.base.position shard.position) (slice_range shard.list shard.position to)
 
 -- the weight up to a later position
 further_weight : (shard : ShardValue) (to : ℕ) → IsShard shard → shard.position ≤ to
@@ -104,8 +105,10 @@ has_room shard to is later within =
     (All-from_get_or (λ (es : List Entry). total_count es + total_weight records < 2 ^ 56) tables []
     (λ k in_tables.
     let place : k < 25 = omega (arith, is.tables.shape) in
-    let at : total_count (get_or tables (index_of (node_at k)) []) ≡ total_of (snapshot_of shard) = (is.tables.tables (node_at k) (IsNode-node_at k place)).counted in
-    let here : total_count (get_or tables k []) ≡ total_of (snapshot_of shard) = subst (λ n. total_count (get_or tables n []) ≡ total_of (snapshot_of shard)) (index_of-node_at k) at in
+    let at : total_count (get_or tables (index_of (node_at k)) []) ≡ total_of (snapshot_of shard) =
+    (is.tables.tables (node_at k) (IsNode-node_at k place)).counted in
+    let here : total_count (get_or tables k []) ≡ total_of (snapshot_of shard) =
+    subst (λ n. total_count (get_or tables n []) ≡ total_of (snapshot_of shard)) (index_of-node_at k) at in
     omega arith))
 
 -- the tables of a shard at a later position
@@ -121,12 +124,15 @@ pub record Begun (list : List RecordValue) (base : SnapshotValue) (position : �
   pub snapshot : snapshot_of (record { list = list; base = base; position = position }) ≡ base
   pub is_shard : IsShard (record { list = list; base = base; position = position })
 
-pub begun : (list : List RecordValue) (base : SnapshotValue) (position : ℕ) → position ≡ base.position → IsSnapshot base → length list ≤ 2 ^ 24 → base.position ≤ length list
+pub begun : (list : List RecordValue) (base : SnapshotValue) (position : ℕ) → position ≡ base.position
+    → IsSnapshot base → length list ≤ 2 ^ 24 → base.position ≤ length list
     → All (λ (r : RecordValue). 1 ≤ r.weight) list → All (λ (r : RecordValue). r.weight < 2 ^ 32) list → total_of base ≡ total_weight (take base.position list)
     → Begun list base position
 begun list base position at_base is few within weighed bounded counted =
     let shard : ShardValue = record { list = list; base = base; position = position } in
-    let none : slice_range list base.position position ≡ [] = let nothing : position - base.position ≡ 0 = omega arith in ap (λ n. take n (drop base.position list)) nothing in
+    let none : slice_range list base.position position ≡ [] =
+    let nothing : position - base.position ≡ 0 = omega arith in
+    ap (λ n. take n (drop base.position list)) nothing in
     let tables : (snapshot_of shard).tables ≡ base.tables = ap (fold_from 0 base.capacity base.tables) none ∙ fold_from-none 0 base.capacity base.tables in
     let with_tables : List (List Entry) → SnapshotValue = λ ts. record { capacity = base.capacity; position = position; tables = ts } in
     let with_position : ℕ → SnapshotValue = λ p. record { capacity = base.capacity; position = p; tables = base.tables } in
@@ -145,7 +151,8 @@ begun list base position at_base is few within weighed bounded counted =
     }
 
 -- a copy of the tables of a snapshot is that snapshot
-pub copied_is : (snapshot : SnapshotValue) (capacity position : ℕ) (tables : List TableValue) → tables ≡ tables_of snapshot → capacity ≡ snapshot.capacity → position ≡ snapshot.position
+pub copied_is : (snapshot : SnapshotValue) (capacity position : ℕ) (tables : List TableValue)
+    → tables ≡ tables_of snapshot → capacity ≡ snapshot.capacity → position ≡ snapshot.position
     → copied_from capacity position tables ≡ snapshot
 copied_is snapshot capacity position tables are same_capacity same_position =
     let made : ℕ → ℕ → List (List Entry) → SnapshotValue = λ c p ts. record { capacity = c; position = p; tables = ts } in

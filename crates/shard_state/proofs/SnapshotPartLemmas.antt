@@ -28,7 +28,8 @@ tables_from_entries capacity (first ∷ rest) alike =
     ∙ ap (λ ts. first ∷ ts) (tables_from_entries capacity rest (All-tail (λ (t : TableValue). t.capacity ≡ capacity) first rest alike))
 
 -- what holds of the tables before a place, and of the one there
-pub more_places : (P : ℕ → TableValue → Type 0) (tables : List TableValue) (n : ℕ) (here : TableValue) → n < length tables → here ≡ get_or tables n here → P n here
+pub more_places : (P : ℕ → TableValue → Type 0) (tables : List TableValue) (n : ℕ) (here : TableValue)
+    → n < length tables → here ≡ get_or tables n here → P n here
     → ((k : ℕ) (t : TableValue) → k < n → slice_get tables k ≡ Some t → P k t) → (k : ℕ) (t : TableValue) → k < n + 1 → slice_get tables k ≡ Some t → P k t
 more_places P tables n here within is_here holds below k t small is_t =
     below_more (λ m. (u : TableValue) → slice_get tables m ≡ Some u → P m u) n (λ m m_small u. below m u m_small)

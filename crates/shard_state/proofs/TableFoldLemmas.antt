@@ -26,14 +26,16 @@ pub fold_from-append : (place capacity : ℕ) (tables : List (List Entry)) (fron
 fold_from-append place capacity [] front rest = refl
 fold_from-append place capacity (entries ∷ tables) front rest =
     ap (λ es. es ∷ fold_from (place + 1) capacity tables (front ++ rest)) (fold_at-append capacity (node_at place) entries front rest)
-    ∙ ap (λ ts. fold_at capacity (node_at place) (fold_at capacity (node_at place) entries front) rest ∷ ts) (fold_from-append (place + 1) capacity tables front rest)
+    ∙ ap (λ ts. fold_at capacity (node_at place) (fold_at capacity (node_at place) entries front) rest ∷ ts)
+    (fold_from-append (place + 1) capacity tables front rest)
 
 -- no record changes nothing
 pub fold_from-none : (place capacity : ℕ) (tables : List (List Entry)) → fold_from place capacity tables [] ≡ tables
 fold_from-none place capacity [] = refl
 fold_from-none place capacity (entries ∷ tables) = ap (λ ts. entries ∷ ts) (fold_from-none (place + 1) capacity tables)
 
-pub length-fold_from : (place capacity : ℕ) (tables : List (List Entry)) (records : List RecordValue) → length (fold_from place capacity tables records) ≡ length tables
+pub length-fold_from : (place capacity : ℕ) (tables : List (List Entry)) (records : List RecordValue)
+    → length (fold_from place capacity tables records) ≡ length tables
 length-fold_from place capacity [] records = refl
 length-fold_from place capacity (entries ∷ tables) records = ap suc (length-fold_from (place + 1) capacity tables records)
 
@@ -56,7 +58,8 @@ fold_tables-entries place capacity (entries ∷ tables) records =
 
 -- what a step keeps
 pub record StepsKeep : Type 0 where
-  pub table : (capacity : ℕ) (entries : List Entry) (add : Add) → 1 ≤ capacity → 1 ≤ add.weight → IsTable capacity entries → IsTable capacity (step capacity entries add)
+  pub table : (capacity : ℕ) (entries : List Entry) (add : Add) → 1 ≤ capacity → 1 ≤ add.weight
+      → IsTable capacity entries → IsTable capacity (step capacity entries add)
   pub total : (capacity : ℕ) (entries : List Entry) (add : Add) → 1 ≤ capacity → total_count (step capacity entries add) ≡ total_count entries + add.weight
   pub key : (node : NodeValue) (rec : RecordValue) → IsNode node → IsKeyOf node (key_of (prefix_at node rec))
 
@@ -123,7 +126,9 @@ advances snapshot position records keep is placed weighed fits =
         most = is.most;
         placed = placed;
         shape = length-fold_from 0 snapshot.capacity snapshot.tables records ∙ is.shape;
-        tables = λ node is_node. subst (λ n. IsTableAt snapshot.capacity n node (entries_at node (advanced snapshot position records))) (sym grew) (at node is_node);
+        tables = λ node is_node.
+            subst (λ n. IsTableAt snapshot.capacity n node (entries_at node (advanced snapshot position records)))
+            (sym grew) (at node is_node);
       };
       total = grew;
     }

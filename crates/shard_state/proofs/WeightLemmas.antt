@@ -1,8 +1,9 @@
 -- What records add to a table at a prefix's node, against what the prefix weighs.
-use Rattle.std.proofs.Common.{◌≡◌, ℕ, ◌+◌, ◌-◌, ◌*◌, ◌≤◌, eqb, cond, Bool, true, false, List, [], ◌∷◌, map, filter, sum_by, All, refl, sym, ap, ◌∙◌, arith, subst}
+use Rattle.std.proofs.Common.{◌≡◌, ℕ, ◌+◌, ◌-◌, ◌*◌, ◌≤◌, eqb, cond, Bool, true, false, List, [], ◌∷◌, map, filter}
+use Rattle.std.proofs.Common.{sum_by, All, refl, sym, ap, ◌∙◌, arith, subst}
 use Rattle.std.proofs.lemmas.List.Sums.{sum_by-cons}
 use Rattle.std.proofs.lemmas.List.Elements.{All-map}
-use Rattle.prefix_lattice.specs.{RecordValue, PrefixValue, covers, node_of, prefix_at, key_of, weight_of, total_weight, NodeValue}
+use Rattle.prefix_lattice.specs.{RecordValue, PrefixValue, covers, node_of, prefix_at, key_of, weight_of, total_weight, NodeValue, Holds}
 use Rattle.space_saving.specs.{Add, interval_after, weight_of_key, total_added, AreWeighed}
 use Rattle.shard_state.specs.Snapshot.{adds_of}
 use Rattle.shard_state.specs.Weights.{HoldsWeightOver}
@@ -22,7 +23,8 @@ pub record KeysTell (prefix : PrefixValue) : Type 0 where
   pub tell : (rec : RecordValue) → covers prefix rec ≡ eqb (key_of (prefix_at (node_of prefix) rec)) (key_of prefix)
 
 -- what records add for the key of a prefix is what it weighs
-weights : (prefix : PrefixValue) (records : List RecordValue) → KeysTell prefix → weight_of_key (key_of prefix) (adds_of (node_of prefix) records) ≡ weight_of prefix records
+weights : (prefix : PrefixValue) (records : List RecordValue) → KeysTell prefix
+    → weight_of_key (key_of prefix) (adds_of (node_of prefix) records) ≡ weight_of prefix records
 weights prefix [] keys = refl
 weights prefix (rec ∷ records) keys =
     let add : RecordValue → Add = add_at (node_of prefix) in
@@ -54,7 +56,12 @@ weight_held capacity prefix records keys laws some weighed =
     let interval = interval_after capacity adds (key_of prefix) in
     let are_weighed : AreWeighed adds = All-map (λ (a : Add). 1 ≤ a.weight) (add_at (node_of prefix)) records weighed in
     record {
-      low = subst (λ x. interval.low ≤ x) (weights prefix records keys) (laws.low capacity adds (key_of prefix) some are_weighed);
-      high = subst (λ x. x ≤ interval.high) (weights prefix records keys) (laws.high capacity adds (key_of prefix) some are_weighed);
-      width = subst (λ n. (interval.high - interval.low) * capacity ≤ n) (totals (node_of prefix) records) (laws.width capacity adds (key_of prefix) some are_weighed);
+      holds =
+          subst (Holds interval.low interval.high) (weights prefix records keys) (record {
+            low = laws.low capacity adds (key_of prefix) some are_weighed;
+            high = laws.high capacity adds (key_of prefix) some are_weighed;
+          });
+      narrow =
+          subst (λ n. (interval.high - interval.low) * capacity ≤ n) (totals (node_of prefix) records)
+          (laws.width capacity adds (key_of prefix) some are_weighed);
     }

@@ -4,6 +4,7 @@ use Rattle.std.proofs.Math.ListN.{replicate}
 use Rattle.shard_state.specs.Snapshot.{SnapshotValue, IsSnapshot, empty_snapshot, total_of, SnapshotStandsFor}
 use Rattle.std.specs.List.{AllZip}
 use Rattle.prefix_lattice.specs.{RecordValue}
+use Rattle.space_saving.specs.{least_capacity, most_capacity}
 
 -- one snapshot for each shard, all of one capacity
 pub record CutValue : Type 0 where
@@ -18,12 +19,16 @@ positions_of cut = map (λ snapshot. snapshot.position) cut.shards
 abbrev pub total_of_cut : CutValue → ℕ
 total_of_cut cut = sum_by total_of cut.shards
 
+-- the most snapshots of a cut, eight times as many as a command has shards
+abbrev pub most_snapshots : ℕ
+most_snapshots = 128
+
 -- what always holds of a cut: 1 to 128 snapshots, each of its capacity
 pub record IsCut (cut : CutValue) : Type 0 where
-  pub least : 2 ≤ cut.capacity
-  pub most : cut.capacity ≤ 4096
+  pub least : least_capacity ≤ cut.capacity
+  pub most : cut.capacity ≤ most_capacity
   pub some : 1 ≤ length cut.shards
-  pub few : length cut.shards ≤ 128
+  pub few : length cut.shards ≤ most_snapshots
   pub alike : All (λ snapshot. snapshot.capacity ≡ cut.capacity) cut.shards
   pub kept : All IsSnapshot cut.shards
 

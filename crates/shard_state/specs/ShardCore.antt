@@ -4,7 +4,7 @@ use Rattle.shard_state.specs.Cut.{CutValue}
 use Rattle.shard_state.specs.ShardState.{ShardValue, IsShard, folded, snapshot_of, state_at}
 use Rattle.shard_state.specs.declared.event.Event.{Event}
 use Rattle.shard_state.specs.declared.event.Event.TheVariants.{Fold, Read}
-use Rattle.prefix_lattice.specs.{RecordValue}
+use Rattle.prefix_lattice.specs.{RecordValue, most_shards}
 use Rattle.shard_state.specs.Snapshot.{SnapshotValue, SnapshotStandsFor}
 
 -- what events act on: the states of the shards, and one cut for each caller
@@ -40,7 +40,7 @@ capacity_of (first ∷ rest) = first.base.capacity
 -- 1 to 16 shards of one capacity
 pub record AreShards (shards : List ShardValue) : Type 0 where
   pub some : 1 ≤ length shards
-  pub few : length shards ≤ 16
+  pub few : length shards ≤ most_shards
   pub alike : All (λ shard. shard.base.capacity ≡ capacity_of shards) shards
 
 -- what always holds of the core: 1 to 16 shards of one capacity, each within its limits

@@ -1,8 +1,8 @@
 -- The tables of a shard at a position: 25 of them, one for each node of the lattice.
-use Rattle.std.specs.Prelude.{ℕ, ◌≡◌, ◌+◌, List, [], ◌∷◌, map, fold, All, ◌^◌, ◌≤◌, length, slice_index_or, slice_get, Some, take}
-use Rattle.prefix_lattice.specs.{RecordValue, NodeValue, node_at, IsNode, index_of, prefix_at, key_of, IsKeyOf, node_count}
+use Rattle.std.specs.Prelude.{ℕ, ◌≡◌, ◌+◌, List, [], ◌∷◌, map, fold, All, ◌≤◌, length, slice_index_or, slice_get, Some, take}
+use Rattle.prefix_lattice.specs.{RecordValue, NodeValue, node_at, IsNode, index_of, prefix_at, key_of, IsKeyOf, node_count, most_records}
 use Rattle.space_saving.specs.declared.entry.Entry.{Entry}
-use Rattle.space_saving.specs.{Add, step, table_of, total_count, TableValue, AreEntries}
+use Rattle.space_saving.specs.{Add, step, table_of, total_count, TableValue, AreEntries, least_capacity, most_capacity}
 use Rattle.std.proofs.Math.ListN.{replicate}
 
 -- what records add to a table at a node: for each record its weight, under the key of its prefix at the node
@@ -57,9 +57,9 @@ total_of snapshot = total_count (slice_index_or snapshot.tables 0 [])
 
 -- what always holds of a snapshot: 25 tables of one allowed capacity and one total, each with keys of its node
 pub record IsSnapshot (snapshot : SnapshotValue) : Type 0 where
-  pub least : 2 ≤ snapshot.capacity
-  pub most : snapshot.capacity ≤ 4096
-  pub placed : snapshot.position ≤ 2 ^ 24
+  pub least : least_capacity ≤ snapshot.capacity
+  pub most : snapshot.capacity ≤ most_capacity
+  pub placed : snapshot.position ≤ most_records
   pub shape : length snapshot.tables ≡ node_count
   pub tables : (node : NodeValue) → IsNode node → IsTableAt snapshot.capacity (total_of snapshot) node (entries_at node snapshot)
 
@@ -86,7 +86,7 @@ pub record AreTables (tables : List TableValue) : Type 0 where
 
 -- the parts of a snapshot: a position of at most 2^24, and 25 such tables
 pub record AreParts (position : ℕ) (tables : List TableValue) : Type 0 where
-  pub placed : position ≤ 2 ^ 24
+  pub placed : position ≤ most_records
   pub are_tables : AreTables tables
 
 -- a table of a node after more records

@@ -1,9 +1,11 @@
 //! One snapshot for each shard.
 
-ghost use Rattle.std.specs.Prelude.{◌≡◌, ◌^◌, ◌<◌, ◌≤◌, length, slice_get, slice_set, IfOk, Some};
+ghost use Rattle.std.specs.Prelude.{◌≡◌, ◌<◌, ◌≤◌, length, slice_get, slice_set, IfOk, Some};
 ghost use Rattle.shard_state.specs.Snapshot.{IsSnapshot};
 ghost use Rattle.shard_state.specs.ShardState.{snapshot_of};
-ghost use Rattle.shard_state.specs.Cut.{IsCut, empty_cut, positions_of, total_of_cut};
+ghost use Rattle.shard_state.specs.Cut.{IsCut, empty_cut, positions_of, total_of_cut, most_snapshots};
+ghost use Rattle.prefix_lattice.specs.{most_shards, total_limit};
+ghost use Rattle.space_saving.specs.{least_capacity, most_capacity};
 
 use crate::{Positions, ShardState, Snapshot};
 use std::alloc::{AllocError, Global};
@@ -31,9 +33,9 @@ impl Cut {
     /// A cut at position 0 of 1 to 128 shards, with empty tables and memory for `capacity` entries in each, 2 to 4096.
     pub fn with_room(alloc: Global, shards: u32, capacity: u32) -> Result<Cut, AllocError>
         requires some { 1 ≤ shards }
-        requires few { shards ≤ 128 }
-        requires least { 2 ≤ capacity }
-        requires most { capacity ≤ 4096 }
+        requires few { shards ≤ most_snapshots }
+        requires least { least_capacity ≤ capacity }
+        requires most { capacity ≤ most_capacity }
         ensures { IfOk result (λ cut. cut ≡ empty_cut shards capacity) }
     {
         let mut snapshots = Vec::with_capacity(alloc, shards as usize)?;
@@ -50,7 +52,7 @@ impl Cut {
     pub fn shards(&self) -> u32
         ensures shards { result ≡ length self.now.shards }
         ensures kept { IsCut self.now }
-        ensures bounded { length self.now.shards ≤ 16 → total_of_cut self.now < 2 ^ 60 }
+        ensures bounded { length self.now.shards ≤ most_shards → total_of_cut self.now < total_limit }
     {
         self.shards.len() as u32
     }

@@ -6,7 +6,7 @@ ghost use Rattle.space_saving.specs.{total_count};
 ghost use Rattle.shard_state.specs.Snapshot.{records_table, SnapshotValue, empty_snapshot, total_of, SnapshotStandsFor};
 ghost use Rattle.shard_state.specs.Cut.{CutValue, IsCut, positions_of, total_of_cut, CutStandsFor, records_before};
 ghost use Rattle.shard_state.specs.ShardState.{ShardValue, snapshot_of};
-ghost use Rattle.shard_state.specs.Weights.{Holds, HoldsWeightOver, interval_of};
+ghost use Rattle.shard_state.specs.Weights.{HoldsNarrowly, HoldsWeightOver, interval_of};
 ghost use Rattle.shard_state.specs.ShardCore.{CoreValue, HasShape, IsCore, capacity_of, run, BasesStand, ReadsEach, lists_of};
 ghost use Rattle.shard_state.specs.declared.event.Event.{Event};
 
@@ -31,7 +31,7 @@ pub fn tables_hold_weights()
 pub fn snapshots_hold_weights()
     ensures weight { (snapshot : SnapshotValue) (list : List RecordValue) (prefix : PrefixValue) → SnapshotStandsFor snapshot list → 1 ≤ snapshot.capacity
         → IsPrefix prefix → All (λ rec. 1 ≤ rec.weight) list
-        → Holds (interval_of prefix snapshot) snapshot.capacity (weight_of prefix (take snapshot.position list)) (total_of snapshot) }
+        → HoldsNarrowly (interval_of prefix snapshot) snapshot.capacity (weight_of prefix (take snapshot.position list)) (total_of snapshot) }
     ensures total { (snapshot : SnapshotValue) (list : List RecordValue) → SnapshotStandsFor snapshot list → 1 ≤ snapshot.capacity
         → total_of snapshot ≡ total_weight (take snapshot.position list) }
     ensures cut_total { (cut : CutValue) (lists : List (List RecordValue)) → IsCut cut → CutStandsFor cut lists

@@ -1,10 +1,11 @@
 //! The state of a shard.
 
-ghost use Rattle.std.specs.Prelude.{◌≡◌, ◌+◌, ◌^◌, ◌≤◌, ◌↔◌, length, take, IfOk};
+ghost use Rattle.std.specs.Prelude.{◌≡◌, ◌+◌, ◌≤◌, ◌↔◌, length, take, IfOk};
 ghost use Rattle.std.specs.List.{slice_range};
-ghost use Rattle.prefix_lattice.specs.{total_weight};
+ghost use Rattle.prefix_lattice.specs.{total_weight, most_records};
 ghost use Rattle.shard_state.specs.Snapshot.{fold_from, empty_snapshot, total_of};
 ghost use Rattle.shard_state.specs.ShardState.{IsShard, folded, snapshot_of};
+ghost use Rattle.space_saving.specs.{least_capacity, most_capacity};
 
 use crate::Snapshot;
 use crate::folding::{count_in_tables, restored};
@@ -50,9 +51,9 @@ impl ShardState {
     /// The state with no record counted. The list has at most 16,777,216 records, and each table 2 to 4096 entries.
     /// On an error, which means that memory ran out, the list is dropped.
     pub fn start(alloc: Global, list: RecordList, capacity: u32) -> Result<ShardState, AllocError>
-        requires few { length list ≤ 2 ^ 24 }
-        requires least { 2 ≤ capacity }
-        requires most { capacity ≤ 4096 }
+        requires few { length list ≤ most_records }
+        requires least { least_capacity ≤ capacity }
+        requires most { capacity ≤ most_capacity }
         ensures { IfOk result (λ state. state ≡ record { list = list; base = empty_snapshot capacity; position = 0 }) }
     {
         let base = Snapshot::with_room(alloc, capacity)?;
@@ -63,7 +64,7 @@ impl ShardState {
     /// The list has at most 16,777,216 records. On an error, which means that memory ran out, list and base are
     /// dropped.
     pub fn resume(alloc: Global, list: RecordList, base: Snapshot) -> Result<ShardState, AllocError>
-        requires few { length list ≤ 2 ^ 24 }
+        requires few { length list ≤ most_records }
         requires within { base.position ≤ length list }
         requires counted { total_of base ≡ total_weight (take base.position list) }
         ensures { IfOk result (λ state. state ≡ record { list = list; base = base; position = base.position }) }
@@ -112,7 +113,7 @@ impl ShardState {
     /// How many records there are, at most 16,777,216.
     pub fn length(&self) -> u64
         ensures length { result ≡ length self.now.list }
-        ensures few { result ≤ 2 ^ 24 }
+        ensures few { result ≤ most_records }
         ensures kept { IsShard self.now }
     {
         self.list.len() as u64

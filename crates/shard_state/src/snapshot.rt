@@ -1,7 +1,8 @@
 //! The tables of a shard at one position.
 
-ghost use Rattle.std.specs.Prelude.{◌≡◌, ◌^◌, ◌<◌, ◌≤◌, ◌↔◌, All, IfOk, IfSome, IsSome};
+ghost use Rattle.std.specs.Prelude.{◌≡◌, ◌<◌, ◌≤◌, ◌↔◌, All, IfOk, IfSome, IsSome};
 ghost use Rattle.shard_state.specs.Snapshot.{IsSnapshot, empty_snapshot, table_at, tables_of, total_of, AreParts, copied_from};
+ghost use Rattle.space_saving.specs.{least_capacity, most_capacity, table_limit};
 
 use crate::folding::copy_tables;
 use crate::snapshot_parts::{are_tables, empty_tables};
@@ -41,8 +42,8 @@ impl Model for Snapshot {
 impl Snapshot {
     /// Empty tables at position 0, each with memory for `capacity` entries, 2 to 4096.
     pub fn with_room(alloc: Global, capacity: u32) -> Result<Snapshot, AllocError>
-        requires least { 2 ≤ capacity }
-        requires most { capacity ≤ 4096 }
+        requires least { least_capacity ≤ capacity }
+        requires most { capacity ≤ most_capacity }
         ensures { IfOk result (λ snapshot. snapshot ≡ empty_snapshot capacity) }
     {
         Ok(Snapshot {
@@ -84,8 +85,8 @@ impl Snapshot {
     /// The most entries of each table, 2 to 4096.
     pub fn capacity(&self) -> u32
         ensures capacity { result ≡ self.now.capacity }
-        ensures least { 2 ≤ result }
-        ensures most { result ≤ 4096 }
+        ensures least { least_capacity ≤ result }
+        ensures most { result ≤ most_capacity }
     {
         self.capacity
     }
@@ -101,7 +102,7 @@ impl Snapshot {
     /// The total weight of the counted records, which is also what each table counted.
     pub fn total(&self) -> u64
         ensures total { result ≡ total_of self.now }
-        ensures bounded { result < 2 ^ 56 }
+        ensures bounded { result < table_limit }
         ensures kept { IsSnapshot self.now }
     {
         self.tables[0].total()

@@ -2,9 +2,9 @@
 
 ghost use Rattle.std.specs.Prelude.{◌≡◌, ◌<◌, ◌≤◌, ◌↔◌, ℕ, [], length, slice_get, Some, IfOk, IsTrue};
 ghost use Rattle.std.proofs.Math.ListN.{replicate};
-ghost use Rattle.prefix_lattice.specs.{node_at};
+ghost use Rattle.prefix_lattice.specs.{node_at, node_count};
 ghost use Rattle.shard_state.specs.Snapshot.{IsLike, AreTables, HasKeysOf};
-ghost use Rattle.space_saving.specs.{TableValue, AreEntries};
+ghost use Rattle.space_saving.specs.{TableValue, AreEntries, least_capacity, most_capacity};
 
 use prefix_lattice::{Node, Prefix};
 use space_saving::Flat;
@@ -15,9 +15,9 @@ pub(crate) const NODES: u8 = 25;
 
 /// One empty table for each node.
 pub(crate) fn empty_tables(alloc: Global, capacity: u32) -> Result<Vec<Flat>, AllocError>
-    requires least { 2 ≤ capacity }
-    requires most { capacity ≤ 4096 }
-    ensures { IfOk result (λ tables. tables.items ≡ replicate 25 (record { capacity = capacity; entries = [] })) }
+    requires least { least_capacity ≤ capacity }
+    requires most { capacity ≤ most_capacity }
+    ensures { IfOk result (λ tables. tables.items ≡ replicate node_count (record { capacity = capacity; entries = [] })) }
 {
     let mut tables = Vec::with_capacity(alloc, usize::from(NODES))?;
     for _place in 0..NODES {
@@ -45,7 +45,7 @@ pub(crate) fn are_tables(tables: &[Flat]) -> bool
 }
 
 fn is_like(capacity: u32, total: u64, place: u8, table: &Flat) -> bool
-    requires { place < 25 }
+    requires { place < node_count }
     ensures like { IsTrue result ↔ IsLike capacity total (node_at place) table.now }
     ensures kept { AreEntries table.now.capacity table.now.entries }
 {

@@ -1,8 +1,12 @@
 -- Worked examples of the definitions, most by computing.
-use Rattle.std.proofs.Common.{◌≡◌, ◌≤◌, ℕ, List, [], ◌∷◌, None, Some, refl, lit<, arith}
+use Rattle.std.proofs.Common.{◌≡◌, ◌≤◌, ℕ, List, [], ◌∷◌, None, Some, refl, lit<, arith, ◌*◌, ◌^◌}
 use Rattle.std.proofs.lemmas.List.Elements.{All-from_recursion, All-head}
 use Rattle.space_saving.specs.declared.entry.Entry.{Entry}
-use Rattle.space_saving.specs.Table.{Add, TableValue, Interval, put, entry_of, without, replace_head, enter, step_from, step, table_of, total_count, least_count, interval_from, interval_in, interval_after, weight_of_key, total_added, RisesFrom, AreApart, HasSmallError, IsTable, AreEntries, IsKept, AreWeighed}
+use Rattle.space_saving.specs.Table.{Add, TableValue, Interval, put, entry_of, without, replace_head, enter}
+use Rattle.space_saving.specs.Table.{step_from, step, table_of, total_count, least_count, interval_from}
+use Rattle.space_saving.specs.Table.{interval_in, interval_after, weight_of_key, total_added, RisesFrom, AreApart}
+use Rattle.space_saving.specs.Table.{HasSmallError, IsTable, AreEntries, IsKept, AreWeighed}
+use Rattle.space_saving.specs.Table.{least_capacity, most_capacity, table_limit}
 use Rattle.space_saving.specs.Places.{IsPlaceOf}
 
 -- this weight for this key
@@ -160,7 +164,8 @@ full_table_is_one = record {
   fits = omega arith;
   ascending = (omega arith, (omega arith, tt));
   distinct = keys_apart;
-  small_errors = All-from_recursion (HasSmallError 2 9) entries (error_within_its_share, ((omega arith, omega arith), tt));
+  small_errors =
+      All-from_recursion (HasSmallError 2 9) entries (error_within_its_share, ((omega arith, omega arith), tt));
 }
 
 pub too_many_entries : IsTable 1 entries → ⊥
@@ -175,7 +180,13 @@ total_at_the_limit are = omega (arith, are.bounded)
 
 -- memory for four entries serves a table of two
 pub full_table_is_kept : IsKept 2 4 9 entries
-full_table_is_kept = record { least = omega arith; most = omega arith; has_room = omega arith; adds_up = refl; are_entries = entries_of_the_full_table }
+full_table_is_kept = record {
+  least = omega arith;
+  most = omega arith;
+  has_room = omega arith;
+  adds_up = refl;
+  are_entries = entries_of_the_full_table;
+}
 
 pub too_little_memory : IsKept 2 1 9 entries → ⊥
 too_little_memory kept = omega (arith, kept.has_room)
@@ -185,3 +196,14 @@ place_of_key_1 = record { within = omega arith; found = refl; rest = refl }
 
 pub another_place_of_key_1 : IsPlaceOf 1 entries 0 → ⊥
 another_place_of_key_1 place = cc
+
+-- ---- limits
+
+pub one_entry_is_too_few : least_capacity ≤ 1 → ⊥
+one_entry_is_too_few enough = omega (arith, enough)
+
+pub most_entries_are_4096 : most_capacity ≡ 2 ^ 12
+most_entries_are_4096 = refl
+
+pub limit_of_a_total : 2 ^ 24 * 2 ^ 32 ≡ table_limit
+limit_of_a_total = refl

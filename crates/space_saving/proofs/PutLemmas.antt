@@ -1,5 +1,6 @@
 -- What putting an entry in leaves.
-use Rattle.std.proofs.Common.{◌≡◌, ℕ, ◌+◌, ◌<◌, ◌≤◌, true, false, cond, eqb, leb, List, [], ◌∷◌, length, None, Some, refl, sym, ap, ◌∙◌, arith}
+use Rattle.std.proofs.Common.{◌≡◌, ℕ, ◌+◌, ◌<◌, ◌≤◌, true, false, cond, eqb, leb, List, [], ◌∷◌, length, None, Some}
+use Rattle.std.proofs.Common.{refl, sym, ap, ◌∙◌, arith}
 use Rattle.std.specs.List.{AllByRecursion}
 use Rattle.std.proofs.lemmas.Bool.{leb-true, leb-false, eqb-false, ne_eqb, eq-eqb, cond-true, cond-false, cond_both}
 use Rattle.std.proofs.lemmas.List.Sums.{sum_by-cons}
@@ -24,7 +25,8 @@ total_count-put e (f ∷ fs) =
     (λ _. total_count-cons e (f ∷ fs))
 
 -- the counts still rise
-pub RisesFrom-put : (least : ℕ) (e : Entry) (es : List Entry) → RisesFrom least es → least ≤ e.count → RisesFrom least (put e es)
+pub RisesFrom-put : (least : ℕ) (e : Entry) (es : List Entry) → RisesFrom least es → least ≤ e.count
+    → RisesFrom least (put e es)
 RisesFrom-put least e [] rises above = (above, tt)
 RisesFrom-put least e (f ∷ fs) rises above =
     cond_both (leb f.count e.count) (f ∷ put e fs) (e ∷ f ∷ fs) (RisesFrom least)
@@ -36,14 +38,16 @@ pub entry_of-put_same : (e : Entry) (es : List Entry) → entry_of e.key es ≡ 
 entry_of-put_same e [] missing = cond-true (eqb e.key e.key) (Some e) None (eq-eqb e.key e.key refl)
 entry_of-put_same e (f ∷ fs) missing =
     cond_both (leb f.count e.count) (f ∷ put e fs) (e ∷ f ∷ fs) (λ es. entry_of e.key es ≡ Some e)
-    (λ _. (elim (eqb f.key e.key) as (λ b. cond b (Some f) (entry_of e.key fs) ≡ None → cond b (Some f) (entry_of e.key (put e fs)) ≡ Some e) [
+    (λ _. (elim (eqb f.key e.key) as
+    (λ b. cond b (Some f) (entry_of e.key fs) ≡ None → cond b (Some f) (entry_of e.key (put e fs)) ≡ Some e) [
       | true ↦ λ is. cc
       | false ↦ λ is. entry_of-put_same e fs is
     ]) missing)
     (λ _. cond-true (eqb e.key e.key) (Some e) (entry_of e.key (f ∷ fs)) (eq-eqb e.key e.key refl))
 
 -- another key has the entry that it had
-pub entry_of-put_other : (key : ℕ) (e : Entry) (es : List Entry) → (e.key ≡ key → ⊥) → entry_of key (put e es) ≡ entry_of key es
+pub entry_of-put_other : (key : ℕ) (e : Entry) (es : List Entry) → (e.key ≡ key → ⊥)
+    → entry_of key (put e es) ≡ entry_of key es
 entry_of-put_other key e [] other = cond-false (eqb e.key key) (Some e) None (ne_eqb e.key key other)
 entry_of-put_other key e (f ∷ fs) other =
     cond_both (leb f.count e.count) (f ∷ put e fs) (e ∷ f ∷ fs) (λ es. entry_of key es ≡ entry_of key (f ∷ fs))
@@ -51,9 +55,12 @@ entry_of-put_other key e (f ∷ fs) other =
     (λ _. cond-false (eqb e.key key) (Some e) (entry_of key (f ∷ fs)) (ne_eqb e.key key other))
 
 -- the first entry has another key than one that is missing
-pub missing_from_first : (key : ℕ) (f : Entry) (fs : List Entry) → entry_of key (f ∷ fs) ≡ None → (f.key ≡ key → ⊥) × (entry_of key fs ≡ None)
+pub missing_from_first : (key : ℕ) (f : Entry) (fs : List Entry) → entry_of key (f ∷ fs) ≡ None
+    → (f.key ≡ key → ⊥) × (entry_of key fs ≡ None)
 missing_from_first key f fs missing =
-    (elim (eqb f.key key) as (λ b. eqb f.key key ≡ b → cond b (Some f) (entry_of key fs) ≡ None → (f.key ≡ key → ⊥) × (entry_of key fs ≡ None)) [
+    (elim (eqb f.key key) as
+    (λ b. eqb f.key key ≡ b → cond b (Some f) (entry_of key fs) ≡ None → (f.key ≡ key → ⊥)
+    × (entry_of key fs ≡ None)) [
       | true ↦ λ _ is. cc
       | false ↦ λ no is. (eqb-false f.key key no, is)
     ]) refl missing
@@ -68,7 +75,8 @@ AreApart-put e (f ∷ fs) apart missing =
     (λ _. (missing, apart))
 
 -- what is true of each entry and of the new one stays so
-pub all-put : (P : Entry → Type 0) (e : Entry) (es : List Entry) → AllByRecursion P es → P e → AllByRecursion P (put e es)
+pub all-put : (P : Entry → Type 0) (e : Entry) (es : List Entry) → AllByRecursion P es → P e
+    → AllByRecursion P (put e es)
 all-put P e [] all new = (new, tt)
 all-put P e (f ∷ fs) all new =
     cond_both (leb f.count e.count) (f ∷ put e fs) (e ∷ f ∷ fs) (AllByRecursion P)

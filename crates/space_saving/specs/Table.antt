@@ -1,6 +1,7 @@
 -- Space-Saving with weights (Metwally, Agrawal, El Abbadi 2005): a table of a few entries, one step for each
 -- weight that is added for a key, and the interval that the table then gives for a key.
-use Rattle.std.specs.Prelude.{ℕ, ◌+◌, ◌-◌, ◌==◌, nat_lt, nat_le, if◌then◌else◌, List, [], ◌∷◌, length, filter, fold, sum_by, Option, None, Some, ◌≡◌, ◌*◌, ◌^◌, ◌<◌, ◌≤◌, All, ⊤}
+use Rattle.std.specs.Prelude.{ℕ, ◌+◌, ◌-◌, ◌==◌, nat_lt, nat_le, if◌then◌else◌, List, [], ◌∷◌, length, filter, fold}
+use Rattle.std.specs.Prelude.{sum_by, Option, None, Some, ◌≡◌, ◌*◌, ◌^◌, ◌<◌, ◌≤◌, All, ⊤}
 use Rattle.space_saving.specs.declared.entry.Entry.{Entry}
 
 -- one weight that is added for one key
@@ -31,7 +32,8 @@ without key (first ∷ rest) = if first.key == key then rest else first ∷ with
 -- the entries after the head is replaced: its count becomes the error of the new entry
 abbrev pub replace_head : List Entry → Add → List Entry
 replace_head [] add = []
-replace_head (head ∷ rest) add = put (record { key = add.key; count = head.count + add.weight; error = head.count }) rest
+replace_head (head ∷ rest) add =
+    put (record { key = add.key; count = head.count + add.weight; error = head.count }) rest
 
 -- the entries after an add for a key that has no entry: the new entry takes free room, or replaces the head
 abbrev pub enter : ℕ → List Entry → Add → List Entry
@@ -43,7 +45,8 @@ enter capacity entries add =
 -- the entries after an add, by the entry that its key has: that entry is removed, and inserted with the weight added
 abbrev pub step_from : Option Entry → ℕ → List Entry → Add → List Entry
 step_from None capacity entries add = enter capacity entries add
-step_from (Some entry) capacity entries add = put (record entry { count = entry.count + add.weight }) (without add.key entries)
+step_from (Some entry) capacity entries add =
+    put (record entry { count = entry.count + add.weight }) (without add.key entries)
 
 -- the entries of a table of this capacity after an add
 abbrev pub step : ℕ → List Entry → Add → List Entry
@@ -69,7 +72,10 @@ least_count (head ∷ rest) = head.count
 
 -- the interval of a key by its entry; the high of a missing key is the least count if the table is full, else 0
 abbrev pub interval_from : Option Entry → TableValue → Interval
-interval_from None table = record { low = 0; high = if nat_lt (length table.entries) table.capacity then 0 else least_count table.entries }
+interval_from None table = record {
+  low = 0;
+  high = if nat_lt (length table.entries) table.capacity then 0 else least_count table.entries;
+}
 interval_from (Some entry) table = record { low = entry.count - entry.error; high = entry.count }
 
 -- the interval of a key in a table
@@ -109,15 +115,27 @@ pub record IsTable (capacity : ℕ) (entries : List Entry) : Type 0 where
   pub distinct : AreApart entries
   pub small_errors : All (HasSmallError capacity (total_count entries)) entries
 
+-- the least capacity of a table
+abbrev pub least_capacity : ℕ
+least_capacity = 2
+
+-- the greatest capacity of a table
+abbrev pub most_capacity : ℕ
+most_capacity = 4096
+
+-- no table's total reaches this: it counts at most 2^24 adds, and each weighs less than 2^32
+abbrev pub table_limit : ℕ
+table_limit = 2 ^ 56
+
 -- the entries of a table of this capacity whose counts add up to less than 2^56
 pub record AreEntries (capacity : ℕ) (entries : List Entry) : Type 0 where
   pub is_table : IsTable capacity entries
-  pub bounded : total_count entries < 2 ^ 56
+  pub bounded : total_count entries < table_limit
 
 -- what always holds of a table: its capacity is allowed, its memory has room for it, its total is the sum of the counts
 pub record IsKept (capacity room total : ℕ) (entries : List Entry) : Type 0 where
-  pub least : 2 ≤ capacity
-  pub most : capacity ≤ 4096
+  pub least : least_capacity ≤ capacity
+  pub most : capacity ≤ most_capacity
   pub has_room : capacity ≤ room
   pub adds_up : total ≡ total_count entries
   pub are_entries : AreEntries capacity entries

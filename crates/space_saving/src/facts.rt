@@ -1,8 +1,8 @@
 //! Whether entries from outside are those of a table.
 
-ghost use Rattle.std.specs.Prelude.{◌≡◌, ◌^◌, ◌<◌, ◌≤◌, ◌↔◌, IsTrue, All};
+ghost use Rattle.std.specs.Prelude.{◌≡◌, ◌<◌, ◌≤◌, ◌↔◌, IsTrue, All};
 ghost use Rattle.std.specs.Option.{SomeIff};
-ghost use Rattle.space_saving.specs.Table.{total_count, HasSmallError, IsTable, RisesFrom};
+ghost use Rattle.space_saving.specs.Table.{total_count, HasSmallError, IsTable, RisesFrom, most_capacity, table_limit};
 
 use crate::Entry;
 use crate::keys::are_apart;
@@ -12,7 +12,7 @@ const TOTAL_LIMIT: u64 = 1 << 56;
 
 /// The sum of the counts, if it is below 2^56.
 pub(crate) fn total_of(entries: &[Entry]) -> Option<u64>
-    ensures { SomeIff result (total_count entries.now < 2 ^ 56) (total_count entries.now) }
+    ensures { SomeIff result (total_count entries.now < table_limit) (total_count entries.now) }
 {
     let mut total: u64 = 0;
     for entry in entries {
@@ -27,7 +27,7 @@ pub(crate) fn total_of(entries: &[Entry]) -> Option<u64>
 /// Whether these entries, whose counts add up to `total`, are those of a table of this capacity.
 pub(crate) fn is_table(capacity: u32, total: u64, entries: &[Entry]) -> bool
     requires some { 1 ≤ capacity }
-    requires most { capacity ≤ 4096 }
+    requires most { capacity ≤ most_capacity }
     requires total { total ≡ total_count entries.now }
     ensures { IsTrue result ↔ IsTable capacity entries.now }
 {

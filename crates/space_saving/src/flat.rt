@@ -1,7 +1,7 @@
 //! A table as plain entries.
 
-ghost use Rattle.std.specs.Prelude.{◌≡◌, ◌+◌, ◌-◌, ◌*◌, ◌^◌, ◌<◌, ◌≤◌, ◌↔◌, [], length, take, slice_get, vec_capacity, IfOk, IfSome, IsSome, None};
-ghost use Rattle.space_saving.specs.Table.{step, entry_of, total_count, least_count, interval_in, AreEntries};
+ghost use Rattle.std.specs.Prelude.{◌≡◌, ◌+◌, ◌-◌, ◌*◌, ◌<◌, ◌≤◌, ◌↔◌, [], length, take, slice_get, vec_capacity, IfOk, IfSome, IsSome, None};
+ghost use Rattle.space_saving.specs.Table.{step, entry_of, total_count, least_count, interval_in, AreEntries, least_capacity, most_capacity, table_limit};
 
 use crate::facts::{is_table, total_of};
 use crate::places::place_of;
@@ -40,8 +40,8 @@ impl Model for Flat {
 impl Flat {
     /// An empty table with memory for `capacity` entries, 2 to 4096.
     pub fn with_room(alloc: Global, capacity: u32) -> Result<Flat, AllocError>
-        requires least { 2 ≤ capacity }
-        requires most { capacity ≤ 4096 }
+        requires least { least_capacity ≤ capacity }
+        requires most { capacity ≤ most_capacity }
         ensures { IfOk result (λ table. table ≡ record { capacity = capacity; entries = [] }) }
     {
         Ok(Flat {
@@ -57,8 +57,8 @@ impl Flat {
     /// the capacity, is above the total, or a total of 2^56 or more. It allocates no memory, and needs the time of
     /// a sort of the keys.
     pub fn from_entries(capacity: u32, entries: Vec<Entry>) -> Option<Flat>
-        requires least { 2 ≤ capacity }
-        requires most { capacity ≤ 4096 }
+        requires least { least_capacity ≤ capacity }
+        requires most { capacity ≤ most_capacity }
         requires reserved { capacity ≤ vec_capacity entries }
         ensures accepted { IsSome result ↔ AreEntries capacity entries.items }
         ensures content { IfSome result (λ table.
@@ -116,8 +116,8 @@ impl Flat {
     /// The most entries that the table can have, 2 to 4096.
     pub fn capacity(&self) -> u32
         ensures capacity { result ≡ self.now.capacity }
-        ensures least { 2 ≤ result }
-        ensures most { result ≤ 4096 }
+        ensures least { least_capacity ≤ result }
+        ensures most { result ≤ most_capacity }
     {
         self.capacity
     }
@@ -125,7 +125,7 @@ impl Flat {
     /// The sum of the counts, below 2^56, which equals the weight that was added.
     pub fn total(&self) -> u64
         ensures total { result ≡ total_count self.now.entries }
-        ensures bounded { result < 2 ^ 56 }
+        ensures bounded { result < table_limit }
         ensures kept { AreEntries self.now.capacity self.now.entries }
     {
         self.total
@@ -145,7 +145,7 @@ impl Flat {
     /// Adds a weight for a key, by one step of Space-Saving. It allocates no memory.
     pub(crate) fn add(&mut self, key: u64, weight: u32)
         requires weighs { 1 ≤ weight }
-        requires room { total_count self.old.entries + weight < 2 ^ 56 }
+        requires room { total_count self.old.entries + weight < table_limit }
         ensures stepped { self.new ≡ record self.old {
           entries = step self.old.capacity self.old.entries (record { key = key; weight = weight });
         } }

@@ -3,7 +3,7 @@
 ghost use Rattle.std.specs.Prelude.{◌≡◌, ◌≤◌, ◌↔◌, IsTrue, length, map, IsPermutation, IsSorted};
 ghost use Rattle.std.specs.List.Sorted.{IsStrictlyIncreasing};
 ghost use Rattle.std.specs.Ordering.{nat_cmp};
-ghost use Rattle.space_saving.specs.Table.{AreApart};
+ghost use Rattle.space_saving.specs.Table.{AreApart, most_capacity};
 
 use crate::Entry;
 
@@ -13,7 +13,7 @@ const MOST_ENTRIES: usize = 4096;
 /// Whether no two entries have the same key. The keys are sorted on the stack: it allocates no memory, and no choice of
 /// keys makes it slow.
 pub(crate) fn are_apart(entries: &[Entry]) -> bool
-    requires { length entries.now ≤ 4096 }
+    requires { length entries.now ≤ most_capacity }
     ensures { IsTrue result ↔ AreApart entries.now }
 {
     let mut room = room_for_keys();

@@ -1,7 +1,7 @@
 //! A Space-Saving table, in whatever form it keeps its entries.
 
-ghost use Rattle.std.specs.Prelude.{◌≡◌, ◌+◌, ◌-◌, ◌*◌, ◌^◌, ◌<◌, ◌≤◌, ◌↔◌, [], length, slice_get, IfOk, IsTrue, Some};
-ghost use Rattle.space_saving.specs.Table.{TableValue, step, total_count, interval_in, AreEntries};
+ghost use Rattle.std.specs.Prelude.{◌≡◌, ◌+◌, ◌-◌, ◌*◌, ◌<◌, ◌≤◌, ◌↔◌, [], length, slice_get, IfOk, IsTrue, Some};
+ghost use Rattle.space_saving.specs.Table.{TableValue, step, total_count, interval_in, AreEntries, least_capacity, most_capacity, table_limit};
 
 use crate::{Entry, Flat};
 use std::alloc::{AllocError, Global};
@@ -14,8 +14,8 @@ pub trait Summary: Sized {
 
     /// An empty table of a capacity of 2 to 4096. All memory is reserved here.
     fn with_capacity(alloc: Global, capacity: u32) -> Result<Self, AllocError>
-        requires least { 2 ≤ capacity }
-        requires most { capacity ≤ 4096 }
+        requires least { least_capacity ≤ capacity }
+        requires most { capacity ≤ most_capacity }
         ensures { IfOk result (λ table. content table ≡ record { capacity = capacity; entries = [] }) };
 
     /// A table with the capacity and the entries of this one. All memory is reserved here.
@@ -26,7 +26,7 @@ pub trait Summary: Sized {
     /// no memory.
     fn add(&mut self, key: u64, weight: u32)
         requires weighs { 1 ≤ weight }
-        requires room { total_count (content self.old).entries + weight < 2 ^ 56 }
+        requires room { total_count (content self.old).entries + weight < table_limit }
         ensures stepped { content self.new ≡ record (content self.old) {
           entries = step (content self.old).capacity (content self.old).entries
               (record { key = key; weight = weight });
@@ -56,13 +56,13 @@ pub trait Summary: Sized {
     /// The most entries that the table can have, 2 to 4096.
     fn capacity(&self) -> u32
         ensures capacity { result ≡ (content self.now).capacity }
-        ensures least { 2 ≤ result }
-        ensures most { result ≤ 4096 };
+        ensures least { least_capacity ≤ result }
+        ensures most { result ≤ most_capacity };
 
     /// The sum of the counts, below 2^56, which equals the weight that was added.
     fn total(&self) -> u64
         ensures total { result ≡ total_count (content self.now).entries }
-        ensures bounded { result < 2 ^ 56 }
+        ensures bounded { result < table_limit }
         ensures kept { AreEntries (content self.now).capacity (content self.now).entries };
 
     /// Whether the table has as many entries as its capacity.

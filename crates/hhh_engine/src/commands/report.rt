@@ -9,6 +9,7 @@ ghost use Rattle.hhh_output.specs.declared.report.Report.{Report};
 ghost use Rattle.report_text.specs.{ArePositions, mark_text, report_text};
 ghost use Rattle.report_text.specs.declared.mark.Mark.TheVariants.{Opened};
 ghost use Rattle.command_words.specs.{AreLimited, IsWide};
+ghost use Rattle.prefix_lattice.specs.{most_records};
 
 use crate::commands::folding::cut_at_ends;
 use crate::{Settings, Status};
@@ -52,7 +53,7 @@ fn deal_records(
     dealers: &Dealers,
 ) -> Result<Dealt, AllocError>
     requires limited { AreLimited settings.now }
-    requires small { length list.now ≤ 16777216 }
+    requires small { length list.now ≤ most_records }
     ensures { IfOk result (IsDealing settings.now.deal (⟦<Dealer as Deals>⟧.may_answer (dealer_of settings.now.deal dealers.now))
         settings.now.shards list.now) }
 {

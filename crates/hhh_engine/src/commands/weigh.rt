@@ -1,8 +1,8 @@
 //! The weight of one prefix, from a Space-Saving table.
 
-ghost use Rattle.std.specs.Prelude.{◌≡◌, ◌≤◌, ◌^◌, List, length, All, IfOk, IfErr, IfSome, OnOk, IsErrOf};
+ghost use Rattle.std.specs.Prelude.{◌≡◌, ◌≤◌, List, length, All, IfOk, IfErr, IfSome, OnOk, IsErrOf};
 ghost use Rattle.std.specs.Io.KnownBytes.{IsAtEnd};
-ghost use Rattle.prefix_lattice.specs.{RecordValue};
+ghost use Rattle.prefix_lattice.specs.{RecordValue, most_records};
 ghost use Rattle.shard_state.specs.{records_table, HoldsWeightOver};
 ghost use Rattle.hhh_engine.specs.NoText.{HasNoText};
 ghost use Rattle.hhh_engine.specs.WeightText.{text_for, weigh_capacity, weigh_text, IsWeightText};
@@ -37,7 +37,7 @@ pub fn weigh<S: Source>(
 
 // The text with the weight of a prefix over at most 16,777,216 records. Its interval holds the exact weight.
 fn weigh_text(alloc: Global, prefix: &Prefix, records: &[Record]) -> Result<Vec<u8>, AllocError>
-    requires few { length records.now ≤ 2 ^ 24 }
+    requires few { length records.now ≤ most_records }
     requires weighed { All (λ rec. 1 ≤ rec.weight) records.now }
     ensures text { IfOk result (λ text. text.items ≡ text_for prefix.now records.now) }
     ensures holds { IfOk result (λ _. HoldsWeightOver weigh_capacity prefix.now records.now) }
@@ -51,8 +51,8 @@ fn weigh_text(alloc: Global, prefix: &Prefix, records: &[Record]) -> Result<Vec<
 
 // The table at a node after all records.
 fn fold_records(alloc: Global, node: Node, records: &[Record]) -> Result<PlainTable, AllocError>
-    requires { length records.now ≤ 2 ^ 24 }
-    ensures { IfOk result (λ table. table ≡ record { capacity = 64; entries = records_table 64 node records.now }) }
+    requires { length records.now ≤ most_records }
+    ensures { IfOk result (λ table. table ≡ record { capacity = weigh_capacity; entries = records_table weigh_capacity node records.now }) }
 {
     let mut table = PlainTable::with_capacity(alloc, WEIGH_CAPACITY)?;
     for rec in records {

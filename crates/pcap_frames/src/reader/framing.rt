@@ -5,6 +5,7 @@ ghost use Rattle.pcap_frames.specs.FileOrder.{number_at};
 ghost use Rattle.pcap_frames.specs.Frame.{content_of};
 ghost use Rattle.pcap_frames.specs.Frames.{frame_at, needed, frame_fault, IsFrame};
 ghost use Rattle.pcap_frames.specs.Steps.{SplitsFrame};
+ghost use Rattle.pcap_frames.specs.FileFormat.{frame_header_length, head_length, most_captured};
 
 use crate::file_order::FileOrder;
 use crate::header::fault_at;
@@ -17,9 +18,9 @@ pub(crate) const MOST_CAPTURED: u32 = 262_144;
 
 /// The frame whose header and head are at the front of the bytes.
 pub(crate) fn frame_at(order: FileOrder, bytes: &[u8]) -> Frame<'_>
-    requires header { 16 ≤ length bytes.now }
-    requires limit { number_at order 4 8 bytes.now ≤ 262144 }
-    requires head { 16 + min 42 (number_at order 4 8 bytes.now) ≤ length bytes.now }
+    requires header { frame_header_length ≤ length bytes.now }
+    requires limit { number_at order 4 8 bytes.now ≤ most_captured }
+    requires head { frame_header_length + min head_length (number_at order 4 8 bytes.now) ≤ length bytes.now }
     ensures content { content_of result ≡ frame_at order bytes.now }
     ensures is_frame { IsFrame (content_of result) }
 {
@@ -35,10 +36,10 @@ pub(crate) fn frame_at(order: FileOrder, bytes: &[u8]) -> Frame<'_>
 /// The first 42 of this many captured bytes after the frame header.
 #[tactic(auto, using(crate::proofs::FrameHeadLemmas::take_of_take))]
 fn head_of(bytes: &[u8], captured: u32) -> &[u8]
-    requires header { 16 ≤ length bytes.now }
-    requires head { 16 + min 42 captured ≤ length bytes.now }
-    ensures value { result.now ≡ take 42 (take captured (drop 16 bytes.now)) }
-    ensures length { length result.now ≡ min 42 captured }
+    requires header { frame_header_length ≤ length bytes.now }
+    requires head { frame_header_length + min head_length captured ≤ length bytes.now }
+    ensures value { result.now ≡ take head_length (take captured (drop frame_header_length bytes.now)) }
+    ensures length { length result.now ≡ min head_length captured }
     ensures bytes { (place : ℕ) → slice_index result.now place < 256 }
 {
     let (_, behind) = bytes.split_at(16);

@@ -2,6 +2,7 @@
 
 ghost use Rattle.std.specs.Prelude.{◌≡◌, ◌+◌, ◌≤◌, length, min};
 ghost use Rattle.pcap_frames.specs.FileOrder.{number_at};
+ghost use Rattle.pcap_frames.specs.FileFormat.{frame_header_length, head_length, most_captured};
 
 use crate::Frame;
 use crate::file_order::FileOrder;
@@ -13,9 +14,9 @@ use crate::reader::front::FrontBytes;
 pub(crate) struct HeldFrame {
     pub(crate) order: FileOrder,
     pub(crate) kept: FrontBytes,
-    pub ghost header: { 16 ≤ length kept.first },
-    pub ghost limit: { number_at order 4 8 kept.first ≤ 262144 },
-    pub ghost head: { 16 + min 42 (number_at order 4 8 kept.first) ≤ length kept.first },
+    pub ghost header: { frame_header_length ≤ length kept.first },
+    pub ghost limit: { number_at order 4 8 kept.first ≤ most_captured },
+    pub ghost head: { frame_header_length + min head_length (number_at order 4 8 kept.first) ≤ length kept.first },
 }
 
 impl HeldFrame {

@@ -7,6 +7,7 @@ ghost use Rattle.pcap_frames.specs.ReaderState.{Advances};
 ghost use Rattle.pcap_frames.specs.Steps.{Takes, held_frames};
 ghost use Rattle.pcap_frames.specs.ReaderState as state;
 ghost use Rattle.pcap_frames.specs.Part.{state_of, IsInStage, IsWithin, frame_place};
+ghost use Rattle.pcap_frames.specs.FileFormat.{file_header_length, frame_header_length, kept_length, most_captured, most_frames};
 
 use crate::file_order::FileOrder;
 use crate::header::{header_fault, magic_order};
@@ -76,7 +77,7 @@ impl FramePart {
     /// Takes the next bytes of the file header.
     fn take_header<'a>(&mut self, piece: &'a [u8]) -> Taken<'a>
         requires has_bytes { 0 < length piece.now }
-        requires sound { self.old.kept.came < 24 }
+        requires sound { self.old.kept.came < file_header_length }
         ensures sound { IsInStage result.stage self.new }
         ensures takes { Takes (state.InHeader self.old.kept.first) (state_of result.stage self.new) piece.now result.rest.now [] }
         ensures no_frame { held_frames result.held ≡ [] }
@@ -94,9 +95,9 @@ impl FramePart {
 
     /// The stage after the bytes of the file header that arrived.
     fn leave_header(&mut self) -> Stage
-        requires { self.old.kept.came ≤ 24 }
+        requires { self.old.kept.came ≤ file_header_length }
         ensures sound { IsInStage result self.new }
-        ensures advances { (kept front : List ℕ) → self.old.kept.first ≡ take 58 (kept ++ front)
+        ensures advances { (kept front : List ℕ) → self.old.kept.first ≡ take kept_length (kept ++ front)
             → length kept + length front ≡ self.old.kept.came
             → Advances (state.InHeader kept) (state_of result self.new) front [] }
     {
@@ -152,11 +153,11 @@ impl FramePart {
 
     /// The stage after the bytes of a frame that arrived, and the frame once it is whole.
     fn leave_frame(&mut self) -> (Stage, Option<HeldFrame>)
-        requires count { self.old.count ≤ 16777216 }
-        requires place { self.old.place ≤ 24 + 262160 * self.old.count }
+        requires count { self.old.count ≤ most_frames }
+        requires place { self.old.place ≤ file_header_length + (frame_header_length + most_captured) * self.old.count }
         requires came { self.old.kept.came ≤ needed self.old.order self.old.kept.first }
         ensures sound { IsInStage result.0 self.new }
-        ensures advances { (kept front : List ℕ) (came : ℕ) → self.old.kept.first ≡ take 58 (kept ++ front)
+        ensures advances { (kept front : List ℕ) (came : ℕ) → self.old.kept.first ≡ take kept_length (kept ++ front)
             → self.old.kept.came ≡ came + length front
             → Advances (state.InFrames (record (frame_place self.old) { kept = kept; came = came })) (state_of result.0 self.new) front (held_frames result.1) }
     {

@@ -9,7 +9,9 @@ use Rattle.command_words.proofs.parsing.parse.Goals as goal
 pub unreachable-requires : goal.unreachable-requires
 unreachable-requires c =
     let words = texts c.args.behind.now in
-    let taken = ap (λ (app : App). takes app words) c.in_ok-parser_of.ensures ∙ well_formed_taken c.args.command words c.requires.0 c.requires.1 in
+    let taken =
+    ap (λ (app : App). takes app words) c.in_ok-parser_of.ensures
+    ∙ well_formed_taken c.args.command words c.requires.0 c.requires.1 in
     let kind : c.kind.result ≡ OutOfMemory = c.kind.ensures ∙ c.in-Err.ensures.passes taken in
     true≢false (sym (rw kind at c.eq.ensures) ∙ c.if-eq.false)
 
@@ -18,5 +20,7 @@ pub returns-in-Ok : goal.returns-in-Ok
 returns-in-Ok c arguments well_formed =
     let words = texts c.args.behind.now in
     let simple = ap is_simple c.in_ok-parser_of.ensures ∙ simple_parser c.args.command in
-    let found = ap (λ (app : App). matches_of app words) c.in_ok-parser_of.ensures ∙ well_formed_found c.args.command words arguments well_formed in
+    let found =
+    ap (λ (app : App). matches_of app words) c.in_ok-parser_of.ensures
+    ∙ well_formed_found c.args.command words arguments well_formed in
     rows_tell c.args.command arguments c.in-Ok.matches well_formed.of_form ((c.in-Ok.ensures.matches simple).0 ∙ found)

@@ -6,5 +6,7 @@ use Rattle.command_words.proofs.parsing.take_options.Goals as goal
 
 pub loop-name-preserved : goal.loop-name-preserved
 loop-name-preserved c =
-    rule_more option_rule (app_of c.args.parser) (app_of c.loop-name.parser) (app_of c.in_ok-parser.parser) (rule_of c.long.result) c.args.names.now c.loop-name.name-index (record { ref_ptr = (0, 0); now = [] }) c.loop-name-test.true
+    rule_more option_rule (app_of c.args.parser) (app_of c.loop-name.parser) (app_of c.in_ok-parser.parser)
+    (rule_of c.long.result) c.args.names.now c.loop-name.name-index (record { ref_ptr = (0, 0); now = [] })
+    c.loop-name-test.true
     c.loop-name.invariant (search rules) (c.in_ok-parser.ensures.shape (search rules))

@@ -8,15 +8,27 @@ use Rattle.command_words.proofs.reading.read_words.Goals as goal
 pub returns-clause-complete : goal.returns-clause-complete
 returns-clause-complete c =
     let law = c.prefix_texts_have_one_reading.ensures in
-    let reading : HasOneReading = record { one_prefix = law.one_prefix; no_fault = law.no_fault; one_fault = law.one_fault } in
+    let reading : HasOneReading = record {
+      one_prefix = law.one_prefix;
+      no_fault = law.no_fault;
+      one_fault = law.one_fault;
+    } in
     reads_all reading (texts c.args.words.now) c.command_in.result c.command_in.ensures.ok c.command_in.ensures.bad
 
 pub returns-clause-exact : goal.returns-clause-exact
 returns-clause-exact c =
     let law = c.prefix_texts_have_one_reading.ensures in
-    let reading : HasOneReading = record { one_prefix = law.one_prefix; no_fault = law.no_fault; one_fault = law.one_fault } in
-    tells_all reading (texts c.args.words.now) c.command_in.result (IfOk-weaker c.command_in.result (AskFor (texts c.args.words.now)) _ (λ asked asks. (asked, asks)) c.command_in.ensures.ok)
+    let reading : HasOneReading = record {
+      one_prefix = law.one_prefix;
+      no_fault = law.no_fault;
+      one_fault = law.one_fault;
+    } in
+    tells_all reading (texts c.args.words.now) c.command_in.result
+    (IfOk-weaker c.command_in.result (AskFor (texts c.args.words.now)) _ (λ asked asks. (asked, asks))
+    c.command_in.ensures.ok)
     c.command_in.ensures.bad
 
 pub returns-clause-limited : goal.returns-clause-limited
-returns-clause-limited c = IfOk-weaker c.command_in.result (AskFor (texts c.args.words.now)) IsLimited (λ asked asks. asked_is_limited (texts c.args.words.now) asked asks) c.command_in.ensures.ok
+returns-clause-limited c =
+    IfOk-weaker c.command_in.result (AskFor (texts c.args.words.now)) IsLimited
+    (λ asked asks. asked_is_limited (texts c.args.words.now) asked asks) c.command_in.ensures.ok

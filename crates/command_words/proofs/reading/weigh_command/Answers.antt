@@ -26,7 +26,8 @@ returns-in-Err-clause-err c = λ words tells. record {
   source = c.as_bytes.result.now;
   dest = c.as_bytes-2.result.now;
   sides =
-      found_sides words c.args.matches.now tells c.get_str.result c.get_str-2.result c.unwrap-source.result c.unwrap-dest.result c.get_str.ensures c.get_str-2.ensures c.unwrap-source.ensures
+      found_sides words c.args.matches.now tells c.get_str.result c.get_str-2.result c.unwrap-source.result
+      c.unwrap-dest.result c.get_str.ensures c.get_str-2.ensures c.unwrap-source.ensures
       c.unwrap-dest.ensures _ _ c.as_bytes.ensures.value c.as_bytes-2.ensures.value;
   has_fault = (c.in-Err.ensures.fault c.in-Err.fault).0 refl;
 }
@@ -34,11 +35,17 @@ returns-in-Err-clause-err c = λ words tells. record {
 pub returns-in_err-settings-clause-err : goal.returns-in_err-settings-clause-err
 returns-in_err-settings-clause-err c = λ words tells.
     let sides : HasSides tells.arguments c.as_bytes.result.now c.as_bytes-2.result.now =
-    found_sides words c.args.matches.now tells c.get_str.result c.get_str-2.result c.unwrap-source.result c.unwrap-dest.result c.get_str.ensures c.get_str-2.ensures
+    found_sides words c.args.matches.now tells c.get_str.result c.get_str-2.result c.unwrap-source.result
+    c.unwrap-dest.result c.get_str.ensures c.get_str-2.ensures
     c.unwrap-source.ensures c.unwrap-dest.ensures _ _ c.as_bytes.ensures.value c.as_bytes-2.ensures.value in
     let p = err_from_is_err_and c.from_residual.result c.from_residual.ensures.1 in
     rw (p.1, p.2)
-    (told_fault words Weigh c.args.matches.now tells c.in_err-settings.field-0.0 (c.as_bytes.result.now, c.as_bytes-2.result.now, sides, (c.in-Ok.prefix, (c.in-Ok.ensures.ok c.in-Ok.prefix).0 refl))
+    (told_fault words Weigh c.args.matches.now tells c.in_err-settings.field-0.0 (
+      c.as_bytes.result.now,
+      c.as_bytes-2.result.now,
+      sides,
+      (c.in-Ok.prefix, (c.in-Ok.ensures.ok c.in-Ok.prefix).0 refl),
+    )
     c.in_err-settings.ensures.err)
 
 pub returns-clause-ok : goal.returns-clause-ok
@@ -48,8 +55,11 @@ returns-clause-ok c = λ words tells. record {
   source = c.as_bytes.result.now;
   dest = c.as_bytes-2.result.now;
   sides =
-      found_sides words c.args.matches.now tells c.get_str.result c.get_str-2.result c.unwrap-source.result c.unwrap-dest.result c.get_str.ensures c.get_str-2.ensures c.unwrap-source.ensures
+      found_sides words c.args.matches.now tells c.get_str.result c.get_str-2.result c.unwrap-source.result
+      c.unwrap-dest.result c.get_str.ensures c.get_str-2.ensures c.unwrap-source.ensures
       c.unwrap-dest.ensures _ _ c.as_bytes.ensures.value c.as_bytes-2.ensures.value;
   spelled = (c.in-Ok.ensures.ok c.in-Ok.prefix).0 refl;
-  set = subst (λ values. SetsSettings values c.in_ok-settings.settings) (told_values Weigh tells.arguments c.args.matches.now tells.told) c.in_ok-settings.ensures.ok;
+  set =
+      subst (λ values. SetsSettings values c.in_ok-settings.settings)
+      (told_values Weigh tells.arguments c.args.matches.now tells.told) c.in_ok-settings.ensures.ok;
 }

@@ -5,7 +5,8 @@ use Rattle.command_words.specs.Scanning.{text_at}
 use Rattle.command_words.specs.Forms.{form_of}
 use Rattle.command_words.specs.Words.{texts}
 use Rattle.command_words.proofs.ArgumentTailLemmas.{begins_range, no_texts, no_words}
-use Rattle.command_words.proofs.FormLemmas.{none_fit, fit_none, positional_fits, fit_positional, option_fits, fit_option}
+use Rattle.command_words.proofs.FormLemmas.{none_fit, fit_none, positional_fits, fit_positional, option_fits}
+use Rattle.command_words.proofs.FormLemmas.{fit_option}
 use Rattle.command_words.proofs.scanning.+fit.Goals as goal
 
 pub returns-then-is_empty : goal.returns-then-is_empty
@@ -20,7 +21,11 @@ pub returns-else-is_empty : goal.returns-else-is_empty
 returns-else-is_empty t c =
     let form = form_of c.args.command in let n = c.args.positionals in let words = c.args.words.now in (
       λ yes. absurd (false≢true (sym c.if-is_empty.false ∙ yes)),
-      λ fits. absurd (false≢true (c.if-is_empty.ensures ∙ (Decides-eqb _ 0).1 (no_words words (fit_none form n (texts words) c.in_default.ensures.none fits).0))),
+      λ fits.
+          absurd (false≢true
+          (c.if-is_empty.ensures
+          ∙ (Decides-eqb _ 0).1
+          (no_words words (fit_none form n (texts words) c.in_default.ensures.none fits).0))),
     )
 
 pub returns-then-positionals-gt0 : goal.returns-then-positionals-gt0
@@ -47,7 +52,8 @@ returns-then-not-has_option t c =
     let front = begins_range c.args.words.now c.in-Some.front.words _ c.in-Some.ensures.some in
     let is = sym (ap text_at c.in-Some-option.is) ∙ front.2 in (
       λ yes. absurd (false≢true yes),
-      λ fits. let behind = fit_option form n _ _ front.0 _ front.1 is fits in c.if-not-has_option.ensures.1 behind.known,
+      λ fits.
+          let behind = fit_option form n _ _ front.0 _ front.1 is fits in c.if-not-has_option.ensures.1 behind.known,
     )
 
 pub returns-then-stands : goal.returns-then-stands
@@ -56,7 +62,9 @@ returns-then-stands t c =
     let front = begins_range c.args.words.now c.in-Some.front.words _ c.in-Some.ensures.some in
     let is = sym (ap text_at c.in-Some-option.is) ∙ front.2 in (
       λ yes. absurd (false≢true yes),
-      λ fits. let behind = fit_option form n _ _ front.0 _ front.1 is fits in absurd (behind.apart ((c.if-stands.ensures behind.rest behind.fits.spelled).0 refl)),
+      λ fits.
+          let behind = fit_option form n _ _ front.0 _ front.1 is fits in
+          absurd (behind.apart ((c.if-stands.ensures behind.rest behind.fits.spelled).0 refl)),
     )
 
 pub returns : goal.returns
@@ -64,6 +72,10 @@ returns t c =
     let form = form_of c.args.command in let n = c.args.positionals in
     let front = begins_range c.args.words.now c.in-Some.front.words _ c.in-Some.ensures.some in
     let is = sym (ap text_at c.in-Some-option.is) ∙ front.2 in (
-      λ yes. option_fits form n _ _ front.0 _ front.1 is (c.if-not-has_option.ensures.0 refl) (λ list spelled stands. false≢true ((c.if-stands.ensures list spelled).1 stands)) (c.fit-2.ensures.0 yes),
-      λ fits. let behind = fit_option form n _ _ front.0 _ front.1 is fits in c.fit-2.ensures.1 (behind.rest, behind.fits),
+      λ yes.
+          option_fits form n _ _ front.0 _ front.1 is (c.if-not-has_option.ensures.0 refl)
+          (λ list spelled stands. false≢true ((c.if-stands.ensures list spelled).1 stands)) (c.fit-2.ensures.0 yes),
+      λ fits.
+          let behind = fit_option form n _ _ front.0 _ front.1 is fits in
+          c.fit-2.ensures.1 (behind.rest, behind.fits),
     )

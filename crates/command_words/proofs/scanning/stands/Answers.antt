@@ -8,19 +8,27 @@ pub returns-then-names : goal.returns-then-names
 returns-then-names c =
     let front = begins_from c.args.words.now c.fronts.from c.in-Some.front.words _ c.in-Some.ensures.some in
     λ arguments spelled. (
-      λ _. stands_here _ _ front.0 arguments _ front.1 (sym front.2 ∙ c.if-names.ensures.0 refl) (c.fronts.invariant.1 arguments spelled),
+      λ _.
+          stands_here _ _ front.0 arguments _ front.1 (sym front.2 ∙ c.if-names.ensures.0 refl)
+          (c.fronts.invariant.1 arguments spelled),
       λ _. refl,
     )
 
 pub fronts-preserved : goal.fronts-preserved
 fronts-preserved c =
     let front = begins_from c.args.words.now c.fronts.from c.in-Some.front.words _ c.in-Some.ensures.some in
-    let within : c.in-Some.front.words ≤ length c.args.words.now - c.fronts.from = simp (take_rest, length-drop) at c.in-Some.ensures.fits.1 in (
+    let within : c.in-Some.front.words ≤ length c.args.words.now - c.fronts.from =
+    simp (take_rest, length-drop) at c.in-Some.ensures.fits.1 in (
       omega arith,
-      λ arguments spelled. leaves_others _ _ front.0 arguments _ front.1 (λ is. false≢true (c.if-names.ensures.1 (front.2 ∙ is))) (c.fronts.invariant.1 arguments spelled),
+      λ arguments spelled.
+          leaves_others _ _ front.0 arguments _ front.1 (λ is. false≢true (c.if-names.ensures.1 (front.2 ∙ is)))
+          (c.fronts.invariant.1 arguments spelled),
     )
 
 pub returns : goal.returns
 returns c =
     let never = none_from c.args.words.now c.fronts.from c.in_default.ensures.none in
-    λ arguments spelled. (λ yes. absurd (false≢true yes), λ h. absurd (stands_nowhere _ arguments _ never (c.fronts.invariant.1 arguments spelled) h))
+    λ arguments spelled. (
+      λ yes. absurd (false≢true yes),
+      λ h. absurd (stands_nowhere _ arguments _ never (c.fronts.invariant.1 arguments spelled) h),
+    )

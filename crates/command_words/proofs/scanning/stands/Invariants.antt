@@ -8,7 +8,8 @@ use Rattle.command_words.proofs.scanning.stands.Given as goal
 abbrev pub invariant-fronts : goal.invariant-fronts
 invariant-fronts l =
     (l.from ≤ length l.words)
-    × ((arguments : List Argument) → SpellsAll (texts l.words) arguments → LeavesNames (texts (drop l.from l.words)) arguments l.name)
+    × ((arguments : List Argument) → SpellsAll (texts l.words) arguments
+    → LeavesNames (texts (drop l.from l.words)) arguments l.name)
 
 abbrev pub decreases-fronts : goal.decreases-fronts
 decreases-fronts l = length l.words - l.from

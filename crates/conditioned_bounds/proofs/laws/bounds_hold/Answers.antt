@@ -9,7 +9,8 @@ returns-clause-at_least c = λ low high prefix lines records distinct holds.
 
 pub returns-clause-at_most : goal.returns-clause-at_most
 returns-clause-at_most c = λ low high prefix lines records times whole distinct holds narrow.
-    bound_of-most low high prefix lines records times whole (c.weights_balance.ensures prefix lines records distinct) holds narrow
+    bound_of-most low high prefix lines records times whole
+    (c.weights_balance.ensures prefix lines records distinct) holds narrow
 
 pub returns-clause-exact : goal.returns-clause-exact
 returns-clause-exact c = λ low high prefix lines records distinct exact.
@@ -18,4 +19,5 @@ returns-clause-exact c = λ low high prefix lines records distinct exact.
 pub returns-clause-reached : goal.returns-clause-reached
 returns-clause-reached c = λ low high prefix lines records times whole least distinct holds narrow reached.
     times_reached times _ least (bound_of low high prefix lines) reached
-    (bound_of-most low high prefix lines records times whole (c.weights_balance.ensures prefix lines records distinct) holds narrow)
+    (bound_of-most low high prefix lines records times whole
+    (c.weights_balance.ensures prefix lines records distinct) holds narrow)

@@ -7,6 +7,9 @@ use Rattle.conditioned_bounds.proofs.laws.only_prefixes_are_asked.Goals as goal
 pub returns : goal.returns
 returns c = λ prefix lines is all.
     let under = All-filter (λ line. strictly_under line prefix) IsPrefix lines all in
-    let near = All-filter (λ line. not (list_any (λ other. strictly_under line other) (lines_under prefix lines))) IsPrefix (lines_under prefix lines) under in
+    let near =
+    All-filter (λ line. not (list_any (λ other. strictly_under line other) (lines_under prefix lines)))
+    IsPrefix (lines_under prefix lines) under in
     All-cons IsPrefix prefix (closest prefix lines ++ kept_pairs (closest prefix lines)) is
-    (All-append IsPrefix (closest prefix lines) (kept_pairs (closest prefix lines)) near (c.kept_meets_stay_under.ensures.prefixes (closest prefix lines) near))
+    (All-append IsPrefix (closest prefix lines) (kept_pairs (closest prefix lines)) near
+    (c.kept_meets_stay_under.ensures.prefixes (closest prefix lines) near))

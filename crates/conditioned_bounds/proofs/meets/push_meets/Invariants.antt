@@ -5,4 +5,5 @@ use Rattle.conditioned_bounds.proofs.meets.push_meets.Given as goal
 
 -- the meets with the others so far
 abbrev pub invariant-loop-second : goal.invariant-loop-second
-invariant-loop-second l = l.meets ≡ l.initial.meets ++ filter_map (kept_meet l.members l.first) (take l.second-index l.seconds)
+invariant-loop-second l =
+    l.meets ≡ l.initial.meets ++ filter_map (kept_meet l.members l.first) (take l.second-index l.seconds)

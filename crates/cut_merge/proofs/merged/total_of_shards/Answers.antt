@@ -10,4 +10,10 @@ loop-place-preserved c =
     let snapshot = c.shard.result.now in
     let within = slice_get_within shards c.loop-place.place snapshot c.shard.ensures.shard in
     let at = get_or_from_slice_get shards c.loop-place.place snapshot snapshot c.shard.ensures.shard in
-    omega (arith, c.loop-place.invariant, c.total-total.ensures.total, sum_by_more total_of shards c.loop-place.place snapshot within, ap total_of at)
+    omega (
+      arith,
+      c.loop-place.invariant,
+      c.total-total.ensures.total,
+      sum_by_more total_of shards c.loop-place.place snapshot within,
+      ap total_of at,
+    )

@@ -16,4 +16,5 @@ returns-in-Ok-clause-records g c =
 pub returns-in-Ok-clause-few : goal.returns-in-Ok-clause-few
 returns-in-Ok-clause-few g c =
     let read = c.in-Ok.ensures.seen in
-    few_records _ read.frames c.read_frames.new.visitor.records (subst (λ n. n ≤ 16777216) (sym read.counted) read.limit) (read.sees [] c.new-visitor.ensures)
+    few_records _ read.frames c.read_frames.new.visitor.records
+    (subst (λ n. n ≤ 16777216) (sym read.counted) read.limit) (read.sees [] c.new-visitor.ensures)

@@ -15,6 +15,8 @@ returns c = λ cut phi report other kept other_kept is other_is.
       positions = is.positions ∙ sym other_is.positions;
       total = total;
       threshold = threshold;
-      lines = one_list cut report.threshold report.lines other.lines c.report_order_is_total.ensures.total (record { falls = c.prefixes_are_ordered.ensures.level })
+      lines =
+          one_list cut report.threshold report.lines other.lines c.report_order_is_total.ensures.total
+          (record { falls = c.prefixes_are_ordered.ensures.level })
           (record { kept = kept; asked = is.lines }) other_makes;
     }

@@ -6,8 +6,9 @@ returns c = λ cut lists phi report kept stands weighed wide are_lines is.
     let holds : CutHolds cut lists = record {
       order = c.report_order_is_total.ensures.total;
       stands = stands;
-      spans = λ prefix is_prefix. c.spans_hold_weights.ensures cut lists prefix kept stands weighed is_prefix;
-      light = λ prefix is_prefix missing. c.spans_are_narrow.ensures.light cut prefix kept is_prefix missing;
+      intervals = λ prefix is_prefix.
+          c.merged_intervals_hold_weights.ensures cut lists prefix kept stands weighed is_prefix;
+      light = λ prefix is_prefix missing. c.merged_intervals_are_narrow.ensures.light cut prefix kept is_prefix missing;
       total = c.snapshots_hold_weights.ensures.cut_total cut lists kept stands;
       asked = c.only_prefixes_are_asked.ensures;
       at_least = c.bounds_hold.ensures.at_least;

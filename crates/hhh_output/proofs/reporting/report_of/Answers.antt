@@ -18,8 +18,10 @@ invariant_of-result c =
     let cut = c.args.cut.now in
     record {
       are_lines =
-          lines_kept c.in_ok-merged.merged cut c.in_ok-merged.ensures c.only_prefixes_are_asked.ensures c.threshold-threshold.result c.in_ok-lines.lines c.in_ok-lines.ensures
-          (λ prefix is_prefix. c.spans_are_narrow.ensures.within cut prefix c.positions.ensures.kept is_prefix);
+          lines_kept c.in_ok-merged.merged cut c.in_ok-merged.ensures c.only_prefixes_are_asked.ensures
+          c.threshold-threshold.result c.in_ok-lines.lines c.in_ok-lines.ensures
+          (λ prefix is_prefix.
+          c.merged_intervals_are_narrow.ensures.within cut prefix c.positions.ensures.kept is_prefix);
     }
 
 pub returns-clause-report : goal.returns-clause-report
@@ -28,18 +30,24 @@ returns-clause-report c =
       positions = c.in_ok-positions.ensures.positions;
       total = c.total-total.ensures.total ∙ c.in_ok-merged.ensures.total;
       threshold = c.threshold-threshold.ensures;
-      lines = lines_of_cut c.in_ok-merged.merged c.args.cut.now c.in_ok-merged.ensures c.only_prefixes_are_asked.ensures c.threshold-threshold.result c.in_ok-lines.lines c.in_ok-lines.ensures;
+      lines =
+          lines_of_cut c.in_ok-merged.merged c.args.cut.now c.in_ok-merged.ensures
+          c.only_prefixes_are_asked.ensures c.threshold-threshold.result c.in_ok-lines.lines
+          c.in_ok-lines.ensures;
     }
 
 pub returns-clause-sound : goal.returns-clause-sound
 returns-clause-sound c = λ lists stands weighed.
     let cut = c.args.cut.now in
     c.reports_are_sound.ensures cut lists c.args.phi _ c.positions.ensures.kept stands weighed c.requires.wide
-    (lines_kept c.in_ok-merged.merged cut c.in_ok-merged.ensures c.only_prefixes_are_asked.ensures c.threshold-threshold.result c.in_ok-lines.lines c.in_ok-lines.ensures
-    (λ prefix is_prefix. c.spans_are_narrow.ensures.within cut prefix c.positions.ensures.kept is_prefix))
+    (lines_kept c.in_ok-merged.merged cut c.in_ok-merged.ensures c.only_prefixes_are_asked.ensures
+    c.threshold-threshold.result c.in_ok-lines.lines c.in_ok-lines.ensures
+    (λ prefix is_prefix. c.merged_intervals_are_narrow.ensures.within cut prefix c.positions.ensures.kept is_prefix))
     (record {
       positions = c.in_ok-positions.ensures.positions;
       total = c.total-total.ensures.total ∙ c.in_ok-merged.ensures.total;
       threshold = c.threshold-threshold.ensures;
-      lines = lines_of_cut c.in_ok-merged.merged cut c.in_ok-merged.ensures c.only_prefixes_are_asked.ensures c.threshold-threshold.result c.in_ok-lines.lines c.in_ok-lines.ensures;
+      lines =
+          lines_of_cut c.in_ok-merged.merged cut c.in_ok-merged.ensures c.only_prefixes_are_asked.ensures
+          c.threshold-threshold.result c.in_ok-lines.lines c.in_ok-lines.ensures;
     })

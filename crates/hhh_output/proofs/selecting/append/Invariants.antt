@@ -4,4 +4,5 @@ use Rattle.hhh_output.proofs.selecting.append.Given as goal
 
 abbrev pub invariant-loop-line : goal.invariant-loop-line
 invariant-loop-line l =
-    (l.lines ≡ l.initial.lines ++ take l.line-index l.found) × (l.reported ≡ l.initial.reported ++ prefixes_of (take l.line-index l.found))
+    (l.lines ≡ l.initial.lines ++ take l.line-index l.found)
+    × (l.reported ≡ l.initial.reported ++ prefixes_of (take l.line-index l.found))

@@ -11,7 +11,8 @@ pub loop-place-preserved-then-level : goal.loop-place-preserved-then-level
 loop-place-preserved-then-level c =
     let node : NodeValue = c.unwrap-node.result in
     let place = c.loop-place.place in
-    looks_past c.args.merged.now c.args.threshold c.args.reported.now c.args.level c.loop-place.found.items place node c.loop-place.invariant
+    looks_past c.args.merged.now c.args.threshold c.args.reported.now c.args.level c.loop-place.found.items place
+    node c.loop-place.invariant
     (subst (λ found. IfSome found (λ n. n ≡ node_at place)) c.unwrap-node.ensures c.from_index.ensures.some)
     (subst (λ found. IfSome found (λ n. index_of n ≡ place)) c.unwrap-node.ensures c.from_index.ensures.back)
     (λ same. c.if-level.true (c.level.ensures.value ∙ same))
@@ -20,11 +21,14 @@ pub loop-place-preserved : goal.loop-place-preserved
 loop-place-preserved c =
     let node : NodeValue = c.unwrap-node.result in
     let place = c.loop-place.place in
-    let is_node : IsNode node = subst (λ found. IfSome found IsNode) c.unwrap-node.ensures c.from_index.ensures.is_node in
-    looks_at c.args.merged.now c.args.threshold c.args.reported.now c.args.level c.loop-place.found.items place node c.loop-place.invariant
+    let is_node : IsNode node =
+    subst (λ found. IfSome found IsNode) c.unwrap-node.ensures c.from_index.ensures.is_node in
+    looks_at c.args.merged.now c.args.threshold c.args.reported.now c.args.level c.loop-place.found.items place node
+    c.loop-place.invariant
     (subst (λ found. IfSome found (λ n. n ≡ node_at place)) c.unwrap-node.ensures c.from_index.ensures.some)
     (subst (λ found. IfSome found (λ n. index_of n ≡ place)) c.unwrap-node.ensures c.from_index.ensures.back)
-    (sym c.level.ensures.value ∙ c.if-level.false) c.select_at.new.found.items (length (candidates_at c.args.merged.now node)) (c.requires.few node is_node)
+    (sym c.level.ensures.value ∙ c.if-level.false) c.select_at.new.found.items
+    (length (candidates_at c.args.merged.now node)) (c.requires.few node is_node)
     c.in_ok-select_at.ensures.members c.in_ok-select_at.ensures.distinct c.in_ok-select_at.ensures.few
 
 pub returns : goal.returns
@@ -36,8 +40,12 @@ returns c =
       antisymmetric = c.prefixes_are_ordered.ensures.antisymmetric;
     } in
     let end : c.loop-place.place ≡ 25 = omega arith in
-    level_sorted c.args.merged.now c.args.threshold c.args.reported.now c.args.level c.loop-place.found.items c.sort_by.new.self.items order
-    (subst (LooksThrough c.args.merged.now c.args.threshold c.args.reported.now c.args.level c.loop-place.found.items) end c.loop-place.invariant)
+    level_sorted c.args.merged.now c.args.threshold c.args.reported.now c.args.level c.loop-place.found.items
+    c.sort_by.new.self.items order
+    (subst
+    (LooksThrough c.args.merged.now c.args.threshold c.args.reported.now c.args.level c.loop-place.found.items)
+    end c.loop-place.invariant)
     c.sort_by.ensures.permutation
-    (c.in_ok-sort_by.ensures.sorted (λ line other. is_lt (report_order line.prefix other.prefix)) (ranks_by order.total (λ (line : Line). line.prefix))
+    (c.in_ok-sort_by.ensures.sorted (λ line other. is_lt (report_order line.prefix other.prefix))
+    (ranks_by order.total (λ (line : Line). line.prefix))
     (answers_always _ _ _ (λ f a r after called. search rules)))

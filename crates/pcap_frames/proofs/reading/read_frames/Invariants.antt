@@ -5,7 +5,8 @@ use Rattle.pcap_frames.proofs.reading.read_frames.Given as goal
 -- what was read is what the reader stands for, and no call of the source failed
 abbrev pub invariant-loop-count : goal.invariant-loop-count
 invariant-loop-count g l = record {
-  read : HasRead g.V.FrameVisitor.stands_for l.fn.visitor l.visitor (g.S.Source.left l.fn.source) (g.S.Source.left l.source) l.reader;
+  read : HasRead g.V.FrameVisitor.represents l.fn.visitor l.visitor (g.S.Source.left l.fn.source)
+      (g.S.Source.left l.source) l.reader;
   kept : g.S.Source.faults l.source ≡ g.S.Source.faults l.fn.source;
 }
 

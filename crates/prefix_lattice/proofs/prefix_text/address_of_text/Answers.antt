@@ -5,21 +5,25 @@ use Rattle.prefix_lattice.proofs.prefix_text.address_of_text.Goals as goal
 
 pub returns-in_default-clause-none : goal.returns-in_default-clause-none
 returns-in_default-clause-none c = λ address small same.
-    no_next_number c.args.text.now (behind_first address) (address / 256 / 256 / 256 % 256) (omega arith) c.in_default.ensures.none same
+    no_next_number c.args.text.now (behind_first address) (address / 256 / 256 / 256 % 256) (omega arith)
+    c.in_default.ensures.none same
 
 pub returns-in_default-cut_at-clause-none : goal.returns-in_default-cut_at-clause-none
 returns-in_default-cut_at-clause-none c = λ address small same.
     let first = first_number c.args.text.now c.in-Some.first.before.now c.in-Some.first.after.now address
     (record { is_before = c.in-Some.ensures.before; joined = c.in-Some.ensures.joined }) same in
-    no_next_number c.in-Some.first.after.now _ (address / 256 / 256 % 256) (omega arith) c.in_default-cut_at.ensures.none first.1
+    no_next_number c.in-Some.first.after.now _ (address / 256 / 256 % 256) (omega arith)
+    c.in_default-cut_at.ensures.none first.1
 
 pub returns-in_default-cut_at-2-clause-none : goal.returns-in_default-cut_at-2-clause-none
 returns-in_default-cut_at-2-clause-none c = λ address small same.
     let first = first_number c.args.text.now c.in-Some.first.before.now c.in-Some.first.after.now address
     (record { is_before = c.in-Some.ensures.before; joined = c.in-Some.ensures.joined }) same in
-    let second = second_number c.in-Some.first.after.now c.in-Some-cut_at.second.before.now c.in-Some-cut_at.second.after.now address
+    let second = second_number c.in-Some.first.after.now c.in-Some-cut_at.second.before.now
+    c.in-Some-cut_at.second.after.now address
     (record { is_before = c.in-Some-cut_at.ensures.before; joined = c.in-Some-cut_at.ensures.joined }) first.1 in
-    no_next_number c.in-Some-cut_at.second.after.now _ (address / 256 % 256) (omega arith) c.in_default-cut_at-2.ensures.none second.1
+    no_next_number c.in-Some-cut_at.second.after.now _ (address / 256 % 256) (omega arith)
+    c.in_default-cut_at-2.ensures.none second.1
 
 pub returns-in_default-byte_of-clause-none : goal.returns-in_default-byte_of-clause-none
 returns-in_default-byte_of-clause-none c = λ address small same.

@@ -4,5 +4,6 @@ use Rattle.prefix_lattice.proofs.prefix_text.byte_of.Goals as goal
 
 pub returns-else-number-lt256-clause-none : goal.returns-else-number-lt256-clause-none
 returns-else-number-lt256-clause-none c = λ byte small same.
-    let number_is : c.in-Some.number ≡ byte = one_number c.args.text.now c.in-Some.number byte (omega arith) (omega arith) c.in-Some.ensures.some same in
+    let number_is : c.in-Some.number ≡ byte =
+    one_number c.args.text.now c.in-Some.number byte (omega arith) (omega arith) c.in-Some.ensures.some same in
     omega arith

@@ -11,7 +11,14 @@ write_address-end-requires c = omega (arith, c.requires, length-address_text c.a
 pub write_behind-requires : goal.write_behind-requires
 write_behind-requires c =
     let few : c.len.result ≤ 4 = omega (arith, c.len.ensures.len, c.len.ensures.leading.few) in
-    omega (arith, c.requires, c.write_address-end.ensures.ends, c.write_address-end.auto.text, length-address_text c.address.result, length-bits c.len.result few)
+    omega (
+      arith,
+      c.requires,
+      c.write_address-end.ensures.ends,
+      c.write_address-end.auto.text,
+      length-address_text c.address.result,
+      length-bits c.len.result few,
+    )
 
 pub returns-clause-written : goal.returns-clause-written
 returns-clause-written c =
@@ -19,12 +26,21 @@ returns-clause-written c =
     let same : address_text c.address.result ++ 47 ∷ decimal (8 * c.len.result) ≡ side_text c.args.side.now =
     ap (λ (a : ℕ). address_text a ++ 47 ∷ decimal (8 * c.len.result)) c.address.ensures.address
     ∙ ap (λ (n : ℕ). address_text (address_of c.args.side.now) ++ 47 ∷ decimal (8 * n)) c.len.ensures.len in
-    let within : c.write_address-end.result ≤ length text = omega (arith, c.requires, c.write_address-end.ensures.ends, length-address_text c.address.result) in
+    let within : c.write_address-end.result ≤ length text =
+    omega (arith, c.requires, c.write_address-end.ensures.ends, length-address_text c.address.result) in
     writes-same text c.write_behind.new.text c.args.at c.write_behind.result _ _ same
-    (writes-then text c.write_address-end.new.text c.write_behind.new.text c.args.at c.write_address-end.result c.write_behind.result
-    (address_text c.address.result) (47 ∷ decimal (8 * c.len.result)) within c.write_address-end.ensures c.write_behind.ensures)
+    (writes-then text c.write_address-end.new.text c.write_behind.new.text c.args.at c.write_address-end.result
+    c.write_behind.result
+    (address_text c.address.result) (47 ∷ decimal (8 * c.len.result)) within c.write_address-end.ensures
+    c.write_behind.ensures)
 
 pub returns-clause-short : goal.returns-clause-short
 returns-clause-short c =
     let few : c.len.result ≤ 4 = omega (arith, c.len.ensures.len, c.len.ensures.leading.few) in
-    omega (arith, c.write_address-end.ensures.ends, c.write_behind.ensures.ends, length-address_text c.address.result, length-bits c.len.result few)
+    omega (
+      arith,
+      c.write_address-end.ensures.ends,
+      c.write_behind.ensures.ends,
+      length-address_text c.address.result,
+      length-bits c.len.result few,
+    )

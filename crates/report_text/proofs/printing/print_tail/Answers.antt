@@ -4,7 +4,10 @@ use Rattle.report_text.proofs.printing.print_tail.Goals as goal
 
 pub returns-clause-ok : goal.returns-clause-ok
 returns-clause-ok c =
-    tail-parts c.args.into.now.items c.put_number.new.text.items c.put_number-2.new.text.items c.put_number-3.new.text.items c.put_number-4.new.text.items c.put.new.text.items
-    (decimal c.args.records.now.frames) (decimal c.args.records.now.not_ipv4) (decimal c.args.records.now.short) (decimal c.args.records.now.bad_header)
-    (c.put_number.ensures.text ∙ ap (λ l. l ++ codes "frames " ++ decimal c.args.records.now.frames) c.reserve.ensures.items)
+    tail-parts c.args.into.now.items c.put_number.new.text.items c.put_number-2.new.text.items
+    c.put_number-3.new.text.items c.put_number-4.new.text.items c.put.new.text.items
+    (decimal c.args.records.now.frames) (decimal c.args.records.now.not_ipv4) (decimal c.args.records.now.short)
+    (decimal c.args.records.now.bad_header)
+    (c.put_number.ensures.text
+    ∙ ap (λ l. l ++ codes "frames " ++ decimal c.args.records.now.frames) c.reserve.ensures.items)
     c.put_number-2.ensures.text c.put_number-3.ensures.text c.put_number-4.ensures.text c.put.ensures.text

@@ -7,5 +7,8 @@ pub returns-clause-text : goal.returns-clause-text
 returns-clause-text c =
     let positions = c.args.positions.now in
     let written : c.loop-position.text.items ≡ c.put.new.text.items ++ flat_map spaced positions =
-    c.loop-position.invariant.text ∙ ap (λ l. c.put.new.text.items ++ flat_map spaced l) (take_all c.loop-position.position-index positions c.loop-position-test.false) in
-    positions-parts c.args.text.now.items c.put.new.text.items c.loop-position.text.items c.put-2.new.text.items c.args.name.now positions c.put.ensures.text written c.put-2.ensures.text
+    c.loop-position.invariant.text
+    ∙ ap (λ l. c.put.new.text.items ++ flat_map spaced l)
+    (take_all c.loop-position.position-index positions c.loop-position-test.false) in
+    positions-parts c.args.text.now.items c.put.new.text.items c.loop-position.text.items c.put-2.new.text.items
+    c.args.name.now positions c.put.ensures.text written c.put-2.ensures.text

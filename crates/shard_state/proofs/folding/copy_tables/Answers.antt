@@ -11,5 +11,6 @@ copy_into-requires c =
     let table = c.index-tables-place.result in
     let flat = c.index-into-place.result in
     subst (λ (t : TableValue). t.capacity ≡ table.capacity) (sym (here_of_rest c.loop-place.into c.args.into.now place flat c.loop-place.invariant.rest))
-    (c.requires.capacities place table (get_or c.args.into.now place flat) (slice_get_read tables (length tables) place table refl (omega arith) c.index-tables-place.is)
+    (c.requires.capacities place table (get_or c.args.into.now place flat)
+    (slice_get_read tables (length tables) place table refl (omega arith) c.index-tables-place.is)
     (slice_get-get_or c.args.into.now place flat (omega arith)))

@@ -14,7 +14,9 @@ loop-place-preserved c =
     record {
       alike = more_places (λ k t. IsLike c.capacity-capacity.result c.total-total.result (node_at k) t) tables c.loop-place.place here (omega arith) read
           (c.is_like.ensures.like.0 c.if-not-is_like.false) c.loop-place.invariant.alike;
-      kept = more_places (λ _ t. AreEntries t.capacity t.entries) tables c.loop-place.place here (omega arith) read c.is_like.ensures.kept c.loop-place.invariant.kept;
+      kept =
+          more_places (λ _ t. AreEntries t.capacity t.entries) tables c.loop-place.place here (omega arith) read
+          c.is_like.ensures.kept c.loop-place.invariant.kept;
     }
 
 pub returns-clause-tables : goal.returns-clause-tables
@@ -23,7 +25,9 @@ returns-clause-tables c = (
     capacity = c.capacity-capacity.result;
     total = c.total-total.result;
     shape = omega arith;
-    alike = λ place table is_table. let within : place < length c.args.tables.now = slice_get_within c.args.tables.now place table is_table in c.loop-place.invariant.alike place table (omega arith) is_table;
+    alike = λ place table is_table.
+        let within : place < length c.args.tables.now = slice_get_within c.args.tables.now place table is_table in
+        c.loop-place.invariant.alike place table (omega arith) is_table;
   },
   λ _. refl,
 )

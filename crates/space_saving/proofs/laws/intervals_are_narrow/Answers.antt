@@ -5,7 +5,8 @@ pub returns-clause-ordered : goal.returns-clause-ordered
 returns-clause-ordered c = λ capacity entries key table. (interval_is_narrow capacity entries key table).ordered
 
 pub returns-clause-within_total : goal.returns-clause-within_total
-returns-clause-within_total c = λ capacity entries key table. (interval_is_narrow capacity entries key table).within_total
+returns-clause-within_total c = λ capacity entries key table.
+    (interval_is_narrow capacity entries key table).within_total
 
 pub returns-clause-narrow : goal.returns-clause-narrow
 returns-clause-narrow c = λ capacity entries key table. (interval_is_narrow capacity entries key table).narrow

@@ -3,4 +3,6 @@ use Rattle.space_saving.proofs.PlaceLemmas.{placed}
 use Rattle.space_saving.proofs.places.place_of.Goals as goal
 
 pub returns-then-entry-key : goal.returns-then-entry-key
-returns-then-entry-key c = placed c.args.key c.args.entries.now c.loop-place.place _ (omega arith) c.if-entry-key.true c.loop-place.invariant.still c.loop-place.invariant.passed
+returns-then-entry-key c =
+    placed c.args.key c.args.entries.now c.loop-place.place _ (omega arith) c.if-entry-key.true
+    c.loop-place.invariant.still c.loop-place.invariant.passed

@@ -6,6 +6,8 @@ use Rattle.space_saving.proofs.places.settle.Goals.{then-loop-place-test+else-en
 pub returns : goal.returns
 returns c = settled c.args.new c.loop-place.entries _ c.loop-place.place c.loop-place.invariant.within
     (elim c.loop-place-test.branch [
-      | then-loop-place-test+else-entries-place w ↦ put-greater c.args.new c.loop-place.entries (c.loop-place.place + 1) _ (omega arith) w.if-entries-place.false
+      | then-loop-place-test+else-entries-place w ↦
+          put-greater c.args.new c.loop-place.entries (c.loop-place.place + 1) _ (omega arith)
+          w.if-entries-place.false
       | else-loop-place-test w ↦ put-end c.args.new c.loop-place.entries (c.loop-place.place + 1) (omega arith)
     ]) c.loop-place.invariant.still

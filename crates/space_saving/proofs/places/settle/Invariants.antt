@@ -6,7 +6,8 @@ use Rattle.space_saving.proofs.places.settle.Given as goal
 abbrev pub invariant-loop-place : goal.invariant-loop-place
 invariant-loop-place l = record {
   within : l.place < length l.entries;
-  still : take l.place l.entries ++ put l.new (drop (l.place + 1) l.entries) ≡ take l.fn.from l.fn.entries ++ put l.new (drop (l.fn.from + 1) l.fn.entries);
+  still : take l.place l.entries ++ put l.new (drop (l.place + 1) l.entries)
+      ≡ take l.fn.from l.fn.entries ++ put l.new (drop (l.fn.from + 1) l.fn.entries);
 }
 
 abbrev pub decreases-loop-place : goal.decreases-loop-place

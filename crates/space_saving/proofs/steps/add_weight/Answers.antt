@@ -12,6 +12,11 @@ returns-in-Some-clause-stepped c =
     let entry = c.index-entry.result.now in
     let place = c.in-Some.place in
     let is_place = subst (λ (l : List Entry). IsPlaceOf c.args.key l place) c.deref.ensures.value c.in-Some.ensures in
-    let written = subst (λ (l : List Entry). c.settle.new.entries ≡ take place l ++ put (raised entry c.args.weight) (drop (place + 1) l)) c.deref_mut.ensures.value c.settle.ensures in
-    settled_is_step c.args.capacity c.args.entries.now.items _ (record { key = c.args.key; weight = c.args.weight }) place entry
-    c.requires.table.ascending is_place c.index-entry.ensures (take_at c.settle.new.entries _ c.args.entries.now.len (cc) ∙ written)
+    let written =
+    subst (λ (l : List Entry).
+    c.settle.new.entries ≡ take place l ++ put (raised entry c.args.weight) (drop (place + 1) l))
+    c.deref_mut.ensures.value c.settle.ensures in
+    settled_is_step c.args.capacity c.args.entries.now.items _ (record { key = c.args.key; weight = c.args.weight })
+    place entry
+    c.requires.table.ascending is_place c.index-entry.ensures
+    (take_at c.settle.new.entries _ c.args.entries.now.len (cc) ∙ written)

@@ -5,6 +5,12 @@ use Rattle.cut_merge.proofs.merged.Merged.merge_of.Goals as goal
 
 pub returns-clause-within : goal.returns-clause-within
 returns-clause-within c = λ key.
-    let merged : MergedValue = record { capacity = c.self.inside.capacity; total = c.self.inside.total; nodes = c.self.inside.nodes.items } in
-    let within : c.from.result < length merged.nodes = omega (arith, c.self.invariant.shape, c.index.ensures.few, c.from.ensures) in
-    rw (← c.self.view_is) (within_merged merged c.from.result key c.index-2.result.now c.self.invariant within c.index-2.ensures)
+    let merged : MergedValue = record {
+      capacity = c.self.inside.capacity;
+      total = c.self.inside.total;
+      nodes = c.self.inside.nodes.items;
+    } in
+    let within : c.from.result < length merged.nodes =
+    omega (arith, c.self.invariant.shape, c.index.ensures.few, c.from.ensures) in
+    rw (← c.self.view_is)
+    (within_merged merged c.from.result key c.index-2.result.now c.self.invariant within c.index-2.ensures)

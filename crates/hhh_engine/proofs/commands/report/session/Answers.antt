@@ -11,6 +11,7 @@ returns c =
     let opened = ap (mark_text Opened) c.in_ok-start_of.ensures.start in (
       report,
       c.in_ok-last_report.ensures.report,
-      three_parts (mark_text Opened (start_of c.args.dealt)) (mark_text Opened c.in_ok-start_of.field-0) (report_text report) c.args.tail.now _ _ _ _ c.new-text.ensures.items opened
+      three_parts (mark_text Opened (start_of c.args.dealt)) (mark_text Opened c.in_ok-start_of.field-0)
+          (report_text report) c.args.tail.now _ _ _ _ c.new-text.ensures.items opened
           c.in_ok-print_positions.ensures.ok c.in_ok-print.ensures.ok c.in_ok-extend_from_slice.ensures.items,
     )

@@ -13,4 +13,5 @@ pub returns-clause-start : goal.returns-clause-start
 returns-clause-start c = is_start c
 
 pub returns-clause-positions : goal.returns-clause-positions
-returns-clause-positions c = subst ArePositions (sym (is_start c)) (starts_are_positions c.args.dealt.now c.shards-shard-end.ensures.bounded)
+returns-clause-positions c =
+    subst ArePositions (sym (is_start c)) (starts_are_positions c.args.dealt.now c.shards-shard-end.ensures.bounded)

@@ -3,5 +3,6 @@ use Rattle.hhh_engine.proofs.commands.weigh.three_lines.Goals as goal
 
 pub returns : goal.returns
 returns c =
-    weigh-parts _ _ _ _ _ c.args.low c.args.high c.args.total c.new-text.ensures.items c.in_ok-push_number.ensures c.in_ok-push_number-2.ensures c.in_ok-push_number-3.ensures
+    weigh-parts _ _ _ _ _ c.args.low c.args.high c.args.total c.new-text.ensures.items c.in_ok-push_number.ensures
+    c.in_ok-push_number-2.ensures c.in_ok-push_number-3.ensures
     c.in_ok-extend_from_slice.ensures.items

@@ -10,6 +10,9 @@ returns-clause-first_bytes c =
     let left_is : left ≡ drop c.self.inside.place c.self.inside.bytes.items = cc in
     let is_after : drop (c.self.inside.place + count) c.self.inside.bytes.items ≡ drop count left =
     sym (drop-drop count c.self.inside.place c.self.inside.bytes.items) ∙ ap (drop count) (sym left_is) in (
-      ap (λ s. s.left) (sym c.self.view_is) ∙ sym left_is ∙ given_then_left left c.args.into.now _ _ count (omega arith) c.copy_front.ensures is_after,
-      λ none has_room. none_at_end left _ c.self.inside.step (length c.args.into.now) count c.self.invariant.1 (omega arith) (omega arith) none is_after,
+      ap (λ s. s.left) (sym c.self.view_is) ∙ sym left_is
+          ∙ given_then_left left c.args.into.now _ _ count (omega arith) c.copy_front.ensures is_after,
+      λ none has_room.
+          none_at_end left _ c.self.inside.step (length c.args.into.now) count c.self.invariant.1 (omega arith)
+          (omega arith) none is_after,
     )

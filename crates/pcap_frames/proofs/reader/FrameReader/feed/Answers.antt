@@ -2,10 +2,13 @@ use Rattle.pcap_frames.proofs.FeedLemmas.{stopped_fed, stopped_exact, fed_exact}
 use Rattle.pcap_frames.proofs.reader.FrameReader.feed.Goals as goal
 
 pub returns-then-has_stopped-clause-fed : goal.returns-then-has_stopped-clause-fed
-returns-then-has_stopped-clause-fed g c = stopped_fed g.V.FrameVisitor.stands_for _ _ _ _ (c.has_stopped.ensures.0 c.if-has_stopped.true) c.answer.ensures
+returns-then-has_stopped-clause-fed g c =
+    stopped_fed g.V.FrameVisitor.represents _ _ _ _ (c.has_stopped.ensures.0 c.if-has_stopped.true) c.answer.ensures
 
 pub returns-then-has_stopped-clause-exact : goal.returns-then-has_stopped-clause-exact
-returns-then-has_stopped-clause-exact g c = stopped_exact _ _ _ (c.has_stopped.ensures.0 c.if-has_stopped.true) c.answer.ensures
+returns-then-has_stopped-clause-exact g c =
+    stopped_exact _ _ _ (c.has_stopped.ensures.0 c.if-has_stopped.true) c.answer.ensures
 
 pub returns-in-Ok-clause-exact : goal.returns-in-Ok-clause-exact
-returns-in-Ok-clause-exact g c = fed_exact g.V.FrameVisitor.stands_for _ _ _ _ _ _ c.in-Ok.ensures.ok c.answer-in-Ok.ensures
+returns-in-Ok-clause-exact g c =
+    fed_exact g.V.FrameVisitor.represents _ _ _ _ _ _ c.in-Ok.ensures.ok c.answer-in-Ok.ensures

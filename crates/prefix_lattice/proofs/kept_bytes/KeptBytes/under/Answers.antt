@@ -10,7 +10,8 @@ returns-then-other-self-clause-value c =
     let other = c.other.inside in
     let fewer : other.bytes ≤ own.bytes = omega (arith, c.if-other-self.true) in
     ap (λ m. eqb m other.address) c.masked.ensures
-    ∙ sym (begins_with-leading other.bytes own.address other.address c.other.invariant.0 c.self.invariant.1 c.other.invariant.1 c.other.invariant.2)
+    ∙ sym (begins_with-leading other.bytes own.address other.address c.other.invariant.0 c.self.invariant.1
+    c.other.invariant.1 c.other.invariant.2)
     ∙ sym (kept-begins_with own.bytes other.bytes own.address other.address fewer c.self.invariant.0)
     ∙ ap (λ front. begins_with front (take other.bytes (address_bytes other.address))) c.self.view_is
     ∙ ap (begins_with c.args.self.now) c.other.view_is

@@ -9,9 +9,11 @@ returns-clause-under_both c = meet_under_both c.args.self.now c.args.other.now c
 
 pub returns-clause-greatest : goal.returns-clause-greatest
 returns-clause-greatest c = λ lower is_under under_other.
-    subst (λ (o : Option PrefixValue). IsSomeAnd o (λ m. under lower m ≡ true)) (sym c.lowest.ensures.value) (meet-greatest c.args.self.now c.args.other.now lower is_under under_other)
+    subst (λ (o : Option PrefixValue). IsSomeAnd o (λ m. under lower m ≡ true)) (sym c.lowest.ensures.value)
+    (meet-greatest c.args.self.now c.args.other.now lower is_under under_other)
 
 pub returns-clause-some : goal.returns-clause-some
 returns-clause-some c =
-    subst (λ (o : Option PrefixValue). (is_some o ≡ true) ↔ ShareAddresses c.args.self.now c.args.other.now) (sym c.lowest.ensures.value)
+    subst (λ (o : Option PrefixValue). (is_some o ≡ true) ↔ ShareAddresses c.args.self.now c.args.other.now)
+    (sym c.lowest.ensures.value)
     (meet-some c.args.self.now c.args.other.now c.lowest.ensures.prefix c.lowest.ensures.other)

@@ -6,7 +6,9 @@ use Rattle.shard_state.proofs.shard_core.Core.run_events.Goals as goal
 pub returns-clause-latest : goal.returns-clause-latest
 returns-clause-latest c = λ caller shard state before is holds.
     let start : CoreValue = record { shards = c.args.self.now; cuts = c.args.cuts.now.items } in
-    ap (snapshot_in caller shard) c.run_in_order.ensures.cuts ∙ latest_after c.args.events.now start caller shard state before is (shard_within start shard state c.keeps.ensures.kept is) holds
+    ap (snapshot_in caller shard) c.run_in_order.ensures.cuts
+    ∙ latest_after c.args.events.now start caller shard state before is
+    (shard_within start shard state c.keeps.ensures.kept is) holds
 
 pub returns-clause-last_reads : goal.returns-clause-last_reads
 returns-clause-last_reads c = λ caller shard position cut in_shards is_cut last.

@@ -14,8 +14,10 @@ same_capacity c = c.requires ∙ ap (λ (s : ShardValue). s.base.capacity) (sym 
 pub copy_from-requires-clause-alike : goal.copy_from-requires-clause-alike
 copy_from-requires-clause-alike c =
     let shard : ShardValue = record { list = c.self.inside.list; base = c.self.inside.base; position = c.self.inside.position } in
-    All-same (λ (t : TableValue). t.capacity ≡ c.args.into.now.capacity) c.deref.result.now (tables_of (snapshot_of shard)) (c.deref.ensures.value ∙ c.self.invariant.1)
-    (All-map (λ (t : TableValue). t.capacity ≡ c.args.into.now.capacity) (with_entries shard.base.capacity) (snapshot_of shard).tables (λ _ _ _. sym (same_capacity c)))
+    All-same (λ (t : TableValue). t.capacity ≡ c.args.into.now.capacity) c.deref.result.now
+    (tables_of (snapshot_of shard)) (c.deref.ensures.value ∙ c.self.invariant.1)
+    (All-map (λ (t : TableValue). t.capacity ≡ c.args.into.now.capacity) (with_entries shard.base.capacity)
+    (snapshot_of shard).tables (λ _ _ _. sym (same_capacity c)))
 
 -- what is copied is the snapshot of the shard
 copied : (c : goal.After-deref) → copied_from c.args.into.now.capacity c.self.inside.position c.deref.result.now
@@ -23,7 +25,8 @@ copied : (c : goal.After-deref) → copied_from c.args.into.now.capacity c.self.
 copied c =
     let shard : ShardValue = record { list = c.self.inside.list; base = c.self.inside.base; position = c.self.inside.position } in
     let positions : c.self.inside.position ≡ shard.position = refl in
-    copied_is (snapshot_of shard) c.args.into.now.capacity c.self.inside.position c.deref.result.now (c.deref.ensures.value ∙ c.self.invariant.1) (same_capacity c) positions
+    copied_is (snapshot_of shard) c.args.into.now.capacity c.self.inside.position c.deref.result.now
+    (c.deref.ensures.value ∙ c.self.invariant.1) (same_capacity c) positions
 
 pub copy_from-requires-clause-snapshot : goal.copy_from-requires-clause-snapshot
 copy_from-requires-clause-snapshot c = subst IsSnapshot (sym (copied c)) c.self.invariant.0.tables
@@ -34,5 +37,6 @@ returns c =
     let positions : c.self.inside.position ≡ shard.position = refl in
     let capacities : c.args.into.now.capacity ≡ shard.base.capacity = c.requires ∙ ap (λ (s : ShardValue). s.base.capacity) (sym c.self.view_is) in
     c.copy_from.ensures
-    ∙ copied_is (snapshot_of shard) c.args.into.now.capacity c.self.inside.position c.deref.result.now (c.deref.ensures.value ∙ c.self.invariant.1) capacities positions
+    ∙ copied_is (snapshot_of shard) c.args.into.now.capacity c.self.inside.position c.deref.result.now
+    (c.deref.ensures.value ∙ c.self.invariant.1) capacities positions
     ∙ ap snapshot_of c.self.view_is

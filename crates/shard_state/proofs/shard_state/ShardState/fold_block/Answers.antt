@@ -17,7 +17,9 @@ count_in_tables-requires-clause-room c =
     let shard : ShardValue = record { list = inside.list; base = inside.base; position = inside.position } in
     let later : shard.position ≤ to = omega (arith, c.self.invariant.0.within) in
     let within : to ≤ length shard.list = omega arith in
-    let HasRoom : List RecordValue → TableValue → Type 0 = λ list t. total_count t.entries + total_weight (take (to - inside.position) (drop inside.position list)) < 2 ^ 56 in
+    let HasRoom : List RecordValue → TableValue → Type 0 =
+    λ list t.
+    total_count t.entries + total_weight (take (to - inside.position) (drop inside.position list)) < 2 ^ 56 in
     subst (λ list. All (HasRoom list) c.deref_mut.result.now) (sym c.as_slice.ensures.value)
     (All-same (HasRoom inside.list) c.deref_mut.result.now (tables_of (snapshot_of shard)) (c.deref_mut.ensures.value ∙ c.self.invariant.1)
     (has_room shard to c.self.invariant.0 later within))
@@ -29,7 +31,11 @@ invariant_of-self c =
     let shard : ShardValue = record { list = inside.list; base = inside.base; position = inside.position } in
     let later : shard.position ≤ to = omega (arith, c.self.invariant.0.within) in
     let within : to ≤ length shard.list = omega arith in
-    let keep : StepsKeep = record { table = c.steps_leave_a_table.ensures.table; total = c.steps_leave_a_table.ensures.total; key = c.keys_are_of_their_node.ensures.of_record_key } in
+    let keep : StepsKeep = record {
+      table = c.steps_leave_a_table.ensures.table;
+      total = c.steps_leave_a_table.ensures.total;
+      key = c.keys_are_of_their_node.ensures.of_record_key;
+    } in
     let on : FoldedOn shard to = folded_on shard to keep c.self.invariant.0 later within in
     let counted : c.count_in_tables.new.tables ≡ fold_tables 0 inside.tables.items (slice_range inside.list inside.position to) =
     c.count_in_tables.ensures
@@ -48,7 +54,11 @@ returns-clause-tables c =
     let shard : ShardValue = record { list = inside.list; base = inside.base; position = inside.position } in
     let later : shard.position ≤ to = omega (arith, c.self.invariant.0.within) in
     let within : to ≤ length shard.list = omega arith in
-    let keep : StepsKeep = record { table = c.steps_leave_a_table.ensures.table; total = c.steps_leave_a_table.ensures.total; key = c.keys_are_of_their_node.ensures.of_record_key } in
+    let keep : StepsKeep = record {
+      table = c.steps_leave_a_table.ensures.table;
+      total = c.steps_leave_a_table.ensures.total;
+      key = c.keys_are_of_their_node.ensures.of_record_key;
+    } in
     let on : FoldedOn shard to = folded_on shard to keep c.self.invariant.0 later within in
     subst (λ (v : ShardValue). fold_from 0 inside.base.capacity inside.base.tables (slice_range inside.list inside.base.position to)
     ≡ fold_from 0 v.base.capacity (snapshot_of v).tables (slice_range v.list inside.position to)) c.self.view_is on.tables
@@ -60,6 +70,10 @@ returns-clause-kept c =
     let shard : ShardValue = record { list = inside.list; base = inside.base; position = inside.position } in
     let later : shard.position ≤ to = omega (arith, c.self.invariant.0.within) in
     let within : to ≤ length shard.list = omega arith in
-    let keep : StepsKeep = record { table = c.steps_leave_a_table.ensures.table; total = c.steps_leave_a_table.ensures.total; key = c.keys_are_of_their_node.ensures.of_record_key } in
+    let keep : StepsKeep = record {
+      table = c.steps_leave_a_table.ensures.table;
+      total = c.steps_leave_a_table.ensures.total;
+      key = c.keys_are_of_their_node.ensures.of_record_key;
+    } in
     let on : FoldedOn shard to = folded_on shard to keep c.self.invariant.0 later within in
     on.is_shard

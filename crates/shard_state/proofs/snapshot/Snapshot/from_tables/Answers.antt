@@ -8,7 +8,8 @@ made c =
     let tables = c.args.tables.items in
     let are : AreTables tables = subst AreTables c.deref.ensures.value (c.are_tables.ensures.tables.0 c.if-not-are_tables.false) in
     let kept : AreKept tables = subst AreKept c.deref.ensures.value (c.are_tables.ensures.kept c.if-not-are_tables.false) in
-    made_of_parts c.args.position tables c.capacity.result c.index.result.now (omega arith) are kept c.index.ensures c.capacity.ensures.capacity c.capacity.ensures.least c.capacity.ensures.most
+    made_of_parts c.args.position tables c.capacity.result c.index.result.now (omega arith) are kept c.index.ensures
+    c.capacity.ensures.capacity c.capacity.ensures.least c.capacity.ensures.most
 
 pub invariant_of-result : goal.invariant_of-result
 invariant_of-result c = ((made c).alike, (made c).is_snapshot)

@@ -6,7 +6,10 @@ use Rattle.shard_state.proofs.snapshot.Snapshot.with_room.Goals as goal
 
 pub invariant_of-result : goal.invariant_of-result
 invariant_of-result c =
-    let made = made_empty c.args.capacity c.in_ok-empty_tables.field-0.items c.in_ok-empty_tables.ensures c.requires.least c.requires.most in (made.alike, made.is_snapshot)
+    let made =
+    made_empty c.args.capacity c.in_ok-empty_tables.field-0.items c.in_ok-empty_tables.ensures c.requires.least
+    c.requires.most in
+    (made.alike, made.is_snapshot)
 
 pub returns : goal.returns
 returns c =

@@ -6,15 +6,18 @@ use Rattle.pcap_frames.proofs.reader.part.FramePart.leave_header.Goals as goal
 
 pub returns-in-Some-clause-advances : goal.returns-in-Some-clause-advances
 returns-in-Some-clause-advances c = λ kept front is size.
-    faulty_header kept front _ c.in-Some.fault is (omega arith) (ap header_fault (sym c.first-header.ensures.bytes) ∙ sym c.header_fault.ensures ∙ c.in-Some.is)
+    faulty_header kept front _ c.in-Some.fault is (omega arith)
+    (ap header_fault (sym c.first-header.ensures.bytes) ∙ sym c.header_fault.ensures ∙ c.in-Some.is)
 
 pub unreachable-requires : goal.unreachable-requires
 unreachable-requires c =
-    header_has_magic c.first-header.result.now c.if-header-lt24.false (sym c.header_fault.ensures ∙ c.in_default.is) (sym c.magic_order.ensures ∙ c.in_default-magic_order.is)
+    header_has_magic c.first-header.result.now c.if-header-lt24.false (sym c.header_fault.ensures ∙ c.in_default.is)
+    (sym c.magic_order.ensures ∙ c.in_default-magic_order.is)
 
 pub returns-clause-sound : goal.returns-clause-sound
 returns-clause-sound c =
-    let none = needed_at_none c.in-Some-magic_order.order c.new-self.result.first (ap (λ k. k.first) c.new-self.ensures) in
+    let none =
+    needed_at_none c.in-Some-magic_order.order c.new-self.result.first (ap (λ k. k.first) c.new-self.ensures) in
     let came : c.new-self.result.came ≡ 0 = ap (λ k. k.came) c.new-self.ensures in
     record { count = omega arith; place = omega arith; cut = omega arith; bound = omega arith }
 

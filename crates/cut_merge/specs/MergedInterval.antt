@@ -11,8 +11,8 @@ abbrev pub node_tables : NodeValue → CutValue → List TableValue
 node_tables node cut = map (table_at node) cut.shards
 
 -- the merged interval of a prefix in a cut: the lows and the highs of its key over the shards, each added up
-abbrev pub span : CutValue → PrefixValue → Interval
-span cut prefix = merged_interval (node_tables (node_of prefix) cut) (key_of prefix)
+abbrev pub merged_interval_in : CutValue → PrefixValue → Interval
+merged_interval_in cut prefix = merged_interval (node_tables (node_of prefix) cut) (key_of prefix)
 
 -- the keys that some shard of a cut monitors at a node, each once, in the order in which they are first seen
 abbrev pub monitored_at : CutValue → NodeValue → List ℕ
