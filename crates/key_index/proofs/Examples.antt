@@ -88,17 +88,17 @@ ends_past_one_cell = one
 pub cells_of_no_keys : AreCells 0 0 [] → ⊥
 cells_of_no_keys cells = omega (arith, cells.some)
 
--- five cells of an index for one key can't be filled before it is emptied
-pub one_fill_too_many : (marks : List ℕ) → AreCells 1 5 marks → ⊥
+-- three cells of an index for one key can't be filled before it is emptied
+pub one_fill_too_many : (marks : List ℕ) → AreCells 1 3 marks → ⊥
 one_fill_too_many marks cells = omega (arith, cells.filled)
 
--- at the last turn key 0 goes over all 29 cells of an index for one key
-pub last_turn_goes_to_the_end : length (path_from 1 0 0) ≡ 29
+-- at the last turn key 0 goes over all 27 cells of an index for one key
+pub last_turn_goes_to_the_end : length (path_from 1 0 0) ≡ 27
 unfolding home
 last_turn_goes_to_the_end = refl
 
 -- before that over seven windows
-pub whole_path : length (path 1 0) ≡ 7 * 16 + 29
+pub whole_path : length (path 1 0) ≡ 7 * 16 + 27
 unfolding path window home
 whole_path = refl
 

@@ -123,22 +123,22 @@ window_stops room turn key place cell marks keys some has least below free other
 
 -- the last turn goes on to the end
 last_is : (room key place : ℕ) (marks : List ℕ) → leads_to (range_with_len (home room 0 key)
-    (12 * room + 17 - home room 0 key) ++ []) marks place ≡ leads_to (path_from room 0 key) marks place
-last_is room key place marks = ap (λ p. leads_to p marks place) (append-nil (range_with_len (home room 0 key) (12 * room + 17 - home room 0 key)))
+    (10 * room + 17 - home room 0 key) ++ []) marks place ≡ leads_to (path_from room 0 key) marks place
+last_is room key place marks = ap (λ p. leads_to p marks place) (append-nil (range_with_len (home room 0 key) (10 * room + 17 - home room 0 key)))
 
 -- a search that passed all cells of the last turn, or stopped among them
-pub last_past : (room key place end : ℕ) (marks keys : List ℕ) → home room 0 key < 8 * room → end ≡ 12 * room + 17 → get_or keys place 0 ≡ key
+pub last_past : (room key place end : ℕ) (marks keys : List ℕ) → home room 0 key < 8 * room → end ≡ 10 * room + 17 → get_or keys place 0 ≡ key
     → AreOthers marks keys key (home room 0 key) end → leads_to (path_from room 0 key) marks place ≡ false
 last_past room key place end marks keys low is has others =
     sym (last_is room key place marks)
-    ∙ past_others (12 * room + 17 - home room 0 key) (home room 0 key) marks keys [] key place has (λ cell least below. others cell least (omega arith))
+    ∙ past_others (10 * room + 17 - home room 0 key) (home room 0 key) marks keys [] key place has (λ cell least below. others cell least (omega arith))
 
-pub last_stops : (room key place cell end : ℕ) (marks keys : List ℕ) → home room 0 key < 8 * room → end ≡ 12 * room + 17
+pub last_stops : (room key place cell end : ℕ) (marks keys : List ℕ) → home room 0 key < 8 * room → end ≡ 10 * room + 17
     → get_or keys place 0 ≡ key → home room 0 key ≤ cell → cell < end
     → get_or marks cell 0 ≡ 0 → AreOthers marks keys key (home room 0 key) cell → leads_to (path_from room 0 key) marks place ≡ false
 last_stops room key place cell end marks keys low is has least below free others =
     sym (last_is room key place marks)
-    ∙ stops_at_free (12 * room + 17 - home room 0 key) (home room 0 key) cell marks keys [] key place has least (omega arith) free others
+    ∙ stops_at_free (10 * room + 17 - home room 0 key) (home room 0 key) cell marks keys [] key place has least (omega arith) free others
 
 -- each cell that was filled still is
 abbrev pub Covers : List ℕ → List ℕ → Type 0
@@ -178,13 +178,13 @@ written_in_window room turn key place cell marks some within least below filled 
     (path_from room (turn - 1) key) place least below (get_or-set_same marks cell (place + 1) 0 within)
     (λ other behind before. Covers-set marks cell place within other (filled other behind before))
 
-pub written_at_last : (room key place cell : ℕ) (marks : List ℕ) → home room 0 key < 8 * room → cell < length marks → cell < 12 * room + 17
+pub written_at_last : (room key place cell : ℕ) (marks : List ℕ) → home room 0 key < 8 * room → cell < length marks → cell < 10 * room + 17
     → home room 0 key ≤ cell
     → ((other : ℕ) → home room 0 key ≤ other → other < cell → get_or marks other 0 ≢ 0)
     → leads_to (path_from room 0 key) (set marks cell (place + 1)) place ≡ true
 written_at_last room key place cell marks low within below least filled =
     sym (last_is room key place (set marks cell (place + 1)))
-    ∙ comes_to_place (12 * room + 17 - home room 0 key) (home room 0 key) cell (set marks cell (place + 1)) [] place least (omega arith)
+    ∙ comes_to_place (10 * room + 17 - home room 0 key) (home room 0 key) cell (set marks cell (place + 1)) [] place least (omega arith)
     (get_or-set_same marks cell (place + 1) 0 within)
     (λ other behind before. Covers-set marks cell place within other (filled other behind before))
 
@@ -207,7 +207,7 @@ found_in_window room turn key place cell marks leaves some within least below fi
     (written_in_window room turn key place cell marks some within least below filled)
 
 pub found_at_last : (room turn key place cell : ℕ) (marks : List ℕ) → LeavesPath room turn key marks → turn ≡ 0 → home room 0 key < 8 * room
-    → length marks ≡ 12 * room + 17 → cell < length marks → home room 0 key ≤ cell
+    → length marks ≡ 10 * room + 17 → cell < length marks → home room 0 key ≤ cell
     → ((other : ℕ) → home room 0 key ≤ other → other < cell → get_or marks other 0 ≢ 0) → leads_to (path room key) (set marks cell (place + 1)) place ≡ true
 found_at_last room turn key place cell marks leaves none low shape within least filled =
     leaves (set marks cell (place + 1)) place (Covers-set marks cell place within)

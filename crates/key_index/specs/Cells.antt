@@ -16,6 +16,6 @@ AreBelow count marks = All (λ mark. mark ≤ count) marks
 pub record AreCells (room fills : ℕ) (marks : List ℕ) : Type 0 where
   pub some : 1 ≤ room
   pub few : room < 2 ^ 16
-  pub shape : length marks ≡ 12 * room + 17
-  pub filled : fills ≤ 4 * room
+  pub shape : length marks ≡ 10 * room + 17
+  pub filled : fills ≤ 2 * room
   pub spare : (cell : ℕ) → 8 * room + 16 + fills ≤ cell → slice_index marks cell ≡ 0

@@ -13,7 +13,7 @@ window first = range_with_len first 16
 
 -- the cells of the turns that are left: a window for each, and at the last turn all cells from the home on
 abbrev pub path_from : ℕ → ℕ → ℕ → List ℕ
-path_from room zero key = range_with_len (home room 0 key) (12 * room + 17 - home room 0 key)
+path_from room zero key = range_with_len (home room 0 key) (10 * room + 17 - home room 0 key)
 path_from room (suc turn) key = window (home room (suc turn) key) ++ path_from room turn key
 
 -- the cells that a search for a key passes, in their order

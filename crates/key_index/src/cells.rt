@@ -9,8 +9,8 @@ use crate::searching::{free_cell, place_of};
 use std::alloc::{AllocError, Global};
 use std::marker::Model;
 
-/// Four cells for each key may be filled before all are emptied.
-const FILLS_A_KEY: usize = 4;
+/// Two cells for each key may be filled before all are emptied.
+const FILLS_A_KEY: usize = 2;
 
 /// Cells after the homes beside those that may be filled: a window, and one free cell.
 const BEHIND: usize = 17;
@@ -38,7 +38,7 @@ impl KeyCells {
     pub(crate) fn with_room(alloc: Global, room: usize) -> Result<KeyCells, AllocError>
         requires some { 1 ≤ room }
         requires few { room < 2 ^ 16 }
-        ensures { IfOk result (λ cells. cells ≡ record { room = room; fills = 0; marks = replicate (12 * room + 17) 0 }) }
+        ensures { IfOk result (λ cells. cells ≡ record { room = room; fills = 0; marks = replicate (10 * room + 17) 0 }) }
     {
         let marks = vec![in alloc; 0u16; (HOMES_A_KEY + FILLS_A_KEY) * room + BEHIND]?;
         Ok(KeyCells {
@@ -61,7 +61,7 @@ impl KeyCells {
 
     /// Whether as many cells are filled as may be.
     pub(crate) fn are_used_up(&self) -> bool
-        ensures { IsTrue result ↔ (4 * self.now.room ≤ self.now.fills) }
+        ensures { IsTrue result ↔ (2 * self.now.room ≤ self.now.fills) }
     {
         self.fills >= FILLS_A_KEY * self.room
     }
@@ -69,7 +69,7 @@ impl KeyCells {
     /// Fills the first free cell of a search for the key with its place.
     pub(crate) fn enter(&mut self, place: usize, key: u64)
         requires few { place + 1 < 2 ^ 16 }
-        requires room { self.old.fills < 4 * self.old.room }
+        requires room { self.old.fills < 2 * self.old.room }
         ensures room { self.new.room ≡ self.old.room }
         ensures fills { self.new.fills ≡ self.old.fills + 1 }
         ensures entered { IsFound self.new.room self.new.marks key place }
@@ -84,7 +84,7 @@ impl KeyCells {
 
     /// Empties all cells.
     pub(crate) fn clear(&mut self)
-        ensures { self.new ≡ record { room = self.old.room; fills = 0; marks = replicate (12 * self.old.room + 17) 0 } }
+        ensures { self.new ≡ record { room = self.old.room; fills = 0; marks = replicate (10 * self.old.room + 17) 0 } }
     {
         self.marks.fill(0);
         self.fills = 0;

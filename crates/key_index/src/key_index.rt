@@ -27,7 +27,7 @@ impl Model for KeyIndex {
 }
 
 impl KeyIndex {
-    /// An index of no keys with memory for as many as `room`, 1 to 65,535. It takes 32 bytes for each and 34 more,
+    /// An index of no keys with memory for as many as `room`, 1 to 65,535. It takes 28 bytes for each and 34 more,
     /// and nothing later.
     pub fn with_room(alloc: Global, room: usize) -> Result<KeyIndex, AllocError>
         requires some { 1 ≤ room }

@@ -40,7 +40,7 @@ pub(crate) fn search(marks: &[u16], keys: &[u64], key: u64, from: usize, to: usi
 pub(crate) fn place_of(marks: &[u16], keys: &[u64], key: u64, room: usize) -> Option<usize>
     requires some { 1 ≤ room }
     requires few { room < 2 ^ 16 }
-    requires shape { length marks.now ≡ 12 * room + 17 }
+    requires shape { length marks.now ≡ 10 * room + 17 }
     requires places { AreBelow (length keys.now) marks.now }
     ensures within { IfSome result (λ place. place < length keys.now) }
     ensures found { IfSome result (λ place. slice_index keys.now place ≡ key) }
@@ -83,8 +83,8 @@ fn first_free(marks: &[u16], from: usize, to: usize) -> Option<usize>
 pub(crate) fn free_cell(marks: &[u16], key: u64, room: usize) -> usize
     requires some { 1 ≤ room }
     requires few { room < 2 ^ 16 }
-    requires shape { length marks.now ≡ 12 * room + 17 }
-    requires last { slice_index marks.now (12 * room + 16) ≡ 0 }
+    requires shape { length marks.now ≡ 10 * room + 17 }
+    requires last { slice_index marks.now (10 * room + 16) ≡ 0 }
     ensures within { result < length marks.now }
     ensures free { slice_index marks.now result ≡ 0 }
     ensures early { (cell : ℕ) → 8 * room + 16 ≤ cell → slice_index marks.now cell ≡ 0 → result ≤ cell }

@@ -83,6 +83,16 @@ impl RankedSlots {
         self.slots[place] = slot;
     }
 
+    /// Makes the leaf of a place its slot's word. Whoever asks for the least slot would do it too; done at once, it
+    /// runs beside the look-ups of the next keys, and no one waits for it.
+    pub(crate) fn mend(&mut self, place: usize)
+        requires { place < length self.old.slots }
+        ensures { self.new ≡ self.old }
+    {
+        let word = word_of(self.base, &self.slots[place], place);
+        self.tree.set(place, word);
+    }
+
     /// The place of the slot that comes before all others, where there is a slot at each place. It looks at all
     /// slots where the rank of this one doesn't fit into a word.
     pub(crate) fn least(&mut self) -> usize

@@ -98,4 +98,5 @@ fn take_over(index: &mut KeyIndex, ranked: &mut RankedSlots, key: u64, weight: u
             time: now,
         },
     );
+    ranked.mend(place);
 }
