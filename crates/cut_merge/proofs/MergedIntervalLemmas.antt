@@ -11,8 +11,8 @@ use Rattle.prefix_lattice.specs.{RecordValue, NodeValue, IsNode, PrefixValue, Is
 use Rattle.prefix_lattice.specs.{weight_of}
 use Rattle.space_saving.specs.declared.entry.Entry.{Entry}
 use Rattle.space_saving.specs.{TableValue, entry_of, interval_in, interval_from, total_count, IsTable}
-use Rattle.shard_state.specs.{SnapshotValue, IsSnapshot, table_at, total_of, SnapshotStandsFor, CutValue, IsCut}
-use Rattle.shard_state.specs.{positions_of, total_of_cut, CutStandsFor, records_before, HoldsNarrowly, interval_of}
+use Rattle.shard_state.specs.{SnapshotValue, IsSnapshot, table_at, total_of, SnapshotRepresents, CutValue, IsCut}
+use Rattle.shard_state.specs.{positions_of, total_of_cut, CutRepresents, records_before, HoldsNarrowly, interval_of}
 use Rattle.cut_merge.specs.Tables.{merged_interval, table_keys}
 use Rattle.cut_merge.specs.MergedInterval.{node_tables, merged_interval_in, monitored_at, IsWithinTotal}
 use Rattle.prefix_lattice.proofs.ListLemmas.{Contains-head, Contains-tail}
@@ -30,7 +30,7 @@ weight_of-append prefix records more =
 -- what the law of snapshots says of one shard
 pub record SnapshotsHold : Type 0 where
   pub weight : (snapshot : SnapshotValue) (list : List RecordValue) (prefix : PrefixValue)
-      → SnapshotStandsFor snapshot list → 1 ≤ snapshot.capacity
+      → SnapshotRepresents snapshot list → 1 ≤ snapshot.capacity
       → IsPrefix prefix → All (λ (rec : RecordValue). 1 ≤ rec.weight) list
       → HoldsNarrowly (interval_of prefix snapshot) snapshot.capacity (weight_of prefix (take snapshot.position list))
       (total_of snapshot)
@@ -42,7 +42,7 @@ Weighed list = All (λ (rec : RecordValue). 1 ≤ rec.weight) list
 -- what holds of each shard holds of all together: lows, weights, highs and totals add up
 shards_hold : SnapshotsHold → (capacity : ℕ) (prefix : PrefixValue) → 1 ≤ capacity → IsPrefix prefix
     → (shards : List SnapshotValue) (lists : List (List RecordValue))
-    → All (λ (s : SnapshotValue). s.capacity ≡ capacity) shards → AllZip SnapshotStandsFor shards lists
+    → All (λ (s : SnapshotValue). s.capacity ≡ capacity) shards → AllZip SnapshotRepresents shards lists
     → All Weighed lists
     → HoldsNarrowly (merged_interval (map (table_at (node_of prefix)) shards) (key_of prefix)) capacity
     (weight_of prefix (records_before lists (map (λ (s : SnapshotValue). s.position) shards))) (sum_by total_of shards)
@@ -105,7 +105,7 @@ shards_hold law capacity prefix some is_prefix (shard ∷ shards) (list ∷ list
 
 -- where a cut stands for lists, the merged interval of each prefix holds its weight
 pub interval_holds : SnapshotsHold → (cut : CutValue) (lists : List (List RecordValue)) (prefix : PrefixValue)
-    → IsCut cut → CutStandsFor cut lists → All Weighed lists → IsPrefix prefix
+    → IsCut cut → CutRepresents cut lists → All Weighed lists → IsPrefix prefix
     → HoldsNarrowly (merged_interval_in cut prefix) cut.capacity
     (weight_of prefix (records_before lists (positions_of cut)))
     (total_of_cut cut)

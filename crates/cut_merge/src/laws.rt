@@ -2,7 +2,7 @@
 
 ghost use Rattle.std.specs.Prelude.{◌≡◌, ◌≢◌, ℕ, ◌*◌, ◌^◌, ◌<◌, ◌≤◌, List, length, All, AllPairs, Contains};
 ghost use Rattle.prefix_lattice.specs.{RecordValue, NodeValue, IsNode, PrefixValue, IsPrefix, node_of, key_of, weight_of, total_weight, IsKeyOf};
-ghost use Rattle.shard_state.specs.{CutValue, IsCut, positions_of, total_of_cut, CutStandsFor, records_before, HoldsNarrowly};
+ghost use Rattle.shard_state.specs.{CutValue, IsCut, positions_of, total_of_cut, CutRepresents, records_before, HoldsNarrowly};
 ghost use Rattle.cut_merge.specs.MergedInterval.{node_tables, merged_interval_in, monitored_at, IsWithinTotal};
 ghost use Rattle.cut_merge.specs.Merged.{IsBounded};
 
@@ -12,7 +12,7 @@ use space_saving::intervals_are_narrow;
 /// If a cut represents lists of records, the merged interval of each prefix holds its exact weight over the records
 /// before the positions, and is no wider than the total divided by the capacity.
 pub fn merged_intervals_hold_weights()
-    ensures { (cut : CutValue) (lists : List (List RecordValue)) (prefix : PrefixValue) → IsCut cut → CutStandsFor cut lists
+    ensures { (cut : CutValue) (lists : List (List RecordValue)) (prefix : PrefixValue) → IsCut cut → CutRepresents cut lists
         → All (λ list. All (λ rec. 1 ≤ rec.weight) list) lists → IsPrefix prefix
         → HoldsNarrowly (merged_interval_in cut prefix) cut.capacity (weight_of prefix (records_before lists (positions_of cut))) (total_of_cut cut) }
 {

@@ -7,7 +7,7 @@ use Rattle.std.proofs.lemmas.List.{map-append, length-map}
 use Rattle.std.proofs.lemmas.List.Elements.{All-map}
 use Rattle.std.proofs.lemmas.List.Sums.{get_or-le-sum_by}
 use Rattle.prefix_lattice.specs.{RecordValue}
-use Rattle.shard_state.specs.{SnapshotValue, empty_snapshot, SnapshotStandsFor, ShardValue, snapshot_of, CutValue}
+use Rattle.shard_state.specs.{SnapshotValue, empty_snapshot, SnapshotRepresents, ShardValue, snapshot_of, CutValue}
 use Rattle.shard_state.specs.{positions_of}
 use Rattle.deal_rules.specs.{AreShardLists}
 use Rattle.report_text.specs.{ArePositions}
@@ -61,13 +61,13 @@ positions_at_ends capacity (list ∷ lists) = ap (λ ps. length list ∷ ps) (po
 
 -- empty tables stand for each list, and a shard begun with tables that stand for its list goes on to stand for it
 pub record ShardsStand : Type 0 where
-  pub begins : (capacity : ℕ) (list : List RecordValue) → SnapshotStandsFor (empty_snapshot capacity) list
-  pub goes_on : (shard : ShardValue) → SnapshotStandsFor shard.base shard.list
+  pub begins : (capacity : ℕ) (list : List RecordValue) → SnapshotRepresents (empty_snapshot capacity) list
+  pub goes_on : (shard : ShardValue) → SnapshotRepresents shard.base shard.list
       → shard.base.position ≤ shard.position → shard.position ≤ length shard.list
-      → SnapshotStandsFor (snapshot_of shard) shard.list
+      → SnapshotRepresents (snapshot_of shard) shard.list
 
 stand_at_ends : ShardsStand → (capacity : ℕ) (lists : List (List RecordValue))
-    → AllZip SnapshotStandsFor (map (at_end capacity) lists) lists
+    → AllZip SnapshotRepresents (map (at_end capacity) lists) lists
 stand_at_ends stand capacity [] = tt
 stand_at_ends stand capacity (list ∷ lists) = (
   stand.goes_on (record { list = list; base = empty_snapshot capacity; position = length list })
@@ -97,7 +97,7 @@ all_counted stand capacity lists done cut whole same_capacity shards =
             (subst (All (λ (s : SnapshotValue). s.capacity ≡ capacity)) (sym is_counted)
             (alike_at_ends capacity lists));
         shards =
-            subst (λ snapshots. AllZip SnapshotStandsFor snapshots lists) (sym is_counted)
+            subst (λ snapshots. AllZip SnapshotRepresents snapshots lists) (sym is_counted)
             (stand_at_ends stand capacity lists);
       };
     }

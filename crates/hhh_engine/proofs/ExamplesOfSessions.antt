@@ -8,7 +8,7 @@ use Rattle.std.proofs.lemmas.List.Elements.{All-nil, All-head, All-replicate}
 use Rattle.prefix_lattice.specs.{RecordValue, NodeValue, IsNode, index_of, node_of, key_of}
 use Rattle.deal_rules.specs.declared.deal_kind.DealKind.TheVariants.{RoundRobin}
 use Rattle.deal_rules.specs.{IsDealing}
-use Rattle.shard_state.specs.{SnapshotValue, no_entries, empty_snapshot, entries_at, table_at, SnapshotStandsFor}
+use Rattle.shard_state.specs.{SnapshotValue, no_entries, empty_snapshot, entries_at, table_at, SnapshotRepresents}
 use Rattle.shard_state.specs.{CutValue}
 use Rattle.space_saving.specs.{interval_in}
 use Rattle.hhh_output.specs.{AreLines, IsLineOf, IsReportOf, IsSound, IsThreshold}
@@ -80,7 +80,7 @@ nothing_counted : (node : NodeValue) → IsNode node → entries_at node (empty_
 unfolding no_entries
 nothing_counted node is_node = get_or-replicate 25 (index_of node) [] [] (omega (arith, is_node.source, is_node.dest))
 
-no_record_stands : SnapshotStandsFor (empty_snapshot 512) []
+no_record_stands : SnapshotRepresents (empty_snapshot 512) []
 unfolding no_entries
 no_record_stands = record { within = omega arith; shape = refl; tables = nothing_counted }
 

@@ -3,7 +3,7 @@ use Rattle.std.specs.Prelude.{ℕ, ◌≡◌, List, ◌++◌, length, map}
 use Rattle.prefix_lattice.specs.{RecordValue}
 use Rattle.deal_rules.specs.{IsDealing}
 use Rattle.deal_rules.specs.declared.deal_kind.DealKind.{DealKind}
-use Rattle.shard_state.specs.{CutValue, positions_of, CutStandsFor}
+use Rattle.shard_state.specs.{CutValue, positions_of, CutRepresents}
 use Rattle.hhh_output.specs.{IsReportOf, IsSound}
 use Rattle.hhh_output.specs.declared.report.Report.{Report}
 use Rattle.pcap_frames.specs.{FrameValue}
@@ -25,7 +25,7 @@ by_formula formula kind place rec shards number = number ≡ formula kind place 
 pub record IsCutAtEnds (capacity : ℕ) (lists : List (List RecordValue)) (cut : CutValue) : Type 0 where
   pub same_capacity : cut.capacity ≡ capacity
   pub at_ends : positions_of cut ≡ map (λ list. length list) lists
-  pub stands : CutStandsFor cut lists
+  pub stands : CutRepresents cut lists
 
 -- the positions at which shards with no saved state start: 0 for each
 abbrev pub start_of : List (List RecordValue) → List ℕ

@@ -14,7 +14,7 @@ use Rattle.std.specs.Cmp.{IsTotalOrder}
 use Rattle.prefix_lattice.specs.{RecordValue, PrefixValue, IsPrefix, covers, node_of, key_of, weight_of}
 use Rattle.prefix_lattice.specs.{total_weight, report_order, lines_under, one_covers, conditioned_weight, closest}
 use Rattle.prefix_lattice.specs.{kept_pairs, Holds, IsNarrow}
-use Rattle.shard_state.specs.{SnapshotValue, SnapshotStandsFor, CutValue, positions_of, total_of_cut, CutStandsFor}
+use Rattle.shard_state.specs.{SnapshotValue, SnapshotRepresents, CutValue, positions_of, total_of_cut, CutRepresents}
 use Rattle.shard_state.specs.{records_before, HoldsNarrowly}
 use Rattle.cut_merge.specs.{merged_interval_in, monitored_at}
 use Rattle.conditioned_bounds.specs.{bound_of, asked_of, HoldWeights, AreNarrow}
@@ -31,7 +31,7 @@ use Rattle.hhh_output.proofs.OneReportLemmas.{Before, before-apart}
 -- the laws that soundness stands on, over one cut and its lists
 pub record CutHolds (cut : CutValue) (lists : List (List RecordValue)) : Type 0 where
   pub order : IsTotalOrder report_order
-  pub stands : CutStandsFor cut lists
+  pub stands : CutRepresents cut lists
   pub intervals : (prefix : PrefixValue) → IsPrefix prefix
       → HoldsNarrowly (merged_interval_in cut prefix) cut.capacity
       (weight_of prefix (records_before lists (positions_of cut)))
@@ -54,7 +54,7 @@ pub record CutHolds (cut : CutValue) (lists : List (List RecordValue)) : Type 0 
       + (1 + length (closest prefix lines) + length (kept_pairs (closest prefix lines))) * whole
 
 -- positions of a cut that stands for lists are within them
-within_lists : (shards : List SnapshotValue) (lists : List (List RecordValue)) → AllZip SnapshotStandsFor shards lists
+within_lists : (shards : List SnapshotValue) (lists : List (List RecordValue)) → AllZip SnapshotRepresents shards lists
     → AllZip (λ position list. position ≤ length list) (map (λ (s : SnapshotValue). s.position) shards) lists
 within_lists [] [] stand = tt
 within_lists [] (list ∷ lists) stand = stand

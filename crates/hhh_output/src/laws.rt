@@ -2,7 +2,7 @@
 
 ghost use Rattle.std.specs.Prelude.{◌≡◌, ℕ, ◌≤◌, List, All, Some, length, slice_get};
 ghost use Rattle.prefix_lattice.specs.{RecordValue};
-ghost use Rattle.shard_state.specs.{CutValue, IsCut, positions_of, CutStandsFor, CoreValue, HasShape, IsCore, capacity_of, run, BasesStand, ReadsEach, lists_of};
+ghost use Rattle.shard_state.specs.{CutValue, IsCut, positions_of, CutRepresents, CoreValue, HasShape, IsCore, capacity_of, run, BasesRepresent, ReadsEach, lists_of};
 ghost use Rattle.shard_state.specs.declared.event.Event.{Event};
 ghost use Rattle.hhh_output.specs.declared.report.Report.{Report};
 ghost use Rattle.hhh_output.specs.Lines.{AreLines};
@@ -28,7 +28,7 @@ pub fn a_cut_has_one_report()
 /// these positions is the same, however the records were folded.
 pub fn standing_cuts_have_one_report()
     ensures { (cut other_cut : CutValue) (lists : List (List RecordValue)) (phi : ℕ) (report other : Report) → cut.capacity ≡ other_cut.capacity
-        → positions_of cut ≡ positions_of other_cut → CutStandsFor cut lists → CutStandsFor other_cut lists → AreLines report.lines → AreLines other.lines
+        → positions_of cut ≡ positions_of other_cut → CutRepresents cut lists → CutRepresents other_cut lists → AreLines report.lines → AreLines other.lines
         → IsReportOf cut phi report → IsReportOf other_cut phi other → AreSame report other }
 {
     standing_cuts_are_equal();
@@ -37,7 +37,7 @@ pub fn standing_cuts_have_one_report()
 
 /// The report of a cut that represents lists of records is sound over them.
 pub fn reports_are_sound()
-    ensures { (cut : CutValue) (lists : List (List RecordValue)) (phi : ℕ) (report : Report) → IsCut cut → CutStandsFor cut lists
+    ensures { (cut : CutValue) (lists : List (List RecordValue)) (phi : ℕ) (report : Report) → IsCut cut → CutRepresents cut lists
         → All (λ list. All (λ rec. 1 ≤ rec.weight) list) lists → IsWideShare phi cut.capacity → AreLines report.lines
         → IsReportOf cut phi report → IsSound report lists cut.capacity phi }
 {
@@ -53,7 +53,7 @@ pub fn reports_are_sound()
 /// shards' lists, if the base of each shard represents its list.
 pub fn reports_of_the_core_are_sound()
     ensures { (core : CoreValue) (events : List Event) (caller : ℕ) (cut : CutValue) (phi : ℕ) (report : Report) → IsCore core.shards
-        → All (HasShape (length core.shards) (capacity_of core.shards)) core.cuts → BasesStand core.shards
+        → All (HasShape (length core.shards) (capacity_of core.shards)) core.cuts → BasesRepresent core.shards
         → All (λ list. All (λ rec. 1 ≤ rec.weight) list) (lists_of core.shards)
         → slice_get (run core events).cuts caller ≡ Some cut → ReadsEach caller core events → IsCut cut
         → IsWideShare phi cut.capacity → AreLines report.lines → IsReportOf cut phi report

@@ -2,7 +2,7 @@
 
 ghost use Rattle.std.specs.Prelude.{◌≡◌, ◌≤◌, ◌<◌, List, All, IfOk};
 ghost use Rattle.prefix_lattice.specs.{RecordValue, total_limit};
-ghost use Rattle.shard_state.specs.{total_of_cut, CutStandsFor};
+ghost use Rattle.shard_state.specs.{total_of_cut, CutRepresents};
 ghost use Rattle.hhh_output.specs.Report.{IsReportOf};
 ghost use Rattle.hhh_output.specs.SoundReport.{IsSound};
 ghost use Rattle.hhh_output.specs.Threshold.{million, IsWideShare};
@@ -30,7 +30,7 @@ pub fn report_of(alloc: Global, cut: &Cut, phi: u32) -> Result<Report, AllocErro
     requires wide { IsWideShare phi cut.now.capacity }
     requires bounded { total_of_cut cut.now < total_limit }
     ensures report { IfOk result (IsReportOf cut.now phi) }
-    ensures sound { IfOk result (λ report. (lists : List (List RecordValue)) → CutStandsFor cut.now lists
+    ensures sound { IfOk result (λ report. (lists : List (List RecordValue)) → CutRepresents cut.now lists
         → All (λ list. All (λ rec. 1 ≤ rec.weight) list) lists → IsSound report lists cut.now.capacity phi) }
 {
     reports_are_sound();

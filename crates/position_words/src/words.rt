@@ -1,6 +1,7 @@
 //! The words and slots of shards, and the steps on them.
 
 ghost use Rattle.std.specs.Prelude.{◌≡◌, ◌≤◌, ◌<◌, ◌*◌, ◌^◌, All, length, map, IfOk, None, Some};
+ghost use Rattle.prefix_lattice.specs.{most_records};
 ghost use Rattle.shard_state.specs.{AreShards};
 ghost use Rattle.position_words.specs.View.{first_view, gave, joined, looked, newcomer, split_off};
 ghost use Rattle.position_words.specs.Words.{IsOfShard, IsSeatOf, MayGive, view};
@@ -153,7 +154,7 @@ impl Words {
 
 // A word for each state: twice its position.
 fn starting_words(alloc: Global, states: &[ShardState]) -> Result<Vec<u64>, AllocError>
-    requires { All (λ state. state.position ≤ 2 ^ 24) states.now }
+    requires { All (λ state. state.position ≤ most_records) states.now }
     ensures { IfOk result (λ words. words.items ≡ map (λ state. 2 * state.position) states.now) }
 {
     let mut words = Vec::with_capacity(alloc, states.len())?;

@@ -6,12 +6,12 @@ use Rattle.std.proofs.lemmas.List.{length-map}
 use Rattle.std.proofs.lemmas.List.Elements.{All-nil, All-cons, All-head, All-tail, All-get_or}
 use Rattle.std.proofs.lemmas.Option.{slice_get-map, slice_get-get_or, slice_get_within, same_Some, get_or_from_slice_get}
 use Rattle.prefix_lattice.specs.{RecordValue}
-use Rattle.shard_state.specs.Snapshot.{SnapshotValue, SnapshotStandsFor}
-use Rattle.shard_state.specs.Cut.{CutValue, positions_of, CutStandsFor}
+use Rattle.shard_state.specs.Snapshot.{SnapshotValue, SnapshotRepresents}
+use Rattle.shard_state.specs.Cut.{CutValue, positions_of, CutRepresents}
 use Rattle.shard_state.specs.ShardState.{ShardValue, IsShard, snapshot_of}
 use Rattle.shard_state.specs.ShardCore.{CoreValue, MovedOn, after, run, capacity_of, HasShape, IsCore, met, position_in}
 use Rattle.shard_state.specs.ShardCore.{reads_of, last_of, NeverFall, latest, shard_in, snapshot_in, lists_of}
-use Rattle.shard_state.specs.ShardCore.{BasesStand, ReadsEach}
+use Rattle.shard_state.specs.ShardCore.{BasesRepresent, ReadsEach}
 use Rattle.shard_state.specs.declared.event.Event.{Event}
 use Rattle.shard_state.specs.declared.event.Event.TheVariants.{Fold, Read}
 use Rattle.shard_state.proofs.RepresentationLemmas.{stands-shard}
@@ -93,8 +93,8 @@ latest_is_last state before (first ∷ next ∷ later) position last =
 
 -- a snapshot that was read stands for the shard's list
 latest_stands : (state : ShardValue) (before : SnapshotValue) (reads : List ℕ) (least : ℕ)
-    → SnapshotStandsFor state.base state.list → state.base.position ≤ least → NeverFall least reads
-    → All (λ p. p ≤ length state.list) reads → SnapshotStandsFor before state.list → SnapshotStandsFor (latest state before reads) state.list
+    → SnapshotRepresents state.base state.list → state.base.position ≤ least → NeverFall least reads
+    → All (λ p. p ≤ length state.list) reads → SnapshotRepresents before state.list → SnapshotRepresents (latest state before reads) state.list
 latest_stands state before [] least base begun rise within stands = stands
 latest_stands state before (position ∷ later) least base begun rise within stands =
     let here : position ≤ length state.list = All-head (λ p. p ≤ length state.list) position later within in
@@ -103,8 +103,8 @@ latest_stands state before (position ∷ later) least base begun rise within sta
     (All-tail (λ p. p ≤ length state.list) position later within) (stands-shard (record state { position = position }) base from here)
 
 pub read_stands : (state : ShardValue) (before : SnapshotValue) (reads : List ℕ) (least : ℕ)
-    → SnapshotStandsFor state.base state.list → state.base.position ≤ least → NeverFall least reads
-    → All (λ p. p ≤ length state.list) reads → 1 ≤ length reads → SnapshotStandsFor (latest state before reads) state.list
+    → SnapshotRepresents state.base state.list → state.base.position ≤ least → NeverFall least reads
+    → All (λ p. p ≤ length state.list) reads → 1 ≤ length reads → SnapshotRepresents (latest state before reads) state.list
 read_stands state before [] least base begun rise within some = absurd (omega arith)
 read_stands state before (position ∷ later) least base begun rise within some =
     let here : position ≤ length state.list = All-head (λ p. p ≤ length state.list) position later within in
@@ -201,8 +201,8 @@ left events core caller shard cut kept shapes is_cut in_shards =
 
 -- a cut in which each shard was read stands for the shards' lists, where their bases do
 pub stands_run : (events : List Event) (core : CoreValue) (caller : ℕ) (cut : CutValue) → IsCore core.shards
-    → All (HasShape (length core.shards) (capacity_of core.shards)) core.cuts → BasesStand core.shards → slice_get (run core events).cuts caller ≡ Some cut
-    → ReadsEach caller core events → CutStandsFor cut (lists_of core.shards)
+    → All (HasShape (length core.shards) (capacity_of core.shards)) core.cuts → BasesRepresent core.shards → slice_get (run core events).cuts caller ≡ Some cut
+    → ReadsEach caller core events → CutRepresents cut (lists_of core.shards)
 stands_run events core caller cut is_core shapes bases is_cut reads =
     let kept : All IsShard core.shards = is_core.kept in
     let in_run : caller < length (run core events).cuts = slice_get_within (run core events).cuts caller cut is_cut in
@@ -226,17 +226,17 @@ stands_run events core caller cut is_core shapes bases is_cut reads =
           ∙ read_alike here.state here.before met_here (reads k in_shards)
           ∙ of_core
           ∙ sym same_capacity;
-      shards = zip_from_places SnapshotStandsFor cut.shards (lists_of core.shards) (many ∙ sym (length-map core.shards list_of))
+      shards = zip_from_places SnapshotRepresents cut.shards (lists_of core.shards) (many ∙ sym (length-map core.shards list_of))
           (λ k snapshot list is_snapshot is_list.
           let in_cut : k < length cut.shards = slice_get_within cut.shards k snapshot is_snapshot in
           let in_shards : k < length core.shards = omega arith in
           let here : Left events core caller k cut = left events core caller k cut kept shapes is_cut in_shards in
           let state = here.state in
           let met_here = reads_of caller k core events in
-          let base : SnapshotStandsFor state.base state.list =
-          subst (λ (s : ShardValue). SnapshotStandsFor s.base s.list) (get_or_from_slice_get core.shards k state no_shard here.is)
-          (All-get_or (λ (s : ShardValue). SnapshotStandsFor s.base s.list) core.shards k no_shard in_shards bases) in
-          let stands : SnapshotStandsFor (latest state here.before met_here) state.list =
+          let base : SnapshotRepresents state.base state.list =
+          subst (λ (s : ShardValue). SnapshotRepresents s.base s.list) (get_or_from_slice_get core.shards k state no_shard here.is)
+          (All-get_or (λ (s : ShardValue). SnapshotRepresents s.base s.list) core.shards k no_shard in_shards bases) in
+          let stands : SnapshotRepresents (latest state here.before met_here) state.list =
           read_stands state here.before met_here state.position base here.is_shard.begun (never_fall events core caller k state here.is here.is_shard.within)
           (reads_within events core caller k state here.is here.is_shard.within) (reads k in_shards) in
           let same_snapshot : latest state here.before met_here ≡ snapshot =
@@ -244,7 +244,7 @@ stands_run events core caller cut is_core shapes bases is_cut reads =
           let same_list : state.list ≡ list =
           same_Some state.list list
           (sym (slice_get-map list_of core.shards k ∙ ap (option_map list_of) here.is) ∙ is_list) in
-          subst (λ s. SnapshotStandsFor s list) same_snapshot (subst (SnapshotStandsFor (latest state here.before met_here)) same_list stands));
+          subst (λ s. SnapshotRepresents s list) same_snapshot (subst (SnapshotRepresents (latest state here.before met_here)) same_list stands));
     }
 
 -- its position of a shard is that of the last read

@@ -1,12 +1,12 @@
 -- Worked examples of events, and of what reads leave.
 use Rattle.std.proofs.Common.{◌≡◌, zero, suc, ◌+◌, List, [], ◌∷◌, None, Some, refl, arith, ◌*◌}
 use Rattle.std.proofs.lemmas.List.Elements.{All-from_recursion}
-use Rattle.shard_state.specs.Snapshot.{empty_snapshot, SnapshotStandsFor}
+use Rattle.shard_state.specs.Snapshot.{empty_snapshot, SnapshotRepresents}
 use Rattle.shard_state.specs.Cut.{empty_cut, most_snapshots}
 use Rattle.shard_state.specs.ShardState.{ShardValue, IsShard, folded, snapshot_of}
 use Rattle.shard_state.specs.ShardCore.{CoreValue, changed, with_read, after, run, capacity_of, AreShards, IsCore}
 use Rattle.shard_state.specs.ShardCore.{HasShape, IsEventFor, position_in, met, reads_of, last_of, NeverFall}
-use Rattle.shard_state.specs.ShardCore.{latest, shard_in, snapshot_in, lists_of, BasesStand, ReadsEach}
+use Rattle.shard_state.specs.ShardCore.{latest, shard_in, snapshot_in, lists_of, BasesRepresent, ReadsEach}
 use Rattle.shard_state.specs.declared.event.Event.{Event}
 use Rattle.shard_state.specs.declared.event.Event.TheVariants.{Fold, Read}
 use Rattle.shard_state.proofs.RepresentationLemmas.{stands-empty}
@@ -136,8 +136,8 @@ pub one_list : lists_of core.shards ≡ first ∷ []
 one_list = refl
 
 -- no record is counted at the start
-pub base_stands : BasesStand core.shards
-base_stands = All-from_recursion (λ (s : ShardValue). SnapshotStandsFor s.base s.list) core.shards (stands-empty 4 first, tt)
+pub base_stands : BasesRepresent core.shards
+base_stands = All-from_recursion (λ (s : ShardValue). SnapshotRepresents s.base s.list) core.shards (stands-empty 4 first, tt)
 
 pub both_callers_read_each : ReadsEach 1 core events
 both_callers_read_each zero below = omega arith

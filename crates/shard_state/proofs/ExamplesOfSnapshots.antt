@@ -6,8 +6,8 @@ use Rattle.space_saving.specs.declared.entry.Entry.{Entry}
 use Rattle.space_saving.specs.{TableValue}
 use Rattle.shard_state.specs.Snapshot.{SnapshotValue, IsSnapshot, no_entries, empty_snapshot, entries_at, table_at}
 use Rattle.shard_state.specs.Snapshot.{tables_of, total_of, IsLike, AreTables, AreParts, copied_from}
-use Rattle.shard_state.specs.Snapshot.{SnapshotStandsFor}
-use Rattle.shard_state.specs.Cut.{CutValue, IsCut, empty_cut, positions_of, total_of_cut, CutStandsFor, records_before}
+use Rattle.shard_state.specs.Snapshot.{SnapshotRepresents}
+use Rattle.shard_state.specs.Cut.{CutValue, IsCut, empty_cut, positions_of, total_of_cut, CutRepresents, records_before}
 use Rattle.shard_state.specs.ShardState.{folded, snapshot_of}
 use Rattle.shard_state.proofs.EmptyTableLemmas.{empty_table, IsSnapshot-empty, IsCut-empty}
 use Rattle.shard_state.proofs.RepresentationLemmas.{stands-empty, stands-shard}
@@ -104,14 +104,14 @@ pub positions_of_no_record : positions_of (empty_cut 2 4) ≡ 0 ∷ 0 ∷ []
 positions_of_no_record = refl
 
 -- the tables are those of the six packets
-pub stands_for_the_first : SnapshotStandsFor at_the_end first
+pub stands_for_the_first : SnapshotRepresents at_the_end first
 stands_for_the_first = stands-shard (folded 9 shard) (stands-empty 4 first) (omega arith) (omega arith)
 
 -- it counts more than the one record there is
-pub stands_for_no_shorter_list : SnapshotStandsFor at_the_end (x ∷ []) → ⊥
+pub stands_for_no_shorter_list : SnapshotRepresents at_the_end (x ∷ []) → ⊥
 stands_for_no_shorter_list stands = omega (arith, stands.within)
 
-pub stands_for_two_lists : CutStandsFor cut (first ∷ (u ∷ u ∷ []) ∷ [])
+pub stands_for_two_lists : CutRepresents cut (first ∷ (u ∷ u ∷ []) ∷ [])
 stands_for_two_lists = record {
   alike =
       All-cons (λ (s : SnapshotValue). s.capacity ≡ 4) at_the_end (empty_snapshot 4 ∷ []) refl
@@ -121,11 +121,11 @@ stands_for_two_lists = record {
 }
 
 -- tables of another capacity are not those of the cut
-pub stands_for_no_other_capacity : CutStandsFor (record { capacity = 8; shards = at_the_end ∷ [] }) (first ∷ []) → ⊥
+pub stands_for_no_other_capacity : CutRepresents (record { capacity = 8; shards = at_the_end ∷ [] }) (first ∷ []) → ⊥
 stands_for_no_other_capacity stands = let same : 4 ≡ 8 = All-head (λ (s : SnapshotValue). s.capacity ≡ 8) at_the_end [] stands.alike in omega (arith, same)
 
 -- a cut of two shards stands for two lists
-pub stands_for_no_single_list : CutStandsFor cut (first ∷ []) → ⊥
+pub stands_for_no_single_list : CutRepresents cut (first ∷ []) → ⊥
 stands_for_no_single_list stands = stands.shards.1
 
 pub before_two_and_one : records_before (first ∷ (u ∷ u ∷ []) ∷ []) (2 ∷ 1 ∷ []) ≡ x ∷ x ∷ u ∷ []

@@ -7,8 +7,8 @@ use Rattle.std.proofs.lemmas.List.Elements.{All-head, All-tail, All-take}
 use Rattle.prefix_lattice.specs.{RecordValue, NodeValue, IsNode, index_of, node_at, PrefixValue, IsPrefix, node_of, key_of, weight_of, total_weight}
 use Rattle.space_saving.specs.declared.entry.Entry.{Entry}
 use Rattle.space_saving.specs.{Interval, interval_in, total_count}
-use Rattle.shard_state.specs.Snapshot.{records_table, fold_at, SnapshotValue, IsSnapshot, empty_snapshot, entries_at, total_of, SnapshotStandsFor}
-use Rattle.shard_state.specs.Cut.{CutValue, IsCut, positions_of, total_of_cut, CutStandsFor, records_before}
+use Rattle.shard_state.specs.Snapshot.{records_table, fold_at, SnapshotValue, IsSnapshot, empty_snapshot, entries_at, total_of, SnapshotRepresents}
+use Rattle.shard_state.specs.Cut.{CutValue, IsCut, positions_of, total_of_cut, CutRepresents, records_before}
 use Rattle.shard_state.specs.ShardState.{ShardValue, snapshot_of}
 use Rattle.shard_state.specs.Weights.{HoldsNarrowly, HoldsWeightOver, interval_of}
 use Rattle.prefix_lattice.proofs.NodePlaceLemmas.{IsNode-node_at, index_of-node_at}
@@ -17,12 +17,12 @@ use Rattle.shard_state.proofs.TableFoldLemmas.{fold_at-append, entries_at-advanc
 use Rattle.shard_state.proofs.ShardStateLemmas.{take_further}
 
 -- empty tables stand for every list
-pub stands-empty : (capacity : ℕ) (list : List RecordValue) → SnapshotStandsFor (empty_snapshot capacity) list
+pub stands-empty : (capacity : ℕ) (list : List RecordValue) → SnapshotRepresents (empty_snapshot capacity) list
 stands-empty capacity list = record { within = omega arith; shape = length-no_entries; tables = λ node is_node. none_at (index_of node) }
 
 -- a shard whose base stands for its list stands for it at each position
-pub stands-shard : (shard : ShardValue) → SnapshotStandsFor shard.base shard.list → shard.base.position ≤ shard.position → shard.position ≤ length shard.list
-    → SnapshotStandsFor (snapshot_of shard) shard.list
+pub stands-shard : (shard : ShardValue) → SnapshotRepresents shard.base shard.list → shard.base.position ≤ shard.position → shard.position ≤ length shard.list
+    → SnapshotRepresents (snapshot_of shard) shard.list
 stands-shard shard stands begun within =
     let records = slice_range shard.list shard.base.position shard.position in
     let capacity = shard.base.capacity in
@@ -43,13 +43,13 @@ pub record TablesHold : Type 0 where
   pub total : (capacity : ℕ) (node : NodeValue) (records : List RecordValue) → 1 ≤ capacity
       → total_count (records_table capacity node records) ≡ total_weight records
 
-pub total_stands : (snapshot : SnapshotValue) (list : List RecordValue) → TablesHold → SnapshotStandsFor snapshot list → 1 ≤ snapshot.capacity
+pub total_stands : (snapshot : SnapshotValue) (list : List RecordValue) → TablesHold → SnapshotRepresents snapshot list → 1 ≤ snapshot.capacity
     → total_of snapshot ≡ total_weight (take snapshot.position list)
 total_stands snapshot list hold stands some =
     ap total_count (stands.tables (node_at 0) (IsNode-node_at 0 (omega arith))) ∙ hold.total snapshot.capacity (node_at 0) (take snapshot.position list) some
 
 pub weight_stands : (snapshot : SnapshotValue) (list : List RecordValue) (prefix : PrefixValue) → TablesHold
-    → SnapshotStandsFor snapshot list → 1 ≤ snapshot.capacity
+    → SnapshotRepresents snapshot list → 1 ≤ snapshot.capacity
     → IsPrefix prefix → All (λ (r : RecordValue). 1 ≤ r.weight) list
     → HoldsNarrowly (interval_of prefix snapshot) snapshot.capacity (weight_of prefix (take snapshot.position list)) (total_of snapshot)
 weight_stands snapshot list prefix hold stands some valid weighed =
@@ -64,7 +64,7 @@ weight_stands snapshot list prefix hold stands some valid weighed =
 
 -- the totals of snapshots that stand for lists
 totals_before : (snapshots : List SnapshotValue) (lists : List (List RecordValue)) → TablesHold
-    → AllZip SnapshotStandsFor snapshots lists → All IsSnapshot snapshots
+    → AllZip SnapshotRepresents snapshots lists → All IsSnapshot snapshots
     → sum_by total_of snapshots ≡ total_weight (records_before lists (map (λ (s : SnapshotValue). s.position) snapshots))
 totals_before [] [] hold stand kept = refl
 totals_before [] (list ∷ lists) hold stand kept = absurd stand
@@ -78,13 +78,13 @@ totals_before (snapshot ∷ snapshots) (list ∷ lists) hold stand kept =
     ∙ ap (λ n. total_weight (take snapshot.position list) + n) (totals_before snapshots lists hold stand.1 (All-tail IsSnapshot snapshot snapshots kept))
     ∙ sym (sum_by-append (λ (r : RecordValue). r.weight) (take snapshot.position list) later)
 
-pub cut_total_stands : (cut : CutValue) (lists : List (List RecordValue)) → TablesHold → IsCut cut → CutStandsFor cut lists
+pub cut_total_stands : (cut : CutValue) (lists : List (List RecordValue)) → TablesHold → IsCut cut → CutRepresents cut lists
     → total_of_cut cut ≡ total_weight (records_before lists (positions_of cut))
 cut_total_stands cut lists hold is stands = totals_before cut.shards lists hold stands.shards is.kept
 
 -- snapshots of one capacity at one position that stand for one list are equal
 one_snapshot : (snapshot other : SnapshotValue) (list : List RecordValue) → snapshot.capacity ≡ other.capacity → snapshot.position ≡ other.position
-    → SnapshotStandsFor snapshot list → SnapshotStandsFor other list → snapshot ≡ other
+    → SnapshotRepresents snapshot list → SnapshotRepresents other list → snapshot ≡ other
 one_snapshot snapshot other list capacity position stands other_stands =
     let table : (place : ℕ) → place < length snapshot.tables → get_or snapshot.tables place [] ≡ get_or other.tables place [] = λ place within.
     let is_node : IsNode (node_at place) = IsNode-node_at place (omega (arith, within, stands.shape)) in
@@ -101,7 +101,7 @@ one_snapshot snapshot other list capacity position stands other_stands =
 one_row : (snapshots others : List SnapshotValue) (lists : List (List RecordValue)) (capacity : ℕ)
     → All (λ (s : SnapshotValue). s.capacity ≡ capacity) snapshots → All (λ (s : SnapshotValue). s.capacity ≡ capacity) others
     → map (λ (s : SnapshotValue). s.position) snapshots ≡ map (λ (s : SnapshotValue). s.position) others
-    → AllZip SnapshotStandsFor snapshots lists → AllZip SnapshotStandsFor others lists → snapshots ≡ others
+    → AllZip SnapshotRepresents snapshots lists → AllZip SnapshotRepresents others lists → snapshots ≡ others
 one_row [] [] lists capacity alike other_alike positions stand other_stand = refl
 one_row [] (other ∷ others) [] capacity alike other_alike positions stand other_stand = absurd other_stand
 one_row [] (other ∷ others) (list ∷ lists) capacity alike other_alike positions stand other_stand = absurd stand
@@ -124,7 +124,7 @@ one_row (snapshot ∷ snapshots) (other ∷ others) (list ∷ lists) capacity al
 
 -- cuts of one capacity at the same positions that stand for the same lists are equal
 pub one_cut : (cut other : CutValue) (lists : List (List RecordValue)) → cut.capacity ≡ other.capacity → positions_of cut ≡ positions_of other
-    → CutStandsFor cut lists → CutStandsFor other lists → cut ≡ other
+    → CutRepresents cut lists → CutRepresents other lists → cut ≡ other
 one_cut cut other lists capacity positions stands other_stands =
     let other_alike : All (λ (s : SnapshotValue). s.capacity ≡ cut.capacity) other.shards =
     subst (λ c. All (λ (s : SnapshotValue). s.capacity ≡ c) other.shards) (sym capacity) other_stands.alike in

@@ -1,7 +1,7 @@
 -- A cut, as contracts see it.
 use Rattle.std.specs.Prelude.{ℕ, ◌≡◌, ◌≤◌, List, length, map, sum_by, All, [], ◌∷◌, ◌++◌, take}
 use Rattle.std.proofs.Math.ListN.{replicate}
-use Rattle.shard_state.specs.Snapshot.{SnapshotValue, IsSnapshot, empty_snapshot, total_of, SnapshotStandsFor}
+use Rattle.shard_state.specs.Snapshot.{SnapshotValue, IsSnapshot, empty_snapshot, total_of, SnapshotRepresents}
 use Rattle.std.specs.List.{AllZip}
 use Rattle.prefix_lattice.specs.{RecordValue}
 use Rattle.space_saving.specs.{least_capacity, most_capacity}
@@ -37,9 +37,9 @@ abbrev pub empty_cut : ℕ → ℕ → CutValue
 empty_cut shards capacity = record { capacity = capacity; shards = replicate shards (empty_snapshot capacity) }
 
 -- a cut represents lists of records: each snapshot has the capacity of the cut and represents the list of its shard
-pub record CutStandsFor (cut : CutValue) (lists : List (List RecordValue)) : Type 0 where
+pub record CutRepresents (cut : CutValue) (lists : List (List RecordValue)) : Type 0 where
   pub alike : All (λ snapshot. snapshot.capacity ≡ cut.capacity) cut.shards
-  pub shards : AllZip SnapshotStandsFor cut.shards lists
+  pub shards : AllZip SnapshotRepresents cut.shards lists
 
 -- the records before positions: the first n records of each list, n being its position, one list after the other
 abbrev pub records_before : List (List RecordValue) → List ℕ → List RecordValue

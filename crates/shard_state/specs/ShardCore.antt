@@ -5,7 +5,7 @@ use Rattle.shard_state.specs.ShardState.{ShardValue, IsShard, folded, snapshot_o
 use Rattle.shard_state.specs.declared.event.Event.{Event}
 use Rattle.shard_state.specs.declared.event.Event.TheVariants.{Fold, Read}
 use Rattle.prefix_lattice.specs.{RecordValue, most_shards}
-use Rattle.shard_state.specs.Snapshot.{SnapshotValue, SnapshotStandsFor}
+use Rattle.shard_state.specs.Snapshot.{SnapshotValue, SnapshotRepresents}
 
 -- what events act on: the states of the shards, and one cut for each caller
 pub record CoreValue : Type 0 where
@@ -111,8 +111,8 @@ abbrev pub lists_of : List ShardValue → List (List RecordValue)
 lists_of shards = map (λ shard. shard.list) shards
 
 -- the base of each shard represents its list
-abbrev pub BasesStand : List ShardValue → Type 0
-BasesStand shards = All (λ shard. SnapshotStandsFor shard.base shard.list) shards
+abbrev pub BasesRepresent : List ShardValue → Type 0
+BasesRepresent shards = All (λ shard. SnapshotRepresents shard.base shard.list) shards
 
 -- in a run of events a caller reads each of these shards at least once
 abbrev pub ReadsEach : ℕ → CoreValue → List Event → Type 0

@@ -104,7 +104,7 @@ copied_from capacity position tables = record { capacity = capacity; position = 
 
 -- a snapshot represents a list of records: each of its 25 tables is that of the list's first n records,
 -- n being the snapshot's position
-pub record SnapshotStandsFor (snapshot : SnapshotValue) (list : List RecordValue) : Type 0 where
+pub record SnapshotRepresents (snapshot : SnapshotValue) (list : List RecordValue) : Type 0 where
   pub within : snapshot.position ≤ length list
   pub shape : length snapshot.tables ≡ node_count
   pub tables : (node : NodeValue) → IsNode node → entries_at node snapshot ≡ records_table snapshot.capacity node (take snapshot.position list)

@@ -3,11 +3,11 @@
 ghost use Rattle.std.specs.Prelude.{◌≡◌, ◌≤◌, ℕ, List, All, Some, length, slice_get, take};
 ghost use Rattle.prefix_lattice.specs.{RecordValue, NodeValue, PrefixValue, IsPrefix, weight_of, total_weight};
 ghost use Rattle.space_saving.specs.{total_count};
-ghost use Rattle.shard_state.specs.Snapshot.{records_table, SnapshotValue, empty_snapshot, total_of, SnapshotStandsFor};
-ghost use Rattle.shard_state.specs.Cut.{CutValue, IsCut, positions_of, total_of_cut, CutStandsFor, records_before};
+ghost use Rattle.shard_state.specs.Snapshot.{records_table, SnapshotValue, empty_snapshot, total_of, SnapshotRepresents};
+ghost use Rattle.shard_state.specs.Cut.{CutValue, IsCut, positions_of, total_of_cut, CutRepresents, records_before};
 ghost use Rattle.shard_state.specs.ShardState.{ShardValue, snapshot_of};
 ghost use Rattle.shard_state.specs.Weights.{HoldsNarrowly, HoldsWeightOver, interval_of};
-ghost use Rattle.shard_state.specs.ShardCore.{CoreValue, HasShape, IsCore, capacity_of, run, BasesStand, ReadsEach, lists_of};
+ghost use Rattle.shard_state.specs.ShardCore.{CoreValue, HasShape, IsCore, capacity_of, run, BasesRepresent, ReadsEach, lists_of};
 ghost use Rattle.shard_state.specs.declared.event.Event.{Event};
 
 use prefix_lattice::keys_tell_covering;
@@ -29,12 +29,12 @@ pub fn tables_hold_weights()
 
 /// A snapshot that represents a list holds the weights of the records before its position.
 pub fn snapshots_hold_weights()
-    ensures weight { (snapshot : SnapshotValue) (list : List RecordValue) (prefix : PrefixValue) → SnapshotStandsFor snapshot list → 1 ≤ snapshot.capacity
+    ensures weight { (snapshot : SnapshotValue) (list : List RecordValue) (prefix : PrefixValue) → SnapshotRepresents snapshot list → 1 ≤ snapshot.capacity
         → IsPrefix prefix → All (λ rec. 1 ≤ rec.weight) list
         → HoldsNarrowly (interval_of prefix snapshot) snapshot.capacity (weight_of prefix (take snapshot.position list)) (total_of snapshot) }
-    ensures total { (snapshot : SnapshotValue) (list : List RecordValue) → SnapshotStandsFor snapshot list → 1 ≤ snapshot.capacity
+    ensures total { (snapshot : SnapshotValue) (list : List RecordValue) → SnapshotRepresents snapshot list → 1 ≤ snapshot.capacity
         → total_of snapshot ≡ total_weight (take snapshot.position list) }
-    ensures cut_total { (cut : CutValue) (lists : List (List RecordValue)) → IsCut cut → CutStandsFor cut lists
+    ensures cut_total { (cut : CutValue) (lists : List (List RecordValue)) → IsCut cut → CutRepresents cut lists
         → total_of_cut cut ≡ total_weight (records_before lists (positions_of cut)) }
 {
     tables_hold_weights();
@@ -43,20 +43,20 @@ pub fn snapshots_hold_weights()
 /// Empty tables represent each list, and if a shard's base represents its list, then so does the shard's snapshot
 /// at each position.
 pub fn shards_stand()
-    ensures begins { (capacity : ℕ) (list : List RecordValue) → SnapshotStandsFor (empty_snapshot capacity) list }
-    ensures goes_on { (shard : ShardValue) → SnapshotStandsFor shard.base shard.list → shard.base.position ≤ shard.position
-        → shard.position ≤ length shard.list → SnapshotStandsFor (snapshot_of shard) shard.list }
+    ensures begins { (capacity : ℕ) (list : List RecordValue) → SnapshotRepresents (empty_snapshot capacity) list }
+    ensures goes_on { (shard : ShardValue) → SnapshotRepresents shard.base shard.list → shard.base.position ≤ shard.position
+        → shard.position ≤ length shard.list → SnapshotRepresents (snapshot_of shard) shard.list }
 {}
 
 /// Two cuts of one capacity, at the same positions, that represent the same lists are equal.
 pub fn standing_cuts_are_equal()
     ensures { (cut other : CutValue) (lists : List (List RecordValue)) → cut.capacity ≡ other.capacity → positions_of cut ≡ positions_of other
-        → CutStandsFor cut lists → CutStandsFor other lists → cut ≡ other }
+        → CutRepresents cut lists → CutRepresents other lists → cut ≡ other }
 {}
 
 /// After a run of events, the cut of a caller that read every shard represents the lists, if the bases do.
 pub fn runs_stand()
     ensures { (core : CoreValue) (events : List Event) (caller : ℕ) (cut : CutValue) → IsCore core.shards
-        → All (HasShape (length core.shards) (capacity_of core.shards)) core.cuts → BasesStand core.shards
-        → slice_get (run core events).cuts caller ≡ Some cut → ReadsEach caller core events → CutStandsFor cut (lists_of core.shards) }
+        → All (HasShape (length core.shards) (capacity_of core.shards)) core.cuts → BasesRepresent core.shards
+        → slice_get (run core events).cuts caller ≡ Some cut → ReadsEach caller core events → CutRepresents cut (lists_of core.shards) }
 {}

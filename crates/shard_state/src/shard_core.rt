@@ -2,9 +2,9 @@
 
 ghost use Rattle.std.specs.Prelude.{◌≡◌, ◌<◌, ◌≤◌, ℕ, length, slice_get, Some, All};
 ghost use Rattle.shard_state.specs.Snapshot.{SnapshotValue};
-ghost use Rattle.shard_state.specs.Cut.{CutValue, positions_of, CutStandsFor};
+ghost use Rattle.shard_state.specs.Cut.{CutValue, positions_of, CutRepresents};
 ghost use Rattle.shard_state.specs.ShardState.{ShardValue, IsShard, folded};
-ghost use Rattle.shard_state.specs.ShardCore.{AreShards, HasShape, IsCore, IsEventFor, after, capacity_of, changed, run, with_read, BasesStand, MovedOn, NeverFall, ReadsEach, last_of, latest, lists_of, reads_of, snapshot_in};
+ghost use Rattle.shard_state.specs.ShardCore.{AreShards, HasShape, IsCore, IsEventFor, after, capacity_of, changed, run, with_read, BasesRepresent, MovedOn, NeverFall, ReadsEach, last_of, latest, lists_of, reads_of, snapshot_in};
 
 use crate::{Cut, Event, ShardState};
 use std::marker::Model;
@@ -77,8 +77,8 @@ impl Core {
             → NeverFall state.position (reads_of caller shard (record { shards = self.old; cuts = cuts.old.items }) events.now) }
 
         // If the bases represent the lists, so does each cut in which every shard was read.
-        ensures stands { BasesStand self.old → (caller : ℕ) (cut : CutValue) → slice_get cuts.new.items caller ≡ Some cut
-            → ReadsEach caller (record { shards = self.old; cuts = cuts.old.items }) events.now → CutStandsFor cut (lists_of self.old) }
+        ensures stands { BasesRepresent self.old → (caller : ℕ) (cut : CutValue) → slice_get cuts.new.items caller ≡ Some cut
+            → ReadsEach caller (record { shards = self.old; cuts = cuts.old.items }) events.now → CutRepresents cut (lists_of self.old) }
 
         // The numbers of shards and callers are unchanged, and the cuts still have the core's shape.
         ensures shards_stay { length self.new ≡ length self.old }

@@ -1,6 +1,7 @@
 //! The single steps on words and slots, each one call of the table.
 
 ghost use Rattle.std.specs.Prelude.{◌≡◌, ◌<◌, ◌≤◌, ◌^◌, ◌/◌, [], ◌∷◌, length, None, Some};
+ghost use Rattle.prefix_lattice.specs.{most_records};
 ghost use Rattle.position_words.specs.View.{gave, looked};
 ghost use Rattle.position_words.specs.Words.{IsSeatOf, view};
 ghost use Rattle.position_words.specs.Step.{HasTaken, IsReady, IsSame, Marks, Meets};
@@ -68,7 +69,7 @@ impl Words {
     // A store of a shard's word, which gives the slot back.
     pub(super) fn store(&self, shard: u32, position: u64, seat: &mut Seat)
         requires id { seat.old.table_id ≡ self.now.id }
-        requires small { position ≤ 2 ^ 24 }
+        requires small { position ≤ most_records }
         requires ready { IsReady self.now.opening shard position seat.old.me }
         ensures same { IsSame seat.old seat.new }
         ensures me { seat.new.me ≡ (gave position (view seat.old), []) }
