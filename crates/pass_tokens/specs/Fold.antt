@@ -12,12 +12,13 @@ use Rattle.pass_tokens.specs.declared.board.TryFold.TheVariants.{Done, Busy}
 abbrev pub folded_once : Folded → Trail → Trail
 folded_once block trail = record trail { seen = block.to; folds = trail.folds ++ block ∷ [] }
 
--- a fold from one position to another is that of the pure core: the shard, which starts as `state`, was at the first,
--- and a fold of a block brings it to the other
+-- a fold from one position to another, none before it, is that of the pure core: the shard, which starts as `state`, was
+-- at the first, and a fold of a block brings it to the other
 pub record IsFoldOf (opening : List ShardValue) (shard block : ℕ) (done : Folded) : Type 0 where
   pub state : ShardValue
   pub is : slice_get opening shard ≡ Some state
   pub core : state_at done.to state ≡ folded block (state_at done.from state)
+  pub forward : done.from ≤ done.to
 
 -- a fold that was made: it began at no position before what the pass had seen, and its step is all that the view gets
 pub record Folds (opening : List ShardValue) (shard block : ℕ) (before now : View) (done : Folded) : Type 0 where
