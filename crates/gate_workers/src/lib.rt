@@ -8,3 +8,6 @@ mod gate;
 pub use calling::call_reports;
 pub use feeding::feed_all;
 pub use gate::{Gate, OpenGate};
+
+#[cfg(test)]
+mod tests;

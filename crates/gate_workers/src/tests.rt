@@ -1,0 +1,232 @@
+ghost use Rattle.std.specs.Prelude.{◌≡◌, ◌<◌, ◌≤◌, length, IfOk};
+ghost use Rattle.shard_state.specs.{AreShards, HasShape, capacity_of};
+ghost use Rattle.pass_tokens.specs.{IsPassOf};
+
+use super::*;
+use hhh_output::Reports;
+use pass_tokens::{Board, Pass};
+use prefix_lattice::{Record, RecordList};
+use shard_state::{Cut, ShardState};
+use std::alloc::{AllocError, Global};
+use std::sync::Wait;
+use std::sync::atomic::{AtomicU64, Ordering};
+use std::test::Fail;
+use std::thread;
+use std::thread::join;
+
+// How often a thread looks before it gives up.
+const TURNS: u32 = 10_000_000;
+
+// The shards of eleven packets that were dealt to two shards in turn: six and five packets, in tables of capacity 4.
+fn worked_states(alloc: Global) -> Result<Vec<ShardState>, AllocError>
+    ensures { IfOk result (λ states. AreShards states.items × (length states.items ≡ 2) × (capacity_of states.items ≡ 4)) }
+{
+    let mut states = Vec::new(alloc);
+    states.push(started(alloc, &[1, 1, 1, 1, 1, 2])?)?;
+    states.push(started(alloc, &[1, 3, 4, 5, 6])?)?;
+    Ok(states)
+}
+
+// One shard of eight packets.
+fn eight_packets(alloc: Global) -> Result<Vec<ShardState>, AllocError>
+    ensures { IfOk result (λ states. AreShards states.items × (length states.items ≡ 1) × (capacity_of states.items ≡ 4)) }
+{
+    let mut states = Vec::new(alloc);
+    states.push(started(alloc, &[1, 2, 1, 3, 1, 2, 1, 4])?)?;
+    Ok(states)
+}
+
+// A shard with packets from N.0.0.1 to (100 + N).0.0.1.
+fn started(alloc: Global, packets: &[u8]) -> Result<ShardState, AllocError>
+    requires { length packets.now ≤ 8 }
+    ensures { IfOk result (λ state. state.base.capacity ≡ 4) }
+{
+    let list = list_of(alloc, packets)?;
+    ShardState::start(alloc, list, 4)
+}
+
+fn list_of(alloc: Global, packets: &[u8]) -> Result<RecordList, AllocError>
+    ensures { IfOk result (λ list. length list ≡ length packets.now) }
+{
+    let mut list = RecordList::new(alloc);
+    for packet in packets {
+        let number = u32::from(*packet);
+        let src = number << 24 | 1;
+        let dst = (number + 100) << 24 | 1;
+        list.push(Record {
+            src,
+            dst,
+            weight: 1,
+        })?;
+    }
+    Ok(list)
+}
+
+// A worker with blocks of one record.
+fn feeds<R: Wait, G: Gate>(rt: &R, board: &Board, pass: Pass, worker: u32, gate: &G) -> Pass
+    requires { IsPassOf board.now pass }
+    ensures { IsPassOf board.now result }
+{
+    feed_all(rt, board, pass, worker, 1, gate)
+}
+
+// A caller of two rounds.
+fn calls<R: Wait, G: Gate>(
+    rt: &R,
+    alloc: Global,
+    board: &Board,
+    pass: Pass,
+    cut: Cut,
+    gate: &G,
+) -> Result<Reports, AllocError>
+    requires pass { IsPassOf board.now pass }
+    requires capacity { capacity_of board.now.opening ≡ 4 }
+    requires shape { HasShape (length board.now.opening) 4 cut }
+{
+    let (_pass, reports) = call_reports(rt, alloc, board, pass, 0, 2, 500_000, cut, gate);
+    reports
+}
+
+// Waits until a number is at least this, for so many turns at most. Whether it was.
+fn reaches(number: &AtomicU64, least: u64) -> bool {
+    for _ in 0..TURNS {
+        if number.load(Ordering::SeqCst) >= least {
+            return true;
+        }
+        thread::yield_now();
+    }
+    false
+}
+
+// Holds each of two workers after its first fold until the other has folded too.
+#[derive(Drop)]
+struct Meeting {
+    first: AtomicU64,
+    second: AtomicU64,
+    missed: AtomicU64,
+}
+
+impl Gate for Meeting {
+    fn before_fold(&self, _worker: u32, _shard: u32) {}
+
+    fn after_fold(&self, worker: u32, _shard: u32) {
+        let (mine, other) = if worker == 0 {
+            (&self.first, &self.second)
+        } else {
+            (&self.second, &self.first)
+        };
+        if mine.fetch_add(1, Ordering::SeqCst) == 0 && !reaches(other, 1) {
+            self.missed.fetch_add(1, Ordering::SeqCst);
+        }
+    }
+
+    fn before_read(&self, _caller: u32, _round: u32) {}
+
+    fn after_read(&self, _caller: u32, _round: u32) {}
+}
+
+#[test]
+fn two_workers_feed_at_once(rt: HostRuntime) -> Result<(), Fail> {
+    let (board, mut first) = Board::start(rt.alloc(), worked_states(rt.alloc())?)?;
+    let second = board.split(&mut first);
+    let gate = Meeting {
+        first: AtomicU64::new(0),
+        second: AtomicU64::new(0),
+        missed: AtomicU64::new(0),
+    };
+    let (mut first, second) = join(
+        &rt,
+        || feeds(&rt, &board, first, 0, &gate),
+        || feeds(&rt, &board, second, 1, &gate),
+    );
+    drop(second);
+    assert_eq!(rt; gate.missed.load(Ordering::SeqCst), 0);
+    assert_eq!(rt;
+        (board.position(0, &mut first), board.position(1, &mut first)),
+        (6, 5)
+    );
+    Ok(())
+}
+
+// Holds a caller's first read until two folds were made, and the third fold until that read was made.
+#[derive(Drop)]
+struct Turnstile {
+    folds: AtomicU64,
+    reads: AtomicU64,
+    missed: AtomicU64,
+}
+
+impl Turnstile {
+    fn hold(&self, number: &AtomicU64, least: u64) {
+        if !reaches(number, least) {
+            self.missed.fetch_add(1, Ordering::SeqCst);
+        }
+    }
+}
+
+impl Gate for Turnstile {
+    fn before_fold(&self, _worker: u32, _shard: u32) {
+        if self.folds.load(Ordering::SeqCst) == 2 {
+            self.hold(&self.reads, 1);
+        }
+    }
+
+    fn after_fold(&self, _worker: u32, _shard: u32) {
+        self.folds.fetch_add(1, Ordering::SeqCst);
+    }
+
+    fn before_read(&self, _caller: u32, round: u32) {
+        if round == 0 {
+            self.hold(&self.folds, 2);
+        }
+    }
+
+    fn after_read(&self, _caller: u32, _round: u32) {
+        self.reads.fetch_add(1, Ordering::SeqCst);
+    }
+}
+
+#[test]
+fn a_caller_reads_between_two_folds(rt: HostRuntime) -> Result<(), Fail> {
+    let (board, mut first) = Board::start(rt.alloc(), eight_packets(rt.alloc())?)?;
+    let second = board.split(&mut first);
+    let cut = Cut::with_room(rt.alloc(), 1, 4)?;
+    let alloc = rt.alloc();
+    let gate = Turnstile {
+        folds: AtomicU64::new(0),
+        reads: AtomicU64::new(0),
+        missed: AtomicU64::new(0),
+    };
+    let (mut first, reports) = join(
+        &rt,
+        || feeds(&rt, &board, first, 0, &gate),
+        || calls(&rt, alloc, &board, second, cut, &gate),
+    );
+    let reports = reports?;
+    assert_eq!(rt; gate.missed.load(Ordering::SeqCst), 0);
+    assert_eq!(rt; board.position(0, &mut first), 8);
+    assert_eq!(rt; reports.len(), 2);
+    let one = reports.as_slice().first().ok_or("a first report")?;
+    assert_eq!(rt; one.report.positions.as_slice(), [2].as_slice());
+    assert_eq!(rt; one.report.total, 2);
+    Ok(())
+}
+
+#[test]
+fn nobody_waits_at_an_open_gate(rt: HostRuntime) -> Result<(), Fail> {
+    let (board, mut pass) = Board::start(rt.alloc(), worked_states(rt.alloc())?)?;
+    let other = board.split(&mut pass);
+    let _fed = feeds(&rt, &board, pass, 1, &OpenGate);
+    let cut = Cut::with_room(rt.alloc(), 2, 4)?;
+    let reports = calls(&rt, rt.alloc(), &board, other, cut, &OpenGate)?;
+    let last = reports.as_slice().last().ok_or("a last report")?;
+    assert_eq!(rt;
+        (
+            last.report.total,
+            last.report.threshold,
+            last.report.lines.len()
+        ),
+        (11, 6, 2)
+    );
+    Ok(())
+}
