@@ -1,5 +1,5 @@
 -- What a seat knows, and how each step changes it.
-use Rattle.std.specs.Prelude.{ℕ, ◌≡◌, ◌+◌, ◌/◌, ◌≤◌, max, true, false, List, [], ◌∷◌, ◌++◌, map, Option, None, Some, slice_index}
+use Rattle.std.specs.Prelude.{ℕ, ◌+◌, ◌/◌, max, true, false, List, [], ◌∷◌, ◌++◌, map, Option, None, Some, slice_index}
 use Rattle.shard_state.specs.{ShardValue, changed}
 use Rattle.position_words.specs.declared.view.Aim.{Aim}
 use Rattle.position_words.specs.declared.view.Aim.TheVariants.{Fold, Read}
