@@ -7,6 +7,7 @@ mod lines;
 mod merged_intervals;
 mod report;
 mod reporting;
+mod reports;
 mod selecting;
 mod thresholds;
 
@@ -18,6 +19,7 @@ pub use line::Line;
 pub use lines::Lines;
 pub use report::Report;
 pub use reporting::report_of;
+pub use reports::{Reported, Reports};
 pub use thresholds::threshold;
 
 #[cfg(test)]

@@ -195,6 +195,12 @@ fn shows(rt: &impl Abort, alloc: Global, case: &Case) -> Result<(), Fail> {
         assert_eq!(rt; *line, Line { prefix, lo, hi });
         assert_eq!(rt; report.lines.at(place), line);
     }
+    let mut reports = Reports::new(alloc);
+    assert!(rt; reports.is_empty());
+    let saved = None;
+    reports.push(Reported { report, saved })?;
+    assert_eq!(rt; (reports.len(), reports.as_slice().len()), (1, 1));
+    assert_eq!(rt; reports.at(0).report.total, case.total);
     Ok(())
 }
 

@@ -56,13 +56,17 @@ pub fold_is_kept : folded_once (block 0 1) (trail 0) ≡ record (trail 1) { fold
 fold_is_kept = refl
 
 pub fold_of_one_record : IsFoldOf shards 0 1 (block 0 1)
-fold_of_one_record = record { state = pair; is = refl; core = refl }
+fold_of_one_record = record { state = pair; is = refl; core = refl; forward = omega arith }
 
 pub fold_to_the_end : IsFoldOf shards 0 8 (block 1 2)
-fold_to_the_end = record { state = pair; is = refl; core = refl }
+fold_to_the_end = record { state = pair; is = refl; core = refl; forward = omega arith }
 
 pub fold_at_the_end : IsFoldOf shards 0 8 (block 2 2)
-fold_at_the_end = record { state = pair; is = refl; core = refl }
+fold_at_the_end = record { state = pair; is = refl; core = refl; forward = omega arith }
+
+-- no fold goes back: from past the end of the list, as at 5
+pub fold_from_past_the_end : IsFoldOf shards 0 8 (block 5 2) → ⊥
+fold_from_past_the_end fold = omega (arith, fold.forward)
 
 -- a block of one record brings the shard from 0 to 1
 pub fold_of_a_record_too_many : IsFoldOf shards 0 1 (block 0 2) → ⊥
@@ -116,7 +120,7 @@ pub folds_after_a_loss : FoldsAtLast shards 0 1 first
 folds_after_a_loss = record {
   losses = 3 ∷ [];
   odd = All-from_recursion IsOdd (3 ∷ []) (refl, tt);
-  core = record { state = pair; is = refl; core = refl };
+  core = record { state = pair; is = refl; core = refl; forward = omega arith };
   later = omega arith;
   view = refl;
 }

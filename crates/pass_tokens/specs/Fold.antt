@@ -12,12 +12,13 @@ use Rattle.pass_tokens.specs.declared.board.TryFold.TheVariants.{Done, Busy}
 abbrev pub folded_once : Folded → Trail → Trail
 folded_once block trail = record trail { seen = block.to; folds = trail.folds ++ block ∷ [] }
 
--- a fold from one position to another is one of the pure core: a fold of a block brings the shard from the first to the
--- other
+-- a fold from one position to another, which isn't before it, is one of the pure core: a fold of a block brings the
+-- shard from the first to the other
 pub record IsFoldOf (opening : List ShardValue) (shard block : ℕ) (done : Folded) : Type 0 where
   pub state : ShardValue
   pub is : slice_get opening shard ≡ Some state
   pub core : state_at done.to state ≡ folded block (state_at done.from state)
+  pub forward : done.from ≤ done.to
 
 -- a fold that was made: it begins at or after the position that the pass had seen, and is the view's only new step
 pub record Folds (opening : List ShardValue) (shard block : ℕ) (before now : View) (done : Folded) : Type 0 where
