@@ -31,8 +31,8 @@ pub record Fits (shards : List ShardValue) (words : List ℕ) (view : View) : Ty
   pub trails : length view.trails ≡ length shards
   pub reached : (shard : ℕ) → seen_of shard view ≤ slice_index words shard / 2
 
--- The rule. A word is twice its shard's position, which is within the list, plus one while a seat holds the shard. At
--- most one seat does. While none does, the slot has the shard's state at that position. Each view in use fits.
+-- the rule: a word is twice its shard's position, which is within the list, plus one while a seat holds the shard; at
+-- most one seat does; while none does, the slot has the shard's state at that position; each view in use fits
 pub record IsKept (opening : List ShardValue) (state : State (Option ShardValue) View) : Type 0 where
   pub words : length state.words ≡ length opening
   pub slots : length state.homes ≡ length opening
