@@ -8,4 +8,4 @@ pub mod Selecting
 pub use Rattle.hhh_output.specs.Lines.{AreLines}
 pub use Rattle.hhh_output.specs.Report.{AreSame, IsLineOf, IsReportOf}
 pub use Rattle.hhh_output.specs.SoundReport.{IsSound}
-pub use Rattle.hhh_output.specs.Threshold.{IsThreshold}
+pub use Rattle.hhh_output.specs.Threshold.{IsThreshold, IsWideShare, million}

@@ -1,0 +1,96 @@
+//! Reporting round after round.
+
+ghost use Rattle.std.specs.Prelude.{◌≡◌, ◌≤◌, ◌<◌, ◌++◌, [], ◌∷◌, length, All, IfOk, None};
+ghost use Rattle.shard_state.specs.{BasesRepresent, HasShape, capacity_of, lists_of, positions_of};
+ghost use Rattle.hhh_output.specs.{IsSound, IsWideShare, million};
+ghost use Rattle.pass_tokens.specs.{IsPassOf, view};
+ghost use Rattle.gate_workers.specs.Call.{Calls, IsCutAt, IsReportAt};
+
+use crate::Gate;
+use hhh_output::{Report, Reported, Reports, report_of};
+use pass_tokens::{Board, Pass};
+use shard_state::{Cut, shards_stand};
+use std::alloc::{AllocError, Global};
+use std::sync::Wait;
+
+/// Reads a cut and reports on it, once in each round. `phi` is 1 to 1,000,000 parts per million, and wide enough for the
+/// capacity of the board's tables. The pass comes back also after an error, which means that memory ran out.
+pub fn call_reports<R: Wait, G: Gate>(
+    rt: &R,
+    alloc: Global,
+    board: &Board,
+    mut pass: Pass,
+    caller: u32,
+    rounds: u32,
+    phi: u32,
+    mut cut: Cut,
+    gate: &G,
+) -> (Pass, Result<Reports, AllocError>)
+    requires pass { IsPassOf board.now pass }
+    requires shape { HasShape (length board.now.opening) (capacity_of board.now.opening) cut }
+    requires some { 1 ≤ phi }
+    requires most { phi ≤ million }
+    requires wide { IsWideShare phi (capacity_of board.now.opening) }
+    ensures calls { IfOk result.1 (Calls board.now.opening phi rounds (view pass) (view result.0)) }
+    ensures sound { IfOk result.1 (λ reports. BasesRepresent board.now.opening
+        → All (λ reported. IsSound reported.report (lists_of board.now.opening) (capacity_of board.now.opening) phi) reports) }
+    ensures pass { IsPassOf board.now result.0 }
+{
+    let reports = report_in_rounds(
+        rt, alloc, board, &mut pass, caller, rounds, phi, &mut cut, gate,
+    );
+    (pass, reports)
+}
+
+// The reports of all rounds.
+fn report_in_rounds<R: Wait, G: Gate>(
+    rt: &R,
+    alloc: Global,
+    board: &Board,
+    pass: &mut Pass,
+    caller: u32,
+    rounds: u32,
+    phi: u32,
+    cut: &mut Cut,
+    gate: &G,
+) -> Result<Reports, AllocError>
+    requires pass { IsPassOf board.now pass.old }
+    requires shape { HasShape (length board.now.opening) (capacity_of board.now.opening) cut.old }
+    requires some { 1 ≤ phi }
+    requires most { phi ≤ million }
+    requires wide { IsWideShare phi (capacity_of board.now.opening) }
+    ensures calls { IfOk result (Calls board.now.opening phi rounds (view pass.old) (view pass.new)) }
+    ensures sound { IfOk result (λ reports. BasesRepresent board.now.opening
+        → All (λ reported. IsSound reported.report (lists_of board.now.opening) (capacity_of board.now.opening) phi) reports) }
+    ensures pass { IsPassOf board.now pass.new }
+{
+    let mut reports = Reports::new(alloc);
+    for round in 0..rounds {
+        gate.before_read(caller, round);
+        board.read_cut(rt, pass, cut);
+        gate.after_read(caller, round);
+        let report = report_at(alloc, board, cut, phi)?;
+        reports.push(Reported {
+            report,
+            saved: None,
+        })?;
+    }
+    Ok(reports)
+}
+
+// The report of a cut that was just read.
+fn report_at(alloc: Global, board: &Board, cut: &Cut, phi: u32) -> Result<Report, AllocError>
+    requires cut { IsCutAt board.now.opening (positions_of cut.now) cut.now }
+    requires some { 1 ≤ phi }
+    requires most { phi ≤ million }
+    requires wide { IsWideShare phi (capacity_of board.now.opening) }
+    ensures positions { IfOk result (λ report. report.positions ≡ positions_of cut.now) }
+    ensures report { IfOk result (IsReportAt board.now.opening phi) }
+    ensures sound { IfOk result (λ report. BasesRepresent board.now.opening
+        → IsSound report (lists_of board.now.opening) (capacity_of board.now.opening) phi) }
+{
+    shards_stand();
+    let _shards = (board.shards(), cut.shards());
+    let report = report_of(alloc, cut, phi)?;
+    Ok(report)
+}
