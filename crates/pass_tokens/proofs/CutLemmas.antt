@@ -5,7 +5,7 @@ use Rattle.std.proofs.Math.Seq.{drop-length}
 use Rattle.std.proofs.lemmas.List.{length-map}
 use Rattle.std.proofs.lemmas.List.Elements.{All-nil, All-cons, All-append}
 use Rattle.std.proofs.lemmas.Option.{same_Some}
-use Rattle.shard_state.specs.{CutValue, HasShape, IsShard, ShardValue, SnapshotValue, changed, snapshot_of, state_at, with_read}
+use Rattle.shard_state.specs.{CutValue, HasShape, IsShard, ShardValue, changed, snapshot_of, state_at, with_read}
 use Rattle.position_words.specs.{IsOdd, seen_of, with_trail}
 use Rattle.position_words.specs.declared.view.Trail.{Trail}
 use Rattle.position_words.specs.declared.view.View.{View}

@@ -1,9 +1,9 @@
 -- A take and a give make one fold.
-use Rattle.std.proofs.Common.{◌≡◌, ℕ, ◌+◌, ◌≤◌, min, List, length, None, Some, slice_get, arith, refl, sym, ap, ◌∙◌, subst}
+use Rattle.std.proofs.Common.{◌≡◌, ℕ, ◌+◌, ◌≤◌, min, List, length, None, slice_get, arith, sym, ap, ◌∙◌, subst}
 use Rattle.shard_state.specs.{ShardValue, folded, state_at}
 use Rattle.shard_state.specs.declared.shard_state.Folded.{Folded}
 use Rattle.position_words.specs.{IsOfShard, Meets, gave, seen_of, took, with_trail}
-use Rattle.position_words.specs.declared.view.Aim.TheVariants.{Fold, Read}
+use Rattle.position_words.specs.declared.view.Aim.TheVariants.{Fold}
 use Rattle.position_words.specs.declared.view.View.{View}
 use Rattle.pass_tokens.specs.Fold.{Folds, folded_once}
 use Rattle.pass_tokens.proofs.ChangedListLemmas.{changed_twice}

@@ -3,3 +3,5 @@ pub mod FoldLemmas
 pub mod ReadLemmas
 pub mod WaitLemmas
 pub mod CutLemmas
+pub mod Examples
+pub mod ExamplesOfReads

@@ -1,8 +1,8 @@
 -- A take and a give make one read.
-use Rattle.std.proofs.Common.{◌≡◌, ℕ, List, None, Some, slice_set, refl, sym, ap, ◌∙◌}
-use Rattle.shard_state.specs.{CutValue, IsShard, ShardValue, snapshot_of, state_at, with_read}
+use Rattle.std.proofs.Common.{◌≡◌, ℕ, List, None, slice_set, sym, ap, ◌∙◌}
+use Rattle.shard_state.specs.{CutValue, IsShard, ShardValue, snapshot_of, state_at}
 use Rattle.position_words.specs.{IsOfShard, Meets, gave, took, with_trail}
-use Rattle.position_words.specs.declared.view.Aim.TheVariants.{Fold, Read}
+use Rattle.position_words.specs.declared.view.Aim.TheVariants.{Read}
 use Rattle.position_words.specs.declared.view.View.{View}
 use Rattle.pass_tokens.specs.Read.{Reads, read_once}
 use Rattle.pass_tokens.proofs.ChangedListLemmas.{changed_twice}

@@ -1,14 +1,14 @@
 -- What a pass knows after takes that lost, and after the one that won.
-use Rattle.std.proofs.Common.{◌≡◌, ℕ, zero, suc, ◌/◌, ◌<◌, ◌≤◌, List, [], ◌∷◌, ◌++◌, map, length, fold, All, refl, sym, ap, ◌∙◌, arith, subst}
+use Rattle.std.proofs.Common.{◌≡◌, ℕ, zero, suc, ◌/◌, ◌<◌, List, [], ◌∷◌, ◌++◌, map, length, refl, sym, ap, ◌∙◌, arith}
 use Rattle.std.specs.Prelude.{slice_index}
 use Rattle.std.proofs.lemmas.List.Elements.{All-nil, All-cons, All-append}
 use Rattle.shard_state.specs.{CutValue, ShardValue, changed}
 use Rattle.shard_state.specs.declared.shard_state.Folded.{Folded}
-use Rattle.position_words.specs.{IsOdd, Loses, lost, lost_at, seen_of, with_trail}
+use Rattle.position_words.specs.{IsOdd, Loses, lost_at, seen_of, with_trail}
 use Rattle.position_words.specs.declared.view.Trail.{Trail}
 use Rattle.position_words.specs.declared.view.View.{View}
 use Rattle.pass_tokens.specs.Fold.{Folds, FoldsAtLast, Waits, folded_once, lost_all}
-use Rattle.pass_tokens.specs.Read.{Reads, ReadsAtLast, ShardRead, after_read, read_once}
+use Rattle.pass_tokens.specs.Read.{Reads, ReadsAtLast, read_once}
 use Rattle.pass_tokens.proofs.ChangedListLemmas.{changed_twice, changed_alike, changed_same}
 
 -- what was seen of a shard after a step there

@@ -8,30 +8,30 @@ use Rattle.position_words.specs.declared.view.View.{View}
 use Rattle.pass_tokens.specs.declared.board.TryFold.{TryFold}
 use Rattle.pass_tokens.specs.declared.board.TryFold.TheVariants.{Done, Busy}
 
--- what a trail has after a fold
+-- a trail after a fold
 abbrev pub folded_once : Folded → Trail → Trail
 folded_once block trail = record trail { seen = block.to; folds = trail.folds ++ block ∷ [] }
 
--- a fold from one position to another, none before it, is that of the pure core: the shard, which starts as `state`, was
--- at the first, and a fold of a block brings it to the other
+-- a fold from one position to another, which isn't before it, is one of the pure core: a fold of a block brings the
+-- shard from the first to the other
 pub record IsFoldOf (opening : List ShardValue) (shard block : ℕ) (done : Folded) : Type 0 where
   pub state : ShardValue
   pub is : slice_get opening shard ≡ Some state
   pub core : state_at done.to state ≡ folded block (state_at done.from state)
   pub forward : done.from ≤ done.to
 
--- a fold that was made: it began at no position before what the pass had seen, and its step is all that the view gets
+-- a fold that was made: it begins at or after the position that the pass had seen, and is the view's only new step
 pub record Folds (opening : List ShardValue) (shard block : ℕ) (before now : View) (done : Folded) : Type 0 where
   pub core : IsFoldOf opening shard block done
   pub later : seen_of shard before ≤ done.from
   pub view : now ≡ with_trail (folded_once done) shard before
 
--- what a try to fold answers
+-- what a try to fold returns: the fold, or that the take lost
 abbrev pub TriesToFold : List ShardValue → ℕ → ℕ → View → View → TryFold → Type 0
 TriesToFold opening shard block before now (Done done) = Folds opening shard block before now done
 TriesToFold opening shard block before now Busy = Loses shard before now
 
--- what a trail has after takes that met these odd words
+-- a trail after takes that met these odd words
 abbrev pub lost_all : List ℕ → Trail → Trail
 lost_all words trail = fold (λ trail word. lost_at word trail) trail words
 
@@ -43,7 +43,7 @@ pub record FoldsAtLast (opening : List ShardValue) (shard block : ℕ) (before n
   pub later : seen_of shard before ≤ done.from
   pub view : now ≡ with_trail (λ trail. folded_once done (lost_all losses trail)) shard before
 
--- within the crate: takes of a shard that all lost so far
+-- within the crate: takes of a shard, all of which lost
 pub record Waits (shard : ℕ) (before now : View) : Type 0 where
   pub losses : List ℕ
   pub odd : All IsOdd losses

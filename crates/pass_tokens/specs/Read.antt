@@ -8,12 +8,12 @@ use Rattle.pass_tokens.specs.Fold.{lost_all}
 use Rattle.pass_tokens.specs.declared.board.TryRead.{TryRead}
 use Rattle.pass_tokens.specs.declared.board.TryRead.TheVariants.{Done, Busy}
 
--- what a trail has after a read that met this position
+-- a trail after a read that met this position
 abbrev pub read_once : ℕ → Trail → Trail
 read_once position trail = record trail { seen = position; reads = trail.reads ++ position ∷ [] }
 
--- a read that was made: it met a position, none before what the pass had seen; the cut gets the snapshot of the pure
--- core at that position, and the view gets the step
+-- a read that was made: it met a position, at least the one that the pass had seen; the cut gets the snapshot of the
+-- pure core at that position, and the read is the view's only new step
 pub record Reads (opening : List ShardValue) (shard : ℕ) (before : View) (cut : CutValue) (now : View) (changed : CutValue) : Type 0 where
   pub position : ℕ
   pub state : ShardValue
@@ -23,20 +23,21 @@ pub record Reads (opening : List ShardValue) (shard : ℕ) (before : View) (cut 
   pub view : now ≡ with_trail (read_once position) shard before
   pub core : changed ≡ with_read shard (Some (state_at position state)) cut
 
--- what a try to read answers
+-- what a try to read returns: that the cut has the snapshot, or that the take lost and the cut is unchanged
 abbrev pub TriesToRead : List ShardValue → ℕ → View → CutValue → View → CutValue → TryRead → Type 0
 TriesToRead opening shard before cut now changed Done = Reads opening shard before cut now changed
 TriesToRead opening shard before cut now changed Busy = Loses shard before now × (changed ≡ cut)
 
--- how a shard was read at last: the odd words that takes met before, and the position at which it was taken
+-- one read of a shard: the odd words that takes met before, and the position at which it was taken
 pub record ShardRead : Type 0 where
   pub losses : List ℕ
   pub position : ℕ
 
--- what trails have after one such read of each shard
+-- a trail after such a read
 abbrev pub after_read : ShardRead → Trail → Trail
 after_read read trail = read_once read.position (lost_all read.losses trail)
 
+-- trails after one such read of each of the first shards
 abbrev pub after_reads : List Trail → List ShardRead → List Trail
 after_reads [] reads = []
 after_reads (trail ∷ rest) [] = trail ∷ rest
@@ -48,8 +49,8 @@ states_read [] reads = []
 states_read (shard ∷ rest) [] = []
 states_read (shard ∷ rest) (read ∷ reads) = state_at read.position shard ∷ states_read rest reads
 
--- one read of each shard in turn, each after any number of takes that lost: the cut gets the snapshots of the pure core
--- at the positions met, none before what the pass had seen
+-- one read of each shard, each after any number of takes that lost: the cut gets the snapshots of the pure core at the
+-- positions met, each at least the one that the pass had seen
 pub record ReadsCut (opening : List ShardValue) (before : View) (cut : CutValue) (now : View) (changed : CutValue) : Type 0 where
   pub reads : List ShardRead
   pub as_many : length reads ≡ length opening
@@ -59,7 +60,7 @@ pub record ReadsCut (opening : List ShardValue) (before : View) (cut : CutValue)
   pub view : now ≡ record before { trails = after_reads before.trails reads }
   pub core : changed ≡ record cut { shards = map snapshot_of (states_read opening reads) }
 
--- within the crate: one shard read after any number of takes that lost
+-- within the crate: one read of a shard after any number of takes that lost
 pub record ReadsAtLast (opening : List ShardValue) (shard : ℕ) (before : View) (cut : CutValue) (now : View) (changed : CutValue) : Type 0 where
   pub read : ShardRead
   pub odd : All IsOdd read.losses

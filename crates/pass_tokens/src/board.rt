@@ -18,7 +18,7 @@ use std::thread;
 /// has seen, and each look, read, fold and lost take that it made.
 pub type Pass = Seat;
 
-/// What a try to fold a shard brought.
+/// The result of a try to fold a shard.
 #[derive(Clone, Copy, Debug, PartialEq, Eq)]
 pub enum TryFold {
     /// A block was counted, or the shard was at its end.
@@ -27,7 +27,7 @@ pub enum TryFold {
     Busy,
 }
 
-/// What a try to read a shard brought.
+/// The result of a try to read a shard.
 #[derive(Clone, Copy, Debug, PartialEq, Eq)]
 pub enum TryRead {
     /// The cut has the shard's snapshot.
@@ -73,7 +73,7 @@ impl Board {
         self.words.shards()
     }
 
-    /// A new pass, which has seen what this one has.
+    /// A new pass, which has seen the same positions as this one.
     pub fn split(&self, pass: &mut Pass) -> Pass
         requires { IsPassOf self.now pass.old }
         ensures split { view pass.new ≡ split_off (view pass.old) }
@@ -84,7 +84,7 @@ impl Board {
         self.words.split(pass)
     }
 
-    /// Joins another pass to this one, which has then seen what both have.
+    /// Joins another pass to this one, which has then seen what both had, and keeps its own steps alone.
     pub fn join(&self, pass: &mut Pass, other: Pass)
         requires pass { IsPassOf self.now pass.old }
         requires other { IsPassOf self.now other }
@@ -94,7 +94,7 @@ impl Board {
         self.words.join(pass, other);
     }
 
-    /// The position of a shard, at least what the pass had seen.
+    /// The position of a shard, at least the one that the pass had seen. It is met whether or not a pass holds the shard.
     pub fn position(&self, shard: u32, pass: &mut Pass) -> u64
         requires within { shard < length self.now.opening }
         requires pass { IsPassOf self.now pass.old }
@@ -146,6 +146,7 @@ impl Board {
             }
         }
     }
+
     /// Counts the next `block` records of a shard, at least one, or its remaining records. It tries until no other pass
     /// holds the shard, and lets other threads run between two tries. It allocates no memory.
     #[tactic(auto, using(crate::proofs::WaitLemmas::nothing_lost, crate::proofs::WaitLemmas::lost_again, crate::proofs::WaitLemmas::folds_at_last))]

@@ -4,3 +4,6 @@ pub mod HolderLemmas
 pub mod RuleLemmas
 pub mod StepLemmas
 pub mod SeatLemmas
+pub mod Examples
+pub mod ExamplesOfRule
+pub mod ExamplesOfSteps

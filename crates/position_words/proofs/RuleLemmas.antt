@@ -1,5 +1,5 @@
 -- What keeps the rule: a change of one view, a new seat, a shard taken out, a shard put back.
-use Rattle.std.proofs.Common.{◌≡◌, ℕ, zero, suc, ◌+◌, ◌*◌, ◌/◌, ◌%◌, ◌<◌, ◌≤◌, ◌⊎◌, inl, inr, ⊎_elim, true, false, List, [], ◌∷◌, ◌++◌, map, length, length-set, set, slice_get, Option, None, Some, All, refl, sym, ap, ◌∙◌, arith, subst}
+use Rattle.std.proofs.Common.{◌≡◌, ℕ, zero, suc, ◌+◌, ◌*◌, ◌/◌, ◌<◌, ◌≤◌, inl, inr, ⊎_elim, false, List, [], ◌∷◌, ◌++◌, map, length, length-set, set, slice_get, Option, None, Some, All, refl, sym, ap, ◌∙◌, arith, subst}
 use Rattle.std.specs.Prelude.{slice_index}
 use Rattle.std.proofs.lemmas.Bool.{cases_eq}
 use Rattle.std.proofs.lemmas.List.{length-map}
@@ -8,16 +8,16 @@ use Rattle.std.proofs.lemmas.Option.{same_Some, slice_get_within}
 use mathlib.Core.Option.{some, none, some-injective, some-ne-none}
 use mathlib.Core.Option as maybe
 use lib.ListN.{get_elem?}
-use Rattle.atomic_table.specs.Table.{State, opening}
+use Rattle.atomic_table.specs.Table.{opening}
 use Rattle.atomic_table.proofs.Lists.{at_set, set_here, set_else, at_snoc, at_longer}
 use Rattle.shard_state.specs.{ShardValue, IsShard, state_at}
 use Rattle.position_words.specs.declared.view.Held.{Held}
 use Rattle.position_words.specs.declared.view.View.{View}
 use Rattle.position_words.specs.View.{first_view, trail_from}
 use Rattle.position_words.specs.Rule.{IsEven, IsOdd, IsHolder, Fits, IsKept}
-use Rattle.position_words.proofs.WordLemmas.{parity, word_here, word_there, halves_rise}
+use Rattle.position_words.proofs.WordLemmas.{word_here, word_there, halves_rise}
 use Rattle.position_words.proofs.TrailLemmas.{reached_first}
-use Rattle.position_words.proofs.HolderLemmas.{HoldsShard, there_is, holder_there, holder_here, held_by, holder_after, holder_kept, holder_before}
+use Rattle.position_words.proofs.HolderLemmas.{HoldsShard, holder_there, holder_here, held_by, holder_after, holder_kept, holder_before}
 
 pub not_both : (word : ℕ) → IsEven word → IsOdd word → ⊥
 not_both word even odd = omega (arith, even, odd)

@@ -1,6 +1,6 @@
 -- A seat stays one of its words.
-use Rattle.std.proofs.Common.{◌≡◌, ℕ, ◌*◌, ◌/◌, ◌<◌, ◌≤◌, arith, false, List, [], ◌∷◌, ◌++◌, length, slice_get, Option, None, Some, refl, sym, ap, ◌∙◌, subst}
-use Rattle.atomic_table.specs.Table.{Me, Allows, step, rest}
+use Rattle.std.proofs.Common.{◌≡◌, ℕ, ◌*◌, ◌/◌, ◌<◌, ◌≤◌, arith, false, List, [], ◌∷◌, length, slice_get, Option, None, Some, refl, sym, ap, ◌∙◌, subst}
+use Rattle.atomic_table.specs.Table.{Me, Allows, step}
 use mathlib.Core.Option.{none}
 use Rattle.std.proofs.lemmas.Option.{slice_get_within, same_Some}
 use Rattle.shard_state.specs.{ShardValue, state_at}
@@ -11,7 +11,7 @@ use Rattle.position_words.specs.declared.view.View.{View}
 use Rattle.position_words.specs.View.{with_trail, lost_at, taken_for, took, given_after, gave, gave_held}
 use Rattle.position_words.specs.declared.view.Aim.TheVariants.{Fold, Read}
 use Rattle.position_words.specs.Words.{SeatValue, WordsValue, view, slot_out, IsSeatOf, IsOfShard, MayFollow, MayGive}
-use Rattle.position_words.specs.Rule.{IsEven, IsOdd, IsKept}
+use Rattle.position_words.specs.Rule.{IsOdd, IsKept}
 use Rattle.position_words.specs.Step.{Gives, HasTaken, IsReady, IsSame, Marks, Meets}
 use Rattle.position_words.proofs.WordLemmas.{even_if_not_odd}
 use Rattle.position_words.proofs.StepLemmas.{may_give}

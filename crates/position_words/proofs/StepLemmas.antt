@@ -1,12 +1,12 @@
 -- Each kind of step may be made: whatever the table is then, the rule still holds after it, and the step tells what it should.
 use Rattle.std.proofs.Common.{◌≡◌, ℕ, zero, suc, ◌+◌, ◌*◌, ◌/◌, ◌≤◌, ◌<◌, ⊎_elim, true, false, List, [], ◌∷◌, ◌++◌, length, set, slice_get, Option, None, Some, refl, sym, ap, ◌∙◌, arith, subst}
-use Rattle.std.specs.Prelude.{slice_index, map}
+use Rattle.std.specs.Prelude.{slice_index}
 use Rattle.std.specs.Int.Bits.{bit_or}
 use Rattle.std.proofs.lemmas.Option.{slice_get_within}
 use Rattle.std.proofs.lemmas.List.{set-get_or, length-map}
-use mathlib.Core.Option.{some, none, some-injective}
+use mathlib.Core.Option.{some, none}
 use lib.ListN.{get_elem?}
-use Rattle.atomic_table.specs.Table.{State, Me, Step, step, Act, Valid, stepped, carried_after, homes_after, put_back, rest, Allows, Splits, Joins, keeps, takes, gives}
+use Rattle.atomic_table.specs.Table.{State, Me, step, Act, Valid, stepped, carried_after, homes_after, put_back, rest, Allows, Splits, Joins, keeps, takes, gives}
 use Rattle.atomic_table.proofs.Lists.{set_else}
 use Rattle.shard_state.specs.{ShardValue, state_at}
 use Rattle.position_words.specs.declared.view.Aim.{Aim}
@@ -14,12 +14,11 @@ use Rattle.position_words.specs.declared.view.Aim.TheVariants.{Fold, Read}
 use Rattle.position_words.specs.declared.view.Held.{Held}
 use Rattle.position_words.specs.declared.view.Trail.{Trail}
 use Rattle.position_words.specs.declared.view.View.{View}
-use Rattle.position_words.specs.View.{seen_of, trail_from, looked, taken_for, took, lost, lost_at, given_after, gave, gave_held, split_off, newcomer, joined, spent, with_trail}
-use Rattle.position_words.specs.Words.{MayFollow}
+use Rattle.position_words.specs.View.{trail_from, looked, taken_for, took, lost, lost_at, given_after, gave, gave_held, split_off, newcomer, joined, spent, with_trail}
 use Rattle.position_words.specs.Rule.{IsEven, IsOdd, Fits, IsKept}
-use Rattle.position_words.specs.Step.{Meets, Looks, Wins, Marks, Takes, Gives}
+use Rattle.position_words.specs.Step.{Meets, Looks, Takes, Gives}
 use Rattle.position_words.proofs.WordLemmas.{marked_even, marked_odd, parity, word_here, halves_rise}
-use Rattle.position_words.proofs.TrailLemmas.{length-changed, length-joined, reached_changed, seen_in, seen_in-newcomer, reached_joined}
+use Rattle.position_words.proofs.TrailLemmas.{length-changed, length-joined, reached_changed, seen_in-newcomer, reached_joined}
 use Rattle.position_words.proofs.RuleLemmas.{view_changes, seat_arrives, taken_out, put_back_again, fits_rise, not_both}
 
 -- a view that fits, and is not spent, meets the position of a word

@@ -8,14 +8,15 @@ use Rattle.position_words.specs.declared.view.Held.{Held}
 use Rattle.position_words.specs.declared.view.View.{View}
 use Rattle.position_words.specs.View.{seen_of}
 
--- no seat holds the shard of an even word, and one holds that of an odd word
+-- an even word: no seat holds its shard
 abbrev pub IsEven : ℕ → Type 0
 IsEven word = word % 2 ≡ 0
 
+-- an odd word: a seat holds its shard
 abbrev pub IsOdd : ℕ → Type 0
 IsOdd word = word % 2 ≡ 1
 
--- the view of a seat holds this shard
+-- the seat with this number holds this shard, as its view says
 pub record IsHolder (views : List View) (seat shard : ℕ) : Type 0 where
   pub view : View
   pub held : Held
@@ -23,14 +24,15 @@ pub record IsHolder (views : List View) (seat shard : ℕ) : Type 0 where
   pub holds : view.held ≡ Some held
   pub is : held.shard ≡ shard
 
--- a view that was not joined to another names the shards, and has seen no position that a word has not reached
+-- what holds of the view of a seat that was not joined to another: it names the shards, has a trail for each, and has
+-- seen no position past that of the word
 pub record Fits (shards : List ShardValue) (words : List ℕ) (view : View) : Type 0 where
   pub opening : view.opening ≡ shards
   pub trails : length view.trails ≡ length shards
   pub reached : (shard : ℕ) → seen_of shard view ≤ slice_index words shard / 2
 
--- The rule. Each word is twice a position of its shard's list, plus one while a seat holds the shard, which is then
--- the only one. While no seat does, the slot has the shard's state at that position.
+-- the rule: a word is twice its shard's position, which is within the list, plus one while a seat holds the shard; at
+-- most one seat does; while none does, the slot has the shard's state at that position; each view in use fits
 pub record IsKept (opening : List ShardValue) (state : State (Option ShardValue) View) : Type 0 where
   pub words : length state.words ≡ length opening
   pub slots : length state.homes ≡ length opening

@@ -1,5 +1,5 @@
 -- The words and slots of shards, and their seats, as contracts see them.
-use Rattle.std.specs.Prelude.{ℕ, ◌≡◌, ◌≤◌, ◌<◌, false, List, [], ◌∷◌, length, Option, None, Some, slice_get}
+use Rattle.std.specs.Prelude.{ℕ, ◌≡◌, ◌≤◌, false, List, [], ◌∷◌, length, Option, None, Some, slice_get}
 use Rattle.atomic_table.specs.Seated.{TableId}
 use Rattle.atomic_table.specs.declared.shared.Seat.{Seat}
 use Rattle.shard_state.specs.{ShardValue, state_at}
@@ -21,7 +21,7 @@ SeatValue = Seat (Option ShardValue) View
 abbrev pub view : SeatValue → View
 view seat = seat.me.0
 
--- the empty slot that is out with a seat which holds a shard
+-- the slots that are out with a seat between two calls: the empty one of the shard that it holds, if any
 abbrev pub slot_out : Option Held → List (ℕ × Option ShardValue)
 slot_out None = []
 slot_out (Some held) = (held.shard, None) ∷ []
@@ -34,18 +34,17 @@ pub record IsSeatOf (words : WordsValue) (seat : SeatValue) : Type 0 where
   pub live : (view seat).spent ≡ false
   pub slot : seat.me.1 ≡ slot_out (view seat).held
 
--- a state has the list and the base of a shard: at some position it is the shard as it was at the start
+-- a state has the list and the base of a shard: only its position may differ from that at the start
 pub record IsOfShard (opening : List ShardValue) (shard : ℕ) (state : ShardValue) : Type 0 where
   pub start : ℕ
   pub is : slice_get opening shard ≡ Some (state_at start state)
 
--- at which positions a shard may be given back
+-- a shard taken at one position may be given back at another: after a read at the same, after a fold at none before
 abbrev pub MayFollow : Aim → ℕ → ℕ → Type 0
 MayFollow Fold met position = met ≤ position
 MayFollow Read met position = position ≡ met
 
--- a view holds a shard, and may give it back at this position: after a read at the one that it met, after a fold at
--- none before that
+-- a view holds this shard, and may give it back at this position
 pub record MayGive (shard position : ℕ) (view : View) : Type 0 where
   pub held : Held
   pub holds : view.held ≡ Some held

@@ -1,4 +1,4 @@
-//! The rule that the words, the slots and the views keep between any two steps, and what each kind of step tells.
+//! The rule that the words, the slots and the views keep between any two steps, and what each kind of step does.
 
 ghost use Rattle.position_words.specs.declared.view.Aim.TheVariants.{Fold, Read};
 ghost use Rattle.position_words.specs.Step.{Looks, Takes, Gives};
@@ -9,7 +9,7 @@ use atomic_table::{Join, Play, Split, TableRule};
 use shard_state::ShardState;
 use std::snapshot::Snapshot;
 
-/// The rule. It is told the states of the shards at the start.
+/// The rule. Its key has the states of the shards at the start.
 pub struct SlotRule;
 
 impl TableRule<Option<ShardState>, View, Snapshot<Vec<ShardState>>> for SlotRule {
@@ -49,7 +49,7 @@ impl Play<Option<ShardState>, View> for Giving {
     ghost then = { Gives };
 }
 
-// A new seat that has seen as much.
+// A new seat, which has seen the same positions.
 pub(crate) struct SplittingOff;
 
 impl Split<View> for SplittingOff {
@@ -58,7 +58,7 @@ impl Split<View> for SplittingOff {
     ghost right = { newcomer };
 }
 
-// A seat that has seen what both have.
+// A seat that has seen what both had.
 pub(crate) struct Joining;
 
 impl Join<View> for Joining {

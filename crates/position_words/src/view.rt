@@ -1,4 +1,4 @@
-//! What a seat knows, as plain data. No value of it is made but of `Aim`: proofs alone speak of it.
+//! What a seat knows, as plain data. Only proofs speak of it: of these types a program makes values of `Aim` alone.
 
 use shard_state::{Folded, ShardState};
 use std::collections::LinkedList;

@@ -16,10 +16,10 @@ use std::snapshot::Snapshot;
 
 mod steps;
 
-/// What a thread makes its steps with: a token without bytes. Contracts see the words that it belongs to and its view.
+/// What a thread makes its steps with: a token without bytes. Contracts see which words it belongs to, and its view.
 pub type Seat = atomic_table::Seat<Option<ShardState>, View>;
 
-/// What a take found.
+/// The result of a take.
 #[derive(Debug, Drop)]
 pub enum Take {
     /// The state of the shard, which the seat holds until it gives it back.
@@ -95,7 +95,7 @@ impl Words {
         self.load(shard, seat) / 2
     }
 
-    /// Takes a shard, unless another seat holds it: one `fetch_or` of its word. The seat holds no shard before.
+    /// Takes a shard, unless another seat holds it: one `fetch_or` of its word. The seat holds no shard yet.
     #[tactic(auto, using(crate::proofs::SeatLemmas::won_id, crate::proofs::SeatLemmas::won_slot, crate::proofs::SeatLemmas::won_seat))]
     pub fn try_take(&self, shard: u32, aim: Aim, seat: &mut Seat) -> Take
         requires within { shard < length self.now.opening }
@@ -127,7 +127,7 @@ impl Words {
         self.store(shard, position, seat);
     }
 
-    /// A new seat, which has seen what this one has. Neither holds a shard.
+    /// A new seat, which has seen the same positions as this one. Neither holds a shard.
     pub fn split(&self, seat: &mut Seat) -> Seat
         requires seat { IsSeatOf self.now seat.old }
         requires free { (view seat.old).held ≡ None }
@@ -139,7 +139,8 @@ impl Words {
         self.table.shared.split_seat::<SplittingOff>(seat)
     }
 
-    /// Joins another seat to this one, which has then seen what both have. Neither holds a shard.
+    /// Joins another seat to this one, which has then seen what both had, and keeps its own steps alone. Neither holds a
+    /// shard.
     pub fn join(&self, seat: &mut Seat, other: Seat)
         requires seat { IsSeatOf self.now seat.old }
         requires free { (view seat.old).held ≡ None }

@@ -1,4 +1,4 @@
-use Rattle.std.proofs.Common.{◌≡◌, ◌<◌, length, None}
+use Rattle.std.proofs.Common.{◌≡◌, None}
 use Rattle.position_words.specs.Words.{IsSeatOf, view}
 use Rattle.position_words.proofs.tests.folds_in_turns.Given as goal
 

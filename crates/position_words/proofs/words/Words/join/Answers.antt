@@ -1,4 +1,4 @@
-use Rattle.std.proofs.Common.{ap, sym, ◌∙◌, arith, length, refl}
+use Rattle.std.proofs.Common.{ap, sym, ◌∙◌, arith}
 use Rattle.position_words.specs.View.{joined}
 use Rattle.position_words.specs.Words.{slot_out}
 use Rattle.position_words.proofs.SeatLemmas.{is_seat}

@@ -1,6 +1,4 @@
-use Rattle.std.proofs.Common.{ap, sym, ◌∙◌, arith, length, refl}
-use Rattle.position_words.specs.View.{split_off, newcomer}
-use Rattle.position_words.proofs.SeatLemmas.{is_seat}
+use Rattle.std.proofs.Common.{ap, sym, ◌∙◌, arith}
 use Rattle.position_words.proofs.StepLemmas.{may_split}
 use Rattle.position_words.proofs.words.Words.split.Goals as goal
 

@@ -1,4 +1,4 @@
-use Rattle.std.proofs.Common.{ap, sym, ◌∙◌, subst, map, Some, ◌≡◌, ◌*◌, List, Option, ℕ, All}
+use Rattle.std.proofs.Common.{ap, sym, ◌∙◌, subst, map, ◌*◌, All}
 use Rattle.atomic_table.specs.Table.{opening}
 use Rattle.shard_state.specs.{ShardValue, IsShard}
 use Rattle.position_words.specs.View.{first_view}

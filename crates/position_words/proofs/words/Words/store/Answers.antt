@@ -1,4 +1,4 @@
-use Rattle.std.proofs.Common.{ap, sym, ◌∙◌, arith, length, subst}
+use Rattle.std.proofs.Common.{ap, sym, ◌∙◌, arith, subst}
 use Rattle.position_words.specs.Words.{IsOfShard}
 use Rattle.position_words.proofs.SeatLemmas.{may_give_back, shard_inside}
 use Rattle.position_words.proofs.words.Words.store.Goals as goal

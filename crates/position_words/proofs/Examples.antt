@@ -1,0 +1,126 @@
+-- Worked examples of what seats know, by computing.
+use Rattle.std.proofs.Common.{◌≡◌, List, [], ◌∷◌, None, Some, true, false, refl}
+use Rattle.prefix_lattice.specs.{RecordValue}
+use Rattle.shard_state.specs.{ShardValue, empty_snapshot}
+use Rattle.position_words.specs.declared.view.Aim.TheVariants.{Fold, Read}
+use Rattle.position_words.specs.declared.view.Held.{Held}
+use Rattle.position_words.specs.declared.view.Trail.{Trail}
+use Rattle.position_words.specs.declared.view.View.{View}
+use Rattle.position_words.specs.View.{trail_from, first_view, seen_of, with_trail, looked, taken_for, took, lost_at}
+use Rattle.position_words.specs.View.{lost, given_after, gave_held, gave, split_off, newcomer, joined_trails, joined, spent}
+use Rattle.position_words.specs.Words.{slot_out}
+
+-- a packet from 1.0.0.1 to 101.0.0.1
+abbrev pub x : RecordValue
+x = record { src = 0x01000001; dst = 0x65000001; weight = 1 }
+
+-- two shards, of two packets and of one, none of which is counted
+abbrev pub pair : ShardValue
+pair = record { list = x ∷ x ∷ []; base = empty_snapshot 4; position = 0 }
+
+abbrev pub single : ShardValue
+single = record { list = x ∷ []; base = empty_snapshot 4; position = 0 }
+
+abbrev pub shards : List ShardValue
+shards = pair ∷ single ∷ []
+
+pub trail_of_no_step : trail_from 3 ≡ record { seen = 3; looks = []; reads = []; folds = []; losses = [] }
+trail_of_no_step = refl
+
+abbrev pub first : View
+first = first_view shards
+
+pub first_has_seen_the_starts : first ≡ record {
+  opening = shards;
+  trails = trail_from 0 ∷ trail_from 0 ∷ [];
+  splits = 0;
+  held = None;
+  spent = false;
+}
+first_has_seen_the_starts = refl
+
+pub seen_after_a_look : seen_of 0 (looked 0 1 first) ≡ 1
+seen_after_a_look = refl
+
+pub other_shard_not_seen : seen_of 1 (looked 0 1 first) ≡ 0
+other_shard_not_seen = refl
+
+pub second_trail_changes : with_trail (λ trail. trail_from 1) 1 first
+    ≡ record first { trails = trail_from 0 ∷ trail_from 1 ∷ [] }
+second_trail_changes = refl
+
+-- looks that met positions 1 and 2
+pub looks_are_kept : looked 0 2 (looked 0 1 first)
+    ≡ record first { trails = record (trail_from 2) { looks = 1 ∷ 2 ∷ [] } ∷ trail_from 0 ∷ [] }
+looks_are_kept = refl
+
+pub take_to_fold_keeps_no_read : taken_for Fold 1 (trail_from 0) ≡ trail_from 1
+take_to_fold_keeps_no_read = refl
+
+pub take_to_read_keeps_a_read : taken_for Read 1 (trail_from 0) ≡ record (trail_from 1) { reads = 1 ∷ [] }
+take_to_read_keeps_a_read = refl
+
+-- the first seat holds the first shard, at position 1, to fold it
+abbrev pub holding : View
+holding = took Fold 0 1 first
+
+abbrev pub held_first : Held
+held_first = record { shard = 0; position = 1; aim = Fold }
+
+pub holds_the_first : holding ≡ record first {
+  trails = trail_from 1 ∷ trail_from 0 ∷ [];
+  held = Some held_first;
+}
+holds_the_first = refl
+
+pub half_of_an_odd_word_is_seen : lost_at 5 (trail_from 1) ≡ record (trail_from 2) { losses = 5 ∷ [] }
+half_of_an_odd_word_is_seen = refl
+
+pub loss_is_kept : lost 0 3 first
+    ≡ record first { trails = record (trail_from 1) { losses = 3 ∷ [] } ∷ trail_from 0 ∷ [] }
+loss_is_kept = refl
+
+pub fold_is_kept : given_after Fold 1 2 (trail_from 1)
+    ≡ record (trail_from 2) { folds = record { from = 1; to = 2 } ∷ [] }
+fold_is_kept = refl
+
+-- a take to read is kept as it is made, not as the shard is given back
+pub give_after_a_read : given_after Read 1 1 (taken_for Read 1 (trail_from 0))
+    ≡ record (trail_from 1) { reads = 1 ∷ [] }
+give_after_a_read = refl
+
+pub nothing_to_give : gave_held 2 None first ≡ first
+nothing_to_give = refl
+
+pub gave_what_it_held : gave 2 holding
+    ≡ record first { trails = record (trail_from 2) { folds = record { from = 1; to = 2 } ∷ [] } ∷ trail_from 0 ∷ [] }
+gave_what_it_held = refl
+
+pub two_seats_split_off : (split_off (split_off first)).splits ≡ 2
+two_seats_split_off = refl
+
+-- it has seen what the first has, and made no step
+pub newcomer_has_seen : newcomer (split_off (lost 0 3 first))
+    ≡ record first { trails = trail_from 1 ∷ trail_from 0 ∷ [] }
+newcomer_has_seen = refl
+
+-- what was seen of two shards: each list is ahead at one of them
+abbrev far : List Trail
+far = (lost_at 5 (trail_from 1)) ∷ trail_from 0 ∷ []
+
+pub both_have_seen : joined_trails far (trail_from 1 ∷ trail_from 1 ∷ [])
+    ≡ record (trail_from 2) { losses = 5 ∷ [] } ∷ trail_from 1 ∷ []
+both_have_seen = refl
+
+-- a join takes over no step of the other
+pub joined_has_seen : joined first (lost 0 3 first) ≡ record first { trails = trail_from 1 ∷ trail_from 0 ∷ [] }
+joined_has_seen = refl
+
+pub spent_knows_nothing : spent ≡ record { opening = []; trails = []; splits = 0; held = None; spent = true }
+spent_knows_nothing = refl
+
+pub slot_of_a_holder : slot_out holding.held ≡ (0, None) ∷ []
+slot_of_a_holder = refl
+
+pub no_slot_out : slot_out first.held ≡ []
+no_slot_out = refl
