@@ -33,7 +33,9 @@ first = first_view shards
 pub first_has_seen_the_starts : first ≡ record {
   opening = shards;
   trails = trail_from 0 ∷ trail_from 0 ∷ [];
+  generation = 0;
   splits = 0;
+  joins = [];
   held = None;
   spent = false;
 }
@@ -101,8 +103,12 @@ two_seats_split_off = refl
 
 -- it has seen what the first has, and made no step
 pub newcomer_has_seen : newcomer (split_off (lost 0 3 first))
-    ≡ record first { trails = trail_from 1 ∷ trail_from 0 ∷ [] }
+    ≡ record first { trails = trail_from 1 ∷ trail_from 0 ∷ []; generation = 1 }
 newcomer_has_seen = refl
+
+-- a seat that was split off a new seat is no new seat of the first
+pub newcomer_of_a_newcomer : (newcomer (newcomer first)).generation ≡ 2
+newcomer_of_a_newcomer = refl
 
 -- what was seen of two shards: each list is ahead at one of them
 abbrev far : List Trail
@@ -113,10 +119,12 @@ pub both_have_seen : joined_trails far (trail_from 1 ∷ trail_from 1 ∷ [])
 both_have_seen = refl
 
 -- a join takes over no step of the other
-pub joined_has_seen : joined first (lost 0 3 first) ≡ record first { trails = trail_from 1 ∷ trail_from 0 ∷ [] }
+pub joined_has_seen : joined first (newcomer (lost 0 3 first))
+    ≡ record first { trails = trail_from 1 ∷ trail_from 0 ∷ []; joins = 1 ∷ [] }
 joined_has_seen = refl
 
-pub spent_knows_nothing : spent ≡ record { opening = []; trails = []; splits = 0; held = None; spent = true }
+pub spent_knows_nothing : spent
+    ≡ record { opening = []; trails = []; generation = 0; splits = 0; joins = []; held = None; spent = true }
 spent_knows_nothing = refl
 
 pub slot_of_a_holder : slot_out holding.held ≡ (0, None) ∷ []

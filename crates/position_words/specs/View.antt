@@ -13,7 +13,7 @@ trail_from position = record { seen = position; looks = []; reads = []; folds = 
 
 -- the view of the first seat: it names the shards, and has seen their positions
 abbrev pub first_view : List ShardValue → View
-first_view shards = record { opening = shards; trails = map (λ shard. trail_from shard.position) shards; splits = 0; held = None; spent = false }
+first_view shards = record { opening = shards; trails = map (λ shard. trail_from shard.position) shards; generation = 0; splits = 0; joins = []; held = None; spent = false }
 
 -- the position of a shard that a view has last seen
 abbrev pub seen_of : ℕ → View → ℕ
@@ -62,9 +62,17 @@ gave position view = gave_held position view.held view
 abbrev pub split_off : View → View
 split_off view = record view { splits = view.splits + 1 }
 
--- the view of the seat that was split off: it has seen the same positions, and made no step
+-- the view of the seat that was split off: it has seen the same positions, made no step, and is one generation later
 abbrev pub newcomer : View → View
-newcomer view = record { opening = view.opening; trails = map (λ trail. trail_from trail.seen) view.trails; splits = 0; held = None; spent = false }
+newcomer view = record {
+  opening = view.opening;
+  trails = map (λ trail. trail_from trail.seen) view.trails;
+  generation = view.generation + 1;
+  splits = 0;
+  joins = [];
+  held = None;
+  spent = false;
+}
 
 -- the trails of a seat after another was joined to it: of each shard, the later of the two positions is seen
 abbrev pub joined_trails : List Trail → List Trail → List Trail
@@ -74,8 +82,8 @@ joined_trails (trail ∷ rest) (other ∷ others) = record trail { seen = max tr
 
 -- a view after another seat was joined: it has seen what both have, and keeps its own steps alone
 abbrev pub joined : View → View → View
-joined view other = record view { trails = joined_trails view.trails other.trails }
+joined view other = record view { trails = joined_trails view.trails other.trails; joins = view.joins ++ other.generation ∷ [] }
 
 -- the view that a joined seat is left with
 abbrev pub spent : View
-spent = record { opening = []; trails = []; splits = 0; held = None; spent = true }
+spent = record { opening = []; trails = []; generation = 0; splits = 0; joins = []; held = None; spent = true }

@@ -7,7 +7,7 @@ mod rule;
 mod view;
 mod words;
 
-pub use laws::even_words_hold_their_states;
+pub use laws::{even_words_hold_their_states, odd_words_are_held};
 pub use rule::SlotRule;
 pub use view::{Aim, Held, Trail, View};
 pub use words::{Seat, Take, Words};

@@ -42,8 +42,12 @@ pub struct View {
     pub opening: LinkedList<ShardState>,
     /// What it knows of each shard.
     pub trails: LinkedList<Trail>,
+    /// How many splits lie between the first seat and this one.
+    pub generation: u64,
     /// How many seats were split off.
     pub splits: u64,
+    /// The generations of the seats that were joined to it.
+    pub joins: LinkedList<u64>,
     /// The shard that it holds, if any.
     pub held: Option<Held>,
     /// Whether it was joined to another, and knows nothing any more.
