@@ -1,17 +1,17 @@
 -- Worked examples of what feeding and reporting leave.
-use Rattle.std.proofs.Common.{◌≡◌, ℕ, ◌+◌, ◌<◌, ◌≤◌, List, [], ◌∷◌, ◌++◌, map, length, slice_get, Some, None, All, refl, sym, ap, ◌∙◌, arith, subst}
+use Rattle.std.proofs.Common.{◌≡◌, ℕ, ◌≤◌, List, [], ◌∷◌, map, length}
+use Rattle.std.proofs.Common.{refl, ap, arith, subst}
 use Rattle.std.proofs.lemmas.List.Elements.{All-nil, All-from_recursion}
-use Rattle.std.proofs.lemmas.List.Sorted.{IsNonDecreasingBy-short}
 use Rattle.std.proofs.lemmas.Option.{same_Some}
 use Rattle.prefix_lattice.specs.{RecordValue}
-use Rattle.shard_state.specs.{CutValue, IsShard, ShardValue, empty_snapshot, snapshot_of, state_at}
+use Rattle.shard_state.specs.{IsShard, ShardValue, empty_snapshot, snapshot_of, state_at}
 use Rattle.shard_state.specs.declared.shard_state.Folded.{Folded}
-use Rattle.hhh_output.specs.declared.reports.Reported.{Reported}
 use Rattle.position_words.specs.declared.view.Trail.{Trail}
 use Rattle.position_words.specs.declared.view.View.{View}
-use Rattle.pass_tokens.specs.{IsFoldOf, IsOdd, ShardRead, first_view, folded_once, seen_of}
+use Rattle.pass_tokens.specs.{IsFoldOf, IsOdd, ShardRead, first_view, folded_once}
 use Rattle.gate_workers.specs.Feed.{IsFed, Feeds, HasSeenEnd, HasSeenEnds}
-use Rattle.gate_workers.specs.Call.{Calls, CallsSoFar, IsCutAt, after_rounds, cut_at, positions_of_shard, positions_read, states_at}
+use Rattle.gate_workers.specs.Call.{Calls, CallsSoFar, IsCutAt, after_rounds, cut_at, positions_of_shard}
+use Rattle.gate_workers.specs.Call.{positions_read, states_at}
 use Rattle.gate_workers.proofs.FeedLemmas.{nothing_fed}
 use Rattle.gate_workers.proofs.CallLemmas.{no_calls}
 
@@ -82,7 +82,8 @@ not_all_ends_seen ends = let end : 1 ≤ 0 = ends 1 single refl in omega (arith,
 pub shards_at_positions : states_at shards (2 ∷ 1 ∷ []) ≡ state_at 2 pair ∷ state_at 1 single ∷ []
 shards_at_positions = refl
 
-pub cut_of_the_core : cut_at shards (1 ∷ 0 ∷ []) ≡ record { capacity = 4; shards = snapshot_of (state_at 1 pair) ∷ snapshot_of single ∷ [] }
+pub cut_of_the_core : cut_at shards (1 ∷ 0 ∷ [])
+    ≡ record { capacity = 4; shards = snapshot_of (state_at 1 pair) ∷ snapshot_of single ∷ [] }
 cut_of_the_core = refl
 
 pub empty_cut_is_at_no_position : IsCutAt [] [] (cut_at [] [])

@@ -1,5 +1,7 @@
 -- What feeding keeps: nothing done, one try, and one after another.
-use Rattle.std.proofs.Common.{◌≡◌, ℕ, zero, suc, ◌+◌, ◌-◌, ◌/◌, ◌%◌, ◌<◌, ◌≤◌, ◌⊎◌, inl, inr, ⊎_elim, min, Bool, true, false, ◌&&◌, IsTrue, List, [], ◌∷◌, ◌++◌, append-nil, append_assoc, map, length, slice_get, Some, All, refl, sym, ap, ap₂, ◌∙◌, arith, subst}
+use Rattle.std.proofs.Common.{◌≡◌, ℕ, zero, suc, ◌+◌, ◌-◌, ◌/◌, ◌%◌, ◌<◌, ◌≤◌, ◌⊎◌, inl, inr, ⊎_elim, min, Bool}
+use Rattle.std.proofs.Common.{true, false, ◌&&◌, IsTrue, List, [], ◌∷◌, ◌++◌, append-nil, append_assoc, map, length}
+use Rattle.std.proofs.Common.{slice_get, Some, refl, sym, ap, ap₂, ◌∙◌, arith, subst}
 use Rattle.std.specs.Prelude.{slice_index}
 use Rattle.std.proofs.Math.Nat.{add-mod_right, mod-eq_of_lt}
 use Rattle.std.proofs.lemmas.Bool.{cases_eq}
@@ -20,11 +22,14 @@ fed_same opening shard block trail = record {
   core = All-nil (IsFoldOf opening shard block);
   odd = All-nil IsOdd;
   later = omega arith;
-  is = ap₂ (λ folds losses. record trail { folds = folds; losses = losses }) (sym (append-nil trail.folds)) (sym (append-nil trail.losses));
+  is =
+      ap₂ (λ folds losses. record trail { folds = folds; losses = losses }) (sym (append-nil trail.folds))
+      (sym (append-nil trail.losses));
 }
 
 -- a trail with a fold more
-fed_once : (opening : List ShardValue) (shard block : ℕ) (trail : Trail) (done : Folded) → IsFoldOf opening shard block done → trail.seen ≤ done.from
+fed_once : (opening : List ShardValue) (shard block : ℕ) (trail : Trail) (done : Folded)
+    → IsFoldOf opening shard block done → trail.seen ≤ done.from
     → IsFed opening shard block trail (folded_once done trail)
 fed_once opening shard block trail done core seen = record {
   folds = done ∷ [];
@@ -32,22 +37,28 @@ fed_once opening shard block trail done core seen = record {
   core = All-cons (IsFoldOf opening shard block) done [] core (All-nil (IsFoldOf opening shard block));
   odd = All-nil IsOdd;
   later = omega (arith, seen, core.forward);
-  is = ap (λ losses. record trail { seen = done.to; folds = trail.folds ++ done ∷ []; losses = losses }) (sym (append-nil trail.losses));
+  is =
+      ap (λ losses. record trail { seen = done.to; folds = trail.folds ++ done ∷ []; losses = losses })
+      (sym (append-nil trail.losses));
 }
 
 -- a trail with a loss more
-fed_lost : (opening : List ShardValue) (shard block : ℕ) (trail : Trail) (word : ℕ) → IsOdd word → trail.seen ≤ word / 2 → IsFed opening shard block trail (lost_at word trail)
+fed_lost : (opening : List ShardValue) (shard block : ℕ) (trail : Trail) (word : ℕ) → IsOdd word
+    → trail.seen ≤ word / 2 → IsFed opening shard block trail (lost_at word trail)
 fed_lost opening shard block trail word odd seen = record {
   folds = [];
   losses = word ∷ [];
   core = All-nil (IsFoldOf opening shard block);
   odd = All-cons IsOdd word [] odd (All-nil IsOdd);
   later = seen;
-  is = ap (λ folds. record trail { seen = word / 2; folds = folds; losses = trail.losses ++ word ∷ [] }) (sym (append-nil trail.folds));
+  is =
+      ap (λ folds. record trail { seen = word / 2; folds = folds; losses = trail.losses ++ word ∷ [] })
+      (sym (append-nil trail.folds));
 }
 
 -- fed, and fed again
-fed_then : (opening : List ShardValue) (shard block : ℕ) (before middle now : Trail) → IsFed opening shard block before middle → IsFed opening shard block middle now
+fed_then : (opening : List ShardValue) (shard block : ℕ) (before middle now : Trail)
+    → IsFed opening shard block before middle → IsFed opening shard block middle now
     → IsFed opening shard block before now
 fed_then opening shard block before middle now first second = record {
   folds = first.folds ++ second.folds;
@@ -56,33 +67,44 @@ fed_then opening shard block before middle now first second = record {
   odd = All-append IsOdd first.losses second.losses first.odd second.odd;
   later = omega (arith, first.later, second.later);
   is = second.is
-      ∙ ap (λ (t : Trail). record t { seen = now.seen; folds = t.folds ++ second.folds; losses = t.losses ++ second.losses }) first.is
-      ∙ ap₂ (λ folds losses. record before { seen = now.seen; folds = folds; losses = losses }) (append_assoc before.folds first.folds second.folds)
+      ∙ ap (λ (t : Trail). record t {
+        seen = now.seen;
+        folds = t.folds ++ second.folds;
+        losses = t.losses ++ second.losses;
+      }) first.is
+      ∙ ap₂ (λ folds losses. record before { seen = now.seen; folds = folds; losses = losses })
+      (append_assoc before.folds first.folds second.folds)
       (append_assoc before.losses first.losses second.losses);
 }
 
 -- what was seen of a shard is in its trail
-seen_is : (trails : List Trail) (shard : ℕ) (trail : Trail) → slice_get trails shard ≡ Some trail → slice_index (map (λ trail. trail.seen) trails) shard ≡ trail.seen
+seen_is : (trails : List Trail) (shard : ℕ) (trail : Trail) → slice_get trails shard ≡ Some trail
+    → slice_index (map (λ trail. trail.seen) trails) shard ≡ trail.seen
 seen_is [] shard trail is = cc is
 seen_is (first ∷ rest) zero trail is = ap (λ (t : Trail). t.seen) (same_Some first trail is)
 seen_is (first ∷ rest) (suc shard) trail is = seen_is rest shard trail is
 
-some_trail : (trails : List Trail) (shard : ℕ) → shard < length trails → (trail : Trail) × (slice_get trails shard ≡ Some trail)
+some_trail : (trails : List Trail) (shard : ℕ) → shard < length trails
+    → (trail : Trail) × (slice_get trails shard ≡ Some trail)
 some_trail [] shard inside = absurd (omega arith)
 some_trail (trail ∷ rest) zero inside = (trail, refl)
 some_trail (trail ∷ rest) (suc shard) inside = some_trail rest shard (omega arith)
 
-changed_at : (change : Trail → Trail) (place : ℕ) (trails : List Trail) (shard : ℕ) (trail later : Trail) → slice_get trails shard ≡ Some trail
-    → slice_get (changed change place trails) shard ≡ Some later → ((shard ≡ place) × (later ≡ change trail)) ⊎ (later ≡ trail)
+changed_at : (change : Trail → Trail) (place : ℕ) (trails : List Trail) (shard : ℕ) (trail later : Trail)
+    → slice_get trails shard ≡ Some trail
+    → slice_get (changed change place trails) shard ≡ Some later
+    → ((shard ≡ place) × (later ≡ change trail)) ⊎ (later ≡ trail)
 changed_at change place [] shard trail later is now = cc is
 changed_at change zero (first ∷ rest) zero trail later is now =
     inl (refl, sym (same_Some (change first) later now) ∙ ap change (same_Some first trail is))
 changed_at change zero (first ∷ rest) (suc shard) trail later is now = inr (same_Some later trail (sym now ∙ is))
 changed_at change (suc place) (first ∷ rest) zero trail later is now = inr (same_Some later trail (sym now ∙ is))
 changed_at change (suc place) (first ∷ rest) (suc shard) trail later is now =
-    ⊎_elim (λ here. inl (ap suc here.0, here.1)) (λ there. inr there) (changed_at change place rest shard trail later is now)
+    ⊎_elim (λ here. inl (ap suc here.0, here.1)) (λ there. inr there)
+    (changed_at change place rest shard trail later is now)
 
-length-changed : (change : Trail → Trail) (place : ℕ) (trails : List Trail) → length (changed change place trails) ≡ length trails
+length-changed : (change : Trail → Trail) (place : ℕ) (trails : List Trail)
+    → length (changed change place trails) ≡ length trails
 length-changed change place [] = refl
 length-changed change zero (trail ∷ rest) = refl
 length-changed change (suc place) (trail ∷ rest) = ap suc (length-changed change place rest)
@@ -92,12 +114,15 @@ nothing_fed opening block view = record {
   same = refl;
   as_many = refl;
   trails = λ shard trail later is now.
-      subst (λ (t : Trail). IsFed opening shard block trail t) (same_Some trail later (sym is ∙ now)) (fed_same opening shard block trail);
+      subst (λ (t : Trail). IsFed opening shard block trail t) (same_Some trail later (sym is ∙ now))
+      (fed_same opening shard block trail);
 }
 
 -- a step at one shard
-one_step : (opening : List ShardValue) (block place : ℕ) (before now : View) (change : Trail → Trail) → now ≡ with_trail change place before
-    → ((trail : Trail) → slice_get before.trails place ≡ Some trail → IsFed opening place block trail (change trail)) → Feeds opening block before now
+one_step : (opening : List ShardValue) (block place : ℕ) (before now : View) (change : Trail → Trail)
+    → now ≡ with_trail change place before
+    → ((trail : Trail) → slice_get before.trails place ≡ Some trail
+    → IsFed opening place block trail (change trail)) → Feeds opening block before now
 one_step opening block place before now change is fed =
     let trails_are : now.trails ≡ changed change place before.trails = ap (λ (v : View). v.trails) is in
     record {
@@ -106,33 +131,48 @@ one_step opening block place before now change is fed =
       trails = λ shard trail later was now_is.
           ⊎_elim
           (λ here. subst (λ (t : Trail). IsFed opening shard block trail t) (sym here.1)
-          (subst (λ k. slice_get before.trails k ≡ Some trail → IsFed opening k block trail (change trail)) (sym here.0) (fed trail) was))
-          (λ there. subst (λ (t : Trail). IsFed opening shard block trail t) (sym there) (fed_same opening shard block trail))
-          (changed_at change place before.trails shard trail later was (ap (λ ts. slice_get ts shard) (sym trails_are) ∙ now_is));
+          (subst (λ k. slice_get before.trails k ≡ Some trail → IsFed opening k block trail (change trail))
+          (sym here.0) (fed trail) was))
+          (λ there.
+          subst (λ (t : Trail). IsFed opening shard block trail t) (sym there)
+          (fed_same opening shard block trail))
+          (changed_at change place before.trails shard trail later was
+          (ap (λ ts. slice_get ts shard) (sym trails_are) ∙ now_is));
     }
 
-pub feeds_once : (opening : List ShardValue) (shard block : ℕ) (before now : View) (done : Folded) → Folds opening shard block before now done → Feeds opening block before now
+pub feeds_once : (opening : List ShardValue) (shard block : ℕ) (before now : View) (done : Folded)
+    → Folds opening shard block before now done → Feeds opening block before now
 feeds_once opening shard block before now done folds =
     one_step opening block shard before now (folded_once done) folds.view
-    (λ trail is. fed_once opening shard block trail done folds.core (omega (arith, seen_is before.trails shard trail is, folds.later)))
+    (λ trail is.
+    fed_once opening shard block trail done folds.core
+    (omega (arith, seen_is before.trails shard trail is, folds.later)))
 
-pub feeds_lost : (opening : List ShardValue) (shard block : ℕ) (before now : View) → Loses shard before now → Feeds opening block before now
+pub feeds_lost : (opening : List ShardValue) (shard block : ℕ) (before now : View) → Loses shard before now
+    → Feeds opening block before now
 feeds_lost opening shard block before now loses =
     one_step opening block shard before now (lost_at loses.word) loses.view
-    (λ trail is. fed_lost opening shard block trail loses.word loses.odd (omega (arith, seen_is before.trails shard trail is, loses.meets.later)))
+    (λ trail is.
+    fed_lost opening shard block trail loses.word loses.odd
+    (omega (arith, seen_is before.trails shard trail is, loses.meets.later)))
 
-pub feeds_then : (opening : List ShardValue) (block : ℕ) (before middle now : View) → Feeds opening block before middle → Feeds opening block middle now → Feeds opening block before now
+pub feeds_then : (opening : List ShardValue) (block : ℕ) (before middle now : View)
+    → Feeds opening block before middle → Feeds opening block middle now → Feeds opening block before now
 feeds_then opening block before middle now first second = record {
   same = second.same ∙ ap (λ (v : View). record v { trails = now.trails }) first.same;
   as_many = second.as_many ∙ first.as_many;
   trails = λ shard trail later was now_is.
-      let inside : shard < length middle.trails = let below : shard < length before.trails = slice_get_within before.trails shard trail was in omega (arith, first.as_many) in
+      let inside : shard < length middle.trails =
+      let below : shard < length before.trails = slice_get_within before.trails shard trail was in
+      omega (arith, first.as_many) in
       let found = some_trail middle.trails shard inside in
-      fed_then opening shard block trail found.0 later (first.trails shard trail found.0 was found.1) (second.trails shard found.0 later found.1 now_is);
+      fed_then opening shard block trail found.0 later (first.trails shard trail found.0 was found.1)
+      (second.trails shard found.0 later found.1 now_is);
 }
 
 -- what was seen never falls
-pub seen_later : (opening : List ShardValue) (block shard : ℕ) (before now : View) → shard < length before.trails → Feeds opening block before now → seen_of shard before ≤ seen_of shard now
+pub seen_later : (opening : List ShardValue) (block shard : ℕ) (before now : View) → shard < length before.trails
+    → Feeds opening block before now → seen_of shard before ≤ seen_of shard now
 seen_later opening block shard before now inside feeds =
     let was = some_trail before.trails shard inside in
     let is = some_trail now.trails shard (omega (arith, inside, feeds.as_many)) in
@@ -140,25 +180,33 @@ seen_later opening block shard before now inside feeds =
     omega (arith, seen_is before.trails shard was.0 was.1, seen_is now.trails shard is.0 is.1, fed.later)
 
 -- a fold that moved nothing was at the end
-seen_here : (change : Trail → Trail) (position place : ℕ) (trails : List Trail) → ((trail : Trail) → (change trail).seen ≡ position) → place < length trails
+seen_here : (change : Trail → Trail) (position place : ℕ) (trails : List Trail)
+    → ((trail : Trail) → (change trail).seen ≡ position) → place < length trails
     → slice_index (map (λ trail. trail.seen) (changed change place trails)) place ≡ position
 seen_here change position place [] sees inside = absurd (omega arith)
 seen_here change position zero (trail ∷ rest) sees inside = sees trail
-seen_here change position (suc place) (trail ∷ rest) sees inside = seen_here change position place rest sees (omega arith)
+seen_here change position (suc place) (trail ∷ rest) sees inside =
+    seen_here change position place rest sees (omega arith)
 
-pub at_end : (opening : List ShardValue) (shard block : ℕ) (before now : View) (done : Folded) → 1 ≤ block → shard < length before.trails → Folds opening shard block before now done
+pub at_end : (opening : List ShardValue) (shard block : ℕ) (before now : View) (done : Folded) → 1 ≤ block
+    → shard < length before.trails → Folds opening shard block before now done
     → done.from ≡ done.to → HasSeenEnd opening shard now
 at_end opening shard block before now done some inside folds still state is =
     let same : folds.core.state ≡ state = same_Some folds.core.state state (sym folds.core.is ∙ is) in
-    let position : done.to ≡ min (length folds.core.state.list) (done.from + block) = ap (λ (s : ShardValue). s.position) folds.core.core in
-    let seen : seen_of shard now ≡ done.to = ap (seen_of shard) folds.view ∙ seen_here (folded_once done) done.to shard before.trails (λ trail. refl) inside in
+    let position : done.to ≡ min (length folds.core.state.list) (done.from + block) =
+    ap (λ (s : ShardValue). s.position) folds.core.core in
+    let seen : seen_of shard now ≡ done.to =
+    ap (seen_of shard) folds.view
+    ∙ seen_here (folded_once done) done.to shard before.trails (λ trail. refl) inside in
     subst (λ (s : ShardValue). length s.list ≤ seen_of shard now) same (omega (arith, some, still, position, seen))
 
-pub still_at_end : (opening : List ShardValue) (block shard : ℕ) (before now : View) → length before.trails ≡ length opening → Feeds opening block before now
+pub still_at_end : (opening : List ShardValue) (block shard : ℕ) (before now : View)
+    → length before.trails ≡ length opening → Feeds opening block before now
     → HasSeenEnd opening shard before → HasSeenEnd opening shard now
 still_at_end opening block shard before now many feeds ends state is =
     let below : shard < length opening = slice_get_within opening shard state is in
-    let rises : seen_of shard before ≤ seen_of shard now = seen_later opening block shard before now (omega (arith, many, below)) feeds in
+    let rises : seen_of shard before ≤ seen_of shard now =
+    seen_later opening block shard before now (omega (arith, many, below)) feeds in
     let end : length state.list ≤ seen_of shard before = ends state is in
     omega (arith, rises, end)
 
@@ -170,8 +218,10 @@ both false true holds = cc holds
 both false false holds = cc holds
 
 -- one shard more of a round is at its end
-pub round_goes_on : (opening : List ShardValue) (shards first turn : ℕ) (view : View) → ((earlier : ℕ) → earlier < turn → HasSeenEnd opening ((first + earlier) % shards) view)
-    → HasSeenEnd opening ((first + turn) % shards) view → (earlier : ℕ) → earlier < turn + 1 → HasSeenEnd opening ((first + earlier) % shards) view
+pub round_goes_on : (opening : List ShardValue) (shards first turn : ℕ) (view : View)
+    → ((earlier : ℕ) → earlier < turn → HasSeenEnd opening ((first + earlier) % shards) view)
+    → HasSeenEnd opening ((first + turn) % shards) view → (earlier : ℕ) → earlier < turn + 1
+    → HasSeenEnd opening ((first + earlier) % shards) view
 round_goes_on opening shards first turn view before here earlier below =
     elim (cases_eq earlier turn) [
       | inl same ↦ subst (λ k. HasSeenEnd opening ((first + k) % shards) view) (sym same) here
@@ -184,7 +234,8 @@ le_or_lt (suc m) zero = inr (omega arith)
 le_or_lt (suc m) (suc n) = ⊎_elim (λ le. inl (omega arith)) (λ lt. inr (omega arith)) (le_or_lt m n)
 
 -- a round comes to each shard
-turn_of : (shards first shard : ℕ) → first < shards → shard < shards → (turn : ℕ) × (turn < shards) × ((first + turn) % shards ≡ shard)
+turn_of : (shards first shard : ℕ) → first < shards → shard < shards
+    → (turn : ℕ) × (turn < shards) × ((first + turn) % shards ≡ shard)
 turn_of shards first shard inside below = ⊎_elim later sooner (le_or_lt first shard)
   where
     later : first ≤ shard → (turn : ℕ) × (turn < shards) × ((first + turn) % shards ≡ shard)
@@ -194,12 +245,17 @@ turn_of shards first shard inside below = ⊎_elim later sooner (le_or_lt first 
         sum le = omega arith
 
     sooner : shard < first → (turn : ℕ) × (turn < shards) × ((first + turn) % shards ≡ shard)
-    sooner lt = (shard + shards - first, omega arith, ap (λ k. k % shards) (sum lt) ∙ add-mod_right shard shards ∙ mod-eq_of_lt below)
+    sooner lt = (
+      shard + shards - first,
+      omega arith,
+      ap (λ k. k % shards) (sum lt) ∙ add-mod_right shard shards ∙ mod-eq_of_lt below,
+    )
       where
         sum : shard < first → first + (shard + shards - first) ≡ shard + shards
         sum lt = omega arith
 
-pub round_sees_all : (opening : List ShardValue) (shards first : ℕ) (view : View) → shards ≡ length opening → first < shards
+pub round_sees_all : (opening : List ShardValue) (shards first : ℕ) (view : View) → shards ≡ length opening
+    → first < shards
     → ((turn : ℕ) → turn < shards → HasSeenEnd opening ((first + turn) % shards) view) → HasSeenEnds opening view
 round_sees_all opening shards first view many inside seen shard state is =
     let below : shard < length opening = slice_get_within opening shard state is in

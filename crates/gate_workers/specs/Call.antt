@@ -1,5 +1,6 @@
 -- What a caller that reports round after round knows and answers.
-use Rattle.std.specs.Prelude.{ℕ, ◌≡◌, ◌<◌, List, [], ◌∷◌, ◌++◌, map, fold, length, All, Option, None, slice_index, slice_index_or}
+use Rattle.std.specs.Prelude.{ℕ, ◌≡◌, ◌<◌, List, [], ◌∷◌, map, fold, length, All, None, slice_index}
+use Rattle.std.specs.Prelude.{slice_index_or}
 use Rattle.std.specs.List.Sorted.{IsNonDecreasing}
 use Rattle.shard_state.specs.{CutValue, IsShard, ShardValue, capacity_of, snapshot_of, state_at}
 use Rattle.hhh_output.specs.{IsReportOf}
@@ -17,7 +18,10 @@ states_at (shard ∷ rest) (position ∷ positions) = state_at position shard �
 
 -- the cut of the pure core at these positions
 abbrev pub cut_at : List ShardValue → List ℕ → CutValue
-cut_at opening positions = record { capacity = capacity_of opening; shards = map snapshot_of (states_at opening positions) }
+cut_at opening positions = record {
+  capacity = capacity_of opening;
+  shards = map snapshot_of (states_at opening positions);
+}
 
 -- a cut is that of the pure core at these positions
 pub record IsCutAt (opening : List ShardValue) (positions : List ℕ) (cut : CutValue) : Type 0 where
@@ -45,18 +49,22 @@ positions_of_shard shard rounds = map (λ reads. slice_index (positions_read rea
 
 -- a caller's rounds: in each it read each shard once, and reported on what it read. The positions of its reports are
 -- those of its reads, in order and no others; they never fall, and are at least what it had seen
-pub record Calls (opening : List ShardValue) (phi rounds : ℕ) (before now : View) (reports : List Reported) : Type 0 where
+pub record Calls (opening : List ShardValue) (phi rounds : ℕ) (before now : View) (reports : List Reported)
+    : Type 0 where
   pub reads : List (List ShardRead)
   pub as_many : length reads ≡ rounds
   pub odd : All (λ round. All (λ read. All IsOdd read.losses) round) reads
   pub view : now ≡ record before { trails = after_rounds before.trails reads }
   pub positions : map (λ reported. reported.report.positions) reports ≡ map positions_read reads
-  pub never_fall : (shard : ℕ) → shard < length opening → IsNonDecreasing (seen_of shard before ∷ positions_of_shard shard reads)
+  pub never_fall : (shard : ℕ) → shard < length opening
+      → IsNonDecreasing (seen_of shard before ∷ positions_of_shard shard reads)
   pub each : All (λ reported. IsReportAt opening phi reported.report) reports
   pub unsaved : All (λ reported. reported.saved ≡ None) reports
 
 -- within the crate: the rounds so far, the last of which read what the view has seen
-pub record CallsSoFar (opening : List ShardValue) (phi rounds : ℕ) (before now : View) (reports : List Reported) : Type 0 where
+pub record CallsSoFar (opening : List ShardValue) (phi rounds : ℕ) (before now : View) (reports : List Reported)
+    : Type 0 where
   pub calls : Calls opening phi rounds before now reports
   pub last : (shard : ℕ) → shard < length opening → (d : ℕ)
-      → slice_index_or (seen_of shard before ∷ positions_of_shard shard calls.reads) (length (positions_of_shard shard calls.reads)) d ≡ seen_of shard now
+      → slice_index_or (seen_of shard before ∷ positions_of_shard shard calls.reads)
+      (length (positions_of_shard shard calls.reads)) d ≡ seen_of shard now

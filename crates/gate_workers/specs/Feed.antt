@@ -20,12 +20,14 @@ pub record IsFed (opening : List ShardValue) (shard block : ℕ) (before now : T
 pub record Feeds (opening : List ShardValue) (block : ℕ) (before now : View) : Type 0 where
   pub same : now ≡ record before { trails = now.trails }
   pub as_many : length now.trails ≡ length before.trails
-  pub trails : (shard : ℕ) (trail later : Trail) → slice_get before.trails shard ≡ Some trail → slice_get now.trails shard ≡ Some later
+  pub trails : (shard : ℕ) (trail later : Trail) → slice_get before.trails shard ≡ Some trail
+      → slice_get now.trails shard ≡ Some later
       → IsFed opening shard block trail later
 
 -- a view has seen the end of a shard's list
 abbrev pub HasSeenEnd : List ShardValue → ℕ → View → Type 0
-HasSeenEnd opening shard view = (state : ShardValue) → slice_get opening shard ≡ Some state → length state.list ≤ seen_of shard view
+HasSeenEnd opening shard view =
+    (state : ShardValue) → slice_get opening shard ≡ Some state → length state.list ≤ seen_of shard view
 
 -- and the end of each list
 abbrev pub HasSeenEnds : List ShardValue → View → Type 0

@@ -14,7 +14,8 @@ read_once position trail = record trail { seen = position; reads = trail.reads +
 
 -- a read that was made: it met a position, at least the one that the pass had seen; the cut gets the snapshot of the
 -- pure core at that position, and the read is the view's only new step
-pub record Reads (opening : List ShardValue) (shard : ℕ) (before : View) (cut : CutValue) (now : View) (changed : CutValue) : Type 0 where
+pub record Reads (opening : List ShardValue) (shard : ℕ) (before : View) (cut : CutValue) (now : View)
+    (changed : CutValue) : Type 0 where
   pub position : ℕ
   pub state : ShardValue
   pub is : slice_get opening shard ≡ Some state
@@ -51,7 +52,8 @@ states_read (shard ∷ rest) (read ∷ reads) = state_at read.position shard ∷
 
 -- one read of each shard, each after any number of takes that lost: the cut gets the snapshots of the pure core at the
 -- positions met, each at least the one that the pass had seen
-pub record ReadsCut (opening : List ShardValue) (before : View) (cut : CutValue) (now : View) (changed : CutValue) : Type 0 where
+pub record ReadsCut (opening : List ShardValue) (before : View) (cut : CutValue) (now : View) (changed : CutValue)
+    : Type 0 where
   pub reads : List ShardRead
   pub as_many : length reads ≡ length opening
   pub odd : All (λ read. All IsOdd read.losses) reads
@@ -61,7 +63,8 @@ pub record ReadsCut (opening : List ShardValue) (before : View) (cut : CutValue)
   pub core : changed ≡ record cut { shards = map snapshot_of (states_read opening reads) }
 
 -- within the crate: one read of a shard after any number of takes that lost
-pub record ReadsAtLast (opening : List ShardValue) (shard : ℕ) (before : View) (cut : CutValue) (now : View) (changed : CutValue) : Type 0 where
+pub record ReadsAtLast (opening : List ShardValue) (shard : ℕ) (before : View) (cut : CutValue) (now : View)
+    (changed : CutValue) : Type 0 where
   pub read : ShardRead
   pub odd : All IsOdd read.losses
   pub state : ShardValue
@@ -72,7 +75,8 @@ pub record ReadsAtLast (opening : List ShardValue) (shard : ℕ) (before : View)
   pub core : changed ≡ with_read shard (Some (state_at read.position state)) cut
 
 -- within the crate: such reads of the first shards
-pub record ReadsSoFar (opening : List ShardValue) (count : ℕ) (before : View) (cut : CutValue) (now : View) (changed : CutValue) : Type 0 where
+pub record ReadsSoFar (opening : List ShardValue) (count : ℕ) (before : View) (cut : CutValue) (now : View)
+    (changed : CutValue) : Type 0 where
   pub reads : List ShardRead
   pub as_many : length reads ≡ count
   pub odd : All (λ read. All IsOdd read.losses) reads

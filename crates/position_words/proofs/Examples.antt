@@ -7,7 +7,8 @@ use Rattle.position_words.specs.declared.view.Held.{Held}
 use Rattle.position_words.specs.declared.view.Trail.{Trail}
 use Rattle.position_words.specs.declared.view.View.{View}
 use Rattle.position_words.specs.View.{trail_from, first_view, seen_of, with_trail, looked, taken_for, took, lost_at}
-use Rattle.position_words.specs.View.{lost, given_after, gave_held, gave, split_off, newcomer, joined_trails, joined, spent}
+use Rattle.position_words.specs.View.{lost, given_after, gave_held, gave, split_off, newcomer, joined_trails}
+use Rattle.position_words.specs.View.{joined, spent}
 use Rattle.position_words.specs.Words.{slot_out}
 
 -- a packet from 1.0.0.1 to 101.0.0.1

@@ -1,5 +1,6 @@
 -- Worked examples of the rule, and of seats and states that fit the words.
-use Rattle.std.proofs.Common.{◌≡◌, ℕ, zero, suc, ◌+◌, ◌*◌, ◌/◌, ◌<◌, ◌≤◌, List, [], ◌∷◌, Option, None, Some, slice_get, length, false, refl, sym, ap, ◌∙◌, arith, subst}
+use Rattle.std.proofs.Common.{◌≡◌, ℕ, zero, suc, ◌+◌, ◌*◌, ◌/◌, ◌<◌, ◌≤◌, List, [], ◌∷◌, Option, None, Some}
+use Rattle.std.proofs.Common.{slice_get, length, false, refl, sym, ap, ◌∙◌, arith, subst}
 use Rattle.std.specs.Prelude.{slice_index}
 use Rattle.std.proofs.lemmas.Option.{same_Some}
 use mathlib.Core.Option.{some, none, some-injective}
@@ -161,7 +162,8 @@ words_of seat = record { id = seat.table_id; opening = shards }
 pub first_is_a_seat : (seat : SeatValue) → IsSeatOf (words_of seat) (record seat { me = (first, []) })
 first_is_a_seat seat = record { id = refl; opening = refl; trails = refl; live = refl; slot = refl }
 
-pub holder_has_a_slot_out : (seat : SeatValue) → IsSeatOf (words_of seat) (record seat { me = (holding, (0, None) ∷ []) })
+pub holder_has_a_slot_out : (seat : SeatValue)
+    → IsSeatOf (words_of seat) (record seat { me = (holding, (0, None) ∷ []) })
 holder_has_a_slot_out seat = record { id = refl; opening = refl; trails = refl; live = refl; slot = refl }
 
 pub seat_that_was_joined : (seat : SeatValue) → IsSeatOf (words_of seat) (record seat { me = (spent, []) }) → ⊥

@@ -10,7 +10,8 @@ use Rattle.position_words.specs.declared.view.View.{View}
 use Rattle.position_words.specs.declared.words.Take.TheVariants.{Taken, Busy}
 use Rattle.position_words.specs.View.{gave, looked, lost}
 use Rattle.position_words.specs.Words.{SeatValue}
-use Rattle.position_words.specs.Step.{Meets, Looks, Wins, Marks, Takes, Gives, Loses, Answers, IsSame, HasTaken, IsReady}
+use Rattle.position_words.specs.Step.{Meets, Looks, Wins, Marks, Takes, Gives, Loses, Answers, IsSame, HasTaken}
+use Rattle.position_words.specs.Step.{IsReady}
 use Rattle.position_words.proofs.Examples.{pair, shards, first, holding}
 use Rattle.position_words.proofs.ExamplesOfRule.{same_list_and_base, holder_may_give}
 

@@ -1,5 +1,6 @@
 -- Which seats hold a shard, before and after a view changes.
-use Rattle.std.proofs.Common.{◌≡◌, ℕ, zero, suc, ◌<◌, ◌⊎◌, inl, inr, ⊎_elim, List, [], ◌∷◌, length, set, Some, sym, ap, ◌∙◌, arith, subst}
+use Rattle.std.proofs.Common.{◌≡◌, ℕ, zero, suc, ◌<◌, ◌⊎◌, inl, inr, ⊎_elim, List, [], ◌∷◌, length, set, Some, sym}
+use Rattle.std.proofs.Common.{ap, ◌∙◌, arith, subst}
 use Rattle.std.proofs.lemmas.Bool.{cases_eq}
 use mathlib.Core.Option.{some, some-injective, some-ne-none}
 use lib.ListN.{get_elem?}
@@ -20,17 +21,32 @@ pub record HoldsShard (view : View) (shard : ℕ) : Type 0 where
   pub is : held.shard ≡ shard
 
 -- another seat's view changes
-pub holder_there : (views : List View) (seat other place : ℕ) (now : View) → (other ≡ seat → ⊥) → IsHolder views other place → IsHolder (set views seat now) other place
+pub holder_there : (views : List View) (seat other place : ℕ) (now : View) → (other ≡ seat → ⊥)
+    → IsHolder views other place → IsHolder (set views seat now) other place
 holder_there views seat other place now apart holder =
-    record { view = holder.view; held = holder.held; at = set_else views seat other now apart ∙ holder.at; holds = holder.holds; is = holder.is }
+    record {
+      view = holder.view;
+      held = holder.held;
+      at = set_else views seat other now apart ∙ holder.at;
+      holds = holder.holds;
+      is = holder.is;
+    }
 
 -- the seat's own view changes to one that holds the shard
-pub holder_here : (views : List View) (seat place : ℕ) (before now : View) → get_elem? views seat ≡ some before → HoldsShard now place → IsHolder (set views seat now) seat place
+pub holder_here : (views : List View) (seat place : ℕ) (before now : View) → get_elem? views seat ≡ some before
+    → HoldsShard now place → IsHolder (set views seat now) seat place
 holder_here views seat place before now at has =
-    record { view = now; held = has.held; at = set_here views seat now (there_is views seat before at); holds = has.holds; is = has.is }
+    record {
+      view = now;
+      held = has.held;
+      at = set_here views seat now (there_is views seat before at);
+      holds = has.holds;
+      is = has.is;
+    }
 
 -- a holder's view is the one that stands at its seat
-pub held_by : (views : List View) (seat place : ℕ) (view : View) → get_elem? views seat ≡ some view → IsHolder views seat place → HoldsShard view place
+pub held_by : (views : List View) (seat place : ℕ) (view : View) → get_elem? views seat ≡ some view
+    → IsHolder views seat place → HoldsShard view place
 held_by views seat place view at holder =
     let same : holder.view ≡ view = some-injective holder.view view (sym holder.at ∙ at) in
     record { held = holder.held; holds = ap (λ v. v.held) (sym same) ∙ holder.holds; is = holder.is }
@@ -39,12 +55,18 @@ held_by views seat place view at holder =
 pub holder_after : (views : List View) (seat other place : ℕ) (now : View) → IsHolder (set views seat now) other place
     → ((other ≡ seat) × HoldsShard now place) ⊎ ((other ≡ seat → ⊥) × IsHolder views other place)
 holder_after views seat other place now holder =
-    ⊎_elim (λ here. inl (here.0, record { held = holder.held; holds = ap (λ v. v.held) here.1 ∙ holder.holds; is = holder.is }))
-    (λ there. inr (there.0, record { view = holder.view; held = holder.held; at = there.1; holds = holder.holds; is = holder.is }))
+    ⊎_elim (λ here.
+    inl (here.0, record { held = holder.held; holds = ap (λ v. v.held) here.1 ∙ holder.holds; is = holder.is }))
+    (λ there.
+    inr (
+      there.0,
+      record { view = holder.view; held = holder.held; at = there.1; holds = holder.holds; is = holder.is },
+    ))
     (at_set views seat other now holder.view holder.at)
 
 -- a view that holds what it held leaves all holders
-pub holder_kept : (views : List View) (seat other place : ℕ) (before now : View) → get_elem? views seat ≡ some before → now.held ≡ before.held
+pub holder_kept : (views : List View) (seat other place : ℕ) (before now : View)
+    → get_elem? views seat ≡ some before → now.held ≡ before.held
     → IsHolder views other place → IsHolder (set views seat now) other place
 holder_kept views seat other place before now at same holder =
     elim (cases_eq other seat) [
@@ -53,10 +75,12 @@ holder_kept views seat other place before now at same holder =
           let mine : IsHolder views seat place = subst (λ k. IsHolder views k place) here holder in
           let has : HoldsShard before place = held_by views seat place before at mine in
           subst (λ k. IsHolder (set views seat now) k place) (sym here)
-          (holder_here views seat place before now at (record { held = has.held; holds = same ∙ has.holds; is = has.is }))
+          (holder_here views seat place before now at
+          (record { held = has.held; holds = same ∙ has.holds; is = has.is }))
     ]
 
-pub holder_before : (views : List View) (seat other place : ℕ) (before now : View) → get_elem? views seat ≡ some before → now.held ≡ before.held
+pub holder_before : (views : List View) (seat other place : ℕ) (before now : View)
+    → get_elem? views seat ≡ some before → now.held ≡ before.held
     → IsHolder (set views seat now) other place → IsHolder views other place
 holder_before views seat other place before now at same holder =
     ⊎_elim (λ here. let has = here.1 in subst (λ k. IsHolder views k place) (sym here.0)

@@ -1,5 +1,7 @@
 -- What keeps the rule: a change of one view, a new seat, a shard taken out, a shard put back.
-use Rattle.std.proofs.Common.{◌≡◌, ℕ, zero, suc, ◌+◌, ◌*◌, ◌/◌, ◌<◌, ◌≤◌, inl, inr, ⊎_elim, false, List, [], ◌∷◌, ◌++◌, map, length, length-set, set, slice_get, Option, None, Some, All, refl, sym, ap, ◌∙◌, arith, subst}
+use Rattle.std.proofs.Common.{◌≡◌, ℕ, zero, suc, ◌+◌, ◌*◌, ◌/◌, ◌<◌, ◌≤◌, inl, inr, ⊎_elim, false, List, [], ◌∷◌}
+use Rattle.std.proofs.Common.{◌++◌, map, length, length-set, set, slice_get, Option, None, Some, All, refl, sym, ap}
+use Rattle.std.proofs.Common.{◌∙◌, arith, subst}
 use Rattle.std.specs.Prelude.{slice_index}
 use Rattle.std.proofs.lemmas.Bool.{cases_eq}
 use Rattle.std.proofs.lemmas.List.{length-map}
@@ -17,7 +19,8 @@ use Rattle.position_words.specs.View.{first_view, trail_from}
 use Rattle.position_words.specs.Rule.{IsEven, IsOdd, IsHolder, Fits, IsKept}
 use Rattle.position_words.proofs.WordLemmas.{word_here, word_there, halves_rise}
 use Rattle.position_words.proofs.TrailLemmas.{reached_first}
-use Rattle.position_words.proofs.HolderLemmas.{HoldsShard, holder_there, holder_here, held_by, holder_after, holder_kept, holder_before}
+use Rattle.position_words.proofs.HolderLemmas.{HoldsShard, holder_there, holder_here, held_by, holder_after}
+use Rattle.position_words.proofs.HolderLemmas.{holder_kept, holder_before}
 
 pub not_both : (word : ℕ) → IsEven word → IsOdd word → ⊥
 not_both word even odd = omega (arith, even, odd)
@@ -26,42 +29,60 @@ nothing_held : (view : View) (held : Held) → view.held ≡ None → view.held 
 nothing_held view held free holds = cc (sym free ∙ holds)
 
 -- a view that fits, fits when halves of words rise
-pub fits_rise : (shards : List ShardValue) (words later : List ℕ) (view : View) → ((shard : ℕ) → slice_index words shard / 2 ≤ slice_index later shard / 2)
+pub fits_rise : (shards : List ShardValue) (words later : List ℕ) (view : View)
+    → ((shard : ℕ) → slice_index words shard / 2 ≤ slice_index later shard / 2)
     → Fits shards words view → Fits shards later view
 fits_rise shards words later view rises fits =
-    record { opening = fits.opening; trails = fits.trails; reached = λ shard. omega (arith, fits.reached shard, rises shard) }
+    record {
+      opening = fits.opening;
+      trails = fits.trails;
+      reached = λ shard. omega (arith, fits.reached shard, rises shard);
+    }
 
-module _ (shards : List ShardValue) (words : List ℕ) (homes : List (maybe.Option (Option ShardValue))) (views : List View) (kept : IsKept shards (record { words = words; homes = homes; views = views })) where
+module _ (shards : List ShardValue) (words : List ℕ) (homes : List (maybe.Option (Option ShardValue)))
+    (views : List View) (kept : IsKept shards (record { words = words; homes = homes; views = views })) where
   -- the word of a shard that is held
-  holders_word : (seat place : ℕ) (view : View) → get_elem? views seat ≡ some view → (has : HoldsShard view place) → slice_index words place ≡ 2 * has.held.position + 1
-  holders_word seat place view at has = subst (λ k. slice_index words k ≡ 2 * has.held.position + 1) has.is (kept.held seat view has.held at has.holds)
+  holders_word : (seat place : ℕ) (view : View) → get_elem? views seat ≡ some view → (has : HoldsShard view place)
+      → slice_index words place ≡ 2 * has.held.position + 1
+  holders_word seat place view at has =
+      subst (λ k. slice_index words k ≡ 2 * has.held.position + 1) has.is
+      (kept.held seat view has.held at has.holds)
 
   odd_if_held : (seat place : ℕ) → IsHolder views seat place → IsOdd (slice_index words place)
   odd_if_held seat place holder =
       let word : slice_index words place ≡ 2 * holder.held.position + 1 =
-      holders_word seat place holder.view holder.at (record { held = holder.held; holds = holder.holds; is = holder.is }) in
+      holders_word seat place holder.view holder.at
+      (record { held = holder.held; holds = holder.holds; is = holder.is }) in
       omega (arith, word)
 
   -- a view changes, and holds what it held
-  pub view_changes : (seat : ℕ) (before now : View) → get_elem? views seat ≡ some before → now.held ≡ before.held → (now.spent ≡ false → Fits shards words now)
+  pub view_changes : (seat : ℕ) (before now : View) → get_elem? views seat ≡ some before → now.held ≡ before.held
+      → (now.spent ≡ false → Fits shards words now)
       → IsKept shards (record { words = words; homes = homes; views = set views seat now })
   view_changes seat before now at same fits = record {
     words = kept.words;
     slots = kept.slots;
     within = kept.within;
     even = kept.even;
-    odd = λ place inside odd. let found = kept.odd place inside odd in (found.0, holder_kept views seat found.0 place before now at same found.1);
+    odd = λ place inside odd.
+        let found = kept.odd place inside odd in
+        (found.0, holder_kept views seat found.0 place before now at same found.1);
     held = λ other view held is holds.
-        ⊎_elim (λ here. kept.held seat before held at (sym same ∙ ap (λ v. v.held) here.1 ∙ holds)) (λ there. kept.held other view held there.1 holds)
+        ⊎_elim (λ here. kept.held seat before held at (sym same ∙ ap (λ v. v.held) here.1 ∙ holds))
+        (λ there. kept.held other view held there.1 holds)
         (at_set views seat other now view is);
-    alone = λ other third place one two. kept.alone other third place (holder_before views seat other place before now at same one) (holder_before views seat third place before now at same two);
+    alone = λ other third place one two.
+        kept.alone other third place (holder_before views seat other place before now at same one)
+        (holder_before views seat third place before now at same two);
     views = λ other view is live.
-        ⊎_elim (λ here. subst (Fits shards words) here.1 (fits (ap (λ v. v.spent) here.1 ∙ live))) (λ there. kept.views other view there.1 live)
+        ⊎_elim (λ here. subst (Fits shards words) here.1 (fits (ap (λ v. v.spent) here.1 ∙ live)))
+        (λ there. kept.views other view there.1 live)
         (at_set views seat other now view is);
   }
 
   -- a new seat, which holds nothing
-  pub seat_arrives : (new : View) → new.held ≡ None → Fits shards words new → IsKept shards (record { words = words; homes = homes; views = views ++ new ∷ [] })
+  pub seat_arrives : (new : View) → new.held ≡ None → Fits shards words new
+      → IsKept shards (record { words = words; homes = homes; views = views ++ new ∷ [] })
   seat_arrives new free fits = record {
     words = kept.words;
     slots = kept.slots;
@@ -69,24 +90,43 @@ module _ (shards : List ShardValue) (words : List ℕ) (homes : List (maybe.Opti
     even = kept.even;
     odd = λ place inside odd. let found = kept.odd place inside odd in (found.0, longer found.0 place found.1);
     held = λ seat view held is holds.
-        ⊎_elim (λ old. kept.held seat view held old holds) (λ last. absurd (nothing_held new held free (ap (λ v. v.held) last ∙ holds))) (at_snoc views new view seat is);
+        ⊎_elim (λ old. kept.held seat view held old holds)
+        (λ last. absurd (nothing_held new held free (ap (λ v. v.held) last ∙ holds)))
+        (at_snoc views new view seat is);
     alone = λ seat other place one two. kept.alone seat other place (before seat place one) (before other place two);
     views = λ seat view is live.
-        ⊎_elim (λ old. kept.views seat view old live) (λ last. subst (Fits shards words) last fits) (at_snoc views new view seat is);
+        ⊎_elim (λ old. kept.views seat view old live) (λ last. subst (Fits shards words) last fits)
+        (at_snoc views new view seat is);
   }
     where
       longer : (seat place : ℕ) → IsHolder views seat place → IsHolder (views ++ new ∷ []) seat place
-      longer seat place holder = record { view = holder.view; held = holder.held; at = at_longer views (new ∷ []) seat holder.view holder.at; holds = holder.holds; is = holder.is }
+      longer seat place holder = record {
+        view = holder.view;
+        held = holder.held;
+        at = at_longer views (new ∷ []) seat holder.view holder.at;
+        holds = holder.holds;
+        is = holder.is;
+      }
 
       before : (seat place : ℕ) → IsHolder (views ++ new ∷ []) seat place → IsHolder views seat place
       before seat place holder =
-          ⊎_elim (λ old. record { view = holder.view; held = holder.held; at = old; holds = holder.holds; is = holder.is })
-          (λ last. absurd (nothing_held new holder.held free (ap (λ v. v.held) last ∙ holder.holds))) (at_snoc views new holder.view seat holder.at)
+          ⊎_elim (λ old. record {
+            view = holder.view;
+            held = holder.held;
+            at = old;
+            holds = holder.holds;
+            is = holder.is;
+          })
+          (λ last. absurd (nothing_held new holder.held free (ap (λ v. v.held) last ∙ holder.holds)))
+          (at_snoc views new holder.view seat holder.at)
 
   -- a seat that holds nothing takes a shard whose word is even
-  module _ (seat place : ℕ) (before now : View) (shard : ShardValue) (held : Held) (at : get_elem? views seat ≡ some before) (free : before.held ≡ None)
-      (is : slice_get shards place ≡ Some shard) (even : IsEven (slice_index words place)) (holds : now.held ≡ Some held) (of : held.shard ≡ place)
-      (met : held.position ≡ slice_index words place / 2) (fits : Fits shards (set words place (slice_index words place + 1)) now) where
+  module _ (seat place : ℕ) (before now : View) (shard : ShardValue) (held : Held)
+      (at : get_elem? views seat ≡ some before) (free : before.held ≡ None)
+      (is : slice_get shards place ≡ Some shard) (even : IsEven (slice_index words place))
+      (holds : now.held ≡ Some held) (of : held.shard ≡ place)
+      (met : held.position ≡ slice_index words place / 2)
+      (fits : Fits shards (set words place (slice_index words place + 1)) now) where
     abbrev pub word : ℕ
     word = slice_index words place
 
@@ -111,12 +151,14 @@ module _ (shards : List ShardValue) (words : List ℕ) (homes : List (maybe.Opti
     -- the seat held nothing before
     another : (other at_place : ℕ) → IsHolder views other at_place → other ≡ seat → ⊥
     another other at_place holder same =
-        let mine : HoldsShard before at_place = held_by views seat at_place before at (subst (λ k. IsHolder views k at_place) same holder) in
+        let mine : HoldsShard before at_place =
+        held_by views seat at_place before at (subst (λ k. IsHolder views k at_place) same holder) in
         nothing_held before mine.held free mine.holds
 
     -- and nobody held the shard
     elsewhere : (other at_place : ℕ) → IsHolder views other at_place → at_place ≡ place → ⊥
-    elsewhere other at_place holder same = not_both word even (odd_if_held other place (subst (IsHolder views other) same holder))
+    elsewhere other at_place holder same =
+        not_both word even (odd_if_held other place (subst (IsHolder views other) same holder))
 
     pub taken_out : IsKept shards (record { words = later; homes = set homes place none; views = set views seat now })
     taken_out = record {
@@ -125,20 +167,29 @@ module _ (shards : List ShardValue) (words : List ℕ) (homes : List (maybe.Opti
       within = λ other state of_shard. elim (cases_eq other place) [
         | inl same ↦
             let old : slice_index words other / 2 ≤ length state.list = kept.within other state of_shard in
-            let now_is : slice_index later other ≡ slice_index words other + 1 = subst (λ k. slice_index later k ≡ slice_index words k + 1) (sym same) here in
-            let was_even : IsEven (slice_index words other) = subst (λ k. IsEven (slice_index words k)) (sym same) even in
+            let now_is : slice_index later other ≡ slice_index words other + 1 =
+            subst (λ k. slice_index later k ≡ slice_index words k + 1) (sym same) here in
+            let was_even : IsEven (slice_index words other) =
+            subst (λ k. IsEven (slice_index words k)) (sym same) even in
             omega (arith, old, now_is, was_even)
-        | inr apart ↦ let old : slice_index words other / 2 ≤ length state.list = kept.within other state of_shard in omega (arith, old, there other apart)
+        | inr apart ↦
+            let old : slice_index words other / 2 ≤ length state.list = kept.within other state of_shard in
+            omega (arith, old, there other apart)
       ];
       even = λ other state of_shard even_now. elim (cases_eq other place) [
         | inl same ↦
             let odd : slice_index later other ≡ word + 1 = ap (slice_index later) same ∙ here in
             absurd (omega (arith, odd, even, even_now))
         | inr apart ↦
-            set_else homes place other none apart ∙ subst (λ n. IsEven n → get_elem? homes other ≡ some (some (Some (state_at (n / 2) state)))) (sym (there other apart)) (kept.even other state of_shard) even_now
+            set_else homes place other none apart
+            ∙ subst (λ n. IsEven n → get_elem? homes other ≡ some (some (Some (state_at (n / 2) state))))
+            (sym (there other apart)) (kept.even other state of_shard) even_now
       ];
       odd = λ other below odd_now. elim (cases_eq other place) [
-        | inl same ↦ (seat, subst (IsHolder (set views seat now) seat) (sym same) (holder_here views seat place before now at has))
+        | inl same ↦ (
+          seat,
+          subst (IsHolder (set views seat now) seat) (sym same) (holder_here views seat place before now at has),
+        )
         | inr apart ↦
             let found = kept.odd other below (subst IsOdd (there other apart) odd_now) in
             (found.0, holder_there views seat found.0 other now (another found.0 other found.1) found.1)
@@ -151,26 +202,41 @@ module _ (shards : List ShardValue) (words : List ℕ) (homes : List (maybe.Opti
           let half : 2 * held.position + 1 ≡ word + 1 = omega (arith, met, even) in
           subst (λ (h : Held). slice_index later h.shard ≡ 2 * h.position + 1) same (at_its ∙ sym half))
           (λ old.
-          let holder : IsHolder views other its.shard = record { view = view; held = its; at = old.1; holds = its_holds; is = refl } in
+          let holder : IsHolder views other its.shard = record {
+            view = view;
+            held = its;
+            at = old.1;
+            holds = its_holds;
+            is = refl;
+          } in
           there its.shard (elsewhere other its.shard holder) ∙ kept.held other view its old.1 its_holds)
           (at_set views seat other now view at_now);
       alone = λ other third at_place one two.
           ⊎_elim
           (λ mine. ⊎_elim (λ also. mine.0 ∙ sym also.0)
-          (λ old. absurd (elsewhere third at_place old.1 (sym mine.1.is ∙ ap (λ (h : Held). h.shard) (same_Some mine.1.held held (sym mine.1.holds ∙ holds)) ∙ of)))
+          (λ old.
+          absurd (elsewhere third at_place old.1
+          (sym mine.1.is ∙ ap (λ (h : Held). h.shard) (same_Some mine.1.held held (sym mine.1.holds ∙ holds))
+          ∙ of)))
           (holder_after views seat third at_place now two))
           (λ old. ⊎_elim
-          (λ also. absurd (elsewhere other at_place old.1 (sym also.1.is ∙ ap (λ (h : Held). h.shard) (same_Some also.1.held held (sym also.1.holds ∙ holds)) ∙ of)))
+          (λ also.
+          absurd (elsewhere other at_place old.1
+          (sym also.1.is ∙ ap (λ (h : Held). h.shard) (same_Some also.1.held held (sym also.1.holds ∙ holds))
+          ∙ of)))
           (λ too. kept.alone other third at_place old.1 too.1) (holder_after views seat third at_place now two))
           (holder_after views seat other at_place now one);
       views = λ other view at_now live.
-          ⊎_elim (λ own. subst (Fits shards later) own.1 fits) (λ old. fits_rise shards words later view rises (kept.views other view old.1 live))
+          ⊎_elim (λ own. subst (Fits shards later) own.1 fits)
+          (λ old. fits_rise shards words later view rises (kept.views other view old.1 live))
           (at_set views seat other now view at_now);
     }
 
   -- the seat that holds a shard gives it back, at no earlier position
-  module _ (seat : ℕ) (before now : View) (shard : ShardValue) (held : Held) (position : ℕ) (at : get_elem? views seat ≡ some before) (holds : before.held ≡ Some held)
-      (is : slice_get shards held.shard ≡ Some shard) (forward : held.position ≤ position) (ends : position ≤ length shard.list) (free : now.held ≡ None)
+  module _ (seat : ℕ) (before now : View) (shard : ShardValue) (held : Held) (position : ℕ)
+      (at : get_elem? views seat ≡ some before) (holds : before.held ≡ Some held)
+      (is : slice_get shards held.shard ≡ Some shard) (forward : held.position ≤ position)
+      (ends : position ≤ length shard.list) (free : now.held ≡ None)
       (fits : Fits shards (set words held.shard (2 * position)) now) where
     abbrev pub place : ℕ
     place = held.shard
@@ -204,18 +270,22 @@ module _ (shards : List ShardValue) (words : List ℕ) (homes : List (maybe.Opti
 
     -- another seat holds another shard
     its_shard : (other at_place : ℕ) → (other ≡ seat → ⊥) → IsHolder views other at_place → at_place ≡ place → ⊥
-    its_shard other at_place apart holder same = apart (kept.alone other seat place (subst (IsHolder views other) same holder) own)
+    its_shard other at_place apart holder same =
+        apart (kept.alone other seat place (subst (IsHolder views other) same holder) own)
 
     -- and the seat holds no other
     own_shard : (other at_place : ℕ) → (at_place ≡ place → ⊥) → IsHolder views other at_place → other ≡ seat → ⊥
     own_shard other at_place apart holder same =
-        let mine : HoldsShard before at_place = held_by views seat at_place before at (subst (λ k. IsHolder views k at_place) same holder) in
+        let mine : HoldsShard before at_place =
+        held_by views seat at_place before at (subst (λ k. IsHolder views k at_place) same holder) in
         apart (sym mine.is ∙ ap (λ (h : Held). h.shard) (same_Some mine.held held (sym mine.holds ∙ holds)))
 
     -- after it a holder held its shard before
-    was_holder : (other at_place : ℕ) → IsHolder (set views seat now) other at_place → (other ≡ seat → ⊥) × IsHolder views other at_place
+    was_holder : (other at_place : ℕ) → IsHolder (set views seat now) other at_place
+        → (other ≡ seat → ⊥) × IsHolder views other at_place
     was_holder other at_place holder =
-        ⊎_elim (λ mine. absurd (nothing_held now mine.1.held free mine.1.holds)) (λ old. old) (holder_after views seat other at_place now holder)
+        ⊎_elim (λ mine. absurd (nothing_held now mine.1.held free mine.1.holds)) (λ old. old)
+        (holder_after views seat other at_place now holder)
 
     pub put_back_again : IsKept shards (record { words = after; homes = filled; views = set views seat now })
     put_back_again = record {
@@ -223,24 +293,34 @@ module _ (shards : List ShardValue) (words : List ℕ) (homes : List (maybe.Opti
       slots = length-set homes place (some (Some (state_at position shard))) ∙ kept.slots;
       within = λ other state of_shard. elim (cases_eq other place) [
         | inl same ↦
-            let state_is : shard ≡ state = same_Some shard state (sym is ∙ ap (slice_get shards) (sym same) ∙ of_shard) in
+            let state_is : shard ≡ state =
+            same_Some shard state (sym is ∙ ap (slice_get shards) (sym same) ∙ of_shard) in
             let word_is : slice_index after other ≡ 2 * position = ap (slice_index after) same ∙ new_word in
-            subst (λ (s : ShardValue). slice_index after other / 2 ≤ length s.list) state_is (omega (arith, word_is, ends))
-        | inr apart ↦ let old : slice_index words other / 2 ≤ length state.list = kept.within other state of_shard in omega (arith, old, other_word other apart)
+            subst (λ (s : ShardValue). slice_index after other / 2 ≤ length s.list) state_is
+            (omega (arith, word_is, ends))
+        | inr apart ↦
+            let old : slice_index words other / 2 ≤ length state.list = kept.within other state of_shard in
+            omega (arith, old, other_word other apart)
       ];
       even = λ other state of_shard even_now. elim (cases_eq other place) [
         | inl same ↦
-            let state_is : shard ≡ state = same_Some shard state (sym is ∙ ap (slice_get shards) (sym same) ∙ of_shard) in
-            let half : position ≡ slice_index after other / 2 = let word_is : slice_index after other ≡ 2 * position = ap (slice_index after) same ∙ new_word in omega (arith, word_is) in
+            let state_is : shard ≡ state =
+            same_Some shard state (sym is ∙ ap (slice_get shards) (sym same) ∙ of_shard) in
+            let half : position ≡ slice_index after other / 2 =
+            let word_is : slice_index after other ≡ 2 * position = ap (slice_index after) same ∙ new_word in
+            omega (arith, word_is) in
             subst (λ n. get_elem? filled other ≡ some (some (Some (state_at n state)))) half
             (subst (λ (s : ShardValue). get_elem? filled other ≡ some (some (Some (state_at position s)))) state_is
             (ap (get_elem? filled) same ∙ set_here homes place (some (Some (state_at position shard))) in_slots))
         | inr apart ↦
             set_else homes place other (some (Some (state_at position shard))) apart
-            ∙ subst (λ n. IsEven n → get_elem? homes other ≡ some (some (Some (state_at (n / 2) state)))) (sym (other_word other apart)) (kept.even other state of_shard) even_now
+            ∙ subst (λ n. IsEven n → get_elem? homes other ≡ some (some (Some (state_at (n / 2) state))))
+            (sym (other_word other apart)) (kept.even other state of_shard) even_now
       ];
       odd = λ other below odd_now. elim (cases_eq other place) [
-        | inl same ↦ let word_is : slice_index after other ≡ 2 * position = ap (slice_index after) same ∙ new_word in absurd (omega (arith, word_is, odd_now))
+        | inl same ↦
+            let word_is : slice_index after other ≡ 2 * position = ap (slice_index after) same ∙ new_word in
+            absurd (omega (arith, word_is, odd_now))
         | inr apart ↦
             let found = kept.odd other below (subst IsOdd (other_word other apart) odd_now) in
             (found.0, holder_there views seat found.0 other now (own_shard found.0 other apart found.1) found.1)
@@ -248,28 +328,43 @@ module _ (shards : List ShardValue) (words : List ℕ) (homes : List (maybe.Opti
       held = λ other view its at_now its_holds.
           ⊎_elim (λ mine. absurd (nothing_held now its free (ap (λ v. v.held) mine.1 ∙ its_holds)))
           (λ old.
-          let holder : IsHolder views other its.shard = record { view = view; held = its; at = old.1; holds = its_holds; is = refl } in
+          let holder : IsHolder views other its.shard = record {
+            view = view;
+            held = its;
+            at = old.1;
+            holds = its_holds;
+            is = refl;
+          } in
           other_word its.shard (its_shard other its.shard old.0 holder) ∙ kept.held other view its old.1 its_holds)
           (at_set views seat other now view at_now);
-      alone = λ other third at_place one two. kept.alone other third at_place (was_holder other at_place one).1 (was_holder third at_place two).1;
+      alone = λ other third at_place one two.
+          kept.alone other third at_place (was_holder other at_place one).1 (was_holder third at_place two).1;
       views = λ other view at_now live.
-          ⊎_elim (λ mine. subst (Fits shards after) mine.1 fits) (λ old. fits_rise shards words after view grows (kept.views other view old.1 live))
+          ⊎_elim (λ mine. subst (Fits shards after) mine.1 fits)
+          (λ old. fits_rise shards words after view grows (kept.views other view old.1 live))
           (at_set views seat other now view at_now);
     }
 
 -- the table at the start
 first_slot : (shards : List ShardValue) (place : ℕ) (shard : ShardValue) → slice_get shards place ≡ Some shard
-    → (slice_index (map (λ (s : ShardValue). 2 * s.position) shards) place ≡ 2 * shard.position) × (get_elem? (map some (map Some shards)) place ≡ some (some (Some shard)))
+    → (slice_index (map (λ (s : ShardValue). 2 * s.position) shards) place ≡ 2 * shard.position)
+    × (get_elem? (map some (map Some shards)) place ≡ some (some (Some shard)))
 first_slot [] place shard is = cc is
-first_slot (s ∷ rest) zero shard is = let same : s ≡ shard = same_Some s shard is in (ap (λ (s : ShardValue). 2 * s.position) same, ap (λ (s : ShardValue). some (some (Some s))) same)
+first_slot (s ∷ rest) zero shard is =
+    let same : s ≡ shard = same_Some s shard is in
+    (ap (λ (s : ShardValue). 2 * s.position) same, ap (λ (s : ShardValue). some (some (Some s))) same)
 first_slot (s ∷ rest) (suc place) shard is = first_slot rest place shard is
 
-all_within : (shards : List ShardValue) (place : ℕ) (shard : ShardValue) → All IsShard shards → slice_get shards place ≡ Some shard → shard.position ≤ length shard.list
+all_within : (shards : List ShardValue) (place : ℕ) (shard : ShardValue) → All IsShard shards
+    → slice_get shards place ≡ Some shard → shard.position ≤ length shard.list
 all_within [] place shard kept is = cc is
-all_within (s ∷ rest) zero shard kept is = subst (λ (s : ShardValue). s.position ≤ length s.list) (same_Some s shard is) (All-head IsShard s rest kept).within
+all_within (s ∷ rest) zero shard kept is =
+    subst (λ (s : ShardValue). s.position ≤ length s.list) (same_Some s shard is)
+    (All-head IsShard s rest kept).within
 all_within (s ∷ rest) (suc place) shard kept is = all_within rest place shard (All-tail IsShard s rest kept) is
 
-first_word : (shards : List ShardValue) (place : ℕ) → IsOdd (slice_index (map (λ (s : ShardValue). 2 * s.position) shards) place) → ⊥
+first_word : (shards : List ShardValue) (place : ℕ)
+    → IsOdd (slice_index (map (λ (s : ShardValue). 2 * s.position) shards) place) → ⊥
 first_word [] place odd = omega (arith, odd)
 first_word (s ∷ rest) zero odd = omega (arith, odd)
 first_word (s ∷ rest) (suc place) odd = first_word rest place odd
@@ -283,16 +378,25 @@ pub opening_is_kept : (shards : List ShardValue) → All IsShard shards
 opening_is_kept shards kept = record {
   words = length-map shards (λ (s : ShardValue). 2 * s.position);
   slots = length-map (map Some shards) some ∙ length-map shards Some;
-  within = λ place shard is. let word = first_slot shards place shard is in omega (arith, word.0, all_within shards place shard kept is);
+  within = λ place shard is.
+      let word = first_slot shards place shard is in omega (arith, word.0, all_within shards place shard kept is);
   even = λ place shard is even.
       let word = first_slot shards place shard is in
-      let half : shard.position ≡ slice_index (map (λ (s : ShardValue). 2 * s.position) shards) place / 2 = omega (arith, word.0) in
+      let half : shard.position ≡ slice_index (map (λ (s : ShardValue). 2 * s.position) shards) place / 2 =
+      omega (arith, word.0) in
       subst (λ n. get_elem? (map some (map Some shards)) place ≡ some (some (Some (state_at n shard)))) half word.1;
   odd = λ place inside odd. absurd (first_word shards place odd);
-  held = λ seat view held is holds. absurd (nothing_held (first_view shards) held refl (ap (λ v. v.held) (only_seat (first_view shards) seat view is) ∙ holds));
+  held = λ seat view held is holds.
+      absurd (nothing_held (first_view shards) held refl
+      (ap (λ v. v.held) (only_seat (first_view shards) seat view is) ∙ holds));
   alone = λ seat other place one two.
-      absurd (nothing_held (first_view shards) one.held refl (ap (λ v. v.held) (only_seat (first_view shards) seat one.view one.at) ∙ one.holds));
+      absurd (nothing_held (first_view shards) one.held refl
+      (ap (λ v. v.held) (only_seat (first_view shards) seat one.view one.at) ∙ one.holds));
   views = λ seat view is live.
       subst (Fits shards (map (λ (s : ShardValue). 2 * s.position) shards)) (only_seat (first_view shards) seat view is)
-      (record { opening = refl; trails = length-map shards (λ s. trail_from s.position); reached = reached_first shards });
+      (record {
+        opening = refl;
+        trails = length-map shards (λ s. trail_from s.position);
+        reached = reached_first shards;
+      });
 }

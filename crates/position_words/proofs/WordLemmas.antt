@@ -1,5 +1,6 @@
 -- A word as a number: half of it, its last bit, and what a take and a give write.
-use Rattle.std.proofs.Common.{◌≡◌, ℕ, zero, suc, ◌+◌, ◌/◌, ◌%◌, ◌<◌, ◌≤◌, ◌⊎◌, inl, inr, ⊎_elim, List, length, set, refl, sym, ap, ◌∙◌, arith, subst}
+use Rattle.std.proofs.Common.{◌≡◌, ℕ, zero, suc, ◌+◌, ◌/◌, ◌%◌, ◌<◌, ◌≤◌, ◌⊎◌, inl, inr, ⊎_elim, List, length, set}
+use Rattle.std.proofs.Common.{refl, sym, ap, ◌∙◌, arith, subst}
 use Rattle.std.specs.Prelude.{slice_index}
 use Rattle.std.proofs.Math.Nat.{div-one, mod-lt}
 use Rattle.std.specs.Int.Bits.{bit_or, bit_and, or_add_and}
@@ -35,13 +36,17 @@ module _ (words : List ℕ) (place word : ℕ) (inside : place < length words) w
   pub word_here : slice_index (set words place word) place ≡ word
   word_here = get_or-set_same words place word 0 inside
 
-  pub word_there : (other : ℕ) → (other ≡ place → ⊥) → slice_index (set words place word) other ≡ slice_index words other
+  pub word_there : (other : ℕ) → (other ≡ place → ⊥)
+      → slice_index (set words place word) other ≡ slice_index words other
   word_there other apart = get_or-set_other words place other word 0 apart
 
   -- halves of words never fall if that of the changed one doesn't
-  pub halves_rise : slice_index words place / 2 ≤ word / 2 → (other : ℕ) → slice_index words other / 2 ≤ slice_index (set words place word) other / 2
+  pub halves_rise : slice_index words place / 2 ≤ word / 2 → (other : ℕ)
+      → slice_index words other / 2 ≤ slice_index (set words place word) other / 2
   halves_rise rises other =
       elim (cases_eq other place) [
-        | inl same ↦ subst (λ k. slice_index words k / 2 ≤ slice_index (set words place word) k / 2) (sym same) (omega (arith, rises, ap (λ n. n / 2) word_here))
+        | inl same ↦
+            subst (λ k. slice_index words k / 2 ≤ slice_index (set words place word) k / 2) (sym same)
+            (omega (arith, rises, ap (λ n. n / 2) word_here))
         | inr apart ↦ omega (arith, word_there other apart)
       ]

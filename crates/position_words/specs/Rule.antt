@@ -1,5 +1,6 @@
 -- What words, slots and views keep between any two steps.
-use Rattle.std.specs.Prelude.{ℕ, ◌≡◌, ◌+◌, ◌*◌, ◌/◌, ◌%◌, ◌<◌, ◌≤◌, false, List, length, Option, Some, slice_get, slice_index}
+use Rattle.std.specs.Prelude.{ℕ, ◌≡◌, ◌+◌, ◌*◌, ◌/◌, ◌%◌, ◌<◌, ◌≤◌, false, List, length, Option, Some, slice_get}
+use Rattle.std.specs.Prelude.{slice_index}
 use mathlib.Core.Option.{some}
 use lib.ListN.{get_elem?}
 use Rattle.atomic_table.specs.Table.{State}
@@ -36,11 +37,15 @@ pub record Fits (shards : List ShardValue) (words : List ℕ) (view : View) : Ty
 pub record IsKept (opening : List ShardValue) (state : State (Option ShardValue) View) : Type 0 where
   pub words : length state.words ≡ length opening
   pub slots : length state.homes ≡ length opening
-  pub within : (place : ℕ) (shard : ShardValue) → slice_get opening place ≡ Some shard → slice_index state.words place / 2 ≤ length shard.list
-  pub even : (place : ℕ) (shard : ShardValue) → slice_get opening place ≡ Some shard → IsEven (slice_index state.words place)
+  pub within : (place : ℕ) (shard : ShardValue) → slice_get opening place ≡ Some shard
+      → slice_index state.words place / 2 ≤ length shard.list
+  pub even : (place : ℕ) (shard : ShardValue) → slice_get opening place ≡ Some shard
+      → IsEven (slice_index state.words place)
       → get_elem? state.homes place ≡ some (some (Some (state_at (slice_index state.words place / 2) shard)))
-  pub odd : (place : ℕ) → place < length opening → IsOdd (slice_index state.words place) → (seat : ℕ) × IsHolder state.views seat place
+  pub odd : (place : ℕ) → place < length opening → IsOdd (slice_index state.words place)
+      → (seat : ℕ) × IsHolder state.views seat place
   pub held : (seat : ℕ) (view : View) (held : Held) → get_elem? state.views seat ≡ some view → view.held ≡ Some held
       → slice_index state.words held.shard ≡ 2 * held.position + 1
   pub alone : (seat other place : ℕ) → IsHolder state.views seat place → IsHolder state.views other place → seat ≡ other
-  pub views : (seat : ℕ) (view : View) → get_elem? state.views seat ≡ some view → view.spent ≡ false → Fits opening state.words view
+  pub views : (seat : ℕ) (view : View) → get_elem? state.views seat ≡ some view → view.spent ≡ false
+      → Fits opening state.words view

@@ -17,7 +17,8 @@ pub record Meets (shard position : ℕ) (view : View) : Type 0 where
 
 -- a load of a word
 abbrev pub Looks : Step (Option ShardValue) → Me (Option ShardValue) View → ℕ → Me (Option ShardValue) View → Type 0
-Looks step before word now = Meets step.word (word / 2) before.0 × (now ≡ (looked step.word (word / 2) before.0, before.1))
+Looks step before word now =
+    Meets step.word (word / 2) before.0 × (now ≡ (looked step.word (word / 2) before.0, before.1))
 
 -- a take that met an even word: the seat holds the shard, and its slot is out with the state at that position
 pub record Wins (aim : Aim) (shard position : ℕ) (before now : Me (Option ShardValue) View) : Type 0 where
@@ -26,13 +27,15 @@ pub record Wins (aim : Aim) (shard position : ℕ) (before now : Me (Option Shar
   pub now_is : now ≡ (took aim shard position before.0, (shard, Some (state_at position state)) ∷ before.1)
 
 -- a take: it wins where the word is even, and loses where the word is odd
-pub record Marks (aim : Aim) (shard : ℕ) (before : Me (Option ShardValue) View) (word : ℕ) (now : Me (Option ShardValue) View) : Type 0 where
+pub record Marks (aim : Aim) (shard : ℕ) (before : Me (Option ShardValue) View) (word : ℕ)
+    (now : Me (Option ShardValue) View) : Type 0 where
   pub meets : Meets shard (word / 2) before.0
   pub wins : IsEven word → Wins aim shard (word / 2) before now
   pub loses : IsOdd word → now ≡ (lost shard word before.0, before.1)
 
 -- a take for this aim, as a step of the table
-abbrev pub Takes : Aim → Step (Option ShardValue) → Me (Option ShardValue) View → ℕ → Me (Option ShardValue) View → Type 0
+abbrev pub Takes : Aim → Step (Option ShardValue) → Me (Option ShardValue) View → ℕ → Me (Option ShardValue) View
+    → Type 0
 Takes aim step before word now = Marks aim step.word before word now
 
 -- a store that gives the slot back: the word is twice the new position
@@ -68,5 +71,6 @@ pub record Loses (shard : ℕ) (before now : View) : Type 0 where
 
 -- what a take returns: the state of the shard, which the seat then holds at that position; or that it lost
 abbrev pub Answers : List ShardValue → ℕ → Aim → View → View → Take → Type 0
-Answers opening shard aim before now (Taken state) = IsOfShard opening shard state × Meets shard state.position before × (now ≡ took aim shard state.position before)
+Answers opening shard aim before now (Taken state) =
+    IsOfShard opening shard state × Meets shard state.position before × (now ≡ took aim shard state.position before)
 Answers opening shard aim before now Busy = Loses shard before now

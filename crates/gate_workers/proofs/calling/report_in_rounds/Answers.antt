@@ -1,4 +1,4 @@
-use Rattle.std.proofs.Common.{◌≡◌, ◌+◌, List, [], ◌∷◌, ◌++◌, None, All, subst, sym}
+use Rattle.std.proofs.Common.{◌≡◌, ◌+◌, [], ◌∷◌, ◌++◌, None, All, subst, sym}
 use Rattle.std.proofs.lemmas.List.Elements.{All-nil, All-cons, All-append}
 use Rattle.shard_state.specs.{capacity_of, lists_of}
 use Rattle.hhh_output.specs.{IsSound}
@@ -15,14 +15,19 @@ loop-round-init g c =
       c.requires.pass,
       c.requires.shape,
       λ _.
-          subst (All (λ (reported : Reported). IsSound reported.report (lists_of opening) (capacity_of opening) c.args.phi)) (sym none)
-          (All-nil (λ (reported : Reported). IsSound reported.report (lists_of opening) (capacity_of opening) c.args.phi)),
-      subst (CallsSoFar opening c.args.phi 0 (view c.args.pass.now) (view c.args.pass.now)) (sym none) (no_calls opening c.args.phi (view c.args.pass.now)),
+          subst (All
+          (λ (reported : Reported). IsSound reported.report (lists_of opening) (capacity_of opening) c.args.phi))
+          (sym none)
+          (All-nil
+          (λ (reported : Reported). IsSound reported.report (lists_of opening) (capacity_of opening) c.args.phi)),
+      subst (CallsSoFar opening c.args.phi 0 (view c.args.pass.now) (view c.args.pass.now)) (sym none)
+          (no_calls opening c.args.phi (view c.args.pass.now)),
     )
 
 pub report_at-requires-clause-cut : goal.report_at-requires-clause-cut
 report_at-requires-clause-cut g c =
-    cut_at_its_positions c.args.board.now.opening (view c.loop-round.pass) (view c.read_cut.new.pass) c.loop-round.cut c.read_cut.new.cut c.read_cut.ensures.read c.loop-round.invariant.1
+    cut_at_its_positions c.args.board.now.opening (view c.loop-round.pass) (view c.read_cut.new.pass)
+    c.loop-round.cut c.read_cut.new.cut c.read_cut.ensures.read c.loop-round.invariant.1
 
 pub loop-round-preserved : goal.loop-round-preserved
 loop-round-preserved g c =
@@ -36,11 +41,19 @@ loop-round-preserved g c =
       read.pass,
       read.shape,
       λ bases.
-          subst (All (λ (reported : Reported). IsSound reported.report (lists_of opening) (capacity_of opening) c.args.phi)) (sym pushed)
-          (All-append (λ (reported : Reported). IsSound reported.report (lists_of opening) (capacity_of opening) c.args.phi) c.loop-round.reports (reported ∷ []) (far.2 bases)
-          (All-cons (λ (reported : Reported). IsSound reported.report (lists_of opening) (capacity_of opening) c.args.phi) reported [] (at.sound bases)
-          (All-nil (λ (reported : Reported). IsSound reported.report (lists_of opening) (capacity_of opening) c.args.phi)))),
-      subst (CallsSoFar opening c.args.phi (c.loop-round.round + 1) (view c.args.pass.now) (view c.read_cut.new.pass)) (sym pushed)
-          (next_call opening c.args.phi c.loop-round.round (view c.args.pass.now) (view c.loop-round.pass) (view c.read_cut.new.pass) c.loop-round.reports c.loop-round.cut c.read_cut.new.cut report
+          subst (All
+          (λ (reported : Reported). IsSound reported.report (lists_of opening) (capacity_of opening) c.args.phi))
+          (sym pushed)
+          (All-append (λ (reported : Reported). IsSound reported.report (lists_of opening) (capacity_of opening)
+          c.args.phi) c.loop-round.reports (reported ∷ []) (far.2 bases)
+          (All-cons (λ (reported : Reported). IsSound reported.report (lists_of opening) (capacity_of opening)
+          c.args.phi) reported [] (at.sound bases)
+          (All-nil (λ (reported : Reported). IsSound reported.report (lists_of opening) (capacity_of opening)
+          c.args.phi)))),
+      subst
+          (CallsSoFar opening c.args.phi (c.loop-round.round + 1) (view c.args.pass.now) (view c.read_cut.new.pass))
+          (sym pushed)
+          (next_call opening c.args.phi c.loop-round.round (view c.args.pass.now) (view c.loop-round.pass)
+          (view c.read_cut.new.pass) c.loop-round.reports c.loop-round.cut c.read_cut.new.cut report
           far.0.seat.trails far.3 read.read far.1 at.positions at.report),
     )

@@ -9,5 +9,7 @@ use Rattle.gate_workers.proofs.calling.report_in_rounds.Given as goal
 abbrev pub invariant-loop-round : goal.invariant-loop-round
 invariant-loop-round g l =
     IsPassOf l.board l.pass × HasShape (length l.board.opening) (capacity_of l.board.opening) l.cut
-    × (BasesRepresent l.board.opening → All (λ reported. IsSound reported.report (lists_of l.board.opening) (capacity_of l.board.opening) l.phi) l.reports)
+    × (BasesRepresent l.board.opening
+    → All (λ reported. IsSound reported.report (lists_of l.board.opening) (capacity_of l.board.opening) l.phi)
+    l.reports)
     × CallsSoFar l.board.opening l.phi l.round (view l.initial.pass) (view l.pass) l.reports

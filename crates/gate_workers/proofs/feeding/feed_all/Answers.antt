@@ -7,10 +7,12 @@ loop-init g c = (c.requires.pass, nothing_fed c.args.board.now.opening c.args.bl
 
 pub returns-then-feed_round-clause-feeds : goal.returns-then-feed_round-clause-feeds
 returns-then-feed_round-clause-feeds g c =
-    feeds_then c.args.board.now.opening c.args.block (view c.args.pass) (view c.loop.pass) (view c.feed_round.new.pass) c.loop.invariant.1 c.feed_round.ensures.feeds
+    feeds_then c.args.board.now.opening c.args.block (view c.args.pass) (view c.loop.pass)
+    (view c.feed_round.new.pass) c.loop.invariant.1 c.feed_round.ensures.feeds
 
 pub loop-preserved : goal.loop-preserved
 loop-preserved g c = (
   c.feed_round.ensures.pass,
-  feeds_then c.args.board.now.opening c.args.block (view c.args.pass) (view c.loop.pass) (view c.feed_round.new.pass) c.loop.invariant.1 c.feed_round.ensures.feeds,
+  feeds_then c.args.board.now.opening c.args.block (view c.args.pass) (view c.loop.pass)
+      (view c.feed_round.new.pass) c.loop.invariant.1 c.feed_round.ensures.feeds,
 )

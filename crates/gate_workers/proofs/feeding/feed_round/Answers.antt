@@ -1,11 +1,15 @@
-use Rattle.std.proofs.Common.{◌+◌, ◌%◌, ◌<◌, arith, length}
+use Rattle.std.proofs.Common.{◌+◌, ◌%◌, ◌<◌, arith}
 use Rattle.std.proofs.Math.Nat.{mod-lt}
 use Rattle.pass_tokens.specs.{view}
 use Rattle.gate_workers.proofs.FeedLemmas.{nothing_fed, feeds_then, still_at_end, both, round_goes_on, round_sees_all}
 use Rattle.gate_workers.proofs.feeding.feed_round.Goals as goal
 
 pub loop-turn-init : goal.loop-turn-init
-loop-turn-init g c = (c.requires.pass, nothing_fed c.args.board.now.opening c.args.block (view c.args.pass.now), λ _ turn below. absurd (omega (arith, below)))
+loop-turn-init g c = (
+  c.requires.pass,
+  nothing_fed c.args.board.now.opening c.args.block (view c.args.pass.now),
+  λ _ turn below. absurd (omega (arith, below)),
+)
 
 pub loop-turn-preserved : goal.loop-turn-preserved
 loop-turn-preserved g c =
@@ -15,12 +19,14 @@ loop-turn-preserved g c =
     let shards = c.shards-shards.result in
     let first = c.args.worker % shards in (
       fed.pass,
-      feeds_then opening c.args.block (view c.args.pass.now) (view c.loop-turn.pass) (view c.feed_shard-ended.new.pass) far.1 fed.feeds,
+      feeds_then opening c.args.block (view c.args.pass.now) (view c.loop-turn.pass)
+          (view c.feed_shard-ended.new.pass) far.1 fed.feeds,
       λ ended.
           let tests = both c.loop-turn.ended c.feed_shard-ended.result ended in
           round_goes_on opening shards first c.loop-turn.turn (view c.feed_shard-ended.new.pass)
           (λ earlier below.
-          still_at_end opening c.args.block ((first + earlier) % shards) (view c.loop-turn.pass) (view c.feed_shard-ended.new.pass) far.0.seat.trails fed.feeds (far.2 tests.0 earlier below))
+          still_at_end opening c.args.block ((first + earlier) % shards) (view c.loop-turn.pass)
+          (view c.feed_shard-ended.new.pass) far.0.seat.trails fed.feeds (far.2 tests.0 earlier below))
           (fed.end tests.1),
     )
 

@@ -7,4 +7,5 @@ use Rattle.gate_workers.proofs.feeding.feed_round.Given as goal
 abbrev pub invariant-loop-turn : goal.invariant-loop-turn
 invariant-loop-turn g l =
     IsPassOf l.board l.pass × Feeds l.board.opening l.block (view l.initial.pass) (view l.pass)
-    × (IsTrue l.ended → (turn : ℕ) → turn < l.turn → HasSeenEnd l.board.opening ((l.first + turn) % l.shards) (view l.pass))
+    × (IsTrue l.ended → (turn : ℕ) → turn < l.turn
+    → HasSeenEnd l.board.opening ((l.first + turn) % l.shards) (view l.pass))

@@ -7,5 +7,8 @@ use Rattle.pass_tokens.proofs.board.Board.read.Goals as goal
 
 pub returns-in-Done-clause-read : goal.returns-in-Done-clause-read
 returns-in-Done-clause-read g c =
-    subst (λ (cut : CutValue). ReadsAtLast c.args.self.now.opening c.args.shard (view c.args.pass.now) cut (view c.try_read.new.pass) c.try_read.new.cut) c.loop.invariant.2
-    (reads_at_last c.args.self.now.opening c.args.shard (view c.args.pass.now) (view c.loop.pass) (view c.try_read.new.pass) c.loop.cut c.try_read.new.cut c.loop.invariant.1 c.in-Done.ensures.read)
+    subst (λ (cut : CutValue).
+    ReadsAtLast c.args.self.now.opening c.args.shard (view c.args.pass.now) cut (view c.try_read.new.pass)
+    c.try_read.new.cut) c.loop.invariant.2
+    (reads_at_last c.args.self.now.opening c.args.shard (view c.args.pass.now) (view c.loop.pass)
+    (view c.try_read.new.pass) c.loop.cut c.try_read.new.cut c.loop.invariant.1 c.in-Done.ensures.read)

@@ -6,4 +6,5 @@ use Rattle.pass_tokens.proofs.board.Board.read.Given as goal
 
 -- all takes so far lost, and the cut is as it was
 abbrev pub invariant-loop : goal.invariant-loop
-invariant-loop g l = IsPassOf l.self l.pass × Waits l.shard (view l.initial.pass) (view l.pass) × (l.cut ≡ l.initial.cut)
+invariant-loop g l =
+    IsPassOf l.self l.pass × Waits l.shard (view l.initial.pass) (view l.pass) × (l.cut ≡ l.initial.cut)

@@ -5,15 +5,18 @@ use Rattle.pass_tokens.proofs.CutLemmas.{none_read, next_read}
 use Rattle.pass_tokens.proofs.board.Board.read_cut.Goals as goal
 
 pub loop-shard-init : goal.loop-shard-init
-loop-shard-init g c = (c.requires.pass, c.requires.shape, none_read c.args.self.now.opening (view c.args.pass.now) c.args.cut.now)
+loop-shard-init g c =
+    (c.requires.pass, c.requires.shape, none_read c.args.self.now.opening (view c.args.pass.now) c.args.cut.now)
 
 pub loop-shard-preserved : goal.loop-shard-preserved
 loop-shard-preserved g c =
     let far = c.loop-shard.invariant in
     let read = c.read.ensures in
-    let inside : c.loop-shard.shard < length c.args.self.now.opening = omega (arith, c.loop-shard-test.true, c.shards-shard-end.ensures.shards) in (
+    let inside : c.loop-shard.shard < length c.args.self.now.opening =
+    omega (arith, c.loop-shard-test.true, c.shards-shard-end.ensures.shards) in (
       read.pass,
       read.shape,
-      next_read c.args.self.now.opening (capacity_of c.args.self.now.opening) c.loop-shard.shard (view c.args.pass.now) (view c.loop-shard.pass) (view c.read.new.pass) c.args.cut.now c.loop-shard.cut
+      next_read c.args.self.now.opening (capacity_of c.args.self.now.opening) c.loop-shard.shard
+          (view c.args.pass.now) (view c.loop-shard.pass) (view c.read.new.pass) c.args.cut.now c.loop-shard.cut
           c.read.new.cut inside c.requires.shape far.2 read.read,
     )

@@ -3,4 +3,5 @@ use Rattle.position_words.proofs.words.Words.give.Goals as goal
 
 pub returns-clause-seat : goal.returns-clause-seat
 returns-clause-seat c =
-    given_seat _ _ _ _ _ _ _ c.store.ensures.me c.put_in.ensures.me c.position-position.ensures.position c.store.ensures.same c.put_in.ensures.same c.requires.held c.requires.seat
+    given_seat _ _ _ _ _ _ _ c.store.ensures.me c.put_in.ensures.me c.position-position.ensures.position
+    c.store.ensures.same c.put_in.ensures.same c.requires.held c.requires.seat

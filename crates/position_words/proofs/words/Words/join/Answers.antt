@@ -15,7 +15,8 @@ join_seat-requires c =
       c.requires.other.id ∙ sym (ap (λ w. w.id) c.self.view_is),
       c.requires.other.slot ∙ ap slot_out c.requires.other_free,
       omega (arith, c.self.invariant.0, c.self.invariant.2.some),
-      may_join table.key.value.items seat.id other.id seat.me.0 other.me.0 c.requires.seat.live c.requires.other.live c.requires.other_free,
+      may_join table.key.value.items seat.id other.id seat.me.0 other.me.0 c.requires.seat.live
+          c.requires.other.live c.requires.other_free,
     )
 
 pub returns-clause-seat : goal.returns-clause-seat
@@ -23,5 +24,6 @@ returns-clause-seat c =
     let before = c.args.seat.now in
     let join = c.join_seat.ensures in
     let seat = c.requires.seat in
-    is_seat c.args.self.now c.join_seat.new.seat (joined before.me.0 c.args.other.me.0) before.me.1 (join.0 ∙ seat.id) join.2 seat.opening
+    is_seat c.args.self.now c.join_seat.new.seat (joined before.me.0 c.args.other.me.0) before.me.1
+    (join.0 ∙ seat.id) join.2 seat.opening
     (length-joined before.me.0.trails c.args.other.me.0.trails ∙ seat.trails) seat.live seat.slot

@@ -9,7 +9,8 @@ fetch_or-requires c =
     let seat = c.args.seat.now in (
       c.requires.seat.id ∙ sym (ap (λ w. w.id) c.self.view_is),
       omega (arith, c.requires.within, ap (λ w. length w.opening) c.self.view_is, c.self.invariant.0),
-      may_take table.key.value.items table.table_id.slots seat.id c.args.shard Fold seat.me (omega (arith, c.requires.within, ap (λ w. length w.opening) c.self.view_is))
+      may_take table.key.value.items table.table_id.slots seat.id c.args.shard Fold seat.me
+          (omega (arith, c.requires.within, ap (λ w. length w.opening) c.self.view_is))
           c.requires.seat.live c.requires.free,
     )
 
@@ -19,6 +20,7 @@ fetch_or-requires-in-Read c =
     let seat = c.args.seat.now in (
       c.requires.seat.id ∙ sym (ap (λ w. w.id) c.self.view_is),
       omega (arith, c.requires.within, ap (λ w. length w.opening) c.self.view_is, c.self.invariant.0),
-      may_take table.key.value.items table.table_id.slots seat.id c.args.shard Read seat.me (omega (arith, c.requires.within, ap (λ w. length w.opening) c.self.view_is))
+      may_take table.key.value.items table.table_id.slots seat.id c.args.shard Read seat.me
+          (omega (arith, c.requires.within, ap (λ w. length w.opening) c.self.view_is))
           c.requires.seat.live c.requires.free,
     )

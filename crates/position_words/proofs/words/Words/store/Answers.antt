@@ -11,6 +11,7 @@ store-requires c =
     let of_shard = subst (λ shards. IsOfShard shards c.args.shard ready.state) (sym opening) ready.of_shard in (
       c.requires.id ∙ sym (ap (λ w. w.id) c.self.view_is),
       omega (arith, shard_inside table.key.value.items c.args.shard ready.state of_shard, c.self.invariant.0),
-      may_give_back table.key.value.items table.table_id.slots c.args.seat.now.id c.args.shard c.args.position c.args.seat.now.me ready.state ready.live ready.slot of_shard ready.gives ready.at
+      may_give_back table.key.value.items table.table_id.slots c.args.seat.now.id c.args.shard c.args.position
+          c.args.seat.now.me ready.state ready.live ready.slot of_shard ready.gives ready.at
           ready.within,
     )
