@@ -1,0 +1,62 @@
+#!/bin/sh
+# Measures what a board costs: folding four shards of 100,000 skewed records each in blocks of 1,024, by `feed_all` on
+# one thread and by `fold_block` alone, and reading a cut of all shards at their ends. The program for this
+# (`bench/board_program`) is no part of the product, so it is proved and built in a copy of the repository. It is run as
+#
+#     board_bench none|plain|board CAPACITY READS
+#
+# `none` only makes records and tables, and its time is taken from the others'; only `board` reads. Prints the least
+# processor times, and the instructions, which don't depend on other work on the machine. Needs python3, valgrind and
+# 5 GB for the copy.
+set -eu
+here=$(dirname "$(readlink -f "$0")")
+turns=${1:-25}
+work=$(mktemp -d)
+trap 'rm -rf "$work"' EXIT
+
+text=$here/board_program
+crate=$work/repository/crates/board_bench
+mkdir "$work/repository"
+cp -r "$here/../crates" "$here/../crates.txt" "$here/../HANDLES" "$work/repository"
+mkdir -p "$crate/src" "$crate/proofs/records" "$crate/proofs/read_cuts"
+cp "$text/main.txt" "$crate/src/main.rt"
+cp "$text/records.txt" "$crate/proofs/records/Invariants.antt"
+cp "$text/read_cuts.txt" "$crate/proofs/read_cuts/Invariants.antt"
+echo 'board_bench: prefix_lattice space_saving shard_state pass_tokens gate_workers' >>"$work/repository/crates.txt"
+(cd "$crate" && rt run -- none 2 0 >"$work/log" 2>&1) || {
+    tail -n 20 "$work/log" >&2
+    exit 1
+}
+program=$crate/out/board_bench
+
+# The instructions of one run: WORD...
+instructions() {
+    valgrind --tool=callgrind --callgrind-out-file=/dev/null "$program" "$@" 2>&1 | sed -n 's/.*Collected : //p'
+}
+
+for capacity in 512 4096; do
+    reads=$((512 * 400 / capacity))
+    for mode in none plain board; do
+        echo "$program $mode $capacity 0"
+    done >"$work/commands"
+    echo "$program board $capacity $reads" >>"$work/commands"
+    times=$(python3 "$here/least_times.py" "$turns" <"$work/commands")
+    counts=$(
+        for mode in none plain board; do
+            instructions $mode $capacity 0
+        done
+        instructions board $capacity 10
+    )
+    echo $times $counts | awk -v capacity=$capacity -v reads=$reads '{
+        plain = $2 - $1
+        board = $3 - $1
+        plain_count = $6 - $5
+        board_count = $7 - $5
+        printf "capacity %d: fold_block alone %.1f ms, on a board %.1f ms; ratio %.3f\n",
+            capacity, plain, board, board / plain
+        printf "capacity %d: fold_block alone %.0f instructions, on a board %.0f; ratio %.5f\n",
+            capacity, plain_count, board_count, board_count / plain_count
+        printf "capacity %d: a read of a cut of four shards %.3f ms, %.0f instructions\n",
+            capacity, ($4 - $3) / reads, ($8 - $7) / 10
+    }'
+done
