@@ -2,7 +2,8 @@
 
 ghost use Rattle.std.specs.Prelude.{◌≡◌, ℕ, ◌≤◌, List, All, Some, length, slice_get};
 ghost use Rattle.prefix_lattice.specs.{RecordValue};
-ghost use Rattle.shard_state.specs.{CutValue, IsCut, positions_of, CutRepresents, CoreValue, HasShape, IsCore, capacity_of, run, BasesRepresent, ReadsEach, lists_of};
+ghost use Rattle.shard_state.specs.{CutValue, IsCut, positions_of, CutRepresents, CoreValue, HasShape};
+ghost use Rattle.shard_state.specs.{IsCore, capacity_of, run, BasesRepresent, ReadsEach, lists_of};
 ghost use Rattle.shard_state.specs.declared.event.Event.{Event};
 ghost use Rattle.hhh_output.specs.declared.report.Report.{Report};
 ghost use Rattle.hhh_output.specs.Lines.{AreLines};

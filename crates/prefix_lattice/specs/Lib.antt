@@ -8,7 +8,8 @@ pub mod Lattice
 pub mod Interval
 pub mod ClosestLines
 -- the face: what contracts of other crates cite
-pub use Rattle.prefix_lattice.specs.ClosestLines.{ObeysStaircase, closest, conditioned_weight, covering_count, greatest, kept_among, kept_meet, kept_pairs, lines_under, one_covers, under_third, unless_under_third}
+pub use Rattle.prefix_lattice.specs.ClosestLines.{ObeysStaircase, closest, conditioned_weight, covering_count, greatest, kept_among}
+pub use Rattle.prefix_lattice.specs.ClosestLines.{kept_meet, kept_pairs, lines_under, one_covers, under_third, unless_under_third}
 pub use Rattle.prefix_lattice.specs.Interval.{Holds, IsNarrow}
 pub use Rattle.prefix_lattice.specs.KeptBytes.{AreLeadingBytes, address_of, begins_with}
 pub use Rattle.prefix_lattice.specs.Lattice.{meet, report_order, same_prefix, strictly_under, under}

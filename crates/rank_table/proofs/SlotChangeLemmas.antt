@@ -1,5 +1,6 @@
 -- What each kind of step is for slots, for their order and for their entries.
-use Rattle.std.proofs.Common.{◌≡◌, ◌≢◌, ℕ, ◌+◌, ◌^◌, ◌<◌, ◌≤◌, zero, suc, ltb, List, [], ◌∷◌, ◌++◌, length, map, get_or, set, None, Some, refl, sym, ap, ◌∙◌, subst, arith, length-set, get_or-set_same}
+use Rattle.std.proofs.Common.{◌≡◌, ◌≢◌, ℕ, ◌+◌, ◌^◌, ◌<◌, ◌≤◌, zero, suc, ltb, List, [], ◌∷◌, ◌++◌, length, map, get_or}
+use Rattle.std.proofs.Common.{set, None, Some, refl, sym, ap, ◌∙◌, subst, arith, length-set, get_or-set_same}
 use Rattle.std.specs.List.{AllByRecursion}
 use Rattle.std.proofs.lemmas.Bool.{cond-true, cond-false, lt-ltb, le-ltb}
 use Rattle.std.proofs.lemmas.List.{get_or_default, get_or_push, length_push, length-map}
@@ -9,7 +10,8 @@ use Rattle.rank_table.specs.declared.slot.Slot.{Slot}
 use Rattle.rank_table.specs.SlotOrder.{rank, ranked_in, in_order, entries_of, IsApart, AreDistinct, AreSlots}
 use Rattle.rank_table.specs.Ranks.{IsLeast}
 use Rattle.rank_table.specs.Steps.{raised, fresh, heir}
-use Rattle.rank_table.proofs.OrderLemmas.{entry_at, others, all-others, all-weaker, all-in_order, apart_from_others, in_order-out, entries-latest, without-slot, entry_of-slot, entry_of-missing, ranked_in-least, length-in_order}
+use Rattle.rank_table.proofs.OrderLemmas.{entry_at, others, all-others, all-weaker, all-in_order, apart_from_others, in_order-out}
+use Rattle.rank_table.proofs.OrderLemmas.{entries-latest, without-slot, entry_of-slot, entry_of-missing, ranked_in-least, length-in_order}
 
 -- two facts of each slot give a third
 all-both : (P Q R : Slot → Type 0) → ((slot : Slot) → P slot → Q slot → R slot) → (slots : List Slot) → AllByRecursion P slots

@@ -1,5 +1,6 @@
 -- The pure core: what folds and reads of shards change, and the reads in a run of events.
-use Rattle.std.specs.Prelude.{ℕ, ◌≡◌, ◌<◌, ◌≤◌, zero, suc, List, [], ◌∷◌, length, fold, slice_get, slice_set, Option, None, Some, All, ◌==◌, ◌&&◌, if◌then◌else◌, ⊤, ◌++◌, map}
+use Rattle.std.specs.Prelude.{ℕ, ◌≡◌, ◌<◌, ◌≤◌, zero, suc, List, [], ◌∷◌, length, fold, slice_get, slice_set}
+use Rattle.std.specs.Prelude.{Option, None, Some, All, ◌==◌, ◌&&◌, if◌then◌else◌, ⊤, ◌++◌, map}
 use Rattle.shard_state.specs.Cut.{CutValue}
 use Rattle.shard_state.specs.ShardState.{ShardValue, IsShard, folded, snapshot_of, state_at}
 use Rattle.shard_state.specs.declared.event.Event.{Event}

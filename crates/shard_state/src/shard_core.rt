@@ -4,7 +4,8 @@ ghost use Rattle.std.specs.Prelude.{◌≡◌, ◌<◌, ◌≤◌, ℕ, length, 
 ghost use Rattle.shard_state.specs.Snapshot.{SnapshotValue};
 ghost use Rattle.shard_state.specs.Cut.{CutValue, positions_of, CutRepresents};
 ghost use Rattle.shard_state.specs.ShardState.{ShardValue, IsShard, folded};
-ghost use Rattle.shard_state.specs.ShardCore.{AreShards, HasShape, IsCore, IsEventFor, after, capacity_of, changed, run, with_read, BasesRepresent, MovedOn, NeverFall, ReadsEach, last_of, latest, lists_of, reads_of, snapshot_in};
+ghost use Rattle.shard_state.specs.ShardCore.{AreShards, HasShape, IsCore, IsEventFor, after, capacity_of, changed, run, with_read};
+ghost use Rattle.shard_state.specs.ShardCore.{BasesRepresent, MovedOn, NeverFall, ReadsEach, last_of, latest, lists_of, reads_of, snapshot_in};
 
 use crate::{Cut, Event, ShardState};
 use std::marker::Model;

@@ -2,7 +2,8 @@
 
 ghost use Rattle.std.specs.Prelude.{◌≡◌, ℕ, ◌+◌, ◌-◌, ◌*◌, ◌≤◌, ◌++◌, ◌∷◌, [], List, length, fold};
 ghost use Rattle.space_saving.specs.declared.entry.Entry.{Entry};
-ghost use Rattle.space_saving.specs.Table.{Add, step, table_of, entry_of, total_count, least_count, interval_from, interval_in, interval_after, weight_of_key, total_added, AreWeighed, IsTable};
+ghost use Rattle.space_saving.specs.Table.{Add, step, table_of, entry_of, total_count, least_count, interval_from};
+ghost use Rattle.space_saving.specs.Table.{interval_in, interval_after, weight_of_key, total_added, AreWeighed, IsTable};
 
 /// The interval of each key holds the weight that was added for it, and its width is at most the total weight
 /// divided by the capacity (Metwally, Agrawal, El Abbadi 2005).
