@@ -1,3 +1,4 @@
 pub mod FeedLemmas
 pub mod CallLemmas
 pub mod Examples
+mod GatherLemmas

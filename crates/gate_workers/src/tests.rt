@@ -8,11 +8,12 @@ use pass_tokens::{Board, Pass};
 use prefix_lattice::{Record, RecordList};
 use shard_state::{Cut, ShardState};
 use std::alloc::{AllocError, Global};
+use std::marker::Sync;
 use std::sync::Wait;
 use std::sync::atomic::{AtomicU64, Ordering};
 use std::test::Fail;
 use std::thread;
-use std::thread::join;
+use std::thread::{Threads, join};
 
 // How often a thread looks before it gives up.
 const TURNS: u32 = 10_000_000;
@@ -228,5 +229,79 @@ fn nobody_waits_at_an_open_gate(rt: HostRuntime) -> Result<(), Fail> {
         ),
         (11, 6, 2)
     );
+    Ok(())
+}
+
+// Rounds of the calling thread that read the board, and count how often they were made.
+#[derive(Drop)]
+struct Watching {
+    cut: Cut,
+    rounds: u32,
+    made: u32,
+}
+
+impl Rounds for Watching {
+    ghost use Rattle.std.specs.Prelude.{length, refl};
+    ghost use Rattle.shard_state.specs.{HasShape, capacity_of};
+
+    ghost ready = { λ r board view. HasShape (length board.opening) (capacity_of board.opening) r.cut };
+
+    ghost stays = { λ rounds board before now later ready. ready };
+
+    ghost does = { λ rounds before later now. Unit {0} };
+
+    fn go<R: Wait>(&mut self, rt: &R, _alloc: Global, board: &Board, pass: &mut Pass) {
+        self.made = self.made.wrapping_add(1);
+        for _round in 0..self.rounds {
+            board.read_cut(rt, pass, &mut self.cut);
+        }
+    }
+}
+
+fn plan(workers: u32, callers: u32) -> ThreadPlan
+    ensures { result ≡ record { workers = workers; callers = callers; rounds = 2; block = 1; phi = 500000; capacity = 4 } }
+{
+    ThreadPlan {
+        workers,
+        callers,
+        rounds: 2,
+        block: 1,
+        phi: 500_000,
+        capacity: 4,
+    }
+}
+
+// What `run_threads` brings back from one board.
+fn gathered<R: Threads + Wait + Sync, G: Gate + Sync>(
+    rt: &R,
+    alloc: Global,
+    states: Vec<ShardState>,
+    plan: &ThreadPlan,
+    gate: &G,
+) -> Result<(Watching, Gathered), AllocError>
+    requires states { AreShards states.items }
+    requires capacity { capacity_of states.items ≡ 4 }
+    requires plan { (1 ≤ plan.now.workers) × (plan.now.block ≡ 1) × (plan.now.phi ≡ 500000) × (plan.now.capacity ≡ 4) }
+{
+    let shards = states.len() as u32;
+    let (board, pass) = Board::start(alloc, states)?;
+    let mut work = Watching {
+        cut: Cut::with_room(alloc, shards, 4)?,
+        rounds: 3,
+        made: 0,
+    };
+    let gathered = run_threads(rt, alloc, &board, pass, plan, gate, &mut work)?;
+    Ok((work, gathered))
+}
+
+#[test]
+fn all_threads_bring_back_what_they_did(rt: HostRuntime) -> Result<(), Fail> {
+    let states = worked_states(rt.alloc())?;
+    let (work, gathered) = gathered(&rt, rt.alloc(), states, &plan(2, 3), &OpenGate)?;
+    assert_eq!(rt; work.made, 1);
+    assert_eq!(rt; gathered.called.len(), 3);
+    for called in &gathered.called {
+        assert_eq!(rt; called.reports.len(), 2);
+    }
     Ok(())
 }
