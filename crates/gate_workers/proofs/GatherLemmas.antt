@@ -1,16 +1,15 @@
 -- What threads bring back, put together from what each did.
-use Rattle.std.proofs.Common.{◌≡◌, ℕ, zero, suc, ◌+◌, ◌<◌, ◌≤◌, max, List, [], ◌∷◌, ◌++◌, map, fold, length}
-use Rattle.std.proofs.Common.{All, Some, Ok, IfOk, slice_get, slice_index, slice_index_or, refl, sym, ap, ◌∙◌, arith, subst}
+use Rattle.std.proofs.Common.{◌≡◌, ℕ, zero, suc, ◌+◌, ◌<◌, ◌≤◌, List, [], ◌∷◌, ◌++◌, map, fold, length}
+use Rattle.std.proofs.Common.{All, IfOk, slice_index, slice_index_or, refl, sym, ap, ◌∙◌, arith, subst}
 use Rattle.std.specs.List.{AllZip}
-use Rattle.std.proofs.lemmas.List.Elements.{All-nil, All-cons, All-head, All-tail, All-map}
-use Rattle.std.proofs.lemmas.Slice.Zip.{AllZip-long}
+use Rattle.std.proofs.lemmas.List.Elements.{All-nil, All-cons, All-head, All-tail}
 use Rattle.shard_state.specs.{BasesRepresent, ShardValue}
 use Rattle.position_words.specs.declared.view.Trail.{Trail}
 use Rattle.position_words.specs.declared.view.View.{View}
-use Rattle.pass_tokens.specs.{IsPassOf, SeatValue, WordsValue, joined, newcomer, seen_of, view}
-use Rattle.gate_workers.specs.Feed.{Feeds, HasSeenEnd, HasSeenEnds}
+use Rattle.pass_tokens.specs.{IsPassOf, SeatValue, WordsValue, joined, newcomer, view}
+use Rattle.gate_workers.specs.Feed.{Feeds, HasSeenEnds}
 use Rattle.gate_workers.specs.Call.{Calls}
-use Rattle.gate_workers.specs.Gather.{AreSound, BringsBack, CanCall, Each, FeedsToEnds, HasCalled, HasEnded, HasFed}
+use Rattle.gate_workers.specs.Gather.{AreSound, BringsBack, Each, FeedsToEnds, HasCalled, HasEnded, HasFed}
 use Rattle.gate_workers.specs.Gather.{IsSplitOff, MakesRounds, after_splits}
 use Rattle.gate_workers.specs.declared.callers.Caller.{Caller}
 use Rattle.gate_workers.specs.declared.gathered.Called.{Called}

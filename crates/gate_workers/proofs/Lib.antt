@@ -2,3 +2,4 @@ pub mod FeedLemmas
 pub mod CallLemmas
 pub mod Examples
 mod GatherLemmas
+pub mod ExamplesOfThreads

@@ -1,5 +1,5 @@
 -- What a plan of threads may ask for.
-use Rattle.std.specs.Prelude.{ℕ, ◌≡◌, ◌≤◌, List}
+use Rattle.std.specs.Prelude.{◌≡◌, ◌≤◌, List}
 use Rattle.shard_state.specs.{ShardValue, capacity_of, least_capacity, most_capacity}
 use Rattle.hhh_output.specs.{IsWideShare, million}
 use Rattle.gate_workers.specs.declared.plan.ThreadPlan.{ThreadPlan}

@@ -295,6 +295,36 @@ fn gathered<R: Threads + Wait + Sync, G: Gate + Sync>(
 }
 
 #[test]
+fn two_workers_of_a_plan_feed_at_once(rt: HostRuntime) -> Result<(), Fail> {
+    let gate = Meeting {
+        first: AtomicU64::new(0),
+        second: AtomicU64::new(0),
+        missed: AtomicU64::new(0),
+    };
+    let states = worked_states(rt.alloc())?;
+    let (_work, gathered) = gathered(&rt, rt.alloc(), states, &plan(2, 0), &gate)?;
+    assert_eq!(rt; gate.missed.load(Ordering::SeqCst), 0);
+    assert_eq!(rt; gathered.called.len(), 0);
+    Ok(())
+}
+
+#[test]
+fn a_caller_of_a_plan_reads_between_two_folds(rt: HostRuntime) -> Result<(), Fail> {
+    let gate = Turnstile {
+        folds: AtomicU64::new(0),
+        reads: AtomicU64::new(0),
+        missed: AtomicU64::new(0),
+    };
+    let states = eight_packets(rt.alloc())?;
+    let (_work, gathered) = gathered(&rt, rt.alloc(), states, &plan(1, 1), &gate)?;
+    assert_eq!(rt; gate.missed.load(Ordering::SeqCst), 0);
+    let called = gathered.called.first().ok_or("a caller")?;
+    let one = called.reports.as_slice().first().ok_or("a first report")?;
+    assert_eq!(rt; one.report.positions.as_slice(), [2].as_slice());
+    Ok(())
+}
+
+#[test]
 fn all_threads_bring_back_what_they_did(rt: HostRuntime) -> Result<(), Fail> {
     let states = worked_states(rt.alloc())?;
     let (work, gathered) = gathered(&rt, rt.alloc(), states, &plan(2, 3), &OpenGate)?;

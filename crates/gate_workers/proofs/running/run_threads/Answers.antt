@@ -1,14 +1,13 @@
-use Rattle.std.proofs.Common.{◌≡◌, ◌+◌, ◌≤◌, ◌⊎◌, inl, inr, length, map, fold, All, OnErr, Ok, Err, Result, refl, ap, sym, subst, ◌∙◌, arith}
+use Rattle.std.proofs.Common.{◌≡◌, ◌+◌, ◌≤◌, inr, length, map, fold, All, OnErr, Ok, Err, Result, ap, sym, subst, ◌∙◌, arith}
 use Rattle.std.proofs.Common.{ℕ, List, ◌++◌, take, drop}
 use Rattle.std.specs.List.{AllZip}
 use Rattle.std.proofs.Math.Seq.{take-append_seam}
 use Rattle.std.proofs.lemmas.List.{length-map}
 use Rattle.std.proofs.lemmas.Slice.Zip.{AllZip-long}
 use Rattle.std.proofs.lemmas.List.Elements.{All-map}
-use Rattle.position_words.specs.declared.view.View.{View}
-use Rattle.pass_tokens.specs.{IsPassOf, joined, newcomer, view}
+use Rattle.pass_tokens.specs.{joined, newcomer, view}
 use Rattle.gate_workers.specs.Feed.{HasSeenEnds}
-use Rattle.gate_workers.specs.Gather.{BringsBack, Gathers, GoesOnce, HasEnded, HasFed, IsSplitOff, after_splits}
+use Rattle.gate_workers.specs.Gather.{BringsBack, HasFed, IsSplitOff, after_splits}
 use Rattle.gate_workers.proofs.GatherLemmas.{splits_add, all_fed, all_passes, all_ended, all_called, all_sound, all_of_board, all_ends}
 use Rattle.gate_workers.proofs.running.run_threads.Goals as goal
 
@@ -33,8 +32,14 @@ returns-clause-ends g c =
     let split : All (IsSplitOff board before) passes =
     subst (All (IsSplitOff board before)) (sym c.as_mut_slice.ensures.value) c.in_ok-workers.ensures.workers in
     let some : 1 ≤ length fed =
-    omega (arith, many, c.as_mut_slice.ensures.len, c.in_ok-workers.workers.ok.0, c.in_ok-workers.ensures.count,
-    c.requires.plan.some_workers) in
+    omega (
+      arith,
+      many,
+      c.as_mut_slice.ensures.len,
+      c.in_ok-workers.workers.ok.0,
+      c.in_ok-workers.ensures.count,
+      c.requires.plan.some_workers,
+    ) in
     let each = all_fed board block before passes fed many split c.run_all.ensures.workers in
     let of_board = all_passes board block passes fed many c.run_all.ensures.workers in
     let all : HasSeenEnds board.opening (fold joined (view c.run_all.new.pass) (map view fed)) =

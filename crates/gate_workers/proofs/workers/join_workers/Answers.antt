@@ -1,4 +1,4 @@
-use Rattle.std.proofs.Common.{ap, sym, subst, ◌∷◌, ◌∙◌, All, fold, map}
+use Rattle.std.proofs.Common.{ap, sym, subst, ◌∙◌, All, fold, map}
 use Rattle.std.specs.Vec.Iter.{into_iter_items}
 use Rattle.std.proofs.lemmas.List.Elements.{All-tail}
 use Rattle.pass_tokens.specs.{IsPassOf, joined, view}
