@@ -335,3 +335,36 @@ fn all_threads_bring_back_what_they_did(rt: HostRuntime) -> Result<(), Fail> {
     }
     Ok(())
 }
+
+// The most blocks of the address space that are taken, and the greatest and the least of them in bytes. A stack takes
+// more than the least.
+const MOST_BLOCKS: usize = 65_536;
+
+const GREATEST_BLOCK: usize = 1 << 34;
+
+const LEAST_BLOCK: usize = 1 << 20;
+
+// Takes so much of the address space that no stack of a thread fits into what is left. None of it is touched.
+fn take_address_space(alloc: Global) -> Result<Vec<Vec<u8>>, AllocError> {
+    let mut taken = Vec::with_capacity(alloc, MOST_BLOCKS)?;
+    let mut size = GREATEST_BLOCK;
+    for _ in 0..MOST_BLOCKS {
+        match Vec::with_capacity(alloc, size) {
+            Ok(block) => taken.push(block)?,
+            Err(_) if size > LEAST_BLOCK => size /= 2,
+            Err(_) => break,
+        }
+    }
+    Ok(taken)
+}
+
+#[test]
+fn all_work_is_done_where_no_thread_starts(rt: HostRuntime) -> Result<(), Fail> {
+    let states = worked_states(rt.alloc())?;
+    let taken = take_address_space(rt.alloc())?;
+    assert!(rt; thread::spawn(&rt, || {}).is_err());
+    let (work, gathered) = gathered(&rt, rt.alloc(), states, &plan(2, 3), &OpenGate)?;
+    drop(taken);
+    assert_eq!(rt; (work.made, gathered.called.len()), (1, 3));
+    Ok(())
+}
