@@ -2,7 +2,7 @@
 use Rattle.std.specs.Prelude.{ℕ, ◌+◌, Bool, ◌==◌, ◌||◌, ◌&&◌, not, nat_le, nat_lt, if◌then◌else◌, List, ◌∷◌, length, Option, Some, None, true, false}
 use Rattle.std.specs.List.{list_any}
 use Rattle.outside_io.specs.Faults.{counted}
-use Rattle.slot_disk.specs.Recorded.{DiskStep, Wrote, Began, Synced, reading, recorded_bytes}
+use Rattle.slot_disk.specs.Recorded.{DiskStep, Began, reading, recorded_bytes, IsImage, WasImage}
 
 -- the most bytes of the disk, the most bytes that its record of writes takes, the first bytes, the record with its
 -- newest step first, the call at which the fuse blows, the numbers of the calls that fail, the counts of calls and faults
@@ -55,10 +55,27 @@ after_call s = record s { calls = counted s.calls }
 abbrev pub after_fault : DiskState → DiskState
 after_fault s = record s { calls = counted s.calls; faults = counted s.faults }
 
--- the disk after a step
-abbrev pub after_step : DiskState → DiskStep → DiskState
-after_step s step = record s { steps = step ∷ s.steps; calls = counted s.calls }
+-- the disk with one more step in its record
+abbrev pub with_step : DiskState → DiskStep → DiskState
+with_step s step = record s { steps = step ∷ s.steps }
 
 -- the disk after a write that failed: at the fuse, where it fits, it was begun, and else nothing was written
 abbrev pub after_failed_write : DiskState → ℕ → List ℕ → DiskState
-after_failed_write s place piece = if blows_at s.fuse s.calls && write_fits s place (length piece) then record s { steps = Began place piece ∷ s.steps; calls = counted s.calls; faults = counted s.faults } else after_fault s
+after_failed_write s place piece =
+    if blows_at s.fuse s.calls && write_fits s place (length piece) then with_step (after_fault s) (Began place piece) else after_fault s
+
+-- what a read gives
+abbrev pub disk_reads : DiskState → Option (List ℕ)
+disk_reads s = Some (reading s.first s.steps)
+
+-- a crash now may leave this image
+abbrev pub disk_image_now : DiskState → List ℕ → Type 0
+disk_image_now s = IsImage s.first s.steps
+
+-- how many steps there were
+abbrev pub disk_moment : DiskState → ℕ
+disk_moment s = length s.steps
+
+-- a crash since that many steps may have left this image
+abbrev pub disk_image_since : DiskState → ℕ → List ℕ → Type 0
+disk_image_since s = WasImage s.first s.steps

@@ -17,5 +17,5 @@ pub record Leaves {D : Type 0} (moment : D → ℕ) (image_since : D → ℕ →
 -- a call changed neither what a read gives nor the images
 pub record Unchanged {D : Type 0} (reads : D → Option (List ℕ)) (image_now : D → List ℕ → Type 0) (old new : D) : Type 0
     where
-  pub reads : reads new ≡ reads old
-  pub images : (image : List ℕ) → image_now new image ↔ image_now old image
+  pub same_reads : reads new ≡ reads old
+  pub same_images : (image : List ℕ) → image_now new image ↔ image_now old image

@@ -3,7 +3,7 @@ use Rattle.std.specs.Prelude.{ℕ, ◌≡◌, ◌+◌, ◌-◌, ◌<◌, ◌≤�
 use Rattle.std.proofs.Common.{refl, sym, ◌∙◌, ap, arith, get_or}
 use Rattle.std.proofs.lemmas.List.{length-take, length-take-le, length-drop, length-append, length-replicate, get_or_append_left, get_or-append_right, get_or-take, get_or-drop}
 use Rattle.slot_disk.specs.Images.{Torn, Written}
-use Rattle.slot_disk.specs.Recorded.{over, range_start, range_bytes, written_over}
+use Rattle.slot_disk.specs.Recorded.{over, zeros, range_start, range_bytes, written_over}
 
 module _ (start : ℕ) (piece bytes : List ℕ) (within : start ≤ length bytes) where
   front_length : length (take start bytes) ≡ start
@@ -46,9 +46,12 @@ over_is_torn place count piece bytes fits =
       after = λ k le in_old. over_after (range_start place bytes) piece bytes within k (omega arith);
     }
 
+pub length-zeros : (count : ℕ) → length (zeros count) ≡ count
+length-zeros count = let zero_byte : ℕ = 0 in length-replicate count zero_byte
+
 pub length-range : (place : ℕ) (piece bytes : List ℕ) → range_start place bytes + length (range_bytes place piece bytes) ≡ place + length piece
 length-range place piece bytes =
-    omega (arith, length-append (replicate (place - length bytes) 0) piece, length-replicate (place - length bytes) 0)
+    omega (arith, length-append (zeros (place - length bytes)) piece, length-zeros (place - length bytes))
 
 -- a whole write
 pub written_is_torn : (place : ℕ) (piece bytes : List ℕ) → Torn place (length piece) bytes (written_over place piece bytes)
@@ -59,9 +62,9 @@ pub written_is_written : (place : ℕ) (piece bytes : List ℕ) → Written plac
 written_is_written place piece bytes =
     let start = range_start place bytes in
     let range = range_bytes place piece bytes in
-    let gap = replicate (place - length bytes) 0 in
+    let gap = zeros (place - length bytes) in
     let within : start ≤ length bytes = omega arith in
-    let gap_length : length gap ≡ place - length bytes = length-replicate (place - length bytes) 0 in
+    let gap_length : length gap ≡ place - length bytes = length-zeros (place - length bytes) in
     let whole : length range ≡ length gap + length piece = length-append gap piece in
     record {
       torn = written_is_torn place piece bytes;

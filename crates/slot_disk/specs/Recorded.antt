@@ -12,13 +12,17 @@ pub data DiskStep : Type 0 where
 abbrev pub over : ℕ → List ℕ → List ℕ → List ℕ
 over start piece bytes = take start bytes ++ (piece ++ drop (start + length piece) bytes)
 
+-- this many zero bytes
+abbrev pub zeros : ℕ → List ℕ
+zeros count = replicate count 0
+
 -- the offset at which a write's range begins: its own, or the old end where that comes before it
 abbrev pub range_start : ℕ → List ℕ → ℕ
 range_start place bytes = min place (length bytes)
 
 -- what a write puts into its range: zero bytes from the old end to its offset, and the piece
 abbrev pub range_bytes : ℕ → List ℕ → List ℕ → List ℕ
-range_bytes place piece bytes = replicate (place - length bytes) 0 ++ piece
+range_bytes place piece bytes = zeros (place - length bytes) ++ piece
 
 -- the bytes after a whole write
 abbrev pub written_over : ℕ → List ℕ → List ℕ → List ℕ

@@ -22,5 +22,6 @@ pub record IsRecorded (room log : ℕ) (first bytes : List ℕ) (entries : List 
   pub contents : bytes ≡ reading first (steps_of (reverse entries) written)
   pub counted : recorded_bytes (steps_of (reverse entries) written) ≡ length written
   pub fits : length bytes ≤ room
+  pub as_many : length (steps_of (reverse entries) written) ≡ length entries
   pub few : length entries ≤ 1024
   pub logged : length written ≤ log

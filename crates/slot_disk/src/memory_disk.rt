@@ -1,12 +1,13 @@
 //! A disk in memory that records its writes and syncs, and whose calls fail where a test chooses.
 
-ghost use Rattle.std.specs.Prelude.{◌≡◌, ◌<◌, ◌≤◌, ℕ, List, [], ◌∷◌, ◌||◌, not, length, take, drop, min, ◌-◌, is_err, is_some, true, IfOk, OnOk, OnErr, Some};
+ghost use Rattle.std.specs.Prelude.{◌≡◌, ◌+◌, ◌<◌, ◌≤◌, ℕ, List, [], ◌||◌, ◌&&◌, not, nat_le, nat_lt, length, drop, is_err, is_some, true, IfOk, OnOk, OnErr, Some};
 ghost use Rattle.outside_io.specs.{FailsByFault};
 ghost use Rattle.slot_disk.specs.Images.{Gives, Torn, Written, TornFrom, Only};
 ghost use Rattle.slot_disk.specs.Moments.{TimeGoesOn, Unchanged};
-ghost use Rattle.slot_disk.specs.Recorded.{Wrote, Began, Synced, reading, IsImage, WasImage};
+ghost use Rattle.slot_disk.specs.Recorded.{Wrote, Began, Synced, reading};
 ghost use Rattle.slot_disk.specs.RecordedLaws.{is_image-reading, now_is_since, only_now};
-ghost use Rattle.slot_disk.specs.MemoryDiskState.{most_steps, has_blown, call_fails, sync_fails, write_fits, write_fails, after_call, after_fault, after_step, after_failed_write};
+ghost use Rattle.slot_disk.specs.MemoryDiskState.{most_steps, blows_at, has_blown, call_fails, sync_fails, write_fits, write_fails};
+ghost use Rattle.slot_disk.specs.MemoryDiskState.{after_call, after_fault, with_step, after_failed_write, disk_reads, disk_image_now, disk_moment, disk_image_since};
 
 use crate::Disk;
 use crate::overwriting::write_over;
@@ -98,6 +99,7 @@ impl MemoryDisk {
         ensures fails { is_err result ≡ (call_fails self.old || not fits) }
         ensures failed { OnErr result (self.new ≡ after_fault self.old) }
         ensures went { OnOk result (self.new ≡ after_call self.old) }
+        ensures cause { FailsByFault self.old.faults self.new.faults result }
     {
         let fails = self.fails.contains(&self.calls) || has_blown(self.fuse, self.calls) || !fits;
         self.calls = self.calls.saturating_add(1);
@@ -112,17 +114,14 @@ impl MemoryDisk {
     fn fits(&self, place: u64, count: usize) -> bool
         ensures { result ≡ write_fits self.now place count }
     {
-        let (room, rest) = (self.room as u64, self.log - self.written.len());
-        place <= room
-            && count as u64 <= room - place
-            && self.entries.len() < MOST_STEPS
-            && count <= rest
+        fits_room(self.room, place, count)
+            && fits_record(self.entries.len(), self.written.len(), self.log, count)
     }
 
     // Writes the piece, and records that.
     fn write_whole(&mut self, place: usize, piece: &[u8])
         requires { write_fits self.old place (length piece.now) ≡ true }
-        ensures { self.new ≡ record self.old { steps = Wrote place piece.now ∷ self.old.steps } }
+        ensures { self.new ≡ with_step self.old (Wrote place piece.now) }
     {
         write_over(&mut self.bytes, place, piece);
         add_entry(&mut self.entries, &mut self.written, StepKind::Wrote, place, piece);
@@ -131,18 +130,71 @@ impl MemoryDisk {
     // Records that a write of the piece was begun.
     fn begin_write(&mut self, place: usize, piece: &[u8])
         requires { write_fits self.old place (length piece.now) ≡ true }
-        ensures { self.new ≡ record self.old { steps = Began place piece.now ∷ self.old.steps } }
+        ensures { self.new ≡ with_step self.old (Began place piece.now) }
     {
         add_entry(&mut self.entries, &mut self.written, StepKind::Began, place, piece);
+    }
+
+    // Writes the piece, or fails. Where the fuse blows and the piece fits, the write was begun.
+    fn write_or_begin(&mut self, place: u64, piece: &[u8]) -> Result<(), Failed>
+        ensures fails { is_err result ≡ write_fails self.old place (length piece.now) }
+        ensures failed { OnErr result (self.new ≡ after_failed_write self.old place piece.now) }
+        ensures went { OnOk result (self.new ≡ with_step (after_call self.old) (Wrote place piece.now)) }
+        ensures images { (image : List ℕ) → disk_image_since self.new (disk_moment self.old) image → TornFrom (disk_image_now self.old) place (length piece.now) image }
+        ensures cause { FailsByFault self.old.faults self.new.faults result }
+    {
+        let fits = self.fits(place, piece.len());
+        let blows = self.blows();
+        let counted = self.count_call(fits);
+        if counted.is_ok() {
+            self.write_whole(place as usize, piece);
+            return Ok(());
+        }
+        if blows && fits {
+            self.begin_write(place as usize, piece);
+        }
+        Err(Failed)
+    }
+
+    // Whether the fuse blows at the next call.
+    fn blows(&self) -> bool
+        ensures { result ≡ blows_at self.now.fuse self.now.calls }
+    {
+        match self.fuse {
+            None => false,
+            Some(fuse) => fuse == self.calls,
+        }
     }
 
     // Records a sync.
     fn note_sync(&mut self)
         requires { length self.old.steps < most_steps }
-        ensures { self.new ≡ record self.old { steps = Synced ∷ self.old.steps } }
+        ensures { self.new ≡ with_step self.old Synced }
     {
         add_entry(&mut self.entries, &mut self.written, StepKind::Synced, 0, &[]);
     }
+}
+
+// Whether so many bytes at this offset are within the room.
+fn fits_room(room: usize, place: u64, count: usize) -> bool
+    ensures { result ≡ nat_le (place + count) room }
+{
+    let room = room as u64;
+    if place > room {
+        return false;
+    }
+    count as u64 <= room - place
+}
+
+// Whether a record of this many steps and bytes has room for one more step with so many bytes.
+fn fits_record(steps: usize, bytes: usize, log: usize, count: usize) -> bool
+    requires { bytes ≤ log }
+    ensures { result ≡ (nat_lt steps most_steps && nat_le (bytes + count) log) }
+{
+    if steps >= MOST_STEPS {
+        return false;
+    }
+    count <= log - bytes
 }
 
 // Whether the fuse has blown at this call, or before it.
@@ -156,13 +208,13 @@ fn has_blown(fuse: Option<u64>, call: u64) -> bool
 }
 
 impl Disk for MemoryDisk {
-    ghost reads = { λ s. Some (reading s.first s.steps) };
+    ghost reads = { disk_reads };
 
-    ghost image_now = { λ s. IsImage s.first s.steps };
+    ghost image_now = { disk_image_now };
 
-    ghost moment = { λ s. length s.steps };
+    ghost moment = { disk_moment };
 
-    ghost image_since = { λ s. WasImage s.first s.steps };
+    ghost image_since = { disk_image_since };
 
     ghost faults = { λ s. s.faults };
 
@@ -173,48 +225,82 @@ impl Disk for MemoryDisk {
     ghost only_now = { λ s image was. only_now s.first s.steps image was };
 
     fn len(&mut self) -> Result<u64, Failed>
-        ensures length { IfOk result (λ count. (bytes : List ℕ) → Some (reading self.old.first self.old.steps) ≡ Some bytes → count ≡ length bytes) }
-        ensures unchanged { Unchanged ⟦<MemoryDisk as Disk>⟧.reads ⟦<MemoryDisk as Disk>⟧.image_now self.old self.new }
-        ensures images { (image : List ℕ) → WasImage self.new.first self.new.steps (length self.old.steps) image → IsImage self.old.first self.old.steps image }
-        ensures time { TimeGoesOn ⟦<MemoryDisk as Disk>⟧.moment ⟦<MemoryDisk as Disk>⟧.image_since self.old self.new }
+        ensures length { IfOk result (λ count. (bytes : List ℕ) → disk_reads self.old ≡ Some bytes → count ≡ length bytes) }
+        ensures unchanged { Unchanged disk_reads disk_image_now self.old self.new }
+        ensures images { (image : List ℕ) → disk_image_since self.new (disk_moment self.old) image → disk_image_now self.old image }
+        ensures time { TimeGoesOn disk_moment disk_image_since self.old self.new }
         ensures cause { FailsByFault self.old.faults self.new.faults result }
 
         ensures fails { is_err result ≡ call_fails self.old }
         ensures failed { OnErr result (self.new ≡ after_fault self.old) }
+        ensures counted { IfOk result (λ count. count ≡ length (reading self.old.first self.old.steps)) }
         ensures went { OnOk result (self.new ≡ after_call self.old) }
     {
         self.count_call(true)?;
         Ok(self.bytes.len() as u64)
     }
 
-    fn read_at(&mut self, place: u64, into: &mut [u8]) -> Result<usize, Failed> {
+    fn read_at(&mut self, place: u64, into: &mut [u8]) -> Result<usize, Failed>
+        ensures fits { IfOk result (λ count. count ≤ length into.old) }
+        ensures later_places { IfOk result (λ count. drop count into.new ≡ drop count into.old) }
+        ensures given { IfOk result (λ count. (bytes : List ℕ) → disk_reads self.old ≡ Some bytes → Gives place (length into.old) bytes into.new count) }
+        ensures unchanged { Unchanged disk_reads disk_image_now self.old self.new }
+        ensures images { (image : List ℕ) → disk_image_since self.new (disk_moment self.old) image → disk_image_now self.old image }
+        ensures time { TimeGoesOn disk_moment disk_image_since self.old self.new }
+        ensures cause { FailsByFault self.old.faults self.new.faults result }
+
+        ensures fails { is_err result ≡ call_fails self.old }
+        ensures failed { OnErr result (self.new ≡ after_fault self.old) }
+        ensures untouched { OnErr result (into.new ≡ into.old) }
+        ensures gave { IfOk result (λ count. Gives place (length into.old) (reading self.old.first self.old.steps) into.new count) }
+        ensures went { OnOk result (self.new ≡ after_call self.old) }
+    {
         self.count_call(true)?;
-        let from = self.bytes.len().min(place as usize);
-        let (_, rest) = self.bytes.split_at(from);
-        let count = rest.len().min(into.len());
-        let (front, _) = rest.split_at(count);
-        into[..count].copy_from_slice(front);
-        Ok(count)
+        Ok(copy_from(&self.bytes, place, into))
     }
 
-    fn write_at(&mut self, place: u64, bytes: &[u8]) -> Result<(), Failed> {
-        let fits = self.fits(place, bytes.len());
-        let begins = fits && self.fuse == Some(self.calls);
-        let counted = self.count_call(fits);
-        if counted.is_ok() {
-            self.write_whole(place as usize, bytes);
-            return Ok(());
-        }
-        if begins {
-            self.begin_write(place as usize, bytes);
-        }
-        Err(Failed)
+    fn write_at(&mut self, place: u64, bytes: &[u8]) -> Result<(), Failed>
+        ensures known { is_some (disk_reads self.new) ≡ is_some (disk_reads self.old) }
+        ensures torn { (old new : List ℕ) → disk_reads self.old ≡ Some old → disk_reads self.new ≡ Some new → Torn place (length bytes.now) old new }
+        ensures written { OnOk result ((old new : List ℕ) → disk_reads self.old ≡ Some old → disk_reads self.new ≡ Some new → Written place bytes.now old new) }
+        ensures images { (image : List ℕ) → disk_image_since self.new (disk_moment self.old) image → TornFrom (disk_image_now self.old) place (length bytes.now) image }
+        ensures time { TimeGoesOn disk_moment disk_image_since self.old self.new }
+        ensures cause { FailsByFault self.old.faults self.new.faults result }
+
+        ensures fails { is_err result ≡ write_fails self.old place (length bytes.now) }
+        ensures failed { OnErr result (self.new ≡ after_failed_write self.old place bytes.now) }
+        ensures went { OnOk result (self.new ≡ with_step (after_call self.old) (Wrote place bytes.now)) }
+    {
+        self.write_or_begin(place, bytes)
     }
 
-    fn sync(&mut self) -> Result<(), Failed> {
+    fn sync(&mut self) -> Result<(), Failed>
+        ensures reads { disk_reads self.new ≡ disk_reads self.old }
+        ensures images { (image : List ℕ) → disk_image_since self.new (disk_moment self.old) image → disk_image_now self.old image }
+        ensures safe { OnOk result ((bytes : List ℕ) → disk_reads self.new ≡ Some bytes → Only bytes (disk_image_now self.new)) }
+        ensures time { TimeGoesOn disk_moment disk_image_since self.old self.new }
+        ensures cause { FailsByFault self.old.faults self.new.faults result }
+
+        ensures fails { is_err result ≡ sync_fails self.old }
+        ensures failed { OnErr result (self.new ≡ after_fault self.old) }
+        ensures went { OnOk result (self.new ≡ with_step (after_call self.old) Synced) }
+    {
         let fits = self.entries.len() < MOST_STEPS;
         self.count_call(fits)?;
         self.note_sync();
         Ok(())
     }
+}
+
+// Copies the bytes from an offset on into the front of `into`, up to their end or the room, and returns how many.
+fn copy_from(bytes: &[u8], place: u64, into: &mut [u8]) -> usize
+    ensures fits { result ≤ length into.old }
+    ensures later_places { drop result into.new ≡ drop result into.old }
+    ensures gives { Gives place (length into.old) bytes.now into.new result }
+{
+    let (_, rest) = bytes.split_at(bytes.len().min(place as usize));
+    let count = rest.len().min(into.len());
+    let (front, _) = rest.split_at(count);
+    into[..count].copy_from_slice(front);
+    count
 }

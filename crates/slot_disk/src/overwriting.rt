@@ -1,7 +1,7 @@
 //! Writing a piece over bytes, past their end too.
 
-ghost use Rattle.std.specs.Prelude.{◌≡◌, ◌≤◌, ◌+◌, ◌-◌, ◌++◌, length, replicate, vec_len, vec_capacity, OnOk, IsOk};
-ghost use Rattle.slot_disk.specs.Recorded.{over, written_over};
+ghost use Rattle.std.specs.Prelude.{◌≡◌, ◌≤◌, ◌+◌, ◌-◌, ◌++◌, length, vec_len, vec_capacity, OnOk, IsOk};
+ghost use Rattle.slot_disk.specs.Recorded.{over, zeros, written_over};
 
 use std::alloc::AllocError;
 
@@ -21,10 +21,10 @@ pub(crate) fn put_over(bytes: &mut Vec<u8>, start: usize, piece: &[u8]) -> Resul
 /// Appends zero bytes up to a length.
 pub(crate) fn fill_gap(bytes: &mut Vec<u8>, length: usize)
     requires { length ≤ vec_capacity bytes.old }
-    ensures filled { bytes.new.items ≡ bytes.old.items ++ replicate (length - vec_len bytes.old) 0 }
+    ensures filled { bytes.new.items ≡ bytes.old.items ++ zeros (length - vec_len bytes.old) }
     ensures room { vec_capacity bytes.old ≤ vec_capacity bytes.new }
 {
-    for _ in bytes.len()..length {
+    for _filled in 0..length.saturating_sub(bytes.len()) {
         bytes.push(0).unwrap();
     }
 }
