@@ -1,1 +1,3 @@
 pub mod ImageLemmas
+pub mod CrashLemmas
+pub mod EntryLemmas

@@ -5,3 +5,6 @@ pub mod MemoryDiskState
 pub mod StepEntries
 pub mod OverLaws
 pub mod RecordedLaws
+pub mod StoreLayout
+pub mod SlotsState
+pub mod Puts

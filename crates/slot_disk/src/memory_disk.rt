@@ -4,12 +4,13 @@ ghost use Rattle.std.specs.Prelude.{◌≡◌, ◌+◌, ◌<◌, ◌≤◌, ℕ,
 ghost use Rattle.outside_io.specs.{FailsByFault};
 ghost use Rattle.slot_disk.specs.Images.{Gives, Torn, Written, TornFrom, Only};
 ghost use Rattle.slot_disk.specs.Moments.{TimeGoesOn, Unchanged};
-ghost use Rattle.slot_disk.specs.Recorded.{Wrote, Began, Synced, reading};
+ghost use Rattle.slot_disk.specs.Recorded.{Wrote, Began, Synced, reading, crashed};
 ghost use Rattle.slot_disk.specs.RecordedLaws.{is_image-reading, now_is_since, only_now};
 ghost use Rattle.slot_disk.specs.MemoryDiskState.{most_steps, blows_at, has_blown, call_fails, sync_fails, write_fits, write_fails};
 ghost use Rattle.slot_disk.specs.MemoryDiskState.{after_call, after_fault, with_step, after_failed_write, disk_reads, disk_image_now, disk_moment, disk_image_since};
 
 use crate::Disk;
+use crate::crashing::crashed;
 use crate::overwriting::write_over;
 use crate::step_entry::{StepEntry, StepKind, add_entry};
 use outside_io::Failed;
@@ -91,6 +92,17 @@ impl MemoryDisk {
             calls: 0,
             faults: 0,
         })
+    }
+
+    /// The bytes that one crash now would leave. Of what was written since the last sync that succeeded, choice 0 drops
+    /// all, and 1 keeps all, the begun write too. Choice 2 fills the written ranges with bytes 0xFF, and any other
+    /// choice keeps the first half of each range. A range begins at the old end where its write begins past it.
+    pub fn crash(&self, alloc: Global, choice: u8) -> Result<Vec<u8>, AllocError>
+        ensures exact { IfOk result (λ bytes. bytes.items ≡ crashed choice self.now.first self.now.steps) }
+        ensures possible { IfOk result (λ bytes. disk_image_now self.now bytes.items) }
+    {
+        let image = crashed(alloc, choice, &self.first, &self.entries, &self.written)?;
+        Ok(image)
     }
 
     // Counts a call. It fails where its number is one of those that fail, where the fuse has blown, or where it doesn't

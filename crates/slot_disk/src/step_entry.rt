@@ -1,6 +1,6 @@
 //! The record of a disk's writes and syncs.
 
-ghost use Rattle.std.specs.Prelude.{◌≡◌, ◌+◌, ◌<◌, ◌≤◌, ◌∷◌, ◌++◌, length, reverse, vec_len, vec_capacity};
+ghost use Rattle.std.specs.Prelude.{◌≡◌, ◌+◌, ◌<◌, ◌≤◌, [], ◌∷◌, ◌++◌, length, reverse, vec_len, vec_capacity, MatchOption, IfSome};
 ghost use Rattle.slot_disk.specs.StepEntries.{steps_of, step_of};
 
 /// What was done.
@@ -44,4 +44,41 @@ pub(crate) fn add_entry(
     let start = written.len();
     written.extend_from_slice(piece).unwrap();
     entries.push(StepEntry { kind, place, start }).unwrap();
+}
+
+/// The newest step of a record, and the record before it.
+#[derive(Clone, Copy)]
+pub(crate) struct NewestStep<'a> {
+    /// What was done.
+    pub kind: StepKind,
+    /// The offset of the write.
+    pub place: usize,
+    /// The bytes of the write.
+    pub piece: &'a [u8],
+    /// The entries before it.
+    pub entries: &'a [StepEntry],
+    /// The bytes of the writes before it.
+    pub written: &'a [u8],
+}
+
+/// The newest step of a record, unless there is none.
+pub(crate) fn take_newest<'a>(entries: &'a [StepEntry], written: &'a [u8]) -> Option<NewestStep<'a>>
+    ensures step { MatchOption result (steps_of (reverse entries.now) written.now ≡ [])
+        (λ newest. steps_of (reverse entries.now) written.now ≡ step_of newest.kind newest.place newest.piece.now ∷ steps_of (reverse newest.entries.now) newest.written.now) }
+    ensures fewer { IfSome result (λ newest. length newest.entries.now < length entries.now) }
+{
+    if entries.is_empty() {
+        return None;
+    }
+    let last = entries.len() - 1;
+    let entry = entries[last];
+    let (earlier, _) = entries.split_at(last);
+    let (before, piece) = written.split_at(entry.start.min(written.len()));
+    Some(NewestStep {
+        kind: entry.kind,
+        place: entry.place,
+        piece,
+        entries: earlier,
+        written: before,
+    })
 }

@@ -1,0 +1,58 @@
+-- What a put may leave of a store.
+use Rattle.std.specs.Prelude.{ℕ, zero, suc, ◌≡◌, ◌≤◌, ◌⊎◌, Bool, List, length, Option, Some}
+use Rattle.slot_disk.specs.Images.{Only}
+use Rattle.slot_disk.specs.StoreLayout.{front_bytes, is_open, header_of, number_at, stored_body, content, SlotContent, Closed, Broken, Whole}
+
+-- the number of the other slot
+abbrev pub other : ℕ → ℕ
+other zero = 1
+other (suc slot) = 0
+
+-- an open gate with a whole body under it
+abbrev pub IsWhole : SlotContent → Type 0
+IsWhole held = (body : List ℕ) × (held ≡ Whole body)
+
+-- A put into a slot loses nothing: the other slot is whole, and is the newest one, or no slot is open; and where the
+-- slot is open itself, it is whole too.
+pub record IsReady (span slot : ℕ) (image : List ℕ) : Type 0 where
+  pub other_holds : IsWhole (content span (other slot) image)
+      ⊎ ((content span (other slot) image ≡ Closed) × (content span slot image ≡ Closed))
+  pub slot_holds : IsWhole (content span slot image) ⊎ (content span slot image ≡ Closed)
+
+-- the bytes are a body that fits the span: their first 8 bytes are their length
+pub record IsBody (span : ℕ) (body : List ℕ) : Type 0 where
+  pub least : 8 ≤ length body
+  pub most : length body ≤ span
+  pub says : number_at 0 body ≡ length body
+
+-- all of a store but one slot is as before
+pub record IsSameBeside (span slot : ℕ) (old image : List ℕ) : Type 0 where
+  pub long : front_bytes ≤ length image
+  pub header : header_of image ≡ header_of old
+  pub other_slot : content span (other slot) image ≡ content span (other slot) old
+
+-- beside it the slot is as before, or closed
+pub record MayBeClosed (span slot : ℕ) (old image : List ℕ) : Type 0 where
+  pub beside : IsSameBeside span slot old image
+  pub slot_holds : (content span slot image ≡ content span slot old) ⊎ (content span slot image ≡ Closed)
+
+-- beside it the slot is closed
+pub record IsClosed (span slot : ℕ) (old image : List ℕ) : Type 0 where
+  pub beside : IsSameBeside span slot old image
+  pub slot_holds : content span slot image ≡ Closed
+
+-- beside it the slot is closed, or whole with this body
+pub record MayBeOpen (span slot : ℕ) (body old image : List ℕ) : Type 0 where
+  pub beside : IsSameBeside span slot old image
+  pub slot_holds : (content span slot image ≡ Closed) ⊎ (content span slot image ≡ Whole body)
+
+-- a put of this body may leave this image: beside the slot all is as before, and the slot is as before, closed, or whole
+-- with the new body
+pub record MayLeave (span slot : ℕ) (body old image : List ℕ) : Type 0 where
+  pub beside : IsSameBeside span slot old image
+  pub slot_holds : (content span slot image ≡ content span slot old) ⊎ ((content span slot image ≡ Closed) ⊎ (content span slot image ≡ Whole body))
+
+-- the put is done: beside the slot all is as before, and the slot is whole with the new body
+pub record IsPut (span slot : ℕ) (body old image : List ℕ) : Type 0 where
+  pub beside : IsSameBeside span slot old image
+  pub slot_holds : content span slot image ≡ Whole body
