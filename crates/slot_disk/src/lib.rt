@@ -3,12 +3,18 @@
 
 mod crashing;
 mod disk;
+mod fault;
 mod memory_disk;
 mod overwriting;
+mod safe_write;
+mod slots;
 mod step_entry;
 
 pub use disk::Disk;
+pub use fault::{BeginFault, BodyFault};
 pub use memory_disk::MemoryDisk;
+pub use safe_write::format;
+pub use slots::Slots;
 
 #[cfg(test)]
 mod tests;

@@ -1,0 +1,153 @@
+//! A store of two slots, as it is known: its gates and its header.
+
+ghost use Rattle.std.specs.Prelude.{◌≡◌, ℕ, ◌<◌, ◌≤◌, ◌^◌, List, None, Some, true, false, length, vec_len, IfOk, IsErrOf};
+ghost use Rattle.outside_io.specs.{Rose};
+ghost use Rattle.slot_disk.specs.Images.{Only};
+ghost use Rattle.slot_disk.specs.Moments.{Leaves, Unchanged};
+ghost use Rattle.slot_disk.specs.SlotsState.{SlotsState, known_open, slots_of, StandsAs};
+ghost use Rattle.slot_disk.specs.StoreLayout.{front_bytes, body_place, stored_body, is_whole, number_at};
+
+use crate::{BeginFault, BodyFault, Disk};
+use byteorder::{BigEndian, ByteOrder};
+use std::alloc::{AllocError, Global};
+use std::marker::Model;
+
+/// What is known of a store: whether each gate is open, and the header.
+#[derive(Debug, Drop)]
+pub struct Slots {
+    first_open: bool,
+    second_open: bool,
+    header: [u8; 62],
+}
+
+impl Model for Slots {
+    ghost use Rattle.std.specs.Prelude.{◌≡◌, length};
+    ghost use Rattle.slot_disk.specs.SlotsState.{SlotsState};
+
+    ghost Value = { SlotsState };
+
+    ghost view = { λ s. record { first_open = s.first_open; second_open = s.second_open; header = s.header } };
+}
+
+impl Slots {
+    /// Begins a store: syncs, and reads its gates and its header.
+    pub fn begin<D: Disk>(disk: &mut D) -> Result<Slots, BeginFault>
+        ensures stands { IfOk result (λ slots. StandsAs (D.reads disk.new) (D.image_now disk.new) slots) }
+        ensures too_short { IsErrOf result BeginFault.TooShort → (bytes : List ℕ) → D.reads disk.old ≡ Some bytes → length bytes < front_bytes }
+        ensures reads { D.reads disk.new ≡ D.reads disk.old }
+        ensures any_moment { Leaves D.moment D.image_since disk.old disk.new (D.image_now disk.old) }
+        ensures later { D.faults disk.old ≤ D.faults disk.new }
+        ensures fault { IsErrOf result BeginFault.DiskFault → Rose (D.faults disk.old) (D.faults disk.new) }
+        ensures no_fault { (IsErrOf result BeginFault.DiskFault → ⊥) → D.faults disk.new ≡ D.faults disk.old }
+    {
+        disk.sync()?;
+        let mut front = [0; 64];
+        let count = disk.read_at(0, &mut front)?;
+        if count < front.len() {
+            return Err(BeginFault::TooShort);
+        }
+        Ok(read_front(&front))
+    }
+
+    /// Whether the gate of a slot, 0 or 1, is open: its byte is 1.
+    pub fn gate(&self, slot: u8) -> bool
+        requires { slot < 2 }
+        ensures { result ≡ known_open self.now slot }
+    {
+        if slot == 0 {
+            self.first_open
+        } else {
+            self.second_open
+        }
+    }
+
+    /// The header: the 62 bytes after the gates.
+    pub fn header(&self) -> &[u8; 62]
+        ensures { result.now ≡ self.now.header }
+    {
+        &self.header
+    }
+
+    /// Reads the body of a slot, 0 or 1, whether its gate is open or closed, as many bytes as its length says.
+    pub fn read_body<D: Disk>(
+        &self,
+        alloc: Global,
+        disk: &mut D,
+        slot: u8,
+        span: u64,
+    ) -> Result<Vec<u8>, BodyFault>
+        requires slot { slot < 2 }
+        requires span { span < 2 ^ 32 }
+        ensures body { IfOk result (λ body. (bytes : List ℕ) → D.reads disk.old ≡ Some bytes → stored_body span slot bytes ≡ Some body.items) }
+        ensures damaged { IsErrOf result BodyFault.Damaged → (bytes : List ℕ) → D.reads disk.old ≡ Some bytes → stored_body span slot bytes ≡ None }
+        ensures unchanged { Unchanged D.reads D.image_now disk.old disk.new }
+        ensures any_moment { Leaves D.moment D.image_since disk.old disk.new (D.image_now disk.old) }
+        ensures later { D.faults disk.old ≤ D.faults disk.new }
+        ensures fault { IsErrOf result BodyFault.DiskFault → Rose (D.faults disk.old) (D.faults disk.new) }
+        ensures no_fault { (IsErrOf result BodyFault.DiskFault → ⊥) → D.faults disk.new ≡ D.faults disk.old }
+    {
+        let place = body_place(slot, span);
+        let length = read_length(disk, place, span)?;
+        let mut body = zero_bytes(alloc, length)?;
+        let count = disk.read_at(place, &mut body)?;
+        if count < body.len() {
+            return Err(BodyFault::Damaged);
+        }
+        Ok(body)
+    }
+}
+
+// The gates and the header in the first bytes of a store.
+fn read_front(front: &[u8; 64]) -> Slots
+    ensures { result ≡ slots_of front.now }
+{
+    let mut header = [0; 62];
+    header.copy_from_slice(&front[2..]);
+    Slots {
+        first_open: front[0] == 1,
+        second_open: front[1] == 1,
+        header,
+    }
+}
+
+/// The offset of the body of a slot, 0 or 1.
+pub(crate) fn body_place(slot: u8, span: u64) -> u64
+    requires slot { slot < 2 }
+    requires span { span < 2 ^ 32 }
+    ensures { result ≡ body_place span slot }
+{
+    if slot == 0 { 64 } else { 64 + span }
+}
+
+// The length of the body at an offset, if it is from 8 to the span and doesn't run past the disk's end.
+fn read_length<D: Disk>(disk: &mut D, place: u64, span: u64) -> Result<usize, BodyFault>
+    requires place { place < 2 ^ 33 }
+    requires span { span < 2 ^ 32 }
+    ensures whole { IfOk result (λ length. (bytes : List ℕ) → D.reads disk.old ≡ Some bytes → (is_whole span place bytes ≡ true) × (length ≡ number_at place bytes)) }
+    ensures damaged { IsErrOf result BodyFault.Damaged → (bytes : List ℕ) → D.reads disk.old ≡ Some bytes → is_whole span place bytes ≡ false }
+    ensures memory { IsErrOf result BodyFault.OutOfMemory → ⊥ }
+    ensures unchanged { Unchanged D.reads D.image_now disk.old disk.new }
+    ensures any_moment { Leaves D.moment D.image_since disk.old disk.new (D.image_now disk.old) }
+    ensures later { D.faults disk.old ≤ D.faults disk.new }
+    ensures fault { IsErrOf result BodyFault.DiskFault → Rose (D.faults disk.old) (D.faults disk.new) }
+    ensures no_fault { (IsErrOf result BodyFault.DiskFault → ⊥) → D.faults disk.new ≡ D.faults disk.old }
+{
+    let end = disk.len()?;
+    let mut head = [0; 8];
+    let count = disk.read_at(place, &mut head)?;
+    let length = BigEndian::read_u64(&head);
+    if count < head.len() || length < 8 {
+        return Err(BodyFault::Damaged);
+    }
+    if length > span || place + length > end {
+        return Err(BodyFault::Damaged);
+    }
+    Ok(length as usize)
+}
+
+// So many zero bytes.
+fn zero_bytes(alloc: Global, count: usize) -> Result<Vec<u8>, AllocError>
+    ensures { IfOk result (λ bytes. vec_len bytes ≡ count) }
+{
+    vec![in alloc; 0u8; count]
+}
