@@ -1,3 +1,4 @@
 pub mod ImageLemmas
 pub mod CrashLemmas
 pub mod EntryLemmas
+pub mod BodyLemmas

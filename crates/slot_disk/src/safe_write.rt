@@ -18,7 +18,8 @@ pub(crate) fn write_safely<D: Disk>(disk: &mut D, place: u64, bytes: &[u8]) -> R
     ensures cause { FailsByFault (D.faults disk.old) (D.faults disk.new) result }
 {
     disk.write_at(place, bytes)?;
-    disk.sync()
+    disk.sync()?;
+    Ok(())
 }
 
 /// Makes a store: writes both gates closed and the header, 64 bytes in all, and syncs. What the disk holds after them
@@ -31,7 +32,16 @@ pub fn format<D: Disk>(disk: &mut D, header: &[u8; 62]) -> Result<(), Failed>
     ensures any_moment { Leaves D.moment D.image_since disk.old disk.new (TornFrom (D.image_now disk.old) 0 64) }
     ensures cause { FailsByFault (D.faults disk.old) (D.faults disk.new) result }
 {
+    let front = closed_front(header);
+    write_safely(disk, 0, &front)?;
+    Ok(())
+}
+
+// Two closed gates and the header.
+fn closed_front(header: &[u8; 62]) -> [u8; 64]
+    ensures { result ≡ 0 ∷ 0 ∷ header.now }
+{
     let mut front = [0; 64];
     front[2..].copy_from_slice(header);
-    write_safely(disk, 0, &front)
+    front
 }

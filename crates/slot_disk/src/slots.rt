@@ -1,7 +1,7 @@
 //! A store of two slots, as it is known: its gates and its header.
 
-ghost use Rattle.std.specs.Prelude.{◌≡◌, ℕ, ◌<◌, ◌≤◌, ◌^◌, List, None, Some, true, false, length, vec_len, IfOk, IsErrOf};
-ghost use Rattle.outside_io.specs.{Rose};
+ghost use Rattle.std.specs.Prelude.{◌≡◌, ℕ, ◌+◌, ◌<◌, ◌≤◌, ◌^◌, List, None, Some, true, false, length, vec_len, IfOk, IsErrOf, MatchOption};
+ghost use Rattle.outside_io.specs.{FailsByFault, Rose};
 ghost use Rattle.slot_disk.specs.Images.{Only};
 ghost use Rattle.slot_disk.specs.Moments.{Leaves, Unchanged};
 ghost use Rattle.slot_disk.specs.SlotsState.{SlotsState, known_open, slots_of, StandsAs};
@@ -9,6 +9,7 @@ ghost use Rattle.slot_disk.specs.StoreLayout.{front_bytes, body_place, stored_bo
 
 use crate::{BeginFault, BodyFault, Disk};
 use byteorder::{BigEndian, ByteOrder};
+use outside_io::Failed;
 use std::alloc::{AllocError, Global};
 use std::marker::Model;
 
@@ -133,16 +134,34 @@ fn read_length<D: Disk>(disk: &mut D, place: u64, span: u64) -> Result<usize, Bo
     ensures no_fault { (IsErrOf result BodyFault.DiskFault → ⊥) → D.faults disk.new ≡ D.faults disk.old }
 {
     let end = disk.len()?;
-    let mut head = [0; 8];
-    let count = disk.read_at(place, &mut head)?;
-    let length = BigEndian::read_u64(&head);
-    if count < head.len() || length < 8 {
+    let Some(length) = read_number(disk, place)? else {
+        return Err(BodyFault::Damaged);
+    };
+    if length < 8 {
         return Err(BodyFault::Damaged);
     }
-    if length > span || place + length > end {
+    if length > span {
+        return Err(BodyFault::Damaged);
+    }
+    if place + length > end {
         return Err(BodyFault::Damaged);
     }
     Ok(length as usize)
+}
+
+// The number in the 8 bytes at an offset, unless the disk ends before or inside them.
+fn read_number<D: Disk>(disk: &mut D, place: u64) -> Result<Option<u64>, Failed>
+    ensures number { IfOk result (λ number. (bytes : List ℕ) → D.reads disk.old ≡ Some bytes → MatchOption number (length bytes < place + 8) (λ n. (place + 8 ≤ length bytes) × (n ≡ number_at place bytes))) }
+    ensures unchanged { Unchanged D.reads D.image_now disk.old disk.new }
+    ensures any_moment { Leaves D.moment D.image_since disk.old disk.new (D.image_now disk.old) }
+    ensures cause { FailsByFault (D.faults disk.old) (D.faults disk.new) result }
+{
+    let mut head = [0; 8];
+    let count = disk.read_at(place, &mut head)?;
+    if count < head.len() {
+        return Ok(None);
+    }
+    Ok(Some(BigEndian::read_u64(&head)))
 }
 
 // So many zero bytes.
