@@ -2,3 +2,4 @@ pub mod ImageLemmas
 pub mod CrashLemmas
 pub mod EntryLemmas
 pub mod BodyLemmas
+pub mod ContentLemmas

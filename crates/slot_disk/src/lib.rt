@@ -6,6 +6,7 @@ mod disk;
 mod fault;
 mod memory_disk;
 mod overwriting;
+mod putting;
 mod safe_write;
 mod slots;
 mod step_entry;
