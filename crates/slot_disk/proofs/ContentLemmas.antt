@@ -6,7 +6,7 @@ use Rattle.std.proofs.lemmas.Bool.Decides.{nat_tests}
 use Rattle.std.proofs.lemmas.List.{take_all, length-drop, length-take, get_or-take, get_or-drop, ext_get_or}
 use Rattle.slot_disk.specs.Images.{Torn, TornFrom, Written, Only}
 use Rattle.slot_disk.specs.StoreLayout.{front_bytes, is_open, header_of, number_at, body_place, is_whole, body_at, stored_body, content, shown, SlotContent, Closed, Broken, Whole}
-use Rattle.slot_disk.specs.Puts.{other, IsWhole, IsSound, IsBody, CanClose, CanWrite, CanOpen, IsSameBeside, MayBeClosed, IsClosed, IsStored, MayBeOpen, IsPut}
+use Rattle.slot_disk.specs.Puts.{other, closing, IsWhole, IsSound, IsBody, CanClose, CanWrite, CanOpen, IsSameBeside, MayBeClosed, IsClosed, IsStored, MayBeOpen, IsPut}
 use Rattle.slot_disk.proofs.BodyLemmas.{number_at_same, is_whole_by}
 
 -- a range of a disk is untouched by a write where it lies before the write's range or after it
@@ -191,10 +191,6 @@ own_body_stays : (span slot count : ℕ) (body old image : List ℕ) → slot < 
     → stored_body span slot old ≡ Some body → stored_body span slot image ≡ Some body
 own_body_stays span slot count body old image small short torn was =
     body_stays span (body_place span slot) slot count body old image torn (inr (omega (arith, late span slot))) was
-
--- what closes a gate: a byte 0, or nothing where it is closed
-abbrev pub closing : Bool → List ℕ
-closing gate = if gate then 0 ∷ [] else []
 
 -- a gate that is being closed
 pub closing_torn : (span slot : ℕ) (known : Bool) (old image : List ℕ) → slot < 2 → CanClose span slot known old

@@ -1,5 +1,5 @@
 -- What a put may leave of a store.
-use Rattle.std.specs.Prelude.{ℕ, zero, suc, ◌≡◌, ◌≤◌, ◌⊎◌, Bool, List, length, Option, Some}
+use Rattle.std.specs.Prelude.{ℕ, zero, suc, ◌≡◌, ◌≤◌, ◌⊎◌, Bool, if◌then◌else◌, List, [], ◌∷◌, length, Option, Some}
 use Rattle.slot_disk.specs.Images.{Only}
 use Rattle.slot_disk.specs.StoreLayout.{front_bytes, is_open, header_of, number_at, stored_body, content, SlotContent, Closed, Broken, Whole}
 
@@ -7,6 +7,10 @@ use Rattle.slot_disk.specs.StoreLayout.{front_bytes, is_open, header_of, number_
 abbrev pub other : ℕ → ℕ
 other zero = 1
 other (suc slot) = 0
+
+-- what is written at a gate to close it: the byte 0, or nothing where it is closed already
+abbrev pub closing : Bool → List ℕ
+closing gate = if gate then 0 ∷ [] else []
 
 -- an open gate with a whole body under it
 abbrev pub IsWhole : SlotContent → Type 0

@@ -4,7 +4,7 @@ ghost use Rattle.std.specs.Prelude.{◌≡◌, ℕ, ◌<◌, ◌≤◌, ◌^◌,
 ghost use Rattle.outside_io.specs.{FailsByFault};
 ghost use Rattle.slot_disk.specs.Images.{Only};
 ghost use Rattle.slot_disk.specs.Moments.{Leaves};
-ghost use Rattle.slot_disk.specs.Puts.{CanClose, MayBeClosed, IsClosed, CanWrite, IsBody, IsStored, CanOpen, MayBeOpen, IsPut};
+ghost use Rattle.slot_disk.specs.Puts.{closing, CanClose, MayBeClosed, IsClosed, CanWrite, IsBody, IsStored, CanOpen, MayBeOpen, IsPut};
 
 use crate::Disk;
 use crate::safe_write::write_safely;
@@ -22,9 +22,15 @@ pub(crate) fn close_gate<D: Disk>(disk: &mut D, slot: u8, is_open: bool) -> Resu
         → Leaves D.moment D.image_since disk.old disk.new (MayBeClosed span slot old) }
     ensures cause { FailsByFault (D.faults disk.old) (D.faults disk.new) result }
 {
-    let piece: &[u8] = if is_open { &[0] } else { &[] };
-    write_safely(disk, u64::from(slot), piece)?;
+    write_safely(disk, slot as u64, closing(is_open))?;
     Ok(())
+}
+
+// What is written at a gate to close it.
+fn closing(is_open: bool) -> &'static [u8]
+    ensures { result.now ≡ closing is_open }
+{
+    if is_open { &[0] } else { &[] }
 }
 
 /// Writes the body of a slot whose gate is closed.
@@ -58,6 +64,6 @@ pub(crate) fn open_gate<D: Disk>(disk: &mut D, slot: u8) -> Result<(), Failed>
         → Leaves D.moment D.image_since disk.old disk.new (MayBeOpen span slot body old) }
     ensures cause { FailsByFault (D.faults disk.old) (D.faults disk.new) result }
 {
-    write_safely(disk, u64::from(slot), &[1])?;
+    write_safely(disk, slot as u64, &[1])?;
     Ok(())
 }
