@@ -3,3 +3,4 @@ pub mod CrashLemmas
 pub mod EntryLemmas
 pub mod BodyLemmas
 pub mod ContentLemmas
+pub mod PutLemmas

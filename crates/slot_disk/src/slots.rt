@@ -1,12 +1,13 @@
 //! A store of two slots, as it is known: its gates and its header.
 
-ghost use Rattle.std.specs.Prelude.{◌≡◌, ℕ, ◌+◌, ◌<◌, ◌≤◌, ◌^◌, List, None, Some, true, false, length, vec_len, IfOk, IsErrOf, MatchOption};
+ghost use Rattle.std.specs.Prelude.{◌≡◌, ℕ, ◌+◌, ◌<◌, ◌≤◌, ◌^◌, List, None, Some, true, false, length, vec_len, is_some, IfOk, OnOk, IsErrOf, MatchOption};
 ghost use Rattle.outside_io.specs.{FailsByFault, Rose};
-ghost use Rattle.slot_disk.specs.Images.{Only};
 ghost use Rattle.slot_disk.specs.Moments.{Leaves, Unchanged};
-ghost use Rattle.slot_disk.specs.SlotsState.{SlotsState, known_open, slots_of, StandsAs};
+ghost use Rattle.slot_disk.specs.SlotsState.{known_open, with_open, slots_of, StandsAs};
+ghost use Rattle.slot_disk.specs.Puts.{IsBody, IsReady, IsPut, MayLeave};
 ghost use Rattle.slot_disk.specs.StoreLayout.{front_bytes, body_place, stored_body, is_whole, number_at};
 
+use crate::putting::{close_gate, open_gate, write_body};
 use crate::{BeginFault, BodyFault, Disk};
 use byteorder::{BigEndian, ByteOrder};
 use outside_io::Failed;
@@ -95,6 +96,53 @@ impl Slots {
             return Err(BodyFault::Damaged);
         }
         Ok(body)
+    }
+    /// Puts a body into a slot, 0 or 1: closes its gate, writes the body, opens the gate, and syncs after each. The body
+    /// begins with its length in 8 bytes, high byte first, and has at most as many bytes as the span.
+    ///
+    /// The other slot is the newest one, open and whole, or no slot is open. So a crash at any moment of the put leaves
+    /// the newest body as it was, or the new one. After `Failed` the store is begun again.
+    pub fn put<D: Disk>(
+        self,
+        disk: &mut D,
+        slot: u8,
+        span: u64,
+        body: &[u8],
+    ) -> Result<Slots, Failed>
+        requires slot { slot < 2 }
+        requires span { span < 2 ^ 32 }
+        requires body { IsBody span body.now }
+        requires stands { StandsAs (D.reads disk.old) (D.image_now disk.old) self }
+        requires ready { (old : List ℕ) → D.reads disk.old ≡ Some old → IsReady span slot old }
+        ensures known { is_some (D.reads disk.new) ≡ is_some (D.reads disk.old) }
+        ensures done { OnOk result ((old new : List ℕ) → D.reads disk.old ≡ Some old → D.reads disk.new ≡ Some new → IsPut span slot body.now old new) }
+        ensures stands { IfOk result (λ slots. StandsAs (D.reads disk.new) (D.image_now disk.new) slots) }
+        ensures any_moment { (old : List ℕ) → D.reads disk.old ≡ Some old → Leaves D.moment D.image_since disk.old disk.new (MayLeave span slot body.now old) }
+        ensures cause { FailsByFault (D.faults disk.old) (D.faults disk.new) result }
+    {
+        let is_open = self.gate(slot);
+        close_gate(disk, slot, is_open)?;
+        write_body(disk, slot, span, body)?;
+        open_gate(disk, slot)?;
+        Ok(self.opened(slot))
+    }
+
+    // The same slots, after the gate of a slot was opened.
+    fn opened(self, slot: u8) -> Slots
+        requires { slot < 2 }
+        ensures { result ≡ with_open self slot }
+    {
+        if slot == 0 {
+            Slots {
+                first_open: true,
+                ..self
+            }
+        } else {
+            Slots {
+                second_open: true,
+                ..self
+            }
+        }
     }
 }
 
