@@ -4,3 +4,4 @@ pub mod EntryLemmas
 pub mod BodyLemmas
 pub mod ContentLemmas
 pub mod PutLemmas
+pub mod FormatLemmas

@@ -1,5 +1,5 @@
 -- What is known of a store: its gates and its header.
-use Rattle.std.specs.Prelude.{ℕ, zero, suc, ◌≡◌, ◌≤◌, Bool, true, List, length, Option, Some}
+use Rattle.std.specs.Prelude.{ℕ, zero, suc, ◌≡◌, ◌≤◌, Bool, true, false, List, length, Option, Some}
 use Rattle.slot_disk.specs.Images.{Only}
 use Rattle.slot_disk.specs.StoreLayout.{front_bytes, is_open, header_of}
 
@@ -32,3 +32,7 @@ pub record IsStore (bytes : List ℕ) (possible : List ℕ → Type 0) (slots : 
 -- the disk stands as these slots know it: what a read gives, where it is known, is such a store
 abbrev pub StandsAs : Option (List ℕ) → (List ℕ → Type 0) → SlotsState → Type 0
 StandsAs reads possible slots = (bytes : List ℕ) → reads ≡ Some bytes → IsStore bytes possible slots
+
+-- both gates closed, and this header
+abbrev pub closed_slots : List ℕ → SlotsState
+closed_slots header = record { first_open = false; second_open = false; header = header }

@@ -4,6 +4,7 @@
 mod crashing;
 mod disk;
 mod fault;
+mod formatting;
 mod memory_disk;
 mod overwriting;
 mod putting;
@@ -14,7 +15,7 @@ mod step_entry;
 pub use disk::Disk;
 pub use fault::{BeginFault, BodyFault};
 pub use memory_disk::MemoryDisk;
-pub use safe_write::format;
+pub use formatting::format;
 pub use slots::Slots;
 
 #[cfg(test)]
