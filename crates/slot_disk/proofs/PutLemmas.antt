@@ -4,7 +4,8 @@ use Rattle.std.specs.Prelude.{is_some, if◌then◌else◌}
 use Rattle.slot_disk.specs.Images.{Only}
 use Rattle.slot_disk.specs.Moments.{Leaves, Leaves-weaker, Leaves-trans}
 use Rattle.slot_disk.specs.StoreLayout.{front_bytes, is_open, header_of, stored_body, content, shown, SlotContent, Closed, Broken, Whole}
-use Rattle.slot_disk.specs.SlotsState.{SlotsState, known_open, with_open, slots_of, IsStore}
+use Rattle.slot_disk.specs.SlotsState.{SlotsState, closed_slots, known_open, with_open, slots_of, IsStore}
+use Rattle.slot_disk.proofs.ContentLemmas.{closed_by_gate}
 use Rattle.slot_disk.specs.Puts.{other, IsWhole, IsSound, IsReady, IsBody, CanClose, CanWrite, CanOpen, IsSameBeside, MayBeClosed, IsClosed, IsStored, MayBeOpen, MayLeave, IsPut}
 
 pub some_of : {X : Type 0} (found : Option X) → is_some found ≡ true → (x : X) × (found ≡ Some x)
@@ -115,6 +116,32 @@ may_open span slot body old closed stored image first second third = record {
   beside = beside_trans span slot old closed image first.beside (beside_trans span slot closed stored image second.closed.beside third.beside);
   slot_holds = inr third.slot_holds;
 }
+
+-- a store that was made takes a put into either slot
+pub closed_ready : (span slot : ℕ) (bytes header : List ℕ) (possible : List ℕ → Type 0) → slot < 2
+    → IsStore bytes possible (closed_slots header) → IsReady span slot bytes
+closed_ready span slot bytes header possible small store =
+    let first : content span 0 bytes ≡ Closed = closed_by_gate span 0 bytes (sym (ap (λ (s : SlotsState). s.first_open) store.slots_are)) in
+    let second : content span 1 bytes ≡ Closed = closed_by_gate span 1 bytes (sym (ap (λ (s : SlotsState). s.second_open) store.slots_are)) in
+    either_ready span slot bytes small first second
+  where
+    either_ready : (span slot : ℕ) (bytes : List ℕ) → slot < 2 → content span 0 bytes ≡ Closed → content span 1 bytes ≡ Closed → IsReady span slot bytes
+    either_ready span zero bytes small first second = record { other_holds = inr (second, first); slot_holds = inr first }
+    either_ready span (suc zero) bytes small first second = record { other_holds = inr (first, second); slot_holds = inr second }
+    either_ready span (suc (suc slot)) bytes small first second = absurd (omega arith)
+
+-- after a put the other slot may be put
+pub next_ready : (span slot : ℕ) (body old new : List ℕ) → slot < 2 → IsReady span slot old → IsPut span slot body old new
+    → IsReady span (other slot) new
+next_ready span zero body old new small ready put = record {
+  other_holds = inl (body, put.slot_holds);
+  slot_holds = subst IsSound (sym put.beside.other_slot) (other_sound span 0 old ready);
+}
+next_ready span (suc zero) body old new small ready put = record {
+  other_holds = inl (body, put.slot_holds);
+  slot_holds = subst IsSound (sym put.beside.other_slot) (other_sound span 1 old ready);
+}
+next_ready span (suc (suc slot)) body old new small ready put = absurd (omega arith)
 
 module _ {D : Type 0} (moment : D → ℕ) (image_since : D → ℕ → List ℕ → Type 0) (span slot : ℕ) (body old : List ℕ) where
   pub leaves_closing : (begun closed : D) → Leaves moment image_since begun closed (MayBeClosed span slot old)

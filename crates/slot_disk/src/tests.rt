@@ -1,4 +1,4 @@
-ghost use Rattle.std.specs.Prelude.{◌≡◌, ℕ, List, Some, IfOk};
+ghost use Rattle.std.specs.Prelude.{◌≡◌, ℕ, ◌<◌, List, Some, IfOk, OnOk};
 ghost use Rattle.slot_disk.specs.SlotsState.{StandsAs};
 ghost use Rattle.slot_disk.specs.Puts.{IsReady};
 
@@ -30,7 +30,8 @@ fn put_first<D: Disk>(disk: &mut D) -> Result<Slots, Failed>
     let Ok(slots) = Slots::begin(disk) else {
         return Err(Failed);
     };
-    slots.put(disk, 0, SPAN, &FIRST)
+    let slots = slots.put(disk, 0, SPAN, &FIRST)?;
+    Ok(slots)
 }
 
 // Puts a second body into slot 1: calls 10 to 15 of the disk.
