@@ -1,11 +1,10 @@
 -- Bodies in the bytes of a store: what reads of them give, and which tests they pass.
-use Rattle.std.proofs.Common.{◌≡◌, ℕ, ◌+◌, ◌-◌, ◌<◌, ◌≤◌, List, length, take, drop, min, Bool, true, Some, refl, sym, ap, ◌∙◌, subst, arith}
+use Rattle.std.proofs.Common.{◌≡◌, ℕ, ◌+◌, ◌≤◌, List, length, take, drop, true, sym, ap, ◌∙◌, arith}
 use Rattle.std.proofs.lemmas.Bool.Decides.{nat_tests}
-use Rattle.std.proofs.lemmas.List.{take_all, length-drop}
 use Rattle.byteorder.specs.Endian.{big_from}
 use Rattle.byteorder.specs.Numbers.{big_from-take}
 use Rattle.slot_disk.specs.Images.{Gives}
-use Rattle.slot_disk.specs.StoreLayout.{number_at, is_whole, body_at}
+use Rattle.slot_disk.specs.StoreLayout.{number_at, is_whole}
 
 -- the number in the first n bytes of lists that agree on them
 same_number : (n count : ℕ) (xs ys : List ℕ) → n ≤ count → take count xs ≡ take count ys → big_from 0 n xs ≡ big_from 0 n ys

@@ -1,12 +1,11 @@
 -- What a write leaves of gates, header and bodies.
 use Rattle.std.specs.Prelude.{if◌then◌else◌}
-use Rattle.std.proofs.Common.{◌≡◌, ◌≢◌, [], ◌∷◌, ◌⊎◌, ℕ, zero, suc, cond, ◌+◌, ◌-◌, ◌<◌, ◌≤◌, List, length, take, drop, min, Bool, true, false, Option, Some, None, refl, sym, ap, ◌∙◌, subst, inl, inr, ⊎_elim, arith, get_or, eqb}
-use Rattle.std.proofs.lemmas.Bool.{cases_eq}
+use Rattle.std.proofs.Common.{◌≡◌, [], ◌∷◌, ◌⊎◌, ℕ, zero, suc, ◌+◌, ◌-◌, ◌<◌, ◌≤◌, List, length, take, drop, min, Bool, true, false, Option, Some, None, refl, sym, ap, ◌∙◌, subst, inl, inr, ⊎_elim, arith, get_or, eqb}
 use Rattle.std.proofs.lemmas.Bool.Decides.{nat_tests}
 use Rattle.std.proofs.lemmas.List.{take_all, length-drop, length-take, get_or-take, get_or-drop, ext_get_or}
 use Rattle.slot_disk.specs.Images.{Torn, TornFrom, Written, Only}
 use Rattle.slot_disk.specs.StoreLayout.{front_bytes, is_open, header_of, number_at, body_place, is_whole, body_at, stored_body, content, shown, SlotContent, Closed, Broken, Whole}
-use Rattle.slot_disk.specs.Puts.{other, closing, IsWhole, IsSound, IsBody, CanClose, CanWrite, CanOpen, IsSameBeside, MayBeClosed, IsClosed, IsStored, MayBeOpen, IsPut}
+use Rattle.slot_disk.specs.Puts.{other, closing, IsSound, IsBody, CanClose, CanWrite, CanOpen, IsSameBeside, MayBeClosed, IsClosed, IsStored, MayBeOpen, IsPut}
 use Rattle.slot_disk.proofs.BodyLemmas.{number_at_same, is_whole_by}
 
 -- a range of a disk is untouched by a write where it lies before the write's range or after it
@@ -26,10 +25,10 @@ range_stays place count from n old new torn within apart =
     ext_get_or 0 (take n (drop from new)) (take n (drop from old))
     (omega (arith, length-take n (drop from new), length-take n (drop from old), length-drop from new, length-drop from old, torn.no_shorter))
     (λ i lt.
-        let small : i < n = omega (arith, lt, length-take n (drop from new)) in
-        get_or-take n (drop from new) i 0 small ∙ get_or-drop from new i 0
-        ∙ byte_stays place count (from + i) old new torn (omega arith) (⊎_elim (λ before. inl (omega arith)) (λ after. inr (omega arith)) apart)
-        ∙ sym (get_or-take n (drop from old) i 0 small ∙ get_or-drop from old i 0))
+    let small : i < n = omega (arith, lt, length-take n (drop from new)) in
+    get_or-take n (drop from new) i 0 small ∙ get_or-drop from new i 0
+    ∙ byte_stays place count (from + i) old new torn (omega arith) (⊎_elim (λ before. inl (omega arith)) (λ after. inr (omega arith)) apart)
+    ∙ sym (get_or-take n (drop from old) i 0 small ∙ get_or-drop from old i 0))
 
 -- the header
 pub header_stays : (place count : ℕ) (old new : List ℕ) → Torn place count old new → front_bytes ≤ length old
@@ -216,12 +215,12 @@ pub closing_written : (span slot : ℕ) (known : Bool) (old new : List ℕ) → 
 closing_written span slot true old new small can written = record {
   beside = beside_gate span slot 1 old new small (omega arith) can.long written.torn can.other_holds;
   slot_holds = closed_by_gate span slot new (ap (λ (byte : ℕ). eqb byte 1) (
-    ap (λ (k : ℕ). get_or new k 0) (let e : slot ≡ slot + 0 = omega arith in e) ∙ written.range 0 (omega arith)));
+      ap (λ (k : ℕ). get_or new k 0) (let e : slot ≡ slot + 0 = omega arith in e) ∙ written.range 0 (omega arith)));
 }
 closing_written span slot false old new small can written = record {
   beside = beside_gate span slot 0 old new small (omega arith) can.long written.torn can.other_holds;
   slot_holds = closed_by_gate span slot new (
-    gate_stays slot 0 slot old new written.torn (omega (arith, can.long)) (inr (omega arith)) ∙ can.gate);
+      gate_stays slot 0 slot old new written.torn (omega (arith, can.long)) (inr (omega arith)) ∙ can.gate);
 }
 
 -- a body that is being written
@@ -230,8 +229,8 @@ pub writing_torn : (span slot count : ℕ) (old image : List ℕ) → slot < 2 �
 writing_torn span slot count old image small fits can torn = record {
   beside = beside_body span slot count old image small fits can.long torn can.other_holds;
   slot_holds = closed_by_gate span slot image (
-    gate_stays (body_place span slot) count slot old image torn (omega (arith, can.long)) (inl (omega (arith, late span slot)))
-    ∙ gate_of_closed span slot old can.slot_holds);
+      gate_stays (body_place span slot) count slot old image torn (omega (arith, can.long)) (inl (omega (arith, late span slot)))
+      ∙ gate_of_closed span slot old can.slot_holds);
 }
 
 -- a body that was written
@@ -244,8 +243,8 @@ writing_written span slot body old new small is can written =
     ext_get_or 0 (take (length body) (drop place new)) body
     (omega (arith, length-take (length body) (drop place new), length-drop place new, fits))
     (λ i lt.
-        let within : i < length body = omega (arith, lt, length-take (length body) (drop place new)) in
-        get_or-take (length body) (drop place new) i 0 within ∙ get_or-drop place new i 0 ∙ written.range i within) in
+    let within : i < length body = omega (arith, lt, length-take (length body) (drop place new)) in
+    get_or-take (length body) (drop place new) i 0 within ∙ get_or-drop place new i 0 ∙ written.range i within) in
     record {
       closed = writing_torn span slot (length body) old new small is.most can written.torn;
       stored = body_at_is span place body new (record {
@@ -270,7 +269,7 @@ pub opening_written : (span slot : ℕ) (body old new : List ℕ) → slot < 2 �
     → Written slot (1 ∷ []) old new → IsPut span slot body old new
 opening_written span slot body old new small can written =
     let gate : is_open slot new ≡ true = ap (λ (byte : ℕ). eqb byte 1) (
-      ap (λ (k : ℕ). get_or new k 0) (let e : slot ≡ slot + 0 = omega arith in e) ∙ written.range 0 (omega arith)) in
+    ap (λ (k : ℕ). get_or new k 0) (let e : slot ≡ slot + 0 = omega arith in e) ∙ written.range 0 (omega arith)) in
     record {
       beside = beside_gate span slot 1 old new small (omega arith) can.long written.torn can.other_holds;
       slot_holds =

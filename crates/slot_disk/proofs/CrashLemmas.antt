@@ -1,9 +1,9 @@
 -- What a crash leaves is an image.
-use Rattle.std.proofs.Common.{◌≡◌, ℕ, ◌+◌, ◌≤◌, List, [], ◌∷◌, ◌++◌, length, take, drop, min, replicate, reverse, refl, sym, ap, ◌∙◌, subst, inl, inr, ⊎_elim, arith}
+use Rattle.std.proofs.Common.{◌≡◌, ℕ, ◌≤◌, List, [], ◌∷◌, length, replicate, refl, inl, inr, arith}
 use Rattle.std.proofs.lemmas.Bool.{cases_eq}
 use Rattle.std.proofs.lemmas.Bool.Decides.{nat_tests}
-use Rattle.std.proofs.lemmas.List.{length-take, length-replicate, take_all, take_more, reverse-append}
-use Rattle.slot_disk.specs.Recorded.{DiskStep, Wrote, Began, Synced, IsImage, reading, kept, crash_range, crashed, range_start, range_bytes}
+use Rattle.std.proofs.lemmas.List.{length-take, length-replicate}
+use Rattle.slot_disk.specs.Recorded.{DiskStep, Wrote, Began, Synced, IsImage, kept, crash_range, crashed, range_bytes}
 use Rattle.slot_disk.specs.OverLaws.{over_is_torn, length-range}
 use Rattle.slot_disk.specs.Images.{Torn}
 
@@ -12,12 +12,12 @@ kept_fits : (choice : ℕ) (bytes : List ℕ) → length (kept choice bytes) ≤
 kept_fits choice bytes = elim (cases_eq choice 0) [
   | inl none ↦ grind (arith, nat_tests)
   | inr some ↦ elim (cases_eq choice 1) [
-      | inl all ↦ grind (arith, nat_tests)
-      | inr part ↦ elim (cases_eq choice 2) [
-          | inl filled ↦ let filler : ℕ = 255 in let e : length (replicate (length bytes) filler) ≡ length bytes = length-replicate (length bytes) filler in grind (arith, nat_tests)
-          | inr half ↦ grind (arith, nat_tests, length-take {A = ℕ})
-        ]
+    | inl all ↦ grind (arith, nat_tests)
+    | inr part ↦ elim (cases_eq choice 2) [
+      | inl filled ↦ let filler : ℕ = 255 in let e : length (replicate (length bytes) filler) ≡ length bytes = length-replicate (length bytes) filler in grind (arith, nat_tests)
+      | inr half ↦ grind (arith, nat_tests, length-take {A = ℕ})
     ]
+  ]
 ]
 
 crash_is_torn : (choice place : ℕ) (piece image : List ℕ) → Torn place (length piece) image (crash_range choice place piece image)

@@ -1,7 +1,7 @@
 -- The images that a call of a disk in memory leaves.
-use Rattle.std.proofs.Common.{◌≡◌, ℕ, ◌≤◌, List, ◌∷◌, length, sym, subst, inl, inr, ⊎_elim, arith, ◌∙◌, ap}
-use Rattle.slot_disk.specs.Images.{Torn, TornFrom}
-use Rattle.slot_disk.specs.Recorded.{DiskStep, Wrote, Began, Synced, IsImage, WasImage}
+use Rattle.std.proofs.Common.{◌≡◌, ℕ, List, length, sym, subst, ⊎_elim, ◌∙◌, ap}
+use Rattle.slot_disk.specs.Images.{TornFrom}
+use Rattle.slot_disk.specs.Recorded.{Wrote, Began, Synced, IsImage}
 use Rattle.slot_disk.specs.MemoryDiskState.{DiskState, with_step, disk_image_now, disk_image_since, disk_moment, after_call, after_fault}
 use Rattle.slot_disk.specs.RecordedLaws.{reading_is_image, only_now}
 use Rattle.slot_disk.specs.OverLaws.{torn_from_itself}

@@ -1,12 +1,12 @@
 -- The three parts of a put, one after the other.
-use Rattle.std.proofs.Common.{◌≡◌, ◌⊎◌, ℕ, zero, suc, ◌+◌, ◌<◌, ◌≤◌, List, length, Bool, true, false, Option, Some, None, refl, sym, ap, ◌∙◌, subst, inl, inr, ⊎_elim, arith}
+use Rattle.std.proofs.Common.{◌≡◌, ℕ, zero, suc, ◌<◌, List, Bool, true, false, Option, Some, None, refl, sym, ap, ◌∙◌, subst, inl, inr, ⊎_elim, arith}
 use Rattle.std.specs.Prelude.{is_some, if◌then◌else◌}
 use Rattle.slot_disk.specs.Images.{Only}
 use Rattle.slot_disk.specs.Moments.{Leaves, Leaves-weaker, Leaves-trans}
-use Rattle.slot_disk.specs.StoreLayout.{front_bytes, is_open, header_of, stored_body, content, shown, SlotContent, Closed, Broken, Whole}
+use Rattle.slot_disk.specs.StoreLayout.{is_open, header_of, stored_body, content, shown, SlotContent, Closed, Broken, Whole}
 use Rattle.slot_disk.specs.SlotsState.{SlotsState, closed_slots, known_open, with_open, slots_of, IsStore}
 use Rattle.slot_disk.proofs.ContentLemmas.{closed_by_gate}
-use Rattle.slot_disk.specs.Puts.{other, IsWhole, IsSound, IsReady, IsBody, CanClose, CanWrite, CanOpen, IsSameBeside, MayBeClosed, IsClosed, IsStored, MayBeOpen, MayLeave, IsPut}
+use Rattle.slot_disk.specs.Puts.{other, IsSound, IsReady, CanClose, CanWrite, CanOpen, IsSameBeside, MayBeClosed, IsClosed, IsStored, MayBeOpen, MayLeave, IsPut}
 
 pub some_of : {X : Type 0} (found : Option X) → is_some found ≡ true → (x : X) × (found ≡ Some x)
 some_of {X} None is = absurd (cc is)

@@ -1,5 +1,5 @@
 -- The state of a disk in memory, as tests see it.
-use Rattle.std.specs.Prelude.{ℕ, ◌+◌, Bool, ◌==◌, ◌||◌, ◌&&◌, not, nat_le, nat_lt, if◌then◌else◌, List, ◌∷◌, length, Option, Some, None, true, false}
+use Rattle.std.specs.Prelude.{ℕ, ◌+◌, Bool, ◌==◌, ◌||◌, ◌&&◌, not, nat_le, nat_lt, if◌then◌else◌, List, ◌∷◌, length, Option, Some, None, false}
 use Rattle.std.specs.List.{list_any}
 use Rattle.outside_io.specs.Faults.{counted}
 use Rattle.slot_disk.specs.Recorded.{DiskStep, Began, reading, recorded_bytes, IsImage, WasImage}

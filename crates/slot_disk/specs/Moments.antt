@@ -17,9 +17,9 @@ pub record Leaves {D : Type 0} (moment : D → ℕ) (image_since : D → ℕ →
 
 -- a call changed neither what a read gives nor the images
 pub record Unchanged {D : Type 0} (reads : D → Option (List ℕ)) (image_now : D → List ℕ → Type 0) (old new : D) : Type 0
-    where
-  pub same_reads : reads new ≡ reads old
-  pub same_images : (image : List ℕ) → image_now new image ↔ image_now old image
+  where
+    pub same_reads : reads new ≡ reads old
+    pub same_images : (image : List ℕ) → image_now new image ↔ image_now old image
 
 -- before the first call
 pub Leaves-none : {D : Type 0} (moment : D → ℕ) (image_since : D → ℕ → List ℕ → Type 0) (disk : D) (P : List ℕ → Type 0)

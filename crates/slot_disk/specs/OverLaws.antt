@@ -1,7 +1,7 @@
 -- What a piece written over bytes leaves of them, byte by byte.
-use Rattle.std.specs.Prelude.{ℕ, ◌≡◌, ◌+◌, ◌-◌, ◌<◌, ◌≤◌, min, max, List, [], ◌∷◌, ◌++◌, length, take, drop, replicate}
-use Rattle.std.proofs.Common.{refl, sym, ◌∙◌, ap, arith, get_or}
-use Rattle.std.proofs.lemmas.List.{length-take, length-take-le, length-drop, length-append, length-replicate, get_or_append_left, get_or-append_right, get_or-take, get_or-drop}
+use Rattle.std.specs.Prelude.{ℕ, ◌≡◌, ◌+◌, ◌-◌, ◌<◌, ◌≤◌, max, List, ◌++◌, length, take, drop}
+use Rattle.std.proofs.Common.{refl, ◌∙◌, ap, arith, get_or}
+use Rattle.std.proofs.lemmas.List.{length-take-le, length-drop, length-append, length-replicate, get_or_append_left, get_or-append_right, get_or-take, get_or-drop}
 use Rattle.slot_disk.specs.Images.{Torn, Written}
 use Rattle.slot_disk.specs.Recorded.{over, zeros, range_start, range_bytes, written_over}
 
@@ -10,8 +10,13 @@ module _ (start : ℕ) (piece bytes : List ℕ) (within : start ≤ length bytes
   front_length = length-take-le start bytes within
 
   pub length-over : length (over start piece bytes) ≡ max (length bytes) (start + length piece)
-  length-over = omega (arith, front_length, length-append (take start bytes) (piece ++ drop (start + length piece) bytes),
-      length-append piece (drop (start + length piece) bytes), length-drop (start + length piece) bytes)
+  length-over = omega (
+    arith,
+    front_length,
+    length-append (take start bytes) (piece ++ drop (start + length piece) bytes),
+    length-append piece (drop (start + length piece) bytes),
+    length-drop (start + length piece) bytes,
+  )
 
   pub over_before : (k : ℕ) → k < start → get_or (over start piece bytes) k 0 ≡ get_or bytes k 0
   over_before k lt =

@@ -1,7 +1,6 @@
 -- What a put may leave of a store.
-use Rattle.std.specs.Prelude.{ℕ, zero, suc, ◌≡◌, ◌≤◌, ◌⊎◌, Bool, if◌then◌else◌, List, [], ◌∷◌, length, Option, Some}
-use Rattle.slot_disk.specs.Images.{Only}
-use Rattle.slot_disk.specs.StoreLayout.{front_bytes, is_open, header_of, number_at, stored_body, content, SlotContent, Closed, Broken, Whole}
+use Rattle.std.specs.Prelude.{ℕ, zero, suc, ◌≡◌, ◌≤◌, ◌⊎◌, Bool, if◌then◌else◌, List, [], ◌∷◌, length, Some}
+use Rattle.slot_disk.specs.StoreLayout.{front_bytes, is_open, header_of, number_at, stored_body, content, SlotContent, Closed, Whole}
 
 -- the number of the other slot
 abbrev pub other : ℕ → ℕ

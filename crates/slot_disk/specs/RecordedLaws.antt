@@ -1,8 +1,7 @@
 -- What holds of the images of a record: the facts that a disk in memory owes as a disk.
-use Rattle.std.specs.Prelude.{ℕ, ◌≡◌, ◌+◌, ◌<◌, ◌≤◌, ◌⊎◌, min, max, List, [], ◌∷◌, ◌++◌, length, take, drop, Some, Option}
-use Rattle.std.proofs.Common.{refl, sym, ◌∙◌, ap, subst, inl, inr, ⊎_elim, arith, get_or}
-use Rattle.slot_disk.specs.Images.{Torn, TornFrom}
-use Rattle.slot_disk.specs.Recorded.{DiskStep, Wrote, Began, Synced, reading, IsImage, WasImage, written_over}
+use Rattle.std.specs.Prelude.{ℕ, ◌≡◌, List, [], ◌∷◌, length, Some}
+use Rattle.std.proofs.Common.{refl, subst, inl, inr, arith}
+use Rattle.slot_disk.specs.Recorded.{DiskStep, Wrote, Began, Synced, reading, IsImage, WasImage}
 use Rattle.slot_disk.specs.OverLaws.{written_is_torn, torn_from_itself}
 
 -- what a read gives is an image

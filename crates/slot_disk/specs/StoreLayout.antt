@@ -1,5 +1,5 @@
 -- How two slots stand in the bytes of a store.
-use Rattle.std.specs.Prelude.{ℕ, zero, suc, ◌+◌, Bool, true, false, ◌==◌, ◌&&◌, nat_le, if◌then◌else◌, List, length, take, drop, slice_index, Option, None, Some}
+use Rattle.std.specs.Prelude.{ℕ, zero, suc, ◌+◌, Bool, ◌==◌, ◌&&◌, nat_le, if◌then◌else◌, List, length, take, drop, slice_index, Option, None, Some}
 use Rattle.byteorder.specs.Endian.{big_from}
 
 -- how many bytes the gates and the header have, which begin the store

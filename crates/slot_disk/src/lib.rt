@@ -14,8 +14,8 @@ mod step_entry;
 
 pub use disk::Disk;
 pub use fault::{BeginFault, BodyFault};
-pub use memory_disk::MemoryDisk;
 pub use formatting::format;
+pub use memory_disk::MemoryDisk;
 pub use slots::Slots;
 
 #[cfg(test)]

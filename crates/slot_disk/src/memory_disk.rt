@@ -61,7 +61,7 @@ impl Model for MemoryDisk {
     } };
 
     ghost invariant = { λ s. (IsRecorded s.room s.log s.first.items s.bytes.items s.entries.items s.written.items)
-      × (s.room ≤ vec_capacity s.bytes) × (1024 ≤ vec_capacity s.entries) × (s.log ≤ vec_capacity s.written) };
+        × (s.room ≤ vec_capacity s.bytes) × (1024 ≤ vec_capacity s.entries) × (s.log ≤ vec_capacity s.written) };
 }
 
 impl MemoryDisk {
@@ -136,7 +136,13 @@ impl MemoryDisk {
         ensures { self.new ≡ with_step self.old (Wrote place piece.now) }
     {
         write_over(&mut self.bytes, place, piece);
-        add_entry(&mut self.entries, &mut self.written, StepKind::Wrote, place, piece);
+        add_entry(
+            &mut self.entries,
+            &mut self.written,
+            StepKind::Wrote,
+            place,
+            piece,
+        );
     }
 
     // Records that a write of the piece was begun.
@@ -144,7 +150,13 @@ impl MemoryDisk {
         requires { write_fits self.old place (length piece.now) ≡ true }
         ensures { self.new ≡ with_step self.old (Began place piece.now) }
     {
-        add_entry(&mut self.entries, &mut self.written, StepKind::Began, place, piece);
+        add_entry(
+            &mut self.entries,
+            &mut self.written,
+            StepKind::Began,
+            place,
+            piece,
+        );
     }
 
     // Writes the piece, or fails. Where the fuse blows and the piece fits, the write was begun.
@@ -183,7 +195,13 @@ impl MemoryDisk {
         requires { length self.old.steps < most_steps }
         ensures { self.new ≡ with_step self.old Synced }
     {
-        add_entry(&mut self.entries, &mut self.written, StepKind::Synced, 0, &[]);
+        add_entry(
+            &mut self.entries,
+            &mut self.written,
+            StepKind::Synced,
+            0,
+            &[],
+        );
     }
 }
 

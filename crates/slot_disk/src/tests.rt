@@ -94,10 +94,18 @@ fn a_stop_leaves_the_old_body_or_the_new_one(rt: HostRuntime) -> Result<(), Fail
         for choice in 0..4 {
             let first = open_body(alloc, disk.crash(alloc, choice)?, 0)?;
             let has_first = fuse >= 10 || (fuse >= 8 && choice == 1);
-            assert_eq!(rt; first.as_deref(), has_first.then_some(FIRST.as_slice()), "at call {fuse}, choice {choice}");
+            assert_eq!(rt;
+                first.as_deref(),
+                has_first.then_some(FIRST.as_slice()),
+                "at call {fuse}, choice {choice}"
+            );
             let second = open_body(alloc, disk.crash(alloc, choice)?, 1)?;
             let has_second = fuse >= 14 && choice == 1;
-            assert_eq!(rt; second.as_deref(), has_second.then_some(SECOND.as_slice()), "at call {fuse}, choice {choice}");
+            assert_eq!(rt;
+                second.as_deref(),
+                has_second.then_some(SECOND.as_slice()),
+                "at call {fuse}, choice {choice}"
+            );
         }
     }
     Ok(())
@@ -132,8 +140,14 @@ fn a_crash_fills_or_halves_a_gap(rt: HostRuntime) -> Result<(), Fail> {
     let mut disk = disk_of(alloc, [5].to_vec(alloc)?, None)?;
     assert_eq!(rt; disk.write_at(3, &[6, 7]), Ok(()));
     assert_eq!(rt; disk.crash(alloc, 0)?.as_slice(), [5].as_slice());
-    assert_eq!(rt; disk.crash(alloc, 1)?.as_slice(), [5, 0, 0, 6, 7].as_slice());
-    assert_eq!(rt; disk.crash(alloc, 2)?.as_slice(), [5, 255, 255, 255, 255].as_slice());
+    assert_eq!(rt;
+        disk.crash(alloc, 1)?.as_slice(),
+        [5, 0, 0, 6, 7].as_slice()
+    );
+    assert_eq!(rt;
+        disk.crash(alloc, 2)?.as_slice(),
+        [5, 255, 255, 255, 255].as_slice()
+    );
     assert_eq!(rt; disk.crash(alloc, 3)?.as_slice(), [5, 0, 0].as_slice());
     Ok(())
 }
@@ -146,7 +160,11 @@ fn a_disk_fails_where_told(rt: HostRuntime) -> Result<(), Fail> {
     assert_eq!(rt; disk.len(), Err(Failed), "call 1 fails");
     assert_eq!(rt; disk.write_at(1, &[3, 4]), Err(Failed), "past the room");
     assert_eq!(rt; disk.write_at(0, &[3]), Ok(()));
-    assert_eq!(rt; disk.write_at(0, &[4]), Err(Failed), "no room in the record");
+    assert_eq!(rt;
+        disk.write_at(0, &[4]),
+        Err(Failed),
+        "no room in the record"
+    );
     assert_eq!(rt; disk.sync(), Ok(()));
     assert_eq!(rt; disk.crash(alloc, 0)?.as_slice(), [3, 2].as_slice());
     Ok(())
@@ -155,8 +173,17 @@ fn a_disk_fails_where_told(rt: HostRuntime) -> Result<(), Fail> {
 #[test]
 fn texts(rt: HostRuntime) -> Result<(), Fail> {
     let alloc = rt.alloc();
-    let text = format!(in alloc; "{}, {}, {}, {}, {}", BeginFault::DiskFault, BeginFault::TooShort,
-        BodyFault::DiskFault, BodyFault::Damaged, BodyFault::OutOfMemory)?;
-    assert_eq!(rt; text.as_str(), "disk fault, no store, disk fault, damaged body, out of memory");
+    let text = format!(in alloc;
+        "{}, {}, {}, {}, {}",
+        BeginFault::DiskFault,
+        BeginFault::TooShort,
+        BodyFault::DiskFault,
+        BodyFault::Damaged,
+        BodyFault::OutOfMemory
+    )?;
+    assert_eq!(rt;
+        text.as_str(),
+        "disk fault, no store, disk fault, damaged body, out of memory"
+    );
     Ok(())
 }

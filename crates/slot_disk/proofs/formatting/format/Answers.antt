@@ -1,4 +1,4 @@
-use Rattle.std.proofs.Common.{◌≡◌, ◌∙◌, ◌∷◌, List, ℕ, ap, sym, subst}
+use Rattle.std.proofs.Common.{◌∙◌, ◌∷◌, List, ℕ, ap, sym, subst}
 use Rattle.std.specs.Prelude.{is_some}
 use Rattle.slot_disk.specs.Images.{Written}
 use Rattle.slot_disk.proofs.PutLemmas.{some_of}

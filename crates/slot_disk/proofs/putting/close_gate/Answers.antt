@@ -1,5 +1,5 @@
-use Rattle.std.proofs.Common.{List, ℕ, subst, ap, length, sym}
-use Rattle.slot_disk.specs.Images.{Torn, TornFrom, Written}
+use Rattle.std.proofs.Common.{List, ℕ, subst, length}
+use Rattle.slot_disk.specs.Images.{Torn, Written}
 use Rattle.slot_disk.specs.Moments.{Leaves-weaker}
 use Rattle.slot_disk.specs.Puts.{MayBeClosed}
 use Rattle.slot_disk.proofs.ContentLemmas.{closing_torn, closing_written, torn_of_only}
@@ -9,9 +9,9 @@ pub returns-in_err-write_safely-clause-any_moment : goal.returns-in_err-write_sa
 returns-in_err-write_safely-clause-any_moment g c = λ span old was only can.
     Leaves-weaker g.D.Disk.moment g.D.Disk.image_since _ _ _ (MayBeClosed span c.args.slot old) c.in_err-write_safely.ensures.any_moment
     (λ image torn.
-        closing_torn span c.args.slot c.args.is_open old image c.requires can
-        (subst (λ (piece : List ℕ). Torn c.args.slot (length piece) old image) c.closing.ensures
-        (torn_of_only (g.D.Disk.image_now c.args.disk.now) c.args.slot _ old image only torn)))
+    closing_torn span c.args.slot c.args.is_open old image c.requires can
+    (subst (λ (piece : List ℕ). Torn c.args.slot (length piece) old image) c.closing.ensures
+    (torn_of_only (g.D.Disk.image_now c.args.disk.now) c.args.slot _ old image only torn)))
 
 pub returns-clause-closed : goal.returns-clause-closed
 returns-clause-closed g c = λ span old new was is can.
@@ -22,6 +22,6 @@ pub returns-clause-any_moment : goal.returns-clause-any_moment
 returns-clause-any_moment g c = λ span old was only can.
     Leaves-weaker g.D.Disk.moment g.D.Disk.image_since _ _ _ (MayBeClosed span c.args.slot old) c.in_ok-write_safely.ensures.any_moment
     (λ image torn.
-        closing_torn span c.args.slot c.args.is_open old image c.requires can
-        (subst (λ (piece : List ℕ). Torn c.args.slot (length piece) old image) c.closing.ensures
-        (torn_of_only (g.D.Disk.image_now c.args.disk.now) c.args.slot _ old image only torn)))
+    closing_torn span c.args.slot c.args.is_open old image c.requires can
+    (subst (λ (piece : List ℕ). Torn c.args.slot (length piece) old image) c.closing.ensures
+    (torn_of_only (g.D.Disk.image_now c.args.disk.now) c.args.slot _ old image only torn)))

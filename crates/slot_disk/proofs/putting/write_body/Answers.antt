@@ -1,4 +1,4 @@
-use Rattle.std.proofs.Common.{ℕ, List, length, subst}
+use Rattle.std.proofs.Common.{ℕ, length, subst}
 use Rattle.slot_disk.specs.Images.{Torn, Written}
 use Rattle.slot_disk.specs.Moments.{Leaves-weaker}
 use Rattle.slot_disk.specs.Puts.{IsClosed}
@@ -9,9 +9,9 @@ pub returns-in_err-write_safely-clause-any_moment : goal.returns-in_err-write_sa
 returns-in_err-write_safely-clause-any_moment g c = λ old was only can.
     Leaves-weaker g.D.Disk.moment g.D.Disk.image_since _ _ _ (IsClosed c.args.span c.args.slot old) c.in_err-write_safely.ensures.any_moment
     (λ image torn.
-        writing_torn c.args.span c.args.slot (length c.args.body.now) old image c.requires.slot c.requires.body.most can
-        (subst (λ (place : ℕ). Torn place (length c.args.body.now) old image) c.body_place.ensures
-        (torn_of_only (g.D.Disk.image_now c.args.disk.now) c.body_place.result (length c.args.body.now) old image only torn)))
+    writing_torn c.args.span c.args.slot (length c.args.body.now) old image c.requires.slot c.requires.body.most can
+    (subst (λ (place : ℕ). Torn place (length c.args.body.now) old image) c.body_place.ensures
+    (torn_of_only (g.D.Disk.image_now c.args.disk.now) c.body_place.result (length c.args.body.now) old image only torn)))
 
 pub returns-clause-stored : goal.returns-clause-stored
 returns-clause-stored g c = λ old new was is can.
@@ -22,6 +22,6 @@ pub returns-clause-any_moment : goal.returns-clause-any_moment
 returns-clause-any_moment g c = λ old was only can.
     Leaves-weaker g.D.Disk.moment g.D.Disk.image_since _ _ _ (IsClosed c.args.span c.args.slot old) c.in_ok-write_safely.ensures.any_moment
     (λ image torn.
-        writing_torn c.args.span c.args.slot (length c.args.body.now) old image c.requires.slot c.requires.body.most can
-        (subst (λ (place : ℕ). Torn place (length c.args.body.now) old image) c.body_place.ensures
-        (torn_of_only (g.D.Disk.image_now c.args.disk.now) c.body_place.result (length c.args.body.now) old image only torn)))
+    writing_torn c.args.span c.args.slot (length c.args.body.now) old image c.requires.slot c.requires.body.most can
+    (subst (λ (place : ℕ). Torn place (length c.args.body.now) old image) c.body_place.ensures
+    (torn_of_only (g.D.Disk.image_now c.args.disk.now) c.body_place.result (length c.args.body.now) old image only torn)))

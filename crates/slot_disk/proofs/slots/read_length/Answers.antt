@@ -1,4 +1,4 @@
-use Rattle.std.proofs.Common.{◌≡◌, ◌+◌, ◌≤◌, ◌∙◌, subst, arith, Option, Some, ℕ, length}
+use Rattle.std.proofs.Common.{◌≡◌, ◌+◌, ◌≤◌, ◌∙◌, subst, arith, Option, ℕ, length}
 use Rattle.std.specs.Prelude.{MatchOption, ◌<◌}
 use Rattle.slot_disk.specs.StoreLayout.{number_at}
 use Rattle.slot_disk.proofs.BodyLemmas.{is_whole_by}

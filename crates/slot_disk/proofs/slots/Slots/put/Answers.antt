@@ -1,4 +1,4 @@
-use Rattle.std.proofs.Common.{◌≡◌, ◌∙◌, ap, sym, subst, List, ℕ, Bool, true, Some}
+use Rattle.std.proofs.Common.{◌∙◌, ap, sym, subst, Bool}
 use Rattle.std.specs.Prelude.{is_some}
 use Rattle.slot_disk.specs.Puts.{CanClose, IsClosed, IsStored}
 use Rattle.slot_disk.proofs.PutLemmas.{some_of, can_close, can_write, can_open, is_put, store_after, leaves_closing, leaves_writing, leaves_opening}
