@@ -3,7 +3,7 @@ use Rattle.std.proofs.Common.{◌≡◌, ℕ, ◌+◌, ◌<◌, ◌≤◌, List,
 use Rattle.std.proofs.lemmas.List.{length-drop, length-take, get_or-take, get_or-drop, ext_get_or}
 use Rattle.slot_disk.specs.Images.{Written, Only}
 use Rattle.slot_disk.specs.StoreLayout.{is_open, header_of}
-use Rattle.slot_disk.specs.SlotsState.{IsStore, closed_slots}
+use Rattle.slot_disk.specs.KnownSlots.{IsStore, closed_slots}
 
 pub store_formatted : (header old new : List ℕ) (possible : List ℕ → Type 0) → length header ≡ 62
     → Written 0 (0 ∷ 0 ∷ header) old new → Only new possible → IsStore new possible (closed_slots header)

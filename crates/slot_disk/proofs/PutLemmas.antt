@@ -4,7 +4,7 @@ use Rattle.std.specs.Prelude.{is_some, if◌then◌else◌}
 use Rattle.slot_disk.specs.Images.{Only}
 use Rattle.slot_disk.specs.Moments.{Leaves, Leaves-weaker, Leaves-trans}
 use Rattle.slot_disk.specs.StoreLayout.{is_open, header_of, stored_body, content, shown, SlotContent, Closed, Broken, Whole}
-use Rattle.slot_disk.specs.SlotsState.{SlotsState, closed_slots, known_open, with_open, slots_of, IsStore}
+use Rattle.slot_disk.specs.KnownSlots.{SlotsState, closed_slots, known_open, with_open, slots_of, IsStore}
 use Rattle.slot_disk.proofs.ContentLemmas.{closed_by_gate}
 use Rattle.slot_disk.specs.Puts.{other, IsSound, IsReady, CanClose, CanWrite, CanOpen, IsSameBeside, MayBeClosed, IsClosed, IsStored, MayBeOpen, MayLeave, IsPut}
 

@@ -4,7 +4,7 @@ ghost use Rattle.std.specs.Prelude.{◌≡◌, ℕ, ◌∷◌, List, Some, lengt
 ghost use Rattle.outside_io.specs.{FailsByFault};
 ghost use Rattle.slot_disk.specs.Images.{Torn, Written, TornFrom};
 ghost use Rattle.slot_disk.specs.Moments.{Leaves};
-ghost use Rattle.slot_disk.specs.SlotsState.{StandsAs, closed_slots};
+ghost use Rattle.slot_disk.specs.KnownSlots.{StandsAs, closed_slots};
 
 use crate::Disk;
 use crate::safe_write::write_safely;

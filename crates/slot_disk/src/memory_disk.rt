@@ -6,8 +6,8 @@ ghost use Rattle.slot_disk.specs.Images.{Gives, Torn, Written, TornFrom, Only};
 ghost use Rattle.slot_disk.specs.Moments.{TimeGoesOn, Unchanged};
 ghost use Rattle.slot_disk.specs.Recorded.{Wrote, Began, Synced, reading, crashed};
 ghost use Rattle.slot_disk.specs.RecordedLaws.{is_image-reading, now_is_since, only_now};
-ghost use Rattle.slot_disk.specs.MemoryDiskState.{most_steps, blows_at, has_blown, call_fails, sync_fails, write_fits, write_fails};
-ghost use Rattle.slot_disk.specs.MemoryDiskState.{after_call, after_fault, with_step, after_failed_write, disk_reads, disk_image_now, disk_moment, disk_image_since};
+ghost use Rattle.slot_disk.specs.MemoryDisk.{most_steps, blows_at, has_blown, call_fails, sync_fails, write_fits, write_fails};
+ghost use Rattle.slot_disk.specs.MemoryDisk.{after_call, after_fault, with_step, after_failed_write, disk_reads, disk_image_now, disk_moment, disk_image_since};
 
 use crate::Disk;
 use crate::crashing::crashed;
@@ -43,11 +43,11 @@ pub struct MemoryDisk {
 
 impl Model for MemoryDisk {
     ghost use Rattle.std.specs.Prelude.{◌≡◌, ◌≤◌, reverse, length, vec_len, vec_capacity};
-    ghost use Rattle.slot_disk.specs.MemoryDiskState.{DiskState};
+    ghost use Rattle.slot_disk.specs.MemoryDisk.{MemoryDiskState};
     ghost use Rattle.slot_disk.specs.Recorded.{reading, recorded_bytes};
     ghost use Rattle.slot_disk.specs.StepEntries.{steps_of, IsRecorded};
 
-    ghost Value = { DiskState };
+    ghost Value = { MemoryDiskState };
 
     ghost view = { λ s. record {
       room = s.room;

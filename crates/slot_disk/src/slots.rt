@@ -3,7 +3,7 @@
 ghost use Rattle.std.specs.Prelude.{◌≡◌, ℕ, ◌+◌, ◌<◌, ◌≤◌, ◌^◌, List, None, Some, true, false, length, vec_len, is_some, IfOk, OnOk, IsErrOf, MatchOption};
 ghost use Rattle.outside_io.specs.{FailsByFault, Rose};
 ghost use Rattle.slot_disk.specs.Moments.{Leaves, Unchanged};
-ghost use Rattle.slot_disk.specs.SlotsState.{known_open, with_open, slots_of, StandsAs};
+ghost use Rattle.slot_disk.specs.KnownSlots.{known_open, with_open, slots_of, StandsAs};
 ghost use Rattle.slot_disk.specs.Puts.{IsBody, IsReady, IsPut, MayLeave};
 ghost use Rattle.slot_disk.specs.StoreLayout.{front_bytes, body_place, stored_body, is_whole, number_at};
 
@@ -24,7 +24,7 @@ pub struct Slots {
 
 impl Model for Slots {
     ghost use Rattle.std.specs.Prelude.{◌≡◌, length};
-    ghost use Rattle.slot_disk.specs.SlotsState.{SlotsState};
+    ghost use Rattle.slot_disk.specs.KnownSlots.{SlotsState};
 
     ghost Value = { SlotsState };
 

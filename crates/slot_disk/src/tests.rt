@@ -1,5 +1,5 @@
 ghost use Rattle.std.specs.Prelude.{◌≡◌, ℕ, ◌<◌, List, Some, IfOk, OnOk};
-ghost use Rattle.slot_disk.specs.SlotsState.{StandsAs};
+ghost use Rattle.slot_disk.specs.KnownSlots.{StandsAs};
 ghost use Rattle.slot_disk.specs.Puts.{IsReady};
 
 use super::*;

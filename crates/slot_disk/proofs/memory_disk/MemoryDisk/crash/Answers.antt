@@ -1,5 +1,5 @@
 use Rattle.std.proofs.Common.{◌≡◌, sym, subst, rules}
-use Rattle.slot_disk.specs.MemoryDiskState.{disk_image_now}
+use Rattle.slot_disk.specs.MemoryDisk.{disk_image_now}
 use Rattle.slot_disk.specs.Recorded.{crashed}
 use Rattle.slot_disk.proofs.CrashLemmas.{crashed_is_image}
 use Rattle.slot_disk.proofs.memory_disk.MemoryDisk.crash.Goals as goal

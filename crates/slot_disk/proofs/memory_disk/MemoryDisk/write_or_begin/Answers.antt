@@ -1,5 +1,5 @@
 use Rattle.std.proofs.Common.{◌≡◌, rules}
-use Rattle.slot_disk.specs.MemoryDiskState.{after_call, after_fault}
+use Rattle.slot_disk.specs.MemoryDisk.{after_call, after_fault}
 use Rattle.slot_disk.proofs.ImageLemmas.{images_after_write, images_after_begun, images_after_none}
 use Rattle.slot_disk.proofs.memory_disk.MemoryDisk.write_or_begin.Goals as goal
 
