@@ -1,11 +1,15 @@
 -- What a write leaves of gates, header and bodies.
 use Rattle.std.specs.Prelude.{if◌then◌else◌}
-use Rattle.std.proofs.Common.{◌≡◌, [], ◌∷◌, ◌⊎◌, ℕ, zero, suc, ◌+◌, ◌-◌, ◌<◌, ◌≤◌, List, length, take, drop, min, Bool, true, false, Option, Some, None, refl, sym, ap, ◌∙◌, subst, inl, inr, ⊎_elim, arith, get_or, eqb}
+use Rattle.std.proofs.Common.{◌≡◌, [], ◌∷◌, ◌⊎◌, ℕ, zero, suc, ◌+◌, ◌-◌, ◌<◌, ◌≤◌, List, length, take, drop, min}
+use Rattle.std.proofs.Common.{Bool, true, false, Option, Some, None, refl, sym, ap, ◌∙◌, subst, inl, inr, ⊎_elim}
+use Rattle.std.proofs.Common.{arith, get_or, eqb}
 use Rattle.std.proofs.lemmas.Bool.Decides.{nat_tests}
 use Rattle.std.proofs.lemmas.List.{take_all, length-drop, length-take, get_or-take, get_or-drop, ext_get_or}
 use Rattle.slot_disk.specs.Images.{Torn, TornFrom, Written, Only}
-use Rattle.slot_disk.specs.StoreLayout.{front_bytes, is_open, header_of, number_at, body_place, is_whole, body_at, stored_body, content, shown, SlotContent, Closed, Broken, Whole}
-use Rattle.slot_disk.specs.Puts.{other, closing, IsSound, IsBody, CanClose, CanWrite, CanOpen, IsSameBeside, MayBeClosed, IsClosed, IsStored, MayBeOpen, IsPut}
+use Rattle.slot_disk.specs.StoreLayout.{front_bytes, is_open, header_of, number_at, body_place, is_whole, body_at}
+use Rattle.slot_disk.specs.StoreLayout.{stored_body, content, shown, SlotContent, Closed, Broken, Whole}
+use Rattle.slot_disk.specs.Puts.{other, closing, IsSound, IsBody, CanClose, CanWrite, CanOpen, IsSameBeside}
+use Rattle.slot_disk.specs.Puts.{MayBeClosed, IsClosed, IsStored, MayBeOpen, IsPut}
 use Rattle.slot_disk.proofs.BodyLemmas.{number_at_same, is_whole_by}
 
 -- a range of a disk is untouched by a write where it lies before the write's range or after it
@@ -64,7 +68,8 @@ body_is_at span place body image is =
     let n = number_at place image in
     let found = some_if (is_whole span place image) (take n (drop place image)) body is in
     let within : place + n ≤ length image = is_within span place image found.0 in
-    let size : length body ≡ n = sym (ap length found.1) ∙ length-take n (drop place image) ∙ (let e : min n (length (drop place image)) ≡ n = omega (arith, length-drop place image, within) in e) in
+    let all : min n (length (drop place image)) ≡ n = omega (arith, length-drop place image, within) in
+    let size : length body ≡ n = sym (ap length found.1) ∙ length-take n (drop place image) ∙ all in
     record {
       fits = omega (arith, size, within);
       least = omega (arith, size, is_least span place image found.0);
@@ -181,8 +186,11 @@ beside_body span slot count old image small fits long torn sound = record {
   header = header_stays (body_place span slot) count old image torn long (inl (late span slot));
   other_slot =
       content_stays span (other slot) old image
-      (gate_stays (body_place span slot) count (other slot) old image torn (omega (arith, other_small slot, long)) (inl (omega (arith, late span slot, other_small slot)))) sound
-      (λ body was. body_stays span (body_place span (other slot)) (body_place span slot) count body old image torn (bodies_apart span slot count small fits) was);
+      (gate_stays (body_place span slot) count (other slot) old image torn (omega (arith, other_small slot, long))
+      (inl (omega (arith, late span slot, other_small slot)))) sound
+      (λ body was.
+          body_stays span (body_place span (other slot)) (body_place span slot) count body old image torn
+          (bodies_apart span slot count small fits) was);
 }
 
 -- the body of a slot whose gate is written
@@ -261,7 +269,9 @@ pub opening_torn : (span slot : ℕ) (body old image : List ℕ) → slot < 2 �
     → MayBeOpen span slot body old image
 opening_torn span slot body old image small can torn = record {
   beside = beside_gate span slot 1 old image small (omega arith) can.long torn can.other_holds;
-  slot_holds = held_either (is_open slot image) body (stored_body span slot image) (own_body_stays span slot 1 body old image small (omega arith) torn can.stored);
+  slot_holds =
+      held_either (is_open slot image) body (stored_body span slot image)
+      (own_body_stays span slot 1 body old image small (omega arith) torn can.stored);
 }
 
 -- a gate that was opened

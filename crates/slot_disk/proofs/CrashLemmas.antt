@@ -14,7 +14,10 @@ kept_fits choice bytes = elim (cases_eq choice 0) [
   | inr some ↦ elim (cases_eq choice 1) [
     | inl all ↦ grind (arith, nat_tests)
     | inr part ↦ elim (cases_eq choice 2) [
-      | inl filled ↦ let filler : ℕ = 255 in let e : length (replicate (length bytes) filler) ≡ length bytes = length-replicate (length bytes) filler in grind (arith, nat_tests)
+      | inl filled ↦
+          let filler : ℕ = 255 in
+          let size : length (replicate (length bytes) filler) ≡ length bytes = length-replicate (length bytes) filler in
+          grind (arith, nat_tests)
       | inr half ↦ grind (arith, nat_tests, length-take {A = ℕ})
     ]
   ]

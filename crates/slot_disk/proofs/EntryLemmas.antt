@@ -12,7 +12,8 @@ pub steps_of_last : (entries earlier : List StepEntry) (log front piece : List �
 steps_of_last entries earlier log front piece last cut d is_last is_earlier is_cut is_front is_piece =
     let entry = get_or entries last d in
     let whole : entries ≡ earlier ++ entry ∷ [] =
-    sym (take_all (last + 1) entries (omega arith)) ∙ take_more entries last d (omega arith) ∙ ap (λ (es : List StepEntry). es ++ entry ∷ []) (sym is_earlier) in
+    sym (take_all (last + 1) entries (omega arith)) ∙ take_more entries last d (omega arith)
+    ∙ ap (λ (es : List StepEntry). es ++ entry ∷ []) (sym is_earlier) in
     let turned : reverse entries ≡ entry ∷ reverse earlier = ap reverse whole ∙ reverse-append earlier (entry ∷ []) in
     let same_piece : drop entry.start log ≡ piece = sym (is_piece ∙ ap (λ (n : ℕ). drop n log) is_cut ∙ drop_min entry.start log) in
     let same_front : take entry.start log ≡ front = sym (is_front ∙ ap (λ (n : ℕ). take n log) is_cut ∙ take_min entry.start log) in

@@ -5,3 +5,5 @@ pub mod BodyLemmas
 pub mod ContentLemmas
 pub mod PutLemmas
 pub mod FormatLemmas
+pub mod ExamplesOfDisks
+pub mod ExamplesOfStores

@@ -6,7 +6,8 @@ use Rattle.slot_disk.specs.Moments.{Leaves, Leaves-weaker, Leaves-trans}
 use Rattle.slot_disk.specs.StoreLayout.{is_open, header_of, stored_body, content, shown, SlotContent, Closed, Broken, Whole}
 use Rattle.slot_disk.specs.KnownSlots.{SlotsState, closed_slots, known_open, with_open, slots_of, IsStore}
 use Rattle.slot_disk.proofs.ContentLemmas.{closed_by_gate}
-use Rattle.slot_disk.specs.Puts.{other, IsSound, IsReady, CanClose, CanWrite, CanOpen, IsSameBeside, MayBeClosed, IsClosed, IsStored, MayBeOpen, MayLeave, IsPut}
+use Rattle.slot_disk.specs.Puts.{other, IsSound, IsReady, CanClose, CanWrite, CanOpen, IsSameBeside, MayBeClosed}
+use Rattle.slot_disk.specs.Puts.{IsClosed, IsStored, MayBeOpen, MayLeave, IsPut}
 
 pub some_of : {X : Type 0} (found : Option X) → is_some found ≡ true → (x : X) × (found ≡ Some x)
 some_of {X} None is = absurd (cc is)
@@ -154,7 +155,8 @@ module _ {D : Type 0} (moment : D → ℕ) (image_since : D → ℕ → List ℕ
       → Leaves moment image_since begun stored (MayLeave span slot body old)
   leaves_writing begun closed stored mid first is second =
       Leaves-trans moment image_since begun closed stored (MayLeave span slot body old) (leaves_closing begun closed first)
-      (Leaves-weaker moment image_since closed stored (IsClosed span slot mid) (MayLeave span slot body old) second (λ image now. may_write span slot body old mid image is now))
+      (Leaves-weaker moment image_since closed stored (IsClosed span slot mid) (MayLeave span slot body old) second
+      (λ image now. may_write span slot body old mid image is now))
 
   pub leaves_opening : (begun closed stored opened : D) (mid late : List ℕ) → Leaves moment image_since begun closed (MayBeClosed span slot old)
       → IsClosed span slot old mid → Leaves moment image_since closed stored (IsClosed span slot mid)
@@ -162,4 +164,5 @@ module _ {D : Type 0} (moment : D → ℕ) (image_since : D → ℕ → List ℕ
       → Leaves moment image_since begun opened (MayLeave span slot body old)
   leaves_opening begun closed stored opened mid late first is second has third =
       Leaves-trans moment image_since begun stored opened (MayLeave span slot body old) (leaves_writing begun closed stored mid first is second)
-      (Leaves-weaker moment image_since stored opened (MayBeOpen span slot body late) (MayLeave span slot body old) third (λ image now. may_open span slot body old mid late image is has now))
+      (Leaves-weaker moment image_since stored opened (MayBeOpen span slot body late) (MayLeave span slot body old) third
+      (λ image now. may_open span slot body old mid late image is has now))

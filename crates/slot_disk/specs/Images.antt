@@ -1,5 +1,13 @@
 -- What a read gives of a disk's bytes, and what a write leaves of them, whole or cut short by a crash.
-use Rattle.std.specs.Prelude.{ℕ, ◌≡◌, ◌+◌, ◌-◌, ◌<◌, ◌≤◌, min, List, length, take, drop, slice_index}
+use Rattle.std.specs.Prelude.{ℕ, ◌≡◌, ◌+◌, ◌-◌, ◌<◌, ◌≤◌, min, List, length, take, drop, slice_index, Option, Some}
+
+-- the bytes that a read gives have P, where they are known
+abbrev pub IfKnown : Option (List ℕ) → (List ℕ → Type 0) → Type 0
+IfKnown reads P = (bytes : List ℕ) → reads ≡ Some bytes → P bytes
+
+-- the bytes that a read gave and those that it gives are so related, where both are known
+abbrev pub IfBothKnown : Option (List ℕ) → Option (List ℕ) → (List ℕ → List ℕ → Type 0) → Type 0
+IfBothKnown old new R = (before after : List ℕ) → old ≡ Some before → new ≡ Some after → R before after
 
 -- these are the bytes from an offset on, up to the end or the room
 pub record Gives (place room : ℕ) (bytes into : List ℕ) (count : ℕ) : Type 0 where

@@ -1,6 +1,6 @@
 -- What is known of a store: its gates and its header.
 use Rattle.std.specs.Prelude.{ℕ, zero, suc, ◌≡◌, ◌≤◌, Bool, true, false, List, length, Option, Some}
-use Rattle.slot_disk.specs.Images.{Only}
+use Rattle.slot_disk.specs.Images.{IfKnown, Only}
 use Rattle.slot_disk.specs.StoreLayout.{front_bytes, is_open, header_of}
 
 -- whether each gate is open, and the header
@@ -31,7 +31,7 @@ pub record IsStore (bytes : List ℕ) (possible : List ℕ → Type 0) (slots : 
 
 -- the disk stands as these slots know it: what a read gives, where it is known, is such a store
 abbrev pub StandsAs : Option (List ℕ) → (List ℕ → Type 0) → SlotsState → Type 0
-StandsAs reads possible slots = (bytes : List ℕ) → reads ≡ Some bytes → IsStore bytes possible slots
+StandsAs reads possible slots = IfKnown reads (λ bytes. IsStore bytes possible slots)
 
 -- both gates closed, and this header
 abbrev pub closed_slots : List ℕ → SlotsState

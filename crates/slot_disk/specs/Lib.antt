@@ -12,7 +12,7 @@ pub mod MemoryDisk
 pub mod OverLaws
 pub mod RecordedLaws
 -- the face: what contracts of other crates cite
-pub use Rattle.slot_disk.specs.Images.{Gives, Torn, Written, TornFrom, Only}
+pub use Rattle.slot_disk.specs.Images.{IfKnown, IfBothKnown, Gives, Torn, Written, TornFrom, Only}
 pub use Rattle.slot_disk.specs.Moments.{TimeGoesOn, Leaves, Unchanged, Leaves-none, Leaves-call, Leaves-trans, Leaves-weaker}
 pub use Rattle.slot_disk.specs.StoreLayout.{front_bytes, is_open, header_of, stored_body, SlotContent, Closed, Broken, Whole, content}
 unfoldable pub use Rattle.slot_disk.specs.StoreLayout.{number_at}

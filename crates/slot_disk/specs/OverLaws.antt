@@ -1,7 +1,8 @@
 -- What a piece written over bytes leaves of them, byte by byte.
 use Rattle.std.specs.Prelude.{ℕ, ◌≡◌, ◌+◌, ◌-◌, ◌<◌, ◌≤◌, max, List, ◌++◌, length, take, drop}
 use Rattle.std.proofs.Common.{refl, ◌∙◌, ap, arith, get_or}
-use Rattle.std.proofs.lemmas.List.{length-take-le, length-drop, length-append, length-replicate, get_or_append_left, get_or-append_right, get_or-take, get_or-drop}
+use Rattle.std.proofs.lemmas.List.{length-take-le, length-drop, length-append, length-replicate}
+use Rattle.std.proofs.lemmas.List.{get_or_append_left, get_or-append_right, get_or-take, get_or-drop}
 use Rattle.slot_disk.specs.Images.{Torn, Written}
 use Rattle.slot_disk.specs.Recorded.{over, zeros, range_start, range_bytes, written_over}
 

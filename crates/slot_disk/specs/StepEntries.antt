@@ -17,11 +17,15 @@ abbrev pub steps_of : List StepEntry → List ℕ → List DiskStep
 steps_of [] log = []
 steps_of (entry ∷ earlier) log = step_of entry.kind entry.place (drop entry.start log) ∷ steps_of earlier (take entry.start log)
 
+-- the steps of entries that stand in a list with the newest last
+abbrev pub recorded_steps : List StepEntry → List ℕ → List DiskStep
+recorded_steps entries log = steps_of (reverse entries) log
+
 -- what a disk keeps beside its record: the bytes that a read gives, and how far its lists have grown in their room
 pub record IsRecorded (room log : ℕ) (first bytes : List ℕ) (entries : List StepEntry) (written : List ℕ) : Type 0 where
-  pub contents : bytes ≡ reading first (steps_of (reverse entries) written)
-  pub counted : recorded_bytes (steps_of (reverse entries) written) ≡ length written
+  pub contents : bytes ≡ reading first (recorded_steps entries written)
+  pub counted : recorded_bytes (recorded_steps entries written) ≡ length written
   pub fits : length bytes ≤ room
-  pub as_many : length (steps_of (reverse entries) written) ≡ length entries
+  pub as_many : length (recorded_steps entries written) ≡ length entries
   pub few : length entries ≤ 1024
   pub logged : length written ≤ log

@@ -1,5 +1,6 @@
 -- How two slots stand in the bytes of a store.
-use Rattle.std.specs.Prelude.{ℕ, zero, suc, ◌+◌, Bool, ◌==◌, ◌&&◌, nat_le, if◌then◌else◌, List, length, take, drop, slice_index, Option, None, Some}
+use Rattle.std.specs.Prelude.{ℕ, zero, suc, ◌≡◌, ◌+◌, ◌<◌, ◌≤◌, MatchOption, Bool, ◌==◌, ◌&&◌, nat_le, if◌then◌else◌}
+use Rattle.std.specs.Prelude.{List, length, take, drop, slice_index, Option, None, Some}
 use Rattle.byteorder.specs.Endian.{big_from}
 
 -- how many bytes the gates and the header have, which begin the store
@@ -22,6 +23,11 @@ body_place span (suc slot) = front_bytes + span
 -- the number in the 8 bytes at an offset, high byte first
 unfoldable pub number_at : ℕ → List ℕ → ℕ
 number_at place image = big_from 0 8 (drop place image)
+
+-- what is read at an offset: the number there, or nothing where the bytes end before or inside it
+abbrev pub IsNumber : ℕ → Option ℕ → List ℕ → Type 0
+IsNumber place read image =
+    MatchOption read (length image < place + 8) (λ number. (place + 8 ≤ length image) × (number ≡ number_at place image))
 
 -- the bytes at an offset are a whole body: 8 bytes are there, and the length in them is from 8 to the span and doesn't
 -- run past the end

@@ -1,8 +1,8 @@
 //! The bytes that a crash leaves of a record of writes and syncs.
 
-ghost use Rattle.std.specs.Prelude.{◌≡◌, length, reverse, IfOk, OnOk};
+ghost use Rattle.std.specs.Prelude.{◌≡◌, length, IfOk, OnOk};
 ghost use Rattle.slot_disk.specs.Recorded.{zeros, reading, kept, crash_range, crashed};
-ghost use Rattle.slot_disk.specs.StepEntries.{steps_of};
+ghost use Rattle.slot_disk.specs.StepEntries.{recorded_steps};
 
 use crate::overwriting::put_over;
 use crate::step_entry::{StepEntry, StepKind, take_newest};
@@ -16,7 +16,7 @@ pub(crate) fn crashed(
     entries: &[StepEntry],
     written: &[u8],
 ) -> Result<Vec<u8>, AllocError>
-    ensures { IfOk result (λ image. image.items ≡ crashed choice first.now (steps_of (reverse entries.now) written.now)) }
+    ensures { IfOk result (λ image. image.items ≡ crashed choice first.now (recorded_steps entries.now written.now)) }
 {
     let Some(newest) = take_newest(entries, written) else {
         return first.to_vec(alloc);
@@ -38,7 +38,7 @@ fn reading(
     entries: &[StepEntry],
     written: &[u8],
 ) -> Result<Vec<u8>, AllocError>
-    ensures { IfOk result (λ bytes. bytes.items ≡ reading first.now (steps_of (reverse entries.now) written.now)) }
+    ensures { IfOk result (λ bytes. bytes.items ≡ reading first.now (recorded_steps entries.now written.now)) }
 {
     let Some(newest) = take_newest(entries, written) else {
         return first.to_vec(alloc);

@@ -2,7 +2,7 @@
 
 ghost use Rattle.std.specs.Prelude.{◌≡◌, ◌≤◌, ℕ, Option, Some, List, length, drop, is_some, IfOk, OnOk};
 ghost use Rattle.outside_io.specs.{FailsByFault};
-ghost use Rattle.slot_disk.specs.Images.{Gives, Torn, Written, TornFrom, Only};
+ghost use Rattle.slot_disk.specs.Images.{IfKnown, IfBothKnown, Gives, Torn, Written, TornFrom, Only};
 ghost use Rattle.slot_disk.specs.Moments.{TimeGoesOn, Unchanged};
 
 use outside_io::Failed;
@@ -27,7 +27,7 @@ pub trait Disk {
 
     /// How many bytes there are.
     fn len(&mut self) -> Result<u64, Failed>
-        ensures length { IfOk result (λ count. (bytes : List ℕ) → reads self.old ≡ Some bytes → count ≡ length bytes) }
+        ensures length { IfOk result (λ count. IfKnown (reads self.old) (λ bytes. count ≡ length bytes)) }
         ensures unchanged { Unchanged reads image_now self.old self.new }
         ensures images { (image : List ℕ) → image_since self.new (moment self.old) image → image_now self.old image }
         ensures time { TimeGoesOn moment image_since self.old self.new }
@@ -38,7 +38,7 @@ pub trait Disk {
     fn read_at(&mut self, place: u64, into: &mut [u8]) -> Result<usize, Failed>
         ensures fits { IfOk result (λ count. count ≤ length into.old) }
         ensures later_places { IfOk result (λ count. drop count into.new ≡ drop count into.old) }
-        ensures given { IfOk result (λ count. (bytes : List ℕ) → reads self.old ≡ Some bytes → Gives place (length into.old) bytes into.new count) }
+        ensures given { IfOk result (λ count. IfKnown (reads self.old) (λ bytes. Gives place (length into.old) bytes into.new count)) }
         ensures unchanged { Unchanged reads image_now self.old self.new }
         ensures images { (image : List ℕ) → image_since self.new (moment self.old) image → image_now self.old image }
         ensures time { TimeGoesOn moment image_since self.old self.new }
@@ -47,8 +47,8 @@ pub trait Disk {
     /// Writes the bytes at an offset, past the end too. After `Failed` they may be written in part, or be others.
     fn write_at(&mut self, place: u64, bytes: &[u8]) -> Result<(), Failed>
         ensures known { is_some (reads self.new) ≡ is_some (reads self.old) }
-        ensures torn { (old new : List ℕ) → reads self.old ≡ Some old → reads self.new ≡ Some new → Torn place (length bytes.now) old new }
-        ensures written { OnOk result ((old new : List ℕ) → reads self.old ≡ Some old → reads self.new ≡ Some new → Written place bytes.now old new) }
+        ensures torn { IfBothKnown (reads self.old) (reads self.new) (Torn place (length bytes.now)) }
+        ensures written { OnOk result (IfBothKnown (reads self.old) (reads self.new) (Written place bytes.now)) }
         ensures images { (image : List ℕ) → image_since self.new (moment self.old) image → TornFrom (image_now self.old) place (length bytes.now) image }
         ensures time { TimeGoesOn moment image_since self.old self.new }
         ensures cause { FailsByFault (faults self.old) (faults self.new) result };
@@ -57,7 +57,7 @@ pub trait Disk {
     fn sync(&mut self) -> Result<(), Failed>
         ensures reads { reads self.new ≡ reads self.old }
         ensures images { (image : List ℕ) → image_since self.new (moment self.old) image → image_now self.old image }
-        ensures safe { OnOk result ((bytes : List ℕ) → reads self.new ≡ Some bytes → Only bytes (image_now self.new)) }
+        ensures safe { OnOk result (IfKnown (reads self.new) (λ bytes. Only bytes (image_now self.new))) }
         ensures time { TimeGoesOn moment image_since self.old self.new }
         ensures cause { FailsByFault (faults self.old) (faults self.new) result };
 

@@ -1,13 +1,15 @@
 //! A disk in memory that records its writes and syncs, and whose calls fail where a test chooses.
 
-ghost use Rattle.std.specs.Prelude.{◌≡◌, ◌+◌, ◌<◌, ◌≤◌, ℕ, List, [], ◌||◌, ◌&&◌, not, nat_le, nat_lt, length, drop, is_err, is_some, true, IfOk, OnOk, OnErr, Some};
+ghost use Rattle.std.specs.Prelude.{◌≡◌, ◌+◌, ◌<◌, ◌≤◌, ℕ, List, [], ◌||◌, ◌&&◌, not, nat_le, nat_lt, length, drop};
+ghost use Rattle.std.specs.Prelude.{is_err, is_some, true, IfOk, OnOk, OnErr, Some};
 ghost use Rattle.outside_io.specs.{FailsByFault};
-ghost use Rattle.slot_disk.specs.Images.{Gives, Torn, Written, TornFrom, Only};
+ghost use Rattle.slot_disk.specs.Images.{IfKnown, IfBothKnown, Gives, Torn, Written, TornFrom, Only};
 ghost use Rattle.slot_disk.specs.Moments.{TimeGoesOn, Unchanged};
 ghost use Rattle.slot_disk.specs.Recorded.{Wrote, Began, Synced, reading, crashed};
 ghost use Rattle.slot_disk.specs.RecordedLaws.{is_image-reading, now_is_since, only_now};
 ghost use Rattle.slot_disk.specs.MemoryDisk.{most_steps, blows_at, has_blown, call_fails, sync_fails, write_fits, write_fails};
-ghost use Rattle.slot_disk.specs.MemoryDisk.{after_call, after_fault, with_step, after_failed_write, disk_reads, disk_image_now, disk_moment, disk_image_since};
+ghost use Rattle.slot_disk.specs.MemoryDisk.{after_call, after_fault, with_step, after_failed_write, disk_reads};
+ghost use Rattle.slot_disk.specs.MemoryDisk.{disk_image_now, disk_moment, disk_image_since};
 
 use crate::Disk;
 use crate::crashing::crashed;
@@ -42,10 +44,10 @@ pub struct MemoryDisk {
 }
 
 impl Model for MemoryDisk {
-    ghost use Rattle.std.specs.Prelude.{◌≡◌, ◌≤◌, reverse, length, vec_len, vec_capacity};
+    ghost use Rattle.std.specs.Prelude.{◌≡◌, ◌≤◌, length, vec_len, vec_capacity};
     ghost use Rattle.slot_disk.specs.MemoryDisk.{MemoryDiskState};
     ghost use Rattle.slot_disk.specs.Recorded.{reading, recorded_bytes};
-    ghost use Rattle.slot_disk.specs.StepEntries.{steps_of, IsRecorded};
+    ghost use Rattle.slot_disk.specs.StepEntries.{recorded_steps, IsRecorded};
 
     ghost Value = { MemoryDiskState };
 
@@ -53,7 +55,7 @@ impl Model for MemoryDisk {
       room = s.room;
       log = s.log;
       first = s.first.items;
-      steps = steps_of (reverse s.entries.items) s.written.items;
+      steps = recorded_steps s.entries.items s.written.items;
       fuse = s.fuse;
       fails = s.fails.items;
       calls = s.calls;
@@ -76,7 +78,8 @@ impl MemoryDisk {
         fails: Vec<u64>,
     ) -> Result<MemoryDisk, AllocError>
         requires { length bytes.items ≤ room }
-        ensures { IfOk result (λ disk. disk ≡ record { room = room; log = log; first = bytes.items; steps = []; fuse = fuse; fails = fails.items; calls = 0; faults = 0 }) }
+        ensures { IfOk result (λ disk. disk ≡ record { room = room; log = log; first = bytes.items; steps = []; fuse = fuse; fails = fails.items;
+            calls = 0; faults = 0 }) }
     {
         let mut contents = Vec::with_capacity(alloc, room)?;
         contents.extend_from_slice(&bytes)?;
@@ -164,7 +167,8 @@ impl MemoryDisk {
         ensures fails { is_err result ≡ write_fails self.old place (length piece.now) }
         ensures failed { OnErr result (self.new ≡ after_failed_write self.old place piece.now) }
         ensures went { OnOk result (self.new ≡ with_step (after_call self.old) (Wrote place piece.now)) }
-        ensures images { (image : List ℕ) → disk_image_since self.new (disk_moment self.old) image → TornFrom (disk_image_now self.old) place (length piece.now) image }
+        ensures images { (image : List ℕ) → disk_image_since self.new (disk_moment self.old) image
+            → TornFrom (disk_image_now self.old) place (length piece.now) image }
         ensures cause { FailsByFault self.old.faults self.new.faults result }
     {
         let fits = self.fits(place, piece.len());
@@ -255,7 +259,7 @@ impl Disk for MemoryDisk {
     ghost only_now = { λ s image was. only_now s.first s.steps image was };
 
     fn len(&mut self) -> Result<u64, Failed>
-        ensures length { IfOk result (λ count. (bytes : List ℕ) → disk_reads self.old ≡ Some bytes → count ≡ length bytes) }
+        ensures length { IfOk result (λ count. IfKnown (disk_reads self.old) (λ bytes. count ≡ length bytes)) }
         ensures unchanged { Unchanged disk_reads disk_image_now self.old self.new }
         ensures images { (image : List ℕ) → disk_image_since self.new (disk_moment self.old) image → disk_image_now self.old image }
         ensures time { TimeGoesOn disk_moment disk_image_since self.old self.new }
@@ -273,7 +277,7 @@ impl Disk for MemoryDisk {
     fn read_at(&mut self, place: u64, into: &mut [u8]) -> Result<usize, Failed>
         ensures fits { IfOk result (λ count. count ≤ length into.old) }
         ensures later_places { IfOk result (λ count. drop count into.new ≡ drop count into.old) }
-        ensures given { IfOk result (λ count. (bytes : List ℕ) → disk_reads self.old ≡ Some bytes → Gives place (length into.old) bytes into.new count) }
+        ensures given { IfOk result (λ count. IfKnown (disk_reads self.old) (λ bytes. Gives place (length into.old) bytes into.new count)) }
         ensures unchanged { Unchanged disk_reads disk_image_now self.old self.new }
         ensures images { (image : List ℕ) → disk_image_since self.new (disk_moment self.old) image → disk_image_now self.old image }
         ensures time { TimeGoesOn disk_moment disk_image_since self.old self.new }
@@ -291,9 +295,10 @@ impl Disk for MemoryDisk {
 
     fn write_at(&mut self, place: u64, bytes: &[u8]) -> Result<(), Failed>
         ensures known { is_some (disk_reads self.new) ≡ is_some (disk_reads self.old) }
-        ensures torn { (old new : List ℕ) → disk_reads self.old ≡ Some old → disk_reads self.new ≡ Some new → Torn place (length bytes.now) old new }
-        ensures written { OnOk result ((old new : List ℕ) → disk_reads self.old ≡ Some old → disk_reads self.new ≡ Some new → Written place bytes.now old new) }
-        ensures images { (image : List ℕ) → disk_image_since self.new (disk_moment self.old) image → TornFrom (disk_image_now self.old) place (length bytes.now) image }
+        ensures torn { IfBothKnown (disk_reads self.old) (disk_reads self.new) (Torn place (length bytes.now)) }
+        ensures written { OnOk result (IfBothKnown (disk_reads self.old) (disk_reads self.new) (Written place bytes.now)) }
+        ensures images { (image : List ℕ) → disk_image_since self.new (disk_moment self.old) image
+            → TornFrom (disk_image_now self.old) place (length bytes.now) image }
         ensures time { TimeGoesOn disk_moment disk_image_since self.old self.new }
         ensures cause { FailsByFault self.old.faults self.new.faults result }
 
@@ -307,7 +312,7 @@ impl Disk for MemoryDisk {
     fn sync(&mut self) -> Result<(), Failed>
         ensures reads { disk_reads self.new ≡ disk_reads self.old }
         ensures images { (image : List ℕ) → disk_image_since self.new (disk_moment self.old) image → disk_image_now self.old image }
-        ensures safe { OnOk result ((bytes : List ℕ) → disk_reads self.new ≡ Some bytes → Only bytes (disk_image_now self.new)) }
+        ensures safe { OnOk result (IfKnown (disk_reads self.new) (λ bytes. Only bytes (disk_image_now self.new))) }
         ensures time { TimeGoesOn disk_moment disk_image_since self.old self.new }
         ensures cause { FailsByFault self.old.faults self.new.faults result }
 

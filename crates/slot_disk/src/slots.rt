@@ -1,11 +1,12 @@
 //! A store of two slots, as it is known: its gates and its header.
 
-ghost use Rattle.std.specs.Prelude.{◌≡◌, ℕ, ◌+◌, ◌<◌, ◌≤◌, ◌^◌, List, None, Some, true, false, length, vec_len, is_some, IfOk, OnOk, IsErrOf, MatchOption};
+ghost use Rattle.std.specs.Prelude.{◌≡◌, ℕ, ◌+◌, ◌<◌, ◌≤◌, ◌^◌, List, None, Some, true, false, length, vec_len, is_some, IfOk, OnOk, IsErrOf};
 ghost use Rattle.outside_io.specs.{FailsByFault, Rose};
+ghost use Rattle.slot_disk.specs.Images.{IfKnown, IfBothKnown};
 ghost use Rattle.slot_disk.specs.Moments.{Leaves, Unchanged};
 ghost use Rattle.slot_disk.specs.KnownSlots.{known_open, with_open, slots_of, StandsAs};
 ghost use Rattle.slot_disk.specs.Puts.{IsBody, IsReady, IsPut, MayLeave};
-ghost use Rattle.slot_disk.specs.StoreLayout.{front_bytes, body_place, stored_body, is_whole, number_at};
+ghost use Rattle.slot_disk.specs.StoreLayout.{front_bytes, body_place, stored_body, is_whole, number_at, IsNumber};
 
 use crate::putting::{close_gate, open_gate, write_body};
 use crate::{BeginFault, BodyFault, Disk};
@@ -35,7 +36,7 @@ impl Slots {
     /// Begins a store: syncs, and reads its gates and its header.
     pub fn begin<D: Disk>(disk: &mut D) -> Result<Slots, BeginFault>
         ensures stands { IfOk result (λ slots. StandsAs (D.reads disk.new) (D.image_now disk.new) slots) }
-        ensures too_short { IsErrOf result BeginFault.TooShort → (bytes : List ℕ) → D.reads disk.old ≡ Some bytes → length bytes < front_bytes }
+        ensures too_short { IsErrOf result BeginFault.TooShort → IfKnown (D.reads disk.old) (λ bytes. length bytes < front_bytes) }
         ensures reads { D.reads disk.new ≡ D.reads disk.old }
         ensures any_moment { Leaves D.moment D.image_since disk.old disk.new (D.image_now disk.old) }
         ensures later { D.faults disk.old ≤ D.faults disk.new }
@@ -80,8 +81,8 @@ impl Slots {
     ) -> Result<Vec<u8>, BodyFault>
         requires slot { slot < 2 }
         requires span { span < 2 ^ 32 }
-        ensures body { IfOk result (λ body. (bytes : List ℕ) → D.reads disk.old ≡ Some bytes → stored_body span slot bytes ≡ Some body.items) }
-        ensures damaged { IsErrOf result BodyFault.Damaged → (bytes : List ℕ) → D.reads disk.old ≡ Some bytes → stored_body span slot bytes ≡ None }
+        ensures body { IfOk result (λ body. IfKnown (D.reads disk.old) (λ bytes. stored_body span slot bytes ≡ Some body.items)) }
+        ensures damaged { IsErrOf result BodyFault.Damaged → IfKnown (D.reads disk.old) (λ bytes. stored_body span slot bytes ≡ None) }
         ensures unchanged { Unchanged D.reads D.image_now disk.old disk.new }
         ensures any_moment { Leaves D.moment D.image_since disk.old disk.new (D.image_now disk.old) }
         ensures later { D.faults disk.old ≤ D.faults disk.new }
@@ -113,11 +114,11 @@ impl Slots {
         requires span { span < 2 ^ 32 }
         requires body { IsBody span body.now }
         requires stands { StandsAs (D.reads disk.old) (D.image_now disk.old) self }
-        requires ready { (old : List ℕ) → D.reads disk.old ≡ Some old → IsReady span slot old }
+        requires ready { IfKnown (D.reads disk.old) (IsReady span slot) }
         ensures known { is_some (D.reads disk.new) ≡ is_some (D.reads disk.old) }
-        ensures done { OnOk result ((old new : List ℕ) → D.reads disk.old ≡ Some old → D.reads disk.new ≡ Some new → IsPut span slot body.now old new) }
+        ensures done { OnOk result (IfBothKnown (D.reads disk.old) (D.reads disk.new) (IsPut span slot body.now)) }
         ensures stands { IfOk result (λ slots. StandsAs (D.reads disk.new) (D.image_now disk.new) slots) }
-        ensures any_moment { (old : List ℕ) → D.reads disk.old ≡ Some old → Leaves D.moment D.image_since disk.old disk.new (MayLeave span slot body.now old) }
+        ensures any_moment { IfKnown (D.reads disk.old) (λ old. Leaves D.moment D.image_since disk.old disk.new (MayLeave span slot body.now old)) }
         ensures cause { FailsByFault (D.faults disk.old) (D.faults disk.new) result }
     {
         let is_open = self.gate(slot);
@@ -172,8 +173,8 @@ pub(crate) fn body_place(slot: u8, span: u64) -> u64
 fn read_length<D: Disk>(disk: &mut D, place: u64, span: u64) -> Result<usize, BodyFault>
     requires place { place < 2 ^ 33 }
     requires span { span < 2 ^ 32 }
-    ensures whole { IfOk result (λ length. (bytes : List ℕ) → D.reads disk.old ≡ Some bytes → (is_whole span place bytes ≡ true) × (length ≡ number_at place bytes)) }
-    ensures damaged { IsErrOf result BodyFault.Damaged → (bytes : List ℕ) → D.reads disk.old ≡ Some bytes → is_whole span place bytes ≡ false }
+    ensures whole { IfOk result (λ length. IfKnown (D.reads disk.old) (λ bytes. (is_whole span place bytes ≡ true) × (length ≡ number_at place bytes))) }
+    ensures damaged { IsErrOf result BodyFault.Damaged → IfKnown (D.reads disk.old) (λ bytes. is_whole span place bytes ≡ false) }
     ensures memory { IsErrOf result BodyFault.OutOfMemory → ⊥ }
     ensures unchanged { Unchanged D.reads D.image_now disk.old disk.new }
     ensures any_moment { Leaves D.moment D.image_since disk.old disk.new (D.image_now disk.old) }
@@ -199,7 +200,7 @@ fn read_length<D: Disk>(disk: &mut D, place: u64, span: u64) -> Result<usize, Bo
 
 // The number in the 8 bytes at an offset, unless the disk ends before or inside them.
 fn read_number<D: Disk>(disk: &mut D, place: u64) -> Result<Option<u64>, Failed>
-    ensures number { IfOk result (λ number. (bytes : List ℕ) → D.reads disk.old ≡ Some bytes → MatchOption number (length bytes < place + 8) (λ n. (place + 8 ≤ length bytes) × (n ≡ number_at place bytes))) }
+    ensures number { IfOk result (λ number. IfKnown (D.reads disk.old) (IsNumber place number)) }
     ensures unchanged { Unchanged D.reads D.image_now disk.old disk.new }
     ensures any_moment { Leaves D.moment D.image_since disk.old disk.new (D.image_now disk.old) }
     ensures cause { FailsByFault (D.faults disk.old) (D.faults disk.new) result }

@@ -1,4 +1,5 @@
 ghost use Rattle.std.specs.Prelude.{◌≡◌, ℕ, ◌<◌, List, Some, IfOk, OnOk};
+ghost use Rattle.slot_disk.specs.Images.{IfKnown};
 ghost use Rattle.slot_disk.specs.KnownSlots.{StandsAs};
 ghost use Rattle.slot_disk.specs.Puts.{IsReady};
 
@@ -24,7 +25,7 @@ fn disk_of(alloc: Global, bytes: Vec<u8>, fuse: Option<u64>) -> Result<MemoryDis
 // Makes a store, and puts a body into its slot 0: calls 0 to 9 of the disk.
 fn put_first<D: Disk>(disk: &mut D) -> Result<Slots, Failed>
     ensures stands { IfOk result (λ slots. StandsAs (D.reads disk.new) (D.image_now disk.new) slots) }
-    ensures ready { OnOk result ((bytes : List ℕ) → D.reads disk.new ≡ Some bytes → IsReady 16 1 bytes) }
+    ensures ready { OnOk result (IfKnown (D.reads disk.new) (IsReady 16 1)) }
 {
     format(disk, &[0; 62])?;
     let Ok(slots) = Slots::begin(disk) else {

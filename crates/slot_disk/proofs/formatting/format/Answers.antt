@@ -14,4 +14,5 @@ returns-clause-stands g c = λ new is.
     let begun = some_of (g.D.Disk.reads c.args.disk.now) (sym c.in_ok-write_safely.ensures.known ∙ ap is_some is) in
     let written : Written 0 (0 ∷ 0 ∷ c.args.header.now) begun.0 new =
     subst (λ (front : List ℕ). Written 0 front begun.0 new) c.closed_front-front.ensures.front (c.in_ok-write_safely.ensures.written begun.0 new begun.1 is) in
-    store_formatted c.args.header.now begun.0 new (g.D.Disk.image_now c.write_safely.new.disk) c.closed_front-front.ensures.header_length written (c.in_ok-write_safely.ensures.safe new is)
+    store_formatted c.args.header.now begun.0 new (g.D.Disk.image_now c.write_safely.new.disk)
+    c.closed_front-front.ensures.header_length written (c.in_ok-write_safely.ensures.safe new is)

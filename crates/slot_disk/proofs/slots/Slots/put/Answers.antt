@@ -8,7 +8,8 @@ pub returns-in_err-close_gate-clause-any_moment : goal.returns-in_err-close_gate
 returns-in_err-close_gate-clause-any_moment g c = λ old was.
     let can : CanClose c.args.span c.args.slot c.gate-is_open.result old =
     subst (λ (gate : Bool). CanClose c.args.span c.args.slot gate old) (sym c.gate-is_open.ensures)
-    (can_close c.args.span c.args.slot old (g.D.Disk.image_now c.args.disk.now) c.args.self c.requires.slot (c.requires.stands old was) (c.requires.ready old was)) in
+    (can_close c.args.span c.args.slot old (g.D.Disk.image_now c.args.disk.now) c.args.self c.requires.slot
+    (c.requires.stands old was) (c.requires.ready old was)) in
     leaves_closing g.D.Disk.moment g.D.Disk.image_since c.args.span c.args.slot c.args.body.now old _ _
     (c.in_err-close_gate.ensures.any_moment c.args.span old was (c.requires.stands old was).only can)
 
@@ -16,7 +17,8 @@ pub returns-in_err-write_body-clause-any_moment : goal.returns-in_err-write_body
 returns-in_err-write_body-clause-any_moment g c = λ old was.
     let can : CanClose c.args.span c.args.slot c.gate-is_open.result old =
     subst (λ (gate : Bool). CanClose c.args.span c.args.slot gate old) (sym c.gate-is_open.ensures)
-    (can_close c.args.span c.args.slot old (g.D.Disk.image_now c.args.disk.now) c.args.self c.requires.slot (c.requires.stands old was) (c.requires.ready old was)) in
+    (can_close c.args.span c.args.slot old (g.D.Disk.image_now c.args.disk.now) c.args.self c.requires.slot
+    (c.requires.stands old was) (c.requires.ready old was)) in
     let mid = some_of (g.D.Disk.reads c.close_gate.new.disk) (c.in_ok-close_gate.ensures.known ∙ ap is_some was) in
     let closed : IsClosed c.args.span c.args.slot old mid.0 = c.in_ok-close_gate.ensures.closed c.args.span old mid.0 was mid.1 can in
     let writes = can_write c.args.span c.args.slot old mid.0 (c.requires.ready old was) closed in
@@ -28,7 +30,8 @@ pub returns-in_err-open_gate-clause-any_moment : goal.returns-in_err-open_gate-c
 returns-in_err-open_gate-clause-any_moment g c = λ old was.
     let can : CanClose c.args.span c.args.slot c.gate-is_open.result old =
     subst (λ (gate : Bool). CanClose c.args.span c.args.slot gate old) (sym c.gate-is_open.ensures)
-    (can_close c.args.span c.args.slot old (g.D.Disk.image_now c.args.disk.now) c.args.self c.requires.slot (c.requires.stands old was) (c.requires.ready old was)) in
+    (can_close c.args.span c.args.slot old (g.D.Disk.image_now c.args.disk.now) c.args.self c.requires.slot
+    (c.requires.stands old was) (c.requires.ready old was)) in
     let mid = some_of (g.D.Disk.reads c.close_gate.new.disk) (c.in_ok-close_gate.ensures.known ∙ ap is_some was) in
     let closed : IsClosed c.args.span c.args.slot old mid.0 = c.in_ok-close_gate.ensures.closed c.args.span old mid.0 was mid.1 can in
     let writes = can_write c.args.span c.args.slot old mid.0 (c.requires.ready old was) closed in
@@ -44,7 +47,8 @@ pub returns-clause-done : goal.returns-clause-done
 returns-clause-done g c = λ old new was is.
     let can : CanClose c.args.span c.args.slot c.gate-is_open.result old =
     subst (λ (gate : Bool). CanClose c.args.span c.args.slot gate old) (sym c.gate-is_open.ensures)
-    (can_close c.args.span c.args.slot old (g.D.Disk.image_now c.args.disk.now) c.args.self c.requires.slot (c.requires.stands old was) (c.requires.ready old was)) in
+    (can_close c.args.span c.args.slot old (g.D.Disk.image_now c.args.disk.now) c.args.self c.requires.slot
+    (c.requires.stands old was) (c.requires.ready old was)) in
     let mid = some_of (g.D.Disk.reads c.close_gate.new.disk) (c.in_ok-close_gate.ensures.known ∙ ap is_some was) in
     let closed : IsClosed c.args.span c.args.slot old mid.0 = c.in_ok-close_gate.ensures.closed c.args.span old mid.0 was mid.1 can in
     let writes = can_write c.args.span c.args.slot old mid.0 (c.requires.ready old was) closed in
@@ -62,7 +66,8 @@ returns-clause-stands g c = λ new is.
     let was = begun.1 in
     let can : CanClose c.args.span c.args.slot c.gate-is_open.result old =
     subst (λ (gate : Bool). CanClose c.args.span c.args.slot gate old) (sym c.gate-is_open.ensures)
-    (can_close c.args.span c.args.slot old (g.D.Disk.image_now c.args.disk.now) c.args.self c.requires.slot (c.requires.stands old was) (c.requires.ready old was)) in
+    (can_close c.args.span c.args.slot old (g.D.Disk.image_now c.args.disk.now) c.args.self c.requires.slot
+    (c.requires.stands old was) (c.requires.ready old was)) in
     let mid = some_of (g.D.Disk.reads c.close_gate.new.disk) (c.in_ok-close_gate.ensures.known ∙ ap is_some was) in
     let closed : IsClosed c.args.span c.args.slot old mid.0 = c.in_ok-close_gate.ensures.closed c.args.span old mid.0 was mid.1 can in
     let writes = can_write c.args.span c.args.slot old mid.0 (c.requires.ready old was) closed in
@@ -79,7 +84,8 @@ pub returns-clause-any_moment : goal.returns-clause-any_moment
 returns-clause-any_moment g c = λ old was.
     let can : CanClose c.args.span c.args.slot c.gate-is_open.result old =
     subst (λ (gate : Bool). CanClose c.args.span c.args.slot gate old) (sym c.gate-is_open.ensures)
-    (can_close c.args.span c.args.slot old (g.D.Disk.image_now c.args.disk.now) c.args.self c.requires.slot (c.requires.stands old was) (c.requires.ready old was)) in
+    (can_close c.args.span c.args.slot old (g.D.Disk.image_now c.args.disk.now) c.args.self c.requires.slot
+    (c.requires.stands old was) (c.requires.ready old was)) in
     let mid = some_of (g.D.Disk.reads c.close_gate.new.disk) (c.in_ok-close_gate.ensures.known ∙ ap is_some was) in
     let closed : IsClosed c.args.span c.args.slot old mid.0 = c.in_ok-close_gate.ensures.closed c.args.span old mid.0 was mid.1 can in
     let writes = can_write c.args.span c.args.slot old mid.0 (c.requires.ready old was) closed in
