@@ -1,0 +1,131 @@
+-- Worked examples of stores of two slots, most by computing.
+use Rattle.std.proofs.Common.{◌≡◌, ◌⊎◌, ℕ, zero, suc, ◌≤◌, List, [], ◌∷◌, ◌++◌, length, Option, Some, None, true, false, refl, sym, ap, ◌∙◌, inl, inr, arith}
+use Rattle.slot_disk.specs.Images.{Only}
+use Rattle.slot_disk.specs.Recorded.{zeros}
+use Rattle.slot_disk.specs.StoreLayout.{front_bytes, is_open, header_of, body_place, number_at, is_whole, body_at}
+use Rattle.slot_disk.specs.StoreLayout.{stored_body, SlotContent, Closed, Broken, Whole, shown, content}
+use Rattle.slot_disk.specs.KnownSlots.{SlotsState, known_open, with_open, slots_of, closed_slots, IsStore, StandsAs}
+use Rattle.slot_disk.specs.Puts.{other, closing, IsWhole, IsSound, IsReady, IsBody, CanClose, CanWrite, CanOpen}
+use Rattle.slot_disk.specs.Puts.{IsSameBeside, MayBeClosed, IsClosed, IsStored, MayBeOpen, MayLeave, IsPut}
+
+-- a body of 9 bytes: its length, and a byte 5
+abbrev body : List ℕ
+body = 0 ∷ 0 ∷ 0 ∷ 0 ∷ 0 ∷ 0 ∷ 0 ∷ 9 ∷ 5 ∷ []
+
+-- a store with a header of zero bytes and these gates, in which the body stands in slot 0
+abbrev store : ℕ → ℕ → List ℕ
+store first second = first ∷ second ∷ (zeros 62 ++ body)
+
+pub body_says_its_length : number_at 0 body ≡ 9
+unfolding number_at
+body_says_its_length = refl
+
+pub body_fits_a_span_of_9 : IsBody 9 body
+unfolding number_at
+body_fits_a_span_of_9 = record { least = omega arith; most = omega arith; says = refl }
+
+pub body_is_too_long_for_a_span_of_8 : IsBody 8 body → ⊥
+body_is_too_long_for_a_span_of_8 is = omega (arith, is.most)
+
+pub gate_is_open : is_open 0 (store 1 0) ≡ true
+gate_is_open = refl
+
+pub gate_is_closed : is_open 1 (store 1 0) ≡ false
+gate_is_closed = refl
+
+-- any byte but 1 is a closed gate
+pub torn_gate_is_closed : is_open 0 (store 255 0) ≡ false
+torn_gate_is_closed = refl
+
+pub header_follows_the_gates : header_of (store 1 0) ≡ zeros 62
+header_follows_the_gates = refl
+
+pub second_body_comes_a_span_later : body_place 16 1 ≡ 80
+second_body_comes_a_span_later = refl
+
+pub body_is_stored : stored_body 16 0 (store 1 0) ≡ Some body
+unfolding number_at
+body_is_stored = refl
+
+-- whether the gate is open or closed
+pub body_is_stored_under_a_closed_gate : stored_body 16 0 (store 0 0) ≡ Some body
+unfolding number_at
+body_is_stored_under_a_closed_gate = refl
+
+pub body_past_the_span_is_damaged : stored_body 8 0 (store 1 0) ≡ None
+unfolding number_at
+body_past_the_span_is_damaged = refl
+
+pub body_past_the_end_is_damaged : stored_body 16 1 (store 0 1) ≡ None
+unfolding number_at
+body_past_the_end_is_damaged = refl
+
+pub slot_is_whole : content 16 0 (store 1 0) ≡ Whole body
+unfolding number_at
+slot_is_whole = refl
+
+pub slot_is_closed : content 16 0 (store 0 0) ≡ Closed
+slot_is_closed = refl
+
+pub slot_is_broken : content 16 1 (store 0 1) ≡ Broken
+unfolding number_at
+slot_is_broken = refl
+
+-- what is known of the store
+pub first_is_known_open : known_open (slots_of (store 1 0)) 0 ≡ true
+first_is_known_open = refl
+
+pub second_is_known_closed : known_open (slots_of (store 1 0)) 1 ≡ false
+second_is_known_closed = refl
+
+pub second_was_opened : with_open (slots_of (store 1 0)) 1 ≡ slots_of (store 1 1)
+second_was_opened = refl
+
+pub no_gate_is_open : slots_of (store 0 0) ≡ closed_slots (zeros 62)
+no_gate_is_open = refl
+
+pub stands_as_it_is : StandsAs (Some (store 1 0)) (λ image. image ≡ store 1 0) (slots_of (store 1 0))
+stands_as_it_is bytes is =
+    let same : store 1 0 ≡ bytes = cc is in
+    record {
+      long = omega (arith, ap length (sym same));
+      slots_are = ap slots_of same;
+      only = λ image was. was ∙ same;
+    }
+
+pub store_is_not_otherwise : StandsAs (Some (store 1 0)) (λ image. image ≡ store 1 0) (slots_of (store 0 0)) → ⊥
+store_is_not_otherwise stands = cc (ap (λ (s : SlotsState). s.first_open) (stands (store 1 0) refl).slots_are)
+
+-- a put into slot 1 loses nothing, as slot 0 is whole
+pub slot_1_may_be_put : IsReady 16 1 (store 1 0)
+unfolding number_at
+slot_1_may_be_put = record { other_holds = inl (body, refl); slot_holds = inr refl }
+
+-- a put into slot 0 would lose the newest body
+pub newest_may_not_be_put : IsReady 16 0 (store 1 0) → ⊥
+unfolding number_at
+newest_may_not_be_put ready = lost ready.other_holds
+  where
+    lost : IsWhole (content 16 1 (store 1 0)) ⊎ ((content 16 1 (store 1 0) ≡ Closed) × (content 16 0 (store 1 0) ≡ Closed)) → ⊥
+    lost (inl whole) = let shut : Closed ≡ Whole whole.0 = whole.1 in cc shut
+    lost (inr closed) = let open_slot : Whole body ≡ Closed = closed.1 in cc open_slot
+
+-- a gate that is open is closed by a byte, a closed one by nothing
+pub byte_closes : closing true ≡ 0 ∷ []
+byte_closes = refl
+
+pub nothing_keeps_closed : closing false ≡ []
+nothing_keeps_closed = refl
+
+-- the put of the body into slot 0 of the store with closed gates: before it, and after it
+pub before_the_put : MayLeave 16 0 body (store 0 0) (store 0 0)
+before_the_put = record { beside = record { long = omega arith; header = refl; other_slot = refl }; slot_holds = inl refl }
+
+pub after_the_put : IsPut 16 0 body (store 0 0) (store 1 0)
+unfolding number_at
+after_the_put = record { beside = record { long = omega arith; header = refl; other_slot = refl }; slot_holds = refl }
+
+-- an image in which the other gate came open is none that the put may leave
+pub other_gate_stays : MayLeave 16 0 body (store 0 0) (store 1 1) → ⊥
+unfolding number_at
+other_gate_stays may = let broken : Broken ≡ Closed = may.beside.other_slot in cc broken

@@ -1,0 +1,9 @@
+pub mod ImageLemmas
+pub mod CrashLemmas
+pub mod EntryLemmas
+pub mod BodyLemmas
+pub mod ContentLemmas
+pub mod PutLemmas
+pub mod FormatLemmas
+pub mod ExamplesOfDisks
+pub mod ExamplesOfStores

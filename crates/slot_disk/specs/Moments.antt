@@ -1,0 +1,58 @@
+-- What a crash at some moment of a call may leave.
+use Rattle.std.specs.Prelude.{ℕ, ◌≡◌, ◌≤◌, ◌⊎◌, ◌↔◌, Option, List}
+use Rattle.std.proofs.Common.{inl, inr, ⊎_elim, arith}
+
+-- Time goes on: an image since an earlier moment was one since that moment as the call began, or is one since its start.
+pub record TimeGoesOn {D : Type 0} (moment : D → ℕ) (image_since : D → ℕ → List ℕ → Type 0) (old new : D) : Type 0 where
+  pub later : moment old ≤ moment new
+  pub earlier : (t : ℕ) (image : List ℕ) → t ≤ moment old → image_since new t image
+      → image_since old t image ⊎ image_since new (moment old) image
+
+-- A crash at any moment of a call leaves an image with P. Since an earlier moment no other image came.
+pub record Leaves {D : Type 0} (moment : D → ℕ) (image_since : D → ℕ → List ℕ → Type 0) (old new : D)
+    (P : List ℕ → Type 0) : Type 0 where
+  pub later : moment old ≤ moment new
+  pub each : (image : List ℕ) → image_since new (moment old) image → P image
+  pub earlier : (t : ℕ) (image : List ℕ) → t ≤ moment old → image_since new t image → image_since old t image ⊎ P image
+
+-- a call changed neither what a read gives nor the images
+pub record Unchanged {D : Type 0} (reads : D → Option (List ℕ)) (image_now : D → List ℕ → Type 0) (old new : D) : Type 0
+  where
+    pub same_reads : reads new ≡ reads old
+    pub same_images : (image : List ℕ) → image_now new image ↔ image_now old image
+
+-- before the first call
+pub Leaves-none : {D : Type 0} (moment : D → ℕ) (image_since : D → ℕ → List ℕ → Type 0) (disk : D) (P : List ℕ → Type 0)
+    → ((image : List ℕ) → image_since disk (moment disk) image → P image) → Leaves moment image_since disk disk P
+Leaves-none moment image_since disk P here = record { later = omega arith; each = here; earlier = λ t image le was. inl was }
+
+-- one call of a disk
+pub Leaves-call : {D : Type 0} (moment : D → ℕ) (image_since : D → ℕ → List ℕ → Type 0) (old new : D) (P : List ℕ → Type 0)
+    → TimeGoesOn moment image_since old new → ((image : List ℕ) → image_since new (moment old) image → P image)
+    → Leaves moment image_since old new P
+Leaves-call moment image_since old new P time each = record {
+  later = time.later;
+  each = each;
+  earlier = λ t image le was. ⊎_elim (λ before. inl before) (λ now. inr (each image now)) (time.earlier t image le was);
+}
+
+-- one call more
+pub Leaves-trans : {D : Type 0} (moment : D → ℕ) (image_since : D → ℕ → List ℕ → Type 0) (old mid new : D)
+    (P : List ℕ → Type 0) → Leaves moment image_since old mid P → Leaves moment image_since mid new P
+    → Leaves moment image_since old new P
+Leaves-trans moment image_since old mid new P first second = record {
+  later = omega (arith, first.later, second.later);
+  each = λ image was. ⊎_elim (first.each image) (λ p. p) (second.earlier (moment old) image first.later was);
+  earlier = λ t image le was.
+      ⊎_elim (first.earlier t image le) (λ p. inr p) (second.earlier t image (omega (arith, le, first.later)) was);
+}
+
+-- less is said
+pub Leaves-weaker : {D : Type 0} (moment : D → ℕ) (image_since : D → ℕ → List ℕ → Type 0) (old new : D)
+    (P Q : List ℕ → Type 0) → Leaves moment image_since old new P → ((image : List ℕ) → P image → Q image)
+    → Leaves moment image_since old new Q
+Leaves-weaker moment image_since old new P Q leaves weaker = record {
+  later = leaves.later;
+  each = λ image was. weaker image (leaves.each image was);
+  earlier = λ t image le was. ⊎_elim (λ before. inl before) (λ p. inr (weaker image p)) (leaves.earlier t image le was);
+}
