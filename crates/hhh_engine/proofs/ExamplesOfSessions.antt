@@ -25,8 +25,9 @@ use Rattle.command_words.specs.declared.command.Command.{Command}
 use Rattle.command_words.specs.declared.command.Command.TheVariants.{Weigh, Report as report_command}
 use Rattle.command_words.specs.declared.settings.Settings.{Settings}
 use Rattle.command_words.specs.declared.words_kind.WordsKind.TheVariants.{NoCommand}
-use Rattle.hhh_engine.specs.Answer.{IsAnswer, Answers, AnswersInPart, AskSomething, HasKnownCapture}
-use Rattle.hhh_engine.specs.Ending.{WroteAnswer, RefusedWords, RefusedCapture, FailedToRead, FailedToWrite}
+use Rattle.hhh_engine.specs.Answer.{IsAnswer, Answers, AnswersInPart}
+use Rattle.hhh_engine.specs.Inputs.{AskToRead, CanBeAnswered, HasKnownCapture, ReadsCapture, WasRead, inputs}
+use Rattle.hhh_engine.specs.Ending.{RefusedWords, RefusedCapture, FailedToRead, FailedToWrite}
 use Rattle.hhh_engine.specs.NoText.{HasNoText}
 use Rattle.hhh_engine.specs.Session.{Rules, IsCutAtEnds, start_of, session_text, IsReportAtEnds, IsSession}
 use Rattle.hhh_engine.specs.declared.status.Status.TheVariants.{Done, BadCapture, ReadFault, OutOfMemory}
@@ -193,7 +194,7 @@ session_over_the_header = record {
   spelled = sym text_of_the_session;
 }
 
-pub session_is_the_answer : IsAnswer in_turn (report_command settings) header text
+pub session_is_the_answer : IsAnswer in_turn (report_command settings) (inputs (Some header) (Some [])) text
 session_is_the_answer = session_over_the_header
 
 asks_for_a_report : AskFor words (report_command settings)
@@ -226,15 +227,18 @@ asks_for_a_report = record {
   wide = omega arith;
 }
 
-pub report_asks_something : AskSomething words
-report_asks_something = record { command = report_command settings; asked = asks_for_a_report }
+pub report_asks_to_read : AskToRead words
+report_asks_to_read = record { command = report_command settings; asked = asks_for_a_report; reads = tt }
 
 no_words_ask : (command : Command) → AskFor [] command → ⊥
 no_words_ask (Weigh prefix settings) asked = let begun = asked.are_words.begun in cc
 no_words_ask (report_command settings) asked = let begun = asked.are_words.begun in cc
 
-pub no_words_ask_nothing : AskSomething [] → ⊥
-no_words_ask_nothing asks = no_words_ask asks.command asks.asked
+pub no_words_ask_to_read : AskToRead [] → ⊥
+no_words_ask_to_read asks = no_words_ask asks.command asks.asked
+
+pub report_reads_a_capture : ReadsCapture (report_command settings)
+report_reads_a_capture = tt
 
 pub source_of_a_header : HasKnownCapture (Some header)
 source_of_a_header = record { file = header; told = refl; frames = []; capture = header_is_a_capture }
@@ -242,21 +246,32 @@ source_of_a_header = record { file = header; told = refl; frames = []; capture =
 pub silent_source_tells_no_capture : HasKnownCapture None → ⊥
 silent_source_tells_no_capture tells = let told = tells.told in cc
 
+pub report_over_a_header_can_be_answered : CanBeAnswered (report_command settings) (inputs (Some header) (Some []))
+report_over_a_header_can_be_answered = source_of_a_header
+
+-- a source with a byte left was not read to its end
+pub one_byte_left : WasRead (report_command settings) (inputs (Some header) (Some (1 ∷ []))) → ⊥
+one_byte_left read = cc read
+
 -- the text stands behind what the sink held
-pub session_was_written : Answers in_turn words (Some (codes "# ")) (Some (codes "# " ++ text)) header
+pub session_was_written :
+    Answers in_turn words (inputs (Some header) (Some [])) (Some (codes "# ")) (Some (codes "# " ++ text))
 session_was_written = record {
   command = report_command settings;
   asked = asks_for_a_report;
+  read_to_end = refl;
   text = text;
   is_answer = session_is_the_answer;
   written = refl;
 }
 
 -- a sink with room for 12 bytes took the first line, and three letters of the second
-pub session_was_written_in_part : AnswersInPart in_turn words (Some []) (Some (codes "opened 0 0 0")) header
+pub session_was_written_in_part :
+    AnswersInPart in_turn words (inputs (Some header) (Some [])) (Some []) (Some (codes "opened 0 0 0"))
 session_was_written_in_part = record {
   command = report_command settings;
   asked = asks_for_a_report;
+  read_to_end = refl;
   text = text;
   is_answer = session_is_the_answer;
   written = record {
@@ -290,10 +305,6 @@ success_has_a_text no_text = no_text
 
 -- ---- what a status says, of sinks that are lists of bytes
 
--- the session was written, and the capture was read to its end
-pub session_is_done : WroteAnswer in_turn words (Some header) (Some []) (Some (codes "# ")) (Some (codes "# " ++ text))
-session_is_done = record { answered = session_was_written; at_end = refl }
-
 -- the first byte was read before the missing command was seen
 pub no_command_before_a_read : RefusedWords {S = List ℕ} {K = List ℕ} [] NoCommand (1 ∷ 2 ∷ []) (2 ∷ []) [] [] → ⊥
 no_command_before_a_read refused =
@@ -309,5 +320,5 @@ pub source_failed : FailedToRead {K = List ℕ} 3 4 [] []
 source_failed = record { rose = omega arith; unwritten = refl }
 
 pub sink_failed_in_the_session :
-    FailedToWrite in_turn words (Some header) (Some []) (Some []) (Some (codes "opened 0 0 0")) 3 4
-sink_failed_in_the_session = record { rose = omega arith; in_part = session_was_written_in_part; at_end = refl }
+    FailedToWrite in_turn words (inputs (Some header) (Some [])) (Some []) (Some (codes "opened 0 0 0")) 3 4
+sink_failed_in_the_session = record { rose = omega arith; in_part = session_was_written_in_part }

@@ -1,18 +1,13 @@
 -- What each status says of the arguments, of the source and of the sink.
 use Rattle.std.specs.Prelude.{ℕ, ◌≡◌, List, Option, IfSome}
-use Rattle.std.specs.Io.KnownBytes.{IsAtEnd}
 use Rattle.outside_io.specs.{Rose}
 use Rattle.frame_records.specs.{IsRefusedFor}
 use Rattle.pcap_frames.specs.declared.fault.CaptureFault.{CaptureFault}
 use Rattle.command_words.specs.{HasWordsFault}
 use Rattle.command_words.specs.declared.words_kind.WordsKind.{WordsKind}
-use Rattle.hhh_engine.specs.Answer.{Answers, AnswersInPart}
+use Rattle.hhh_engine.specs.Answer.{AnswersInPart}
+use Rattle.hhh_engine.specs.Inputs.{InputBytes}
 use Rattle.hhh_engine.specs.Session.{Rules}
-
--- Done: the text of the command was written for the capture, which was read to its end
-pub record WroteAnswer (rules : Rules) (words : List (List ℕ)) (left rest old new : Option (List ℕ)) : Type 0 where
-  pub answered : IfSome left (Answers rules words old new)
-  pub at_end : IsAtEnd rest
 
 -- BadWords: this is the first fault of the arguments, and nothing was read or written
 pub record RefusedWords {S K : Type 0} (words : List (List ℕ)) (kind : WordsKind) (source read : S)
@@ -31,11 +26,8 @@ pub record FailedToRead {K : Type 0} (before now : ℕ) (sink written : K) : Typ
   pub rose : Rose before now
   pub unwritten : written ≡ sink
 
--- WriteFault: the sink's count of faults rose, and a strict prefix of the text of the command was written for the
--- capture,
--- which was read to its end
-pub record FailedToWrite (rules : Rules) (words : List (List ℕ)) (left rest old new : Option (List ℕ))
+-- WriteFault: the sink's count of faults rose, and a strict prefix of the text of the command was written
+pub record FailedToWrite (rules : Rules) (words : List (List ℕ)) (read : InputBytes) (old new : Option (List ℕ))
     (before now : ℕ) : Type 0 where
   pub rose : Rose before now
-  pub in_part : IfSome left (AnswersInPart rules words old new)
-  pub at_end : IsAtEnd rest
+  pub in_part : AnswersInPart rules words read old new

@@ -1,15 +1,16 @@
 //! The top call: from arguments and a capture to an output text and a status.
 
-ghost use Rattle.std.specs.Prelude.{◌≡◌, ◌⊎◌, ℕ, List, Some, IfSome, IfOk, IfErr, OnOk, IsErrOf};
-ghost use Rattle.std.specs.Io.KnownBytes.{IsAtEnd};
+ghost use Rattle.std.specs.Prelude.{◌≡◌, ◌⊎◌, ℕ, List, Some, IfOk, IfErr, OnOk, IsErrOf};
 ghost use Rattle.outside_io.specs.{Rose};
 ghost use Rattle.frame_records.specs.{IsRefusedFor};
 ghost use Rattle.pcap_frames.specs.declared.fault.CaptureFault.{CaptureFault};
 ghost use Rattle.deal_rules.specs.{dealer_of};
-ghost use Rattle.command_words.specs.{texts, HasWordsFault, IsLimited};
+ghost use Rattle.command_words.specs.{texts, AskFor, HasWordsFault, IsLimited};
+ghost use Rattle.command_words.specs.declared.command.Command.{Command};
 ghost use Rattle.command_words.specs.declared.words_kind.WordsKind.{WordsKind};
-ghost use Rattle.hhh_engine.specs.Answer.{IsAnswer, AskSomething, HasKnownCapture};
-ghost use Rattle.hhh_engine.specs.Ending.{WroteAnswer, RefusedWords, RefusedCapture, FailedToRead, FailedToWrite};
+ghost use Rattle.hhh_engine.specs.Answer.{Answers, IsAnswer};
+ghost use Rattle.hhh_engine.specs.Ending.{RefusedWords, RefusedCapture, FailedToRead, FailedToWrite};
+ghost use Rattle.hhh_engine.specs.Inputs.{AskToRead, CanBeAnswered, WasRead, inputs};
 ghost use Rattle.hhh_engine.specs.NoText.{HasNoText};
 ghost use Rattle.hhh_engine.specs.declared.status.Status.TheVariants.{Done, BadWords, BadCapture, ReadFault, WriteFault, OutOfMemory};
 
@@ -37,10 +38,10 @@ pub fn run<S: Source, K: Sink>(
     sink: &mut K,
     dealers: &Dealers,
 ) -> Status
-    // The text of the command was written for the records of the capture, which was read to its end. What the
-    // text says of weights holds for the records themselves.
-    ensures done { result ≡ Done → WroteAnswer (λ kind. ⟦<Dealer as Deals>⟧.may_answer (dealer_of kind dealers.now)) (texts words.now)
-        (S.left capture.old) (S.left capture.new) (K.taken sink.old) (K.taken sink.new) }
+    // The text of the command was written for its inputs, which were read to their ends. What the text says of weights
+    // holds for the records themselves.
+    ensures done { result ≡ Done → Answers (λ kind. ⟦<Dealer as Deals>⟧.may_answer (dealer_of kind dealers.now)) (texts words.now)
+        (inputs (S.left capture.old) (S.left capture.new)) (K.taken sink.old) (K.taken sink.new) }
 
     // The arguments are checked first, before anything is read.
     ensures bad_words { (kind : WordsKind) → result ≡ BadWords kind → RefusedWords (texts words.now) kind capture.old capture.new sink.old sink.new }
@@ -48,7 +49,7 @@ pub fn run<S: Source, K: Sink>(
 
     // A capture with a fault is refused for it, unless the source fails or memory runs out first.
     ensures bad_capture { (fault : CaptureFault) → result ≡ BadCapture fault → RefusedCapture (S.left capture.old) fault sink.old sink.new }
-    ensures refuses { (file : List ℕ) (fault : CaptureFault) → AskSomething (texts words.now) → S.left capture.old ≡ Some file → IsRefusedFor file fault
+    ensures refuses { (file : List ℕ) (fault : CaptureFault) → AskToRead (texts words.now) → S.left capture.old ≡ Some file → IsRefusedFor file fault
         → (result ≡ BadCapture fault) ⊎ ((result ≡ ReadFault) ⊎ (result ≡ OutOfMemory)) }
 
     // A read or write fault is reported only where the source or the sink had one in this call. It is never
@@ -56,15 +57,15 @@ pub fn run<S: Source, K: Sink>(
     ensures read_fault { result ≡ ReadFault → FailedToRead (S.faults capture.old) (S.faults capture.new) sink.old sink.new }
     ensures read_fault_told { (result ≡ ReadFault → ⊥) → S.faults capture.new ≡ S.faults capture.old }
     ensures write_fault { result ≡ WriteFault → FailedToWrite (λ kind. ⟦<Dealer as Deals>⟧.may_answer (dealer_of kind dealers.now)) (texts words.now)
-        (S.left capture.old) (S.left capture.new) (K.taken sink.old) (K.taken sink.new) (K.faults sink.old) (K.faults sink.new) }
+        (inputs (S.left capture.old) (S.left capture.new)) (K.taken sink.old) (K.taken sink.new) (K.faults sink.old) (K.faults sink.new) }
     ensures write_fault_told { (result ≡ WriteFault → ⊥) → K.faults sink.new ≡ K.faults sink.old }
 
     // Memory may run out at any time before the text is written.
     ensures out_of_memory_unwritten { result ≡ OutOfMemory → sink.new ≡ sink.old }
 
-    // With arguments that ask for a command, a valid capture and no fault of source or sink, the run ends in
+    // With arguments that ask for a command, inputs in their formats and no fault of source or sink, the run ends in
     // Done unless memory runs out.
-    ensures complete { AskSomething (texts words.now) → HasKnownCapture (S.left capture.old)
+    ensures complete { (command : Command) → AskFor (texts words.now) command → CanBeAnswered command (inputs (S.left capture.old) (S.left capture.new))
         → (Rose (S.faults capture.old) (S.faults capture.new) → ⊥) → (Rose (K.faults sink.old) (K.faults sink.new) → ⊥)
         → (result ≡ Done) ⊎ (result ≡ OutOfMemory) }
 {
@@ -91,9 +92,9 @@ fn answer<S: Source>(
     dealers: &Dealers,
 ) -> Result<Vec<u8>, Status>
     requires { IsLimited command.now }
-    ensures text { IfOk result (λ text. IfSome (S.left capture.old)
-        (λ file. IsAnswer (λ kind. ⟦<Dealer as Deals>⟧.may_answer (dealer_of kind dealers.now)) command.now file text.items)) }
-    ensures at_end { OnOk result (IsAtEnd (S.left capture.new)) }
+    ensures text { IfOk result (λ text. IsAnswer (λ kind. ⟦<Dealer as Deals>⟧.may_answer (dealer_of kind dealers.now)) command.now
+        (inputs (S.left capture.old) (S.left capture.new)) text.items) }
+    ensures read { OnOk result (WasRead command.now (inputs (S.left capture.old) (S.left capture.new))) }
     ensures refused { IfErr result (HasNoText (S.left capture.old) (S.faults capture.old) (S.faults capture.new)) }
     ensures told { (IsErrOf result ReadFault → ⊥) → S.faults capture.new ≡ S.faults capture.old }
 {

@@ -3,9 +3,9 @@ use Rattle.hhh_engine.proofs.WiderRulesLemmas.{wider_answers, wider_answers_in_p
 use Rattle.hhh_engine.proofs.laws.answers_follow_formulas.Goals as goal
 
 pub returns-clause-whole : goal.returns-clause-whole
-returns-clause-whole g c = λ formula words old new file follow answers.
-    wider_answers _ (by_formula formula) words old new file follow answers
+returns-clause-whole g c = λ formula words read old new follow answers.
+    wider_answers _ (by_formula formula) words read old new follow answers
 
 pub returns-clause-part : goal.returns-clause-part
-returns-clause-part g c = λ formula words old new file follow answers.
-    wider_answers_in_part _ (by_formula formula) words old new file follow answers
+returns-clause-part g c = λ formula words read old new follow answers.
+    wider_answers_in_part _ (by_formula formula) words read old new follow answers
