@@ -1,5 +1,5 @@
 -- How a command can end.
-use Rattle.std.proofs.Common.{◌≡◌, ◌⊎◌, ℕ, List, Option, Some, None, IfSome, inl, inr, refl, ap, subst}
+use Rattle.std.proofs.Common.{◌≡◌, ◌⊎◌, ℕ, List, Option, Some, IfSome, inl, inr, refl, ap, subst}
 use Rattle.outside_io.specs.{Rose}
 use Rattle.pcap_frames.specs.{FrameValue}
 use Rattle.frame_records.specs.{HasFrames, IsRefusedFor}

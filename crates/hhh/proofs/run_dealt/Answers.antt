@@ -1,0 +1,10 @@
+use Rattle.hhh.specs.Rules.{shard_by}
+use Rattle.hhh.proofs.run_dealt.Goals as goal
+
+pub returns-clause-done : goal.returns-clause-done
+returns-clause-done g c = λ done.
+    c.answers_follow_formulas.ensures.whole shard_by _ _ _ _ c.requires.by_formulas (c.run.ensures.done done)
+
+pub returns-clause-in_part : goal.returns-clause-in_part
+returns-clause-in_part g c = λ failed.
+    c.answers_follow_formulas.ensures.part shard_by _ _ _ _ c.requires.by_formulas (c.run.ensures.write_fault failed).in_part
