@@ -1,10 +1,10 @@
 -- Worked examples of what calls of a disk and crashes leave, most by computing.
-use Rattle.std.proofs.Common.{◌≡◌, ◌⊎◌, ℕ, zero, suc, ◌+◌, ◌<◌, ◌≤◌, List, [], ◌∷◌, length, get_or, Option, Some}
-use Rattle.std.proofs.Common.{None, true, false, refl, sym, ap, subst, inl, inr, arith}
+use Rattle.std.proofs.Common.{◌≡◌, ℕ, zero, suc, ◌<◌, ◌≤◌, List, [], ◌∷◌, length, get_or, Some}
+use Rattle.std.proofs.Common.{None, true, false, refl, ap, inl, inr, arith}
 use Rattle.slot_disk.specs.Images.{Gives, Torn, Written, TornFrom, Only}
-use Rattle.slot_disk.specs.Moments.{TimeGoesOn, Leaves, Unchanged, Leaves-call, Leaves-none, Leaves-trans, Leaves-weaker}
-use Rattle.slot_disk.specs.Recorded.{DiskStep, Wrote, Began, Synced, over, zeros, range_start, range_bytes}
-use Rattle.slot_disk.specs.Recorded.{written_over, reading, IsImage, WasImage, recorded_bytes, kept, crash_range}
+use Rattle.slot_disk.specs.Moments.{TimeGoesOn, Leaves, Unchanged, Leaves-call}
+use Rattle.slot_disk.specs.Recorded.{DiskStep, Wrote, Began, Synced, over, range_start}
+use Rattle.slot_disk.specs.Recorded.{written_over, reading, IsImage, WasImage, recorded_bytes}
 use Rattle.slot_disk.specs.Recorded.{crashed}
 use Rattle.slot_disk.specs.MemoryDisk.{MemoryDiskState, blows_at, has_blown, call_fails, write_fits, sync_fails}
 use Rattle.slot_disk.specs.MemoryDisk.{write_fails, after_call, after_fault, with_step, after_failed_write}

@@ -1,12 +1,11 @@
 -- Worked examples of stores of two slots, most by computing.
-use Rattle.std.proofs.Common.{◌≡◌, ◌⊎◌, ℕ, zero, suc, ◌≤◌, List, [], ◌∷◌, ◌++◌, length, Option, Some, None, true, false, refl, sym, ap, ◌∙◌, inl, inr, arith}
-use Rattle.slot_disk.specs.Images.{Only}
+use Rattle.std.proofs.Common.{◌≡◌, ◌⊎◌, ℕ, List, [], ◌∷◌, ◌++◌, length, Some, None, true, false, refl, sym, ap, ◌∙◌, inl, inr, arith}
 use Rattle.slot_disk.specs.Recorded.{zeros}
-use Rattle.slot_disk.specs.StoreLayout.{front_bytes, is_open, header_of, body_place, number_at, is_whole, body_at}
-use Rattle.slot_disk.specs.StoreLayout.{stored_body, SlotContent, Closed, Broken, Whole, shown, content}
-use Rattle.slot_disk.specs.KnownSlots.{SlotsState, known_open, with_open, slots_of, closed_slots, IsStore, StandsAs}
-use Rattle.slot_disk.specs.Puts.{other, closing, IsWhole, IsSound, IsReady, IsBody, CanClose, CanWrite, CanOpen}
-use Rattle.slot_disk.specs.Puts.{IsSameBeside, MayBeClosed, IsClosed, IsStored, MayBeOpen, MayLeave, IsPut}
+use Rattle.slot_disk.specs.StoreLayout.{is_open, header_of, body_place, number_at}
+use Rattle.slot_disk.specs.StoreLayout.{stored_body, Closed, Broken, Whole, content}
+use Rattle.slot_disk.specs.KnownSlots.{SlotsState, known_open, with_open, slots_of, closed_slots, StandsAs}
+use Rattle.slot_disk.specs.Puts.{closing, IsWhole, IsReady, IsBody}
+use Rattle.slot_disk.specs.Puts.{MayLeave, IsPut}
 
 -- a body of 9 bytes: its length, and a byte 5
 abbrev body : List ℕ

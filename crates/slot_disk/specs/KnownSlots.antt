@@ -1,5 +1,5 @@
 -- What is known of a store: its gates and its header.
-use Rattle.std.specs.Prelude.{ℕ, zero, suc, ◌≡◌, ◌≤◌, Bool, true, false, List, length, Option, Some}
+use Rattle.std.specs.Prelude.{ℕ, zero, suc, ◌≡◌, ◌≤◌, Bool, true, false, List, length, Option}
 use Rattle.slot_disk.specs.Images.{IfKnown, Only}
 use Rattle.slot_disk.specs.StoreLayout.{front_bytes, is_open, header_of}
 
