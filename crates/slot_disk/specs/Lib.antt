@@ -17,4 +17,4 @@ pub use Rattle.slot_disk.specs.Moments.{TimeGoesOn, Leaves, Unchanged, Leaves-no
 pub use Rattle.slot_disk.specs.StoreLayout.{front_bytes, is_open, header_of, stored_body, SlotContent, Closed, Broken, Whole, content}
 unfoldable pub use Rattle.slot_disk.specs.StoreLayout.{number_at}
 pub use Rattle.slot_disk.specs.KnownSlots.{SlotsState, known_open, slots_of, closed_slots, IsStore, StandsAs}
-pub use Rattle.slot_disk.specs.Puts.{IsWhole, IsReady, IsBody, IsSameBeside, MayLeave, IsPut}
+pub use Rattle.slot_disk.specs.Puts.{IsWhole, IsReady, IsBody, IsSameBeside, MayLeave, IsPut, HoldsNewest, PutsLoseNothing}
