@@ -3,7 +3,7 @@
 # one thread and by `fold_block` alone, and reading a cut of all shards at their ends. The program for this
 # (`bench/board_program`) is no part of the product, so it is proved and built in a copy of the repository. It is run as
 #
-#     board_bench none|plain|board CAPACITY READS
+#     board_bench none|plain|board 4 100000 CAPACITY READS
 #
 # `none` only makes records and tables, and its time is taken from the others'; only `board` reads. Prints the least
 # processor times, and the instructions, which don't depend on other work on the machine. Needs python3, valgrind and
@@ -14,20 +14,7 @@ turns=${1:-25}
 work=$(mktemp -d)
 trap 'rm -rf "$work"' EXIT
 
-text=$here/board_program
-crate=$work/repository/crates/board_bench
-mkdir "$work/repository"
-cp -r "$here/../crates" "$here/../crates.txt" "$here/../HANDLES" "$work/repository"
-mkdir -p "$crate/src" "$crate/proofs/records" "$crate/proofs/read_cuts"
-cp "$text/main.txt" "$crate/src/main.rt"
-cp "$text/records.txt" "$crate/proofs/records/Invariants.antt"
-cp "$text/read_cuts.txt" "$crate/proofs/read_cuts/Invariants.antt"
-echo 'board_bench: prefix_lattice space_saving shard_state pass_tokens gate_workers' >>"$work/repository/crates.txt"
-(cd "$crate" && rt run -- none 2 0 >"$work/log" 2>&1) || {
-    tail -n 20 "$work/log" >&2
-    exit 1
-}
-program=$crate/out/board_bench
+program=$("$here/build_board.sh" "$work")
 
 # The instructions of one run: WORD...
 instructions() {
@@ -37,15 +24,15 @@ instructions() {
 for capacity in 512 4096; do
     reads=$((512 * 400 / capacity))
     for mode in none plain board; do
-        echo "$program $mode $capacity 0"
+        echo "$program $mode 4 100000 $capacity 0"
     done >"$work/commands"
-    echo "$program board $capacity $reads" >>"$work/commands"
+    echo "$program board 4 100000 $capacity $reads" >>"$work/commands"
     times=$(python3 "$here/least_times.py" "$turns" <"$work/commands")
     counts=$(
         for mode in none plain board; do
-            instructions $mode $capacity 0
+            instructions $mode 4 100000 $capacity 0
         done
-        instructions board $capacity 10
+        instructions board 4 100000 $capacity 10
     )
     echo $times $counts | awk -v capacity=$capacity -v reads=$reads '{
         plain = $2 - $1

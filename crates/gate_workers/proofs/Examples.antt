@@ -26,13 +26,13 @@ pair = record { list = x ∷ x ∷ []; base = empty_snapshot 4; position = 0 }
 abbrev single : ShardValue
 single = record { list = x ∷ []; base = empty_snapshot 4; position = 0 }
 
-abbrev shards : List ShardValue
+abbrev pub shards : List ShardValue
 shards = pair ∷ single ∷ []
 
-abbrev first : View
+abbrev pub first : View
 first = first_view shards
 
-abbrev trail : ℕ → Trail
+abbrev pub trail : ℕ → Trail
 trail position = record { seen = position; looks = []; reads = []; folds = []; losses = [] }
 
 abbrev one : Folded

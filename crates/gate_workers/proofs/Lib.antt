@@ -1,3 +1,5 @@
 pub mod FeedLemmas
 pub mod CallLemmas
 pub mod Examples
+mod GatherLemmas
+pub mod ExamplesOfThreads

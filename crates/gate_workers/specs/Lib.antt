@@ -1,2 +1,5 @@
 pub mod Feed
 pub mod Call
+pub mod Plan
+pub mod Rounds
+pub mod Gather

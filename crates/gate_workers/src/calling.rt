@@ -42,8 +42,8 @@ pub fn call_reports<R: Wait, G: Gate>(
     (pass, reports)
 }
 
-// The reports of all rounds.
-fn report_in_rounds<R: Wait, G: Gate>(
+/// The reports of all rounds, read with a pass and a cut that are lent.
+pub(crate) fn report_in_rounds<R: Wait, G: Gate>(
     rt: &R,
     alloc: Global,
     board: &Board,

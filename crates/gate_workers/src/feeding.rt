@@ -7,7 +7,12 @@ ghost use Rattle.gate_workers.specs.Feed.{Feeds, HasSeenEnd, HasSeenEnds};
 use crate::Gate;
 use pass_tokens::{Board, Pass, TryFold};
 use std::sync::Wait;
-use std::thread;
+use std::sync::atomic::AtomicU64;
+use std::time::Duration;
+
+// How long a worker sleeps that met no free shard with records left, in microseconds: less than a fold of 1,024 records
+// takes.
+const NAP_MICROS: u64 = 200;
 
 /// Counts blocks of the board's shards, `block` records at a time, at least one, until all shards are at their ends.
 /// Worker w begins at shard w mod the number of shards, stays at a shard while no other pass holds it, and goes round.
@@ -26,13 +31,37 @@ pub fn feed_all<R: Wait, G: Gate>(
     ensures ends { HasSeenEnds board.now.opening (view result) }
     ensures pass { IsPassOf board.now result }
 {
+    feed_to_ends(rt, board, &mut pass, worker, block, gate);
+    pass
+}
+
+/// What `feed_all` does, with a pass that is lent.
+pub(crate) fn feed_to_ends<R: Wait, G: Gate>(
+    rt: &R,
+    board: &Board,
+    pass: &mut Pass,
+    worker: u32,
+    block: u32,
+    gate: &G,
+)
+    requires block { 1 ≤ block }
+    requires pass { IsPassOf board.now pass.old }
+    ensures feeds { Feeds board.now.opening block (view pass.old) (view pass.new) }
+    ensures ends { HasSeenEnds board.now.opening (view pass.new) }
+    ensures pass { IsPassOf board.now pass.new }
+{
     for _ in rt.forever() {
-        if feed_round(rt, board, &mut pass, worker, block, gate) {
-            return pass;
+        if feed_round(rt, board, pass, worker, block, gate) {
+            return;
         }
-        thread::yield_now();
+        nap(rt);
     }
     unreachable!()
+}
+
+// Sleeps for a moment, so that a worker that waits for a shard leaves its processor to others.
+fn nap<R: Wait>(rt: &R) {
+    AtomicU64::new(0).park_timeout(rt, 0, Duration::from_micros(NAP_MICROS));
 }
 
 // Feeds each shard in turn. Whether all are at their ends.

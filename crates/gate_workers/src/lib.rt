@@ -1,13 +1,23 @@
 //! Workers that feed the shards of a board, and callers that report on it, each with a pass of its own.
 #![tactic(auto)]
 
+mod callers;
 mod calling;
 mod feeding;
 mod gate;
+mod gathered;
+mod plan;
+mod rounds;
+mod running;
+mod workers;
 
 pub use calling::call_reports;
 pub use feeding::feed_all;
 pub use gate::{Gate, OpenGate};
+pub use gathered::{Called, Gathered};
+pub use plan::ThreadPlan;
+pub use rounds::Rounds;
+pub use running::run_threads;
 
 #[cfg(test)]
 mod tests;

@@ -8,11 +8,12 @@ use pass_tokens::{Board, Pass};
 use prefix_lattice::{Record, RecordList};
 use shard_state::{Cut, ShardState};
 use std::alloc::{AllocError, Global};
+use std::marker::Sync;
 use std::sync::Wait;
 use std::sync::atomic::{AtomicU64, Ordering};
 use std::test::Fail;
 use std::thread;
-use std::thread::join;
+use std::thread::{Threads, join};
 
 // How often a thread looks before it gives up.
 const TURNS: u32 = 10_000_000;
@@ -228,5 +229,142 @@ fn nobody_waits_at_an_open_gate(rt: HostRuntime) -> Result<(), Fail> {
         ),
         (11, 6, 2)
     );
+    Ok(())
+}
+
+// Rounds of the calling thread that read the board, and count how often they were made.
+#[derive(Drop)]
+struct Watching {
+    cut: Cut,
+    rounds: u32,
+    made: u32,
+}
+
+impl Rounds for Watching {
+    ghost use Rattle.std.specs.Prelude.{length, refl};
+    ghost use Rattle.shard_state.specs.{HasShape, capacity_of};
+
+    ghost ready = { λ r board view. HasShape (length board.opening) (capacity_of board.opening) r.cut };
+
+    ghost stays = { λ rounds board before now later ready. ready };
+
+    ghost does = { λ rounds before later now. Unit {0} };
+
+    fn go<R: Wait>(&mut self, rt: &R, _alloc: Global, board: &Board, pass: &mut Pass) {
+        self.made = self.made.wrapping_add(1);
+        for _round in 0..self.rounds {
+            board.read_cut(rt, pass, &mut self.cut);
+        }
+    }
+}
+
+fn plan(workers: u32, callers: u32) -> ThreadPlan
+    ensures { result ≡ record { workers = workers; callers = callers; rounds = 2; block = 1; phi = 500000; capacity = 4 } }
+{
+    ThreadPlan {
+        workers,
+        callers,
+        rounds: 2,
+        block: 1,
+        phi: 500_000,
+        capacity: 4,
+    }
+}
+
+// What `run_threads` brings back from one board.
+fn gathered<R: Threads + Wait + Sync, G: Gate + Sync>(
+    rt: &R,
+    alloc: Global,
+    states: Vec<ShardState>,
+    plan: &ThreadPlan,
+    gate: &G,
+) -> Result<(Watching, Gathered), AllocError>
+    requires states { AreShards states.items }
+    requires capacity { capacity_of states.items ≡ 4 }
+    requires plan { (1 ≤ plan.now.workers) × (plan.now.block ≡ 1) × (plan.now.phi ≡ 500000) × (plan.now.capacity ≡ 4) }
+{
+    let shards = states.len() as u32;
+    let (board, pass) = Board::start(alloc, states)?;
+    let mut work = Watching {
+        cut: Cut::with_room(alloc, shards, 4)?,
+        rounds: 3,
+        made: 0,
+    };
+    let gathered = run_threads(rt, alloc, &board, pass, plan, gate, &mut work)?;
+    Ok((work, gathered))
+}
+
+#[test]
+fn two_workers_of_a_plan_feed_at_once(rt: HostRuntime) -> Result<(), Fail> {
+    let gate = Meeting {
+        first: AtomicU64::new(0),
+        second: AtomicU64::new(0),
+        missed: AtomicU64::new(0),
+    };
+    let states = worked_states(rt.alloc())?;
+    let (_work, gathered) = gathered(&rt, rt.alloc(), states, &plan(2, 0), &gate)?;
+    assert_eq!(rt; gate.missed.load(Ordering::SeqCst), 0);
+    assert_eq!(rt; gathered.called.len(), 0);
+    Ok(())
+}
+
+#[test]
+fn a_caller_of_a_plan_reads_between_two_folds(rt: HostRuntime) -> Result<(), Fail> {
+    let gate = Turnstile {
+        folds: AtomicU64::new(0),
+        reads: AtomicU64::new(0),
+        missed: AtomicU64::new(0),
+    };
+    let states = eight_packets(rt.alloc())?;
+    let (_work, gathered) = gathered(&rt, rt.alloc(), states, &plan(1, 1), &gate)?;
+    assert_eq!(rt; gate.missed.load(Ordering::SeqCst), 0);
+    let called = gathered.called.first().ok_or("a caller")?;
+    let one = called.reports.as_slice().first().ok_or("a first report")?;
+    assert_eq!(rt; one.report.positions.as_slice(), [2].as_slice());
+    Ok(())
+}
+
+#[test]
+fn all_threads_bring_back_what_they_did(rt: HostRuntime) -> Result<(), Fail> {
+    let states = worked_states(rt.alloc())?;
+    let (work, gathered) = gathered(&rt, rt.alloc(), states, &plan(2, 3), &OpenGate)?;
+    assert_eq!(rt; work.made, 1);
+    assert_eq!(rt; gathered.called.len(), 3);
+    for called in &gathered.called {
+        assert_eq!(rt; called.reports.len(), 2);
+    }
+    Ok(())
+}
+
+// The most blocks of the address space that are taken, and the greatest and the least of them in bytes. A stack takes
+// more than the least.
+const MOST_BLOCKS: usize = 65_536;
+
+const GREATEST_BLOCK: usize = 1 << 34;
+
+const LEAST_BLOCK: usize = 1 << 20;
+
+// Takes so much of the address space that no stack of a thread fits into what is left. None of it is touched.
+fn take_address_space(alloc: Global) -> Result<Vec<Vec<u8>>, AllocError> {
+    let mut taken = Vec::with_capacity(alloc, MOST_BLOCKS)?;
+    let mut size = GREATEST_BLOCK;
+    for _ in 0..MOST_BLOCKS {
+        match Vec::with_capacity(alloc, size) {
+            Ok(block) => taken.push(block)?,
+            Err(_) if size > LEAST_BLOCK => size /= 2,
+            Err(_) => break,
+        }
+    }
+    Ok(taken)
+}
+
+#[test]
+fn all_work_is_done_where_no_thread_starts(rt: HostRuntime) -> Result<(), Fail> {
+    let states = worked_states(rt.alloc())?;
+    let taken = take_address_space(rt.alloc())?;
+    assert!(rt; thread::spawn(&rt, || {}).is_err());
+    let (work, gathered) = gathered(&rt, rt.alloc(), states, &plan(2, 3), &OpenGate)?;
+    drop(taken);
+    assert_eq!(rt; (work.made, gathered.called.len()), (1, 3));
     Ok(())
 }

@@ -6,5 +6,6 @@ pub mod NodeLineLemmas
 pub mod LevelLemmas
 pub mod LevelsLemmas
 pub mod SelectionLemmas
+pub mod WeightsRiseLemmas
 pub mod Examples
 pub mod ExamplesOfSelecting

@@ -1,14 +1,14 @@
 //! Laws of reports, each the contract of a function that does nothing.
 
 ghost use Rattle.std.specs.Prelude.{◌≡◌, ℕ, ◌≤◌, List, All, Some, length, slice_get};
-ghost use Rattle.prefix_lattice.specs.{RecordValue};
-ghost use Rattle.shard_state.specs.{CutValue, IsCut, positions_of, CutRepresents, CoreValue, HasShape};
+ghost use Rattle.prefix_lattice.specs.{RecordValue, weight_of};
+ghost use Rattle.shard_state.specs.{CutValue, IsCut, positions_of, CutRepresents, CoreValue, HasShape, records_before};
 ghost use Rattle.shard_state.specs.{IsCore, capacity_of, run, BasesRepresent, ReadsEach, lists_of};
 ghost use Rattle.shard_state.specs.declared.event.Event.{Event};
 ghost use Rattle.hhh_output.specs.declared.report.Report.{Report};
 ghost use Rattle.hhh_output.specs.Lines.{AreLines};
 ghost use Rattle.hhh_output.specs.Report.{IsReportOf, AreSame};
-ghost use Rattle.hhh_output.specs.SoundReport.{IsSound};
+ghost use Rattle.hhh_output.specs.SoundReport.{AreNotPast, IsSound};
 ghost use Rattle.hhh_output.specs.Threshold.{IsWideShare};
 
 use conditioned_bounds::{bounds_hold, only_prefixes_are_asked};
@@ -49,6 +49,17 @@ pub fn reports_are_sound()
     only_prefixes_are_asked();
     bounds_hold();
 }
+
+/// What a sound report says of other positions. At positions that aren't past its own, no line's prefix weighs more
+/// than the line's high; at positions that aren't before its own, none weighs less than the line's low. So of two
+/// reports of one caller, the earlier one gives a lower limit for what the later one counts, and the later one an upper
+/// limit for what the earlier one counted.
+pub fn lines_bound_other_positions()
+    ensures earlier { (report : Report) (lists : List (List RecordValue)) (capacity phi : ℕ) (positions : List ℕ) → IsSound report lists capacity phi
+        → AreNotPast positions report.positions → All (λ line. weight_of line.prefix (records_before lists positions) ≤ line.hi) report.lines }
+    ensures later { (report : Report) (lists : List (List RecordValue)) (capacity phi : ℕ) (positions : List ℕ) → IsSound report lists capacity phi
+        → AreNotPast report.positions positions → All (λ line. line.lo ≤ weight_of line.prefix (records_before lists positions)) report.lines }
+{}
 
 /// After any events on the core, the report of each cut in which a caller read every shard is sound over the
 /// shards' lists, if the base of each shard represents its list.

@@ -1,6 +1,6 @@
 use Rattle.pass_tokens.specs.{IsPassOf, view}
 use Rattle.gate_workers.specs.Feed.{Feeds}
-use Rattle.gate_workers.proofs.feeding.feed_all.Given as goal
+use Rattle.gate_workers.proofs.feeding.feed_to_ends.Given as goal
 
 -- so far the pass only folded
 abbrev pub invariant-loop : goal.invariant-loop
