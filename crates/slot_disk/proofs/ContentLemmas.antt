@@ -189,8 +189,8 @@ beside_body span slot count old image small fits long torn sound = record {
       (gate_stays (body_place span slot) count (other slot) old image torn (omega (arith, other_small slot, long))
       (inl (omega (arith, late span slot, other_small slot)))) sound
       (λ body was.
-          body_stays span (body_place span (other slot)) (body_place span slot) count body old image torn
-          (bodies_apart span slot count small fits) was);
+      body_stays span (body_place span (other slot)) (body_place span slot) count body old image torn
+      (bodies_apart span slot count small fits) was);
 }
 
 -- the body of a slot whose gate is written

@@ -1,15 +1,25 @@
 -- Worked examples of what calls of a disk and crashes leave, most by computing.
-use Rattle.std.proofs.Common.{◌≡◌, ◌⊎◌, ℕ, zero, suc, ◌+◌, ◌<◌, ◌≤◌, List, [], ◌∷◌, length, get_or, Option, Some}
-use Rattle.std.proofs.Common.{None, true, false, refl, sym, ap, subst, inl, inr, arith}
-use Rattle.slot_disk.specs.Images.{Gives, Torn, Written, TornFrom, Only}
-use Rattle.slot_disk.specs.Moments.{TimeGoesOn, Leaves, Unchanged, Leaves-call, Leaves-none, Leaves-trans, Leaves-weaker}
-use Rattle.slot_disk.specs.Recorded.{DiskStep, Wrote, Began, Synced, over, zeros, range_start, range_bytes}
-use Rattle.slot_disk.specs.Recorded.{written_over, reading, IsImage, WasImage, recorded_bytes, kept, crash_range}
+use Rattle.std.proofs.Common.{◌≡◌, ℕ, zero, suc, ◌<◌, ◌≤◌, List, [], ◌∷◌, length, get_or, Some}
+use Rattle.std.proofs.Common.{None, true, false, refl, ap, inl, inr, arith}
+use Rattle.slot_disk.specs.Images.{IfKnown, IfBothKnown, Gives, Torn, Written, TornFrom, Only}
+use Rattle.slot_disk.specs.Moments.{TimeGoesOn, Leaves, Unchanged, Leaves-call}
+use Rattle.slot_disk.specs.Recorded.{DiskStep, Wrote, Began, Synced, over, range_start}
+use Rattle.slot_disk.specs.Recorded.{written_over, reading, IsImage, WasImage, recorded_bytes}
 use Rattle.slot_disk.specs.Recorded.{crashed}
 use Rattle.slot_disk.specs.MemoryDisk.{MemoryDiskState, blows_at, has_blown, call_fails, write_fits, sync_fails}
 use Rattle.slot_disk.specs.MemoryDisk.{write_fails, after_call, after_fault, with_step, after_failed_write}
 use Rattle.slot_disk.specs.MemoryDisk.{disk_reads, disk_image_now, disk_moment, disk_image_since}
 use Rattle.slot_disk.specs.OverLaws.{torn_from_itself}
+
+pub known_bytes_are_short : IfKnown (Some (5 ∷ [])) (λ bytes. length bytes ≤ 1)
+known_bytes_are_short bytes is = let same : 5 ∷ [] ≡ bytes = cc is in omega (arith, ap length same)
+
+-- of a disk whose bytes are unknown nothing is said
+pub unknown_bytes : IfKnown None (λ bytes. length bytes ≤ 1)
+unknown_bytes bytes is = absurd (cc is)
+
+pub bytes_that_stayed : IfBothKnown (Some (5 ∷ [])) (Some (5 ∷ [])) (λ before after. before ≡ after)
+bytes_that_stayed before after was is = cc (was, is)
 
 -- a read of two bytes at offset 1 of three bytes; the room has a third place
 pub two_bytes_are_read : Gives 1 3 (5 ∷ 6 ∷ 7 ∷ []) (6 ∷ 7 ∷ 0 ∷ []) 2

@@ -1,12 +1,11 @@
 -- Worked examples of stores of two slots, most by computing.
-use Rattle.std.proofs.Common.{◌≡◌, ◌⊎◌, ℕ, zero, suc, ◌≤◌, List, [], ◌∷◌, ◌++◌, length, Option, Some, None, true, false, refl, sym, ap, ◌∙◌, inl, inr, arith}
-use Rattle.slot_disk.specs.Images.{Only}
+use Rattle.std.proofs.Common.{◌≡◌, ◌⊎◌, ℕ, List, [], ◌∷◌, ◌++◌, length, Some, None, true, false, refl, sym, ap, ◌∙◌, inl, inr, arith}
 use Rattle.slot_disk.specs.Recorded.{zeros}
-use Rattle.slot_disk.specs.StoreLayout.{front_bytes, is_open, header_of, body_place, number_at, is_whole, body_at}
-use Rattle.slot_disk.specs.StoreLayout.{stored_body, SlotContent, Closed, Broken, Whole, shown, content}
-use Rattle.slot_disk.specs.KnownSlots.{SlotsState, known_open, with_open, slots_of, closed_slots, IsStore, StandsAs}
-use Rattle.slot_disk.specs.Puts.{other, closing, IsWhole, IsSound, IsReady, IsBody, CanClose, CanWrite, CanOpen}
-use Rattle.slot_disk.specs.Puts.{IsSameBeside, MayBeClosed, IsClosed, IsStored, MayBeOpen, MayLeave, IsPut}
+use Rattle.slot_disk.specs.StoreLayout.{is_open, header_of, body_place, number_at, IsNumber}
+use Rattle.slot_disk.specs.StoreLayout.{stored_body, Closed, Broken, Whole, content}
+use Rattle.slot_disk.specs.KnownSlots.{SlotsState, known_open, with_open, slots_of, closed_slots, StandsAs}
+use Rattle.slot_disk.specs.Puts.{closing, IsWhole, IsReady, IsBody}
+use Rattle.slot_disk.specs.Puts.{CanClose, CanWrite, CanOpen, MayBeClosed, IsStored, MayBeOpen, MayLeave, IsPut, HoldsNewest}
 
 -- a body of 9 bytes: its length, and a byte 5
 abbrev body : List ℕ
@@ -129,3 +128,48 @@ after_the_put = record { beside = record { long = omega arith; header = refl; ot
 pub other_gate_stays : MayLeave 16 0 body (store 0 0) (store 1 1) → ⊥
 unfolding number_at
 other_gate_stays may = let broken : Broken ≡ Closed = may.beside.other_slot in cc broken
+
+pub number_is_read : IsNumber 64 (Some 9) (store 1 0)
+unfolding number_at
+number_is_read = (omega arith, refl)
+
+pub number_past_the_end : IsNumber 80 None (store 1 0)
+number_past_the_end = omega arith
+
+-- the parts of that put: a gate that is closed already, a body that was written, a gate that is opened
+pub closed_gate_may_be_closed : CanClose 16 0 false (store 0 0)
+closed_gate_may_be_closed = record { long = omega arith; gate = refl; slot_holds = inr refl; other_holds = inr refl }
+
+pub gate_stays_closed : MayBeClosed 16 0 (store 0 0) (store 0 0)
+gate_stays_closed = record { beside = record { long = omega arith; header = refl; other_slot = refl }; slot_holds = inr refl }
+
+pub body_may_be_written : CanWrite 16 0 (store 0 0)
+body_may_be_written = record { long = omega arith; slot_holds = refl; other_holds = inr refl }
+
+pub body_may_not_be_written_under_an_open_gate : CanWrite 16 0 (store 1 0) → ⊥
+unfolding number_at
+body_may_not_be_written_under_an_open_gate can = let whole : Whole body ≡ Closed = can.slot_holds in cc whole
+
+pub body_was_stored : IsStored 16 0 body (store 0 0) (store 0 0)
+unfolding number_at
+body_was_stored = record {
+  closed = record { beside = record { long = omega arith; header = refl; other_slot = refl }; slot_holds = refl };
+  stored = refl;
+}
+
+pub gate_may_be_opened : CanOpen 16 0 body (store 0 0)
+unfolding number_at
+gate_may_be_opened = record { long = omega arith; slot_holds = refl; stored = refl; other_holds = inr refl }
+
+pub gate_came_open : MayBeOpen 16 0 body (store 0 0) (store 1 0)
+unfolding number_at
+gate_came_open = record { beside = record { long = omega arith; header = refl; other_slot = refl }; slot_holds = inr refl }
+
+-- of a store with no open gate a put may leave nothing, or the new body
+pub new_body_stands : HoldsNewest 16 0 body (store 0 0) (store 1 0)
+unfolding number_at
+new_body_stands = inr (refl, inr refl)
+
+pub old_body_stands : HoldsNewest 16 1 body (store 1 0) (store 1 0)
+unfolding number_at
+old_body_stands = inl (body, refl, refl)

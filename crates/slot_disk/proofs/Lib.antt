@@ -5,5 +5,6 @@ pub mod BodyLemmas
 pub mod ContentLemmas
 pub mod PutLemmas
 pub mod FormatLemmas
+pub mod NewestLemmas
 pub mod ExamplesOfDisks
 pub mod ExamplesOfStores

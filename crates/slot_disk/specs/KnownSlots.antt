@@ -1,6 +1,8 @@
 -- What is known of a store: its gates and its header.
-use Rattle.std.specs.Prelude.{ℕ, zero, suc, ◌≡◌, ◌≤◌, Bool, true, false, List, length, Option, Some}
+use Rattle.std.specs.Prelude.{ℕ, zero, suc, ◌≡◌, ◌≤◌, Bool, true, false, List, length, Option}
+use Rattle.std.proofs.Common.{sym, ◌∙◌}
 use Rattle.slot_disk.specs.Images.{IfKnown, Only}
+use Rattle.slot_disk.specs.Moments.{Unchanged}
 use Rattle.slot_disk.specs.StoreLayout.{front_bytes, is_open, header_of}
 
 -- whether each gate is open, and the header
@@ -36,3 +38,15 @@ StandsAs reads possible slots = IfKnown reads (λ bytes. IsStore bytes possible 
 -- both gates closed, and this header
 abbrev pub closed_slots : List ℕ → SlotsState
 closed_slots header = record { first_open = false; second_open = false; header = header }
+
+-- a disk stands as before after a call that changes neither what a read gives nor the images
+pub StandsAs-unchanged : {D : Type 0} (reads : D → Option (List ℕ)) (image_now : D → List ℕ → Type 0) (old new : D)
+    (slots : SlotsState) → Unchanged reads image_now old new → StandsAs (reads old) (image_now old) slots
+    → StandsAs (reads new) (image_now new) slots
+StandsAs-unchanged reads image_now old new slots same stands bytes is =
+    let store = stands bytes (sym same.same_reads ∙ is) in
+    record {
+      long = store.long;
+      slots_are = store.slots_are;
+      only = λ image now. store.only image ((same.same_images image).0 now);
+    }

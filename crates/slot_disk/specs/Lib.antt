@@ -16,5 +16,5 @@ pub use Rattle.slot_disk.specs.Images.{IfKnown, IfBothKnown, Gives, Torn, Writte
 pub use Rattle.slot_disk.specs.Moments.{TimeGoesOn, Leaves, Unchanged, Leaves-none, Leaves-call, Leaves-trans, Leaves-weaker}
 pub use Rattle.slot_disk.specs.StoreLayout.{front_bytes, is_open, header_of, stored_body, SlotContent, Closed, Broken, Whole, content}
 unfoldable pub use Rattle.slot_disk.specs.StoreLayout.{number_at}
-pub use Rattle.slot_disk.specs.KnownSlots.{SlotsState, known_open, slots_of, closed_slots, IsStore, StandsAs}
-pub use Rattle.slot_disk.specs.Puts.{IsWhole, IsReady, IsBody, IsSameBeside, MayLeave, IsPut}
+pub use Rattle.slot_disk.specs.KnownSlots.{SlotsState, known_open, slots_of, closed_slots, IsStore, StandsAs, StandsAs-unchanged}
+pub use Rattle.slot_disk.specs.Puts.{IsWhole, IsReady, IsBody, IsSameBeside, MayLeave, IsPut, HoldsNewest, PutsLoseNothing}

@@ -88,3 +88,15 @@ pub record MayLeave (span slot : ℕ) (body old image : List ℕ) : Type 0 where
 pub record IsPut (span slot : ℕ) (body old image : List ℕ) : Type 0 where
   pub beside : IsSameBeside span slot old image
   pub slot_holds : content span slot image ≡ Whole body
+
+-- the newest body stands: the old one whole in the other slot, or where no slot was open, nothing or the new one
+abbrev pub HoldsNewest : ℕ → ℕ → List ℕ → List ℕ → List ℕ → Type 0
+HoldsNewest span slot body old image =
+    ((held : List ℕ) × (content span (other slot) old ≡ Whole held) × (content span (other slot) image ≡ Whole held))
+    ⊎ ((content span (other slot) image ≡ Closed) × ((content span slot image ≡ Closed) ⊎ (content span slot image ≡ Whole body)))
+
+-- a put loses nothing: of a store that is ready for it, it may leave only what holds the newest body, the old or the new
+abbrev pub PutsLoseNothing : Type 0
+PutsLoseNothing =
+    (span slot : ℕ) (body old image : List ℕ) → IsReady span slot old → MayLeave span slot body old image
+    → HoldsNewest span slot body old image

@@ -5,6 +5,7 @@ mod crashing;
 mod disk;
 mod fault;
 mod formatting;
+mod laws;
 mod memory_disk;
 mod overwriting;
 mod putting;
@@ -15,6 +16,7 @@ mod step_entry;
 pub use disk::Disk;
 pub use fault::{BeginFault, BodyFault};
 pub use formatting::format;
+pub use laws::puts_lose_nothing;
 pub use memory_disk::MemoryDisk;
 pub use slots::Slots;
 

@@ -78,8 +78,16 @@ impl MemoryDisk {
         fails: Vec<u64>,
     ) -> Result<MemoryDisk, AllocError>
         requires { length bytes.items ≤ room }
-        ensures { IfOk result (λ disk. disk ≡ record { room = room; log = log; first = bytes.items; steps = []; fuse = fuse; fails = fails.items;
-            calls = 0; faults = 0 }) }
+        ensures { IfOk result (λ disk. disk ≡ record {
+          room = room;
+          log = log;
+          first = bytes.items;
+          steps = [];
+          fuse = fuse;
+          fails = fails.items;
+          calls = 0;
+          faults = 0;
+        }) }
     {
         let mut contents = Vec::with_capacity(alloc, room)?;
         contents.extend_from_slice(&bytes)?;

@@ -65,7 +65,7 @@ pub(crate) struct NewestStep<'a> {
 pub(crate) fn take_newest<'a>(entries: &'a [StepEntry], written: &'a [u8]) -> Option<NewestStep<'a>>
     ensures step { MatchOption result (recorded_steps entries.now written.now ≡ [])
         (λ newest. recorded_steps entries.now written.now
-            ≡ step_of newest.kind newest.place newest.piece.now ∷ recorded_steps newest.entries.now newest.written.now) }
+        ≡ step_of newest.kind newest.place newest.piece.now ∷ recorded_steps newest.entries.now newest.written.now) }
     ensures fewer { IfSome result (λ newest. length newest.entries.now < length entries.now) }
 {
     if entries.is_empty() {
