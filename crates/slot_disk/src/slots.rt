@@ -98,6 +98,7 @@ impl Slots {
         }
         Ok(body)
     }
+
     /// Puts a body into a slot, 0 or 1: closes its gate, writes the body, opens the gate, and syncs after each. The body
     /// begins with its length in 8 bytes, high byte first, and has at most as many bytes as the span.
     ///
