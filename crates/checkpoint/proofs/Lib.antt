@@ -1,1 +1,9 @@
+pub mod NumberLemmas
+pub mod LengthLemmas
 pub mod SpellingLemmas
+pub mod AppendLemmas
+pub mod ReadLemmas
+pub mod PartLemmas
+pub mod TableLemmas
+pub mod SnapshotLemmas
+pub mod BodyLemmas

@@ -22,11 +22,6 @@ same_front xs ys r s long same = (
   sym (drop_at xs r (length xs) refl) ∙ ap (drop (length xs)) same ∙ drop_at ys s (length xs) (sym long),
 )
 
--- numbers have as many bytes as is asked
-pub length-number_bytes : (count number : ℕ) → length (number_bytes count number) ≡ count
-unfolding number_bytes
-length-number_bytes count number = length-bytes_high_first count number
-
 -- the spellings of numbers
 pub numbers_are_apart : (count : ℕ) → IsPrefixFree (number_bytes count) (λ number. number < 256 ^ count)
 unfolding number_bytes
@@ -37,6 +32,11 @@ numbers_are_apart count x y r s fits_x fits_y same =
       sym (big_number-reads_back count x r fits_x) ∙ ap (big_from 0 count) same ∙ big_number-reads_back count y s fits_y,
       front.1,
     )
+
+-- the first value of a list, and what follows it
+pub first_apart : {A : Type 0} (spell : A → List ℕ) (x : A) (xs : List A) (r : List ℕ)
+    → flat_map spell (x ∷ xs) ++ r ≡ spell x ++ (flat_map spell xs ++ r)
+first_apart spell x xs r = ap (λ (l : List ℕ). l ++ r) (flat_map-cons spell x xs) ∙ append_assoc (spell x) (flat_map spell xs) r
 
 -- lists of as many values
 pub lists_are_apart : {A : Type 0} (spell : A → List ℕ) (Fits : A → Type 0) → IsPrefixFree spell Fits
@@ -52,7 +52,3 @@ lists_are_apart {A = A} spell Fits apart (x ∷ xs) (y ∷ ys) r s long fit_x fi
     (All-head Fits x xs fit_x) (All-head Fits y ys fit_y) grouped in
     let tails = lists_are_apart spell Fits apart xs ys r s (omega (arith, long)) (All-tail Fits x xs fit_x) (All-tail Fits y ys fit_y) heads.1 in
     (ap (λ (h : A). h ∷ xs) heads.0 ∙ ap (λ (t : List A). y ∷ t) tails.0, tails.1)
-  where
-    first_apart : {A : Type 0} (spell : A → List ℕ) (x : A) (xs : List A) (r : List ℕ)
-        → flat_map spell (x ∷ xs) ++ r ≡ spell x ++ (flat_map spell xs ++ r)
-    first_apart spell x xs r = ap (λ (l : List ℕ). l ++ r) (flat_map-cons spell x xs) ∙ append_assoc (spell x) (flat_map spell xs) r

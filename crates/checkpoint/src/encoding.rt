@@ -3,6 +3,7 @@
 ghost use Rattle.std.specs.Prelude.{◌≡◌, ◌+◌, ◌*◌, ◌<◌, ◌≤◌, ◌^◌, ◌++◌, length, All, OnOk, IfOk};
 ghost use Rattle.std.specs.List.{flat_map};
 ghost use Rattle.prefix_lattice.specs.{most_shards};
+ghost use Rattle.shard_state.specs.{IsSnapshot};
 ghost use Rattle.checkpoint.specs.Body.{entry_bytes, table_bytes, snapshot_bytes, HasShortKeys, KeysFit, IsBody, last_sequence};
 
 use crate::lengths::body_length;
@@ -57,6 +58,7 @@ fn push_snapshot(out: &mut Vec<u8>, snapshot: &Snapshot) -> Result<(), AllocErro
 
 // Appends the tables of a shard, in the order of their nodes' indexes.
 fn push_tables(out: &mut Vec<u8>, snapshot: &Snapshot) -> Result<(), AllocError>
+    requires { IsSnapshot snapshot.now }
     ensures spelled { OnOk result (out.new.items ≡ out.old.items ++ flat_map table_bytes snapshot.now.tables) }
     ensures keys { OnOk result (KeysFit snapshot.now) }
 {
@@ -72,6 +74,7 @@ fn push_table(out: &mut Vec<u8>, table: &Flat) -> Result<(), AllocError>
     ensures spelled { OnOk result (out.new.items ≡ out.old.items ++ table_bytes table.now.entries) }
     ensures keys { OnOk result (HasShortKeys table.now.entries) }
 {
+    let _capacity = table.capacity();
     push_number(out, table.total())?;
     push_count(out, table.len() as u32)?;
     push_entries(out, table)

@@ -3,6 +3,7 @@
 ghost use Rattle.std.specs.Prelude.{◌≡◌, ◌+◌, ◌*◌, ◌≤◌, length};
 ghost use Rattle.std.specs.List.{flat_map};
 ghost use Rattle.prefix_lattice.specs.{most_shards};
+ghost use Rattle.shard_state.specs.{IsSnapshot};
 ghost use Rattle.checkpoint.specs.Body.{table_bytes, snapshot_bytes};
 
 use prefix_lattice::Node;
@@ -22,6 +23,7 @@ pub(crate) fn body_length(cut: &Cut) -> usize
 }
 
 fn snapshot_length(snapshot: &Snapshot) -> usize
+    requires { IsSnapshot snapshot.now }
     ensures is { result ≡ length (snapshot_bytes snapshot.now) }
     ensures bounded { result ≤ 8 + 25 * 98316 }
 {
