@@ -4,7 +4,7 @@ use Rattle.std.specs.List.{flat_map}
 use Rattle.std.proofs.lemmas.List.{length-append, append-nil}
 use Rattle.shard_state.specs.{SnapshotValue, CutValue, IsCut}
 use Rattle.checkpoint.specs.Numbers.{number_bytes}
-use Rattle.checkpoint.specs.Body.{SavedValue, IsSaved, IsBody, content_bytes, body_bytes, snapshot_bytes}
+use Rattle.checkpoint.specs.Body.{SavedValue, KeysFit, IsSaved, IsBody, content_bytes, body_bytes, snapshot_bytes}
 use Rattle.checkpoint.specs.Reading.{Begins, AreMany, FitsSnapshot}
 use Rattle.checkpoint.proofs.NumberLemmas.{length-number_bytes}
 use Rattle.checkpoint.proofs.SpellingLemmas.{numbers_are_apart, same_front}
@@ -100,4 +100,34 @@ body_read shards capacity bytes after middle rest digest count sequence cut is_c
       };
       spelled = is_count ∙ ap (λ (l : List ℕ). number_bytes 8 count ++ l) content
           ∙ ap (λ (n : ℕ). number_bytes 8 n ++ content_bytes saved) counted;
+    }
+
+-- a body that was written
+pub written_body : (sequence : ℕ) (digest : List ℕ) (cut : CutValue) (count : ℕ) (first second third last : List ℕ)
+    → 1 ≤ sequence → sequence ≤ 2 ^ 62 → length digest ≡ 32 → IsCut cut → count ≡ 48 + length (flat_map snapshot_bytes cut.shards)
+    → first ≡ number_bytes 8 count → second ≡ first ++ number_bytes 8 sequence → third ≡ second ++ digest
+    → last ≡ third ++ flat_map snapshot_bytes cut.shards → All KeysFit cut.shards
+    → IsBody (length cut.shards) cut.capacity (record { sequence = sequence; digest = digest; cut = cut }) last
+written_body sequence digest cut count first second third last least most long is_cut counted is_first is_second is_third is_last keys =
+    let saved : SavedValue = record { sequence = sequence; digest = digest; cut = cut } in
+    let all = flat_map snapshot_bytes cut.shards in
+    let lengths : count ≡ 8 + length (content_bytes saved) =
+    omega (arith, counted, length-append (number_bytes 8 sequence) (digest ++ all), length-append digest all,
+      length-number_bytes 8 sequence, long) in
+    let grouped : ((number_bytes 8 count ++ number_bytes 8 sequence) ++ digest) ++ all ≡ number_bytes 8 count ++ content_bytes saved =
+    append_assoc (number_bytes 8 count ++ number_bytes 8 sequence) digest all
+    ∙ append_assoc (number_bytes 8 count) (number_bytes 8 sequence) (digest ++ all) in
+    record {
+      is_saved = record {
+        sequenced = least;
+        early = most;
+        digest = long;
+        shape = refl;
+        alike = refl;
+        cut = is_cut;
+        keys = keys;
+      };
+      spelled = is_last ∙ ap (λ (l : List ℕ). l ++ all) is_third ∙ ap (λ (l : List ℕ). (l ++ digest) ++ all) is_second
+          ∙ ap (λ (l : List ℕ). ((l ++ number_bytes 8 sequence) ++ digest) ++ all) is_first ∙ grouped
+          ∙ ap (λ (n : ℕ). number_bytes 8 n ++ content_bytes saved) lengths;
     }

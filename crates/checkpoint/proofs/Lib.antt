@@ -1,3 +1,4 @@
+pub mod FaultLemmas
 pub mod NumberLemmas
 pub mod LengthLemmas
 pub mod SpellingLemmas

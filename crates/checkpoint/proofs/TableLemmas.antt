@@ -1,5 +1,5 @@
 -- A table that bytes begin with.
-use Rattle.std.proofs.Common.{◌≡◌, ℕ, ◌+◌, ◌^◌, ◌<◌, ◌≤◌, List, ◌++◌, length, All, sym, ap, subst, ◌∙◌, append_assoc, arith}
+use Rattle.std.proofs.Common.{◌≡◌, ℕ, ◌+◌, ◌*◌, ◌^◌, ◌<◌, ◌≤◌, List, ◌++◌, length, All, sym, ap, subst, ◌∙◌, append_assoc, arith}
 use Rattle.std.specs.List.{flat_map}
 use Rattle.std.proofs.lemmas.List.{length-append}
 use Rattle.space_saving.specs.declared.entry.Entry.{Entry}
@@ -8,7 +8,7 @@ use Rattle.checkpoint.specs.Numbers.{number_bytes}
 use Rattle.checkpoint.specs.Body.{entry_bytes, table_bytes}
 use Rattle.checkpoint.specs.Reading.{Begins, AreMany, FitsEntry, FitsTable}
 use Rattle.checkpoint.proofs.SpellingLemmas.{numbers_are_apart}
-use Rattle.checkpoint.proofs.LengthLemmas.{length-table}
+use Rattle.checkpoint.proofs.LengthLemmas.{length-entries, length-table}
 use Rattle.checkpoint.proofs.PartLemmas.{three_parts, entries_fit}
 
 -- a table's bytes are at least 12
@@ -54,3 +54,9 @@ table_read capacity bytes after middle rest total count entries are total_is is_
       ∙ ap (λ (n : ℕ). number_bytes 8 n ++ (number_bytes 4 (length entries) ++ (flat_map entry_bytes entries ++ rest))) total_is
       ∙ sym (three_parts (number_bytes 8 (total_count entries)) (number_bytes 4 (length entries)) (flat_map entry_bytes entries) rest);
 }
+
+-- entries have 24 bytes each
+pub entries_are_long : (count : ℕ) (bytes : List ℕ) (entries : List Entry) (rest : List ℕ)
+    → Begins (flat_map entry_bytes) (AreMany FitsEntry count) bytes entries rest → length bytes ≡ 24 * count + length rest
+entries_are_long count bytes entries rest begins =
+    omega (arith, ap length begins.spelled, length-append (flat_map entry_bytes entries) rest, length-entries entries, begins.fits.as_many)

@@ -9,6 +9,7 @@ ghost use Rattle.checkpoint.specs.Settings.{AreSettings};
 ghost use Rattle.checkpoint.specs.Body.{SavedValue, IsBody, entry_bytes, table_bytes, snapshot_bytes};
 ghost use Rattle.checkpoint.specs.Reading.{AreMany, Begins, BeginsWithNone, FitsEntry, FitsSnapshot, FitsTable};
 
+use crate::lengths::NODES;
 use crate::numbers::{first_count, first_digest, first_number};
 use crate::{DecodeFault, Saved, StoreSettings};
 use shard_state::{Cut, Snapshot};
@@ -134,9 +135,9 @@ fn read_tables(
     ensures damaged { IsErrOf result DecodeFault.Damaged →
         BeginsWithNone (flat_map table_bytes) (AreMany (FitsTable capacity) node_count) bytes.now }
 {
-    let mut tables = Vec::with_capacity(alloc, 25)?;
+    let mut tables = Vec::with_capacity(alloc, usize::from(NODES))?;
     let mut rest = bytes;
-    for _index in 0..25 {
+    for _index in 0..NODES {
         let (table, after) = read_table(alloc, capacity, rest)?;
         tables.push(table)?;
         rest = after;

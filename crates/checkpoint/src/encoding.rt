@@ -6,7 +6,7 @@ ghost use Rattle.prefix_lattice.specs.{most_shards};
 ghost use Rattle.shard_state.specs.{IsSnapshot};
 ghost use Rattle.checkpoint.specs.Body.{entry_bytes, table_bytes, snapshot_bytes, HasShortKeys, KeysFit, IsBody, last_sequence};
 
-use crate::lengths::body_length;
+use crate::lengths::{NODES, body_length};
 use crate::numbers::{push_count, push_number};
 use prefix_lattice::Node;
 use shard_state::{Cut, Snapshot};
@@ -62,7 +62,7 @@ fn push_tables(out: &mut Vec<u8>, snapshot: &Snapshot) -> Result<(), AllocError>
     ensures spelled { OnOk result (out.new.items ≡ out.old.items ++ flat_map table_bytes snapshot.now.tables) }
     ensures keys { OnOk result (KeysFit snapshot.now) }
 {
-    for index in 0..25 {
+    for index in 0..NODES {
         let node = Node::from_index(index).unwrap();
         push_table(out, snapshot.table(node))?;
     }

@@ -3,17 +3,21 @@
 ghost use Rattle.std.specs.Prelude.{◌≡◌, ◌+◌, ◌*◌, ◌≤◌, length};
 ghost use Rattle.std.specs.List.{flat_map};
 ghost use Rattle.prefix_lattice.specs.{most_shards};
-ghost use Rattle.shard_state.specs.{IsSnapshot};
+ghost use Rattle.shard_state.specs.{IsCut, IsSnapshot};
 ghost use Rattle.checkpoint.specs.Body.{table_bytes, snapshot_bytes};
 
 use prefix_lattice::Node;
 use shard_state::{Cut, Snapshot};
 use space_saving::Flat;
 
+/// The number of nodes of the lattice, which is also the number of tables of a shard.
+pub(crate) const NODES: u8 = 25;
+
 /// How many bytes the body of a cut of at most 16 shards has.
 pub(crate) fn body_length(cut: &Cut) -> usize
     requires { length cut.now.shards ≤ most_shards }
-    ensures { result ≡ 48 + length (flat_map snapshot_bytes cut.now.shards) }
+    ensures is { result ≡ 48 + length (flat_map snapshot_bytes cut.now.shards) }
+    ensures kept { IsCut cut.now }
 {
     let mut length = 48;
     for shard in 0..cut.shards() {
@@ -28,7 +32,7 @@ fn snapshot_length(snapshot: &Snapshot) -> usize
     ensures bounded { result ≤ 8 + 25 * 98316 }
 {
     let mut length = 8;
-    for index in 0..25 {
+    for index in 0..NODES {
         let node = Node::from_index(index).unwrap();
         length += table_length(snapshot.table(node));
     }
