@@ -35,5 +35,6 @@ returns-in_default-clause-damaged c = λ is snapshot rest begins.
 pub returns-clause-read : goal.returns-clause-read
 returns-clause-read c =
     snapshot_read c.args.capacity c.args.bytes.now c.first_number-position.result.1.now c.in_ok-tables.rest.now
-    c.first_number-position.result.0 c.in_ok-tables.tables.items ? ? ? ? c.in_ok-tables.ensures.capacity
+    c.first_number-position.result.0 c.in_ok-tables.tables.items c.in-Some.snapshot c.position-kept.ensures.kept
+    c.in-Some.ensures.position c.in-Some.ensures.tables c.in_ok-tables.ensures.capacity
     c.first_number-position.ensures.spelled c.in_ok-tables.ensures.read
