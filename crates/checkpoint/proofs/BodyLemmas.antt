@@ -1,11 +1,15 @@
 -- A body, and the parts that it is read in.
-use Rattle.std.proofs.Common.{◌≡◌, ℕ, ◌+◌, ◌^◌, ◌<◌, ◌≤◌, List, [], ◌++◌, length, All, refl, sym, ap, subst, ◌∙◌, append_assoc, arith}
+use Rattle.std.proofs.Common.{◌≡◌, ℕ, ◌+◌, ◌*◌, ◌^◌, ◌<◌, ◌≤◌, List, [], ◌++◌, length, All, refl, sym, ap, subst, ◌∙◌, append_assoc, arith}
 use Rattle.std.specs.List.{flat_map}
 use Rattle.std.proofs.lemmas.List.{length-append, append-nil}
 use Rattle.shard_state.specs.{SnapshotValue, CutValue, IsCut}
 use Rattle.checkpoint.specs.Numbers.{number_bytes}
-use Rattle.checkpoint.specs.Body.{SavedValue, KeysFit, IsSaved, IsBody, content_bytes, body_bytes, snapshot_bytes}
-use Rattle.checkpoint.specs.Reading.{Begins, AreMany, FitsSnapshot}
+use Rattle.checkpoint.specs.Body.{SavedValue, KeysFit, IsSaved, IsBody, content_bytes, snapshot_bytes, table_bytes}
+use Rattle.checkpoint.specs.Settings.{body_span, table_span}
+use Rattle.space_saving.specs.declared.entry.Entry.{Entry}
+use Rattle.checkpoint.specs.Reading.{Begins, AreMany, FitsSnapshot, FitsTable}
+use Rattle.checkpoint.proofs.LengthLemmas.{length-le, length-table}
+use Rattle.checkpoint.proofs.PartLemmas.{tables_fit}
 use Rattle.checkpoint.proofs.NumberLemmas.{length-number_bytes}
 use Rattle.checkpoint.proofs.SpellingLemmas.{numbers_are_apart, same_front}
 
@@ -19,6 +23,14 @@ snapshots_fit shards capacity saved is = record {
     capacity_is = is.cut.alike k d within ∙ is.alike;
     keys = is.keys k d within;
   };
+}
+
+-- the spellings of those snapshots, with nothing after them
+pub begins_all : (shards capacity : ℕ) (saved : SavedValue) → IsSaved shards capacity saved
+    → Begins (flat_map snapshot_bytes) (AreMany (FitsSnapshot capacity) shards) (flat_map snapshot_bytes saved.cut.shards) saved.cut.shards []
+begins_all shards capacity saved is = record {
+  fits = snapshots_fit shards capacity saved is;
+  spelled = sym (append-nil (flat_map snapshot_bytes saved.cut.shards));
 }
 
 -- a body's bytes are at least 48
@@ -131,3 +143,33 @@ written_body sequence digest cut count first second third last least most long i
           ∙ ap (λ (l : List ℕ). ((l ++ number_bytes 8 sequence) ++ digest) ++ all) is_first ∙ grouped
           ∙ ap (λ (n : ℕ). number_bytes 8 n ++ content_bytes saved) lengths;
     }
+
+-- a table of a capacity has at most as many bytes as its span
+table_fits : (capacity : ℕ) (entries : List Entry) → FitsTable capacity entries → length (table_bytes entries) ≤ table_span capacity
+table_fits capacity entries fits = omega (arith, length-table entries, fits.are_entries.is_table.fits)
+
+-- a snapshot of a capacity has at most so many bytes
+snapshot_fits : (capacity : ℕ) (snapshot : SnapshotValue) → FitsSnapshot capacity snapshot
+    → length (snapshot_bytes snapshot) ≤ 8 + 25 * table_span capacity
+snapshot_fits capacity snapshot fits =
+    let each = tables_fit capacity snapshot fits in
+    omega (arith, length-append (number_bytes 8 snapshot.position) (flat_map table_bytes snapshot.tables),
+      length-number_bytes 8 snapshot.position, ap (λ (n : ℕ). n * table_span capacity) fits.is_snapshot.shape,
+      length-le table_bytes (table_span capacity) snapshot.tables (λ k d within. table_fits capacity _ (each k d within)))
+
+-- a body has at most as many bytes as the span
+pub body_fits : (shards capacity : ℕ) (saved : SavedValue) (bytes : List ℕ) → IsBody shards capacity saved bytes
+    → length bytes ≤ body_span shards capacity
+body_fits shards capacity saved bytes is =
+    let fits = snapshots_fit shards capacity saved is.is_saved in
+    let all = flat_map snapshot_bytes saved.cut.shards in
+    let sequence = number_bytes 8 saved.sequence in
+    let long = body_is_long shards capacity saved bytes is in
+    let content : length (content_bytes saved) ≡ 40 + length all =
+    omega (arith, length-append sequence (saved.digest ++ all), length-append saved.digest all, length-number_bytes 8 saved.sequence,
+      is.is_saved.digest) in
+    let few : length all ≤ length saved.cut.shards * (8 + 25 * table_span capacity) =
+    length-le snapshot_bytes (8 + 25 * table_span capacity) saved.cut.shards (λ k d within. snapshot_fits capacity _ (fits.each k d within)) in
+    let counted : length saved.cut.shards * (8 + 25 * table_span capacity) ≡ shards * (8 + 25 * table_span capacity) =
+    ap (λ (n : ℕ). n * (8 + 25 * table_span capacity)) fits.as_many in
+    omega (arith, long.1, content, few, counted)

@@ -1,8 +1,9 @@
 -- How many bytes the parts of a body have.
-use Rattle.std.proofs.Common.{◌≡◌, ℕ, ◌+◌, ◌*◌, ◌≤◌, List, [], ◌∷◌, ◌++◌, length, refl, ap, ◌∙◌, arith}
+use Rattle.std.proofs.Common.{◌≡◌, ℕ, ◌+◌, ◌*◌, ◌≤◌, List, [], ◌∷◌, ◌++◌, length, All, refl, ap, ◌∙◌, arith}
 use Rattle.std.specs.List.{flat_map}
 use Rattle.std.proofs.lemmas.List.{length-append}
-use Rattle.std.proofs.lemmas.List.Concat.{flat_map-cons}
+use Rattle.std.proofs.lemmas.List.Concat.{flat_map-cons, length-flat_map}
+use Rattle.std.proofs.lemmas.List.Sums.{sum_by-le}
 use Rattle.space_saving.specs.declared.entry.Entry.{Entry}
 use Rattle.space_saving.specs.{total_count}
 use Rattle.checkpoint.specs.Numbers.{number_bytes}
@@ -30,3 +31,9 @@ length-table entries =
     let all = flat_map entry_bytes entries in
     omega (arith, length-append total (count ++ all), length-append count all,
       length-number_bytes 8 (total_count entries), length-number_bytes 4 (length entries), length-entries entries)
+
+-- values of at most so many bytes each
+pub length-le : {A : Type 0} (spell : A → List ℕ) (most : ℕ) (xs : List A) → All (λ x. length (spell x) ≤ most) xs
+    → length (flat_map spell xs) ≤ length xs * most
+length-le spell most xs each =
+    omega (arith, length-flat_map spell xs, sum_by-le (λ x. length (spell x)) most xs each)

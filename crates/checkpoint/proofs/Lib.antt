@@ -8,3 +8,4 @@ pub mod PartLemmas
 pub mod TableLemmas
 pub mod SnapshotLemmas
 pub mod BodyLemmas
+pub mod BodyLawLemmas

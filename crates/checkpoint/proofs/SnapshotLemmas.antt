@@ -4,12 +4,11 @@ use Rattle.std.specs.List.{flat_map}
 use Rattle.std.proofs.lemmas.List.{length-append, length-map, get_or-map}
 use Rattle.std.proofs.lemmas.List.Elements.{All-head}
 use Rattle.std.proofs.lemmas.Option.{get_or_from_slice_get, slice_get_within, slice_get-get_or}
-use Rattle.prefix_lattice.specs.{NodeValue, index_of, node_at}
+use Rattle.prefix_lattice.specs.{NodeValue, IsKeyOf, index_of, node_at}
 use Rattle.prefix_lattice.proofs.NodePlaceLemmas.{index_of-node_at, IsNode-node_at}
 use Rattle.space_saving.specs.declared.entry.Entry.{Entry}
 use Rattle.space_saving.specs.{TableValue, total_count}
 use Rattle.shard_state.specs.{SnapshotValue, IsSnapshot, table_at, total_of}
-use Rattle.shard_state.specs.Snapshot.{AreParts, HasKeysOf, IsLike}
 use Rattle.checkpoint.specs.Numbers.{number_bytes}
 use Rattle.checkpoint.specs.Body.{table_bytes, snapshot_bytes}
 use Rattle.checkpoint.specs.Reading.{Begins, AreMany, FitsTable, FitsSnapshot}
@@ -60,33 +59,37 @@ snapshot_parts capacity bytes middle rest position snapshot small is begins =
       };
     }
 
--- tables with the entries of a snapshot are the parts of one
+-- what a table at an index has of the snapshot
+pub record IsTableOf (capacity : ℕ) (snapshot : SnapshotValue) (place : ℕ) (table : TableValue) : Type 0 where
+  pub same_capacity : table.capacity ≡ capacity
+  pub same_total : total_count table.entries ≡ total_of snapshot
+  pub keyed : All (λ (entry : Entry). IsKeyOf (node_at place) entry.key) table.entries
+
+-- tables with the entries of a snapshot are as many as it has, and have its capacity, its total and its keys
+pub record ArePartsOf (capacity : ℕ) (snapshot : SnapshotValue) (tables : List TableValue) : Type 0 where
+  pub shape : length tables ≡ 25
+  pub alike : (place : ℕ) (table : TableValue) → slice_get tables place ≡ Some table → IsTableOf capacity snapshot place table
+
 pub parts_of : (capacity : ℕ) (snapshot : SnapshotValue) (tables : List TableValue) → FitsSnapshot capacity snapshot
     → All (λ (table : TableValue). table.capacity ≡ capacity) tables → map entries_in tables ≡ snapshot.tables
-    → AreParts snapshot.position tables
+    → ArePartsOf capacity snapshot tables
 parts_of capacity snapshot tables fits alike same = record {
-  placed = fits.is_snapshot.placed;
-  are_tables = record {
-    capacity = capacity;
-    total = total_of snapshot;
-    shape = sym (length-map tables entries_in) ∙ ap length same ∙ fits.is_snapshot.shape;
-    alike = λ place table got.
-        let within : place < length tables = slice_get_within tables place table got in
-        let few : place < 25 =
-        omega (arith, within, length-map tables entries_in, ap length same, fits.is_snapshot.shape) in
-        let at_place : get_or tables place table ≡ table = get_or_from_slice_get tables place table table got in
-        let here : get_or snapshot.tables (index_of (node_at place)) [] ≡ table.entries =
-        ap (λ (i : ℕ). get_or snapshot.tables i []) (index_of-node_at place)
-        ∙ ap (λ (l : List (List Entry)). get_or l place []) (sym same)
-        ∙ get_or-map entries_in tables place table [] within ∙ ap entries_in at_place in
-        let at_node = fits.is_snapshot.tables (node_at place) (IsNode-node_at place few) in
-        let like : IsLike capacity (total_of snapshot) (node_at place) table = record {
-          same_capacity = subst (λ (t : TableValue). t.capacity ≡ capacity) at_place (alike place table within);
-          same_total = ap total_count (sym here) ∙ at_node.counted;
-          keyed = subst (HasKeysOf (node_at place)) here at_node.keyed;
-        } in
-        like;
-  };
+  shape = sym (length-map tables entries_in) ∙ ap length same ∙ fits.is_snapshot.shape;
+  alike = λ place table got.
+      let within : place < length tables = slice_get_within tables place table got in
+      let few : place < 25 =
+      omega (arith, within, length-map tables entries_in, ap length same, fits.is_snapshot.shape) in
+      let at_place : get_or tables place table ≡ table = get_or_from_slice_get tables place table table got in
+      let here : get_or snapshot.tables (index_of (node_at place)) [] ≡ table.entries =
+      ap (λ (i : ℕ). get_or snapshot.tables i []) (index_of-node_at place)
+      ∙ ap (λ (l : List (List Entry)). get_or l place []) (sym same)
+      ∙ get_or-map entries_in tables place table [] within ∙ ap entries_in at_place in
+      let at_node = fits.is_snapshot.tables (node_at place) (IsNode-node_at place few) in
+      record {
+        same_capacity = subst (λ (t : TableValue). t.capacity ≡ capacity) at_place (alike place table within);
+        same_total = ap total_count (sym here) ∙ at_node.counted;
+        keyed = subst (λ (l : List Entry). All (λ (entry : Entry). IsKeyOf (node_at place) entry.key) l) here at_node.keyed;
+      };
 }
 
 -- the entries of the tables of one capacity

@@ -4,6 +4,7 @@ ghost use Rattle.std.specs.Prelude.{◌≡◌, ◌+◌, ◌*◌, ◌<◌, ◌≤
 ghost use Rattle.std.specs.List.{flat_map};
 ghost use Rattle.prefix_lattice.specs.{most_shards};
 ghost use Rattle.shard_state.specs.{IsSnapshot};
+ghost use Rattle.checkpoint.specs.Settings.{body_span};
 ghost use Rattle.checkpoint.specs.Body.{entry_bytes, table_bytes, snapshot_bytes, HasShortKeys, KeysFit, IsBody, last_sequence};
 
 use crate::lengths::{NODES, body_length};
@@ -24,8 +25,9 @@ pub fn encode(
     requires sequenced { 1 ≤ sequence }
     requires early { sequence ≤ last_sequence }
     requires few { length cut.now.shards ≤ most_shards }
-    ensures { IfOk result (λ body. IsBody (length cut.now.shards) cut.now.capacity
+    ensures body { IfOk result (λ body. IsBody (length cut.now.shards) cut.now.capacity
         (record { sequence = sequence; digest = digest.now; cut = cut.now }) body.items) }
+    ensures fits { IfOk result (λ body. length body.items ≤ body_span (length cut.now.shards) cut.now.capacity) }
 {
     let length = body_length(cut);
     let mut body = Vec::with_capacity(alloc, length)?;

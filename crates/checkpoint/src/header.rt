@@ -41,9 +41,7 @@ pub fn header_of(settings: &StoreSettings) -> [u8; 62]
 /// The settings that a header spells. `None` exactly where it spells none: other letters, another version, shards,
 /// capacity, weighing or dealing outside their ranges, or a byte that isn't zero in the rest.
 pub fn read_header(bytes: &[u8; 62]) -> Option<StoreSettings>
-    ensures some { IfSome result (λ settings. AreSettings settings) }
-    ensures spelled { IfSome result (λ settings. bytes.now ≡ header_bytes settings) }
-    ensures none { result ≡ None → (settings : StoreSettings) → AreSettings settings → bytes.now ≡ header_bytes settings → ⊥ }
+    ensures { (settings : StoreSettings) → (result ≡ Some settings) ↔ (AreSettings settings × (bytes.now ≡ header_bytes settings)) }
 {
     let settings = StoreSettings {
         shards: u32::from(bytes[5]),

@@ -1,6 +1,7 @@
-use Rattle.std.proofs.Common.{◌≡◌, ◌∙◌, map, ap, sym, subst, arith}
+use Rattle.std.proofs.Common.{◌≤◌, map, arith}
 use Rattle.std.proofs.lemmas.Result.{err_from_is_err_and}
-use Rattle.shard_state.specs.Snapshot.{AreParts}
+use Rattle.prefix_lattice.specs.{most_records}
+use Rattle.shard_state.specs.{total_of}
 use Rattle.checkpoint.specs.Body.{table_bytes}
 use Rattle.checkpoint.specs.Reading.{FitsTable}
 use Rattle.checkpoint.proofs.FaultLemmas.{same_fault}
@@ -28,9 +29,18 @@ returns-in_default-clause-damaged c = λ is snapshot rest begins.
     let same = begins_same table_bytes (FitsTable c.args.capacity) (tables_are_apart c.args.capacity c.requires.most)
     c.first_number-position.result.1.now c.in_ok-tables.rest.now rest 25 (map entries_in c.in_ok-tables.tables.items) snapshot.tables
     c.in_ok-tables.ensures.read parts.tables_begin in
-    let are : AreParts snapshot.position c.in_ok-tables.tables.items =
-    parts_of c.args.capacity snapshot c.in_ok-tables.tables.items begins.fits c.in_ok-tables.ensures.capacity same.0 in
-    cc (c.in_default.ensures.accepted.1 (subst (λ p. AreParts p c.in_ok-tables.tables.items) (sym parts.position_is) are))
+    let are = parts_of c.args.capacity snapshot c.in_ok-tables.tables.items begins.fits c.in_ok-tables.ensures.capacity same.0 in
+    let placed : c.first_number-position.result.0 ≤ most_records = omega (arith, parts.position_is, begins.fits.is_snapshot.placed) in
+    cc (c.in_default.ensures.accepted.1 (record {
+      placed = placed;
+      are_tables = record {
+        capacity = c.args.capacity;
+        total = total_of snapshot;
+        shape = are.shape;
+        alike = λ place table got. let one = are.alike place table got in
+            record { same_capacity = one.same_capacity; same_total = one.same_total; keyed = one.keyed };
+      };
+    }))
 
 pub returns-clause-read : goal.returns-clause-read
 returns-clause-read c =
