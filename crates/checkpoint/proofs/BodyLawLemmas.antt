@@ -1,5 +1,6 @@
 -- Bodies that begin the same bytes are the same, and spell the same.
-use Rattle.std.proofs.Common.{◌≡◌, ℕ, ◌+◌, ◌*◌, ◌^◌, ◌<◌, ◌≤◌, List, [], ◌++◌, length, refl, sym, ap, ◌∙◌, append_assoc, arith}
+use Rattle.std.proofs.Common.{◌≡◌, ℕ, ◌+◌, ◌*◌, ◌^◌, ◌<◌, ◌≤◌, List, [], ◌++◌, length, refl, sym, ap, ◌∙◌}
+use Rattle.std.proofs.Common.{append_assoc, arith}
 use Rattle.std.proofs.Math.Nat.{mul-le-mul_right}
 use Rattle.shard_state.specs.{CutValue, SnapshotValue}
 use Rattle.checkpoint.specs.declared.settings.StoreSettings.{StoreSettings}

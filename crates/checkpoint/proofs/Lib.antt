@@ -9,3 +9,4 @@ pub mod TableLemmas
 pub mod SnapshotLemmas
 pub mod BodyLemmas
 pub mod BodyLawLemmas
+pub mod Examples

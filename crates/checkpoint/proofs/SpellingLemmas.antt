@@ -1,8 +1,10 @@
 -- Spellings of which none begins another: of numbers, of lists, and of the parts of a body.
-use Rattle.std.proofs.Common.{◌≡◌, ℕ, zero, suc, ◌+◌, ◌*◌, ◌^◌, ◌<◌, ◌≤◌, List, [], ◌∷◌, ◌++◌, length, take, drop, get_or, All, refl, sym, ap, subst, ◌∙◌, append_assoc, arith}
+use Rattle.std.proofs.Common.{◌≡◌, ℕ, zero, suc, ◌+◌, ◌*◌, ◌^◌, ◌<◌, ◌≤◌, List, [], ◌∷◌, ◌++◌, length, take}
+use Rattle.std.proofs.Common.{drop, get_or, All, refl, sym, ap, subst, ◌∙◌, append_assoc, arith}
 use Rattle.std.specs.List.{flat_map}
 use Rattle.std.specs.Int.{w64, w32, from_be_bytes, bytes_high_first}
-use Rattle.std.proofs.lemmas.List.{take_at, drop_at, length-append, take-append-drop, length-take, get_or-take, get_or_past}
+use Rattle.std.proofs.lemmas.List.{take_at, drop_at, length-append, take-append-drop, length-take, get_or-take}
+use Rattle.std.proofs.lemmas.List.{get_or_past}
 use Rattle.std.proofs.lemmas.List.Elements.{All-head, All-tail}
 use Rattle.std.proofs.lemmas.List.Concat.{flat_map-cons}
 use Rattle.byteorder.specs.Numbers.{length-bytes_high_first, big_number-reads_back}

@@ -1,6 +1,7 @@
 //! Reads a cut from a body.
 
-ghost use Rattle.std.specs.Prelude.{◌≡◌, ℕ, ◌+◌, ◌*◌, ◌<◌, ◌≤◌, ◌^◌, ◌++◌, List, [], length, map, All, IfOk, IsErrOf, vec_capacity};
+ghost use Rattle.std.specs.Prelude.{◌≡◌, ℕ, ◌+◌, ◌*◌, ◌<◌, ◌≤◌, ◌^◌, ◌++◌, List, [], length, map, All, IfOk};
+ghost use Rattle.std.specs.Prelude.{IsErrOf, vec_capacity};
 ghost use Rattle.std.specs.List.{flat_map};
 ghost use Rattle.space_saving.specs.declared.entry.Entry.{Entry};
 ghost use Rattle.prefix_lattice.specs.{node_count};

@@ -5,7 +5,8 @@ ghost use Rattle.std.specs.List.{flat_map};
 ghost use Rattle.prefix_lattice.specs.{most_shards};
 ghost use Rattle.shard_state.specs.{IsSnapshot};
 ghost use Rattle.checkpoint.specs.Settings.{body_span};
-ghost use Rattle.checkpoint.specs.Body.{entry_bytes, table_bytes, snapshot_bytes, HasShortKeys, KeysFit, IsBody, last_sequence};
+ghost use Rattle.checkpoint.specs.Body.{entry_bytes, table_bytes, snapshot_bytes, HasShortKeys, KeysFit};
+ghost use Rattle.checkpoint.specs.Body.{IsBody, last_sequence};
 
 use crate::lengths::{NODES, body_length};
 use crate::numbers::{push_count, push_number};
