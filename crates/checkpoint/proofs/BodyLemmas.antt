@@ -1,6 +1,6 @@
 -- A body, and the parts that it is read in.
 use Rattle.std.proofs.Common.{◌≡◌, ℕ, ◌+◌, ◌*◌, ◌^◌, ◌<◌, ◌≤◌, List, [], ◌++◌, length, All, refl, sym, ap}
-use Rattle.std.proofs.Common.{subst, ◌∙◌, append_assoc, arith}
+use Rattle.std.proofs.Common.{◌∙◌, append_assoc, arith}
 use Rattle.std.specs.List.{flat_map}
 use Rattle.std.proofs.lemmas.List.{length-append, append-nil}
 use Rattle.shard_state.specs.{SnapshotValue, CutValue, IsCut}
@@ -41,10 +41,22 @@ body_is_long shards capacity saved bytes is =
     let all = flat_map snapshot_bytes saved.cut.shards in
     let sequence = number_bytes 8 saved.sequence in
     let whole : length bytes ≡ 8 + length (content_bytes saved) =
-    omega (arith, ap length is.spelled, length-append (number_bytes 8 (8 + length (content_bytes saved))) (content_bytes saved),
-      length-number_bytes 8 (8 + length (content_bytes saved))) in
-    (omega (arith, whole, length-append sequence (saved.digest ++ all), length-append saved.digest all,
-      length-number_bytes 8 saved.sequence, is.is_saved.digest), whole)
+    omega (
+      arith,
+      ap length is.spelled,
+      length-append (number_bytes 8 (8 + length (content_bytes saved))) (content_bytes saved),
+      length-number_bytes 8 (8 + length (content_bytes saved)),
+    ) in (
+      omega (
+        arith,
+        whole,
+        length-append sequence (saved.digest ++ all),
+        length-append saved.digest all,
+        length-number_bytes 8 saved.sequence,
+        is.is_saved.digest,
+      ),
+      whole,
+    )
 
 -- the length in front of a body
 pub record LengthPart (saved : SavedValue) (count : ℕ) (bytes after : List ℕ) : Type 0 where
@@ -125,8 +137,14 @@ written_body sequence digest cut count first second third last least most long i
     let saved : SavedValue = record { sequence = sequence; digest = digest; cut = cut } in
     let all = flat_map snapshot_bytes cut.shards in
     let lengths : count ≡ 8 + length (content_bytes saved) =
-    omega (arith, counted, length-append (number_bytes 8 sequence) (digest ++ all), length-append digest all,
-      length-number_bytes 8 sequence, long) in
+    omega (
+      arith,
+      counted,
+      length-append (number_bytes 8 sequence) (digest ++ all),
+      length-append digest all,
+      length-number_bytes 8 sequence,
+      long,
+    ) in
     let grouped : ((number_bytes 8 count ++ number_bytes 8 sequence) ++ digest) ++ all ≡ number_bytes 8 count ++ content_bytes saved =
     append_assoc (number_bytes 8 count ++ number_bytes 8 sequence) digest all
     ∙ append_assoc (number_bytes 8 count) (number_bytes 8 sequence) (digest ++ all) in
@@ -154,9 +172,13 @@ snapshot_fits : (capacity : ℕ) (snapshot : SnapshotValue) → FitsSnapshot cap
     → length (snapshot_bytes snapshot) ≤ 8 + 25 * table_span capacity
 snapshot_fits capacity snapshot fits =
     let each = tables_fit capacity snapshot fits in
-    omega (arith, length-append (number_bytes 8 snapshot.position) (flat_map table_bytes snapshot.tables),
-      length-number_bytes 8 snapshot.position, ap (λ (n : ℕ). n * table_span capacity) fits.is_snapshot.shape,
-      length-le table_bytes (table_span capacity) snapshot.tables (λ k d within. table_fits capacity _ (each k d within)))
+    omega (
+      arith,
+      length-append (number_bytes 8 snapshot.position) (flat_map table_bytes snapshot.tables),
+      length-number_bytes 8 snapshot.position,
+      ap (λ (n : ℕ). n * table_span capacity) fits.is_snapshot.shape,
+      length-le table_bytes (table_span capacity) snapshot.tables (λ k d within. table_fits capacity _ (each k d within)),
+    )
 
 -- a body has at most as many bytes as the span
 pub body_fits : (shards capacity : ℕ) (saved : SavedValue) (bytes : List ℕ) → IsBody shards capacity saved bytes
@@ -167,8 +189,13 @@ body_fits shards capacity saved bytes is =
     let sequence = number_bytes 8 saved.sequence in
     let long = body_is_long shards capacity saved bytes is in
     let content : length (content_bytes saved) ≡ 40 + length all =
-    omega (arith, length-append sequence (saved.digest ++ all), length-append saved.digest all, length-number_bytes 8 saved.sequence,
-      is.is_saved.digest) in
+    omega (
+      arith,
+      length-append sequence (saved.digest ++ all),
+      length-append saved.digest all,
+      length-number_bytes 8 saved.sequence,
+      is.is_saved.digest,
+    ) in
     let few : length all ≤ length saved.cut.shards * (8 + 25 * table_span capacity) =
     length-le snapshot_bytes (8 + 25 * table_span capacity) saved.cut.shards (λ k d within. snapshot_fits capacity _ (fits.each k d within)) in
     let counted : length saved.cut.shards * (8 + 25 * table_span capacity) ≡ shards * (8 + 25 * table_span capacity) =

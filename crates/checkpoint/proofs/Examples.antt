@@ -1,17 +1,17 @@
 -- Worked examples of settings, headers, digests and bodies, most by computing.
-use Rattle.std.proofs.Common.{◌≡◌, ℕ, ◌≤◌, List, [], ◌∷◌, ◌++◌, length, take, drop, refl, ap, arith}
+use Rattle.std.proofs.Common.{◌≡◌, ℕ, ◌+◌, List, [], ◌∷◌, ◌++◌, length, take, drop, refl, ap, arith}
 use Rattle.std.proofs.lemmas.List.{length-append}
 use Rattle.prefix_lattice.specs.{RecordValue}
 use Rattle.frame_records.specs.declared.weigh.Weigh.TheVariants.{Bytes, Packets}
-use Rattle.deal_rules.specs.declared.deal_kind.DealKind.TheVariants.{RoundRobin, BySource, Free}
+use Rattle.deal_rules.specs.declared.deal_kind.DealKind.TheVariants.{RoundRobin, Free}
 use Rattle.space_saving.specs.declared.entry.Entry.{Entry}
-use Rattle.shard_state.specs.{CutValue, SnapshotValue, empty_snapshot, no_entries}
+use Rattle.shard_state.specs.{empty_snapshot, no_entries}
 use Rattle.checkpoint.specs.declared.settings.StoreSettings.{StoreSettings}
 use Rattle.checkpoint.specs.Numbers.{number_bytes}
 use Rattle.checkpoint.specs.Settings.{AreSettings, header_bytes, span_of, table_span}
 use Rattle.checkpoint.specs.Body.{SavedValue, IsSaved, IsBody, KeysFit, HasShortKeys, entry_bytes, table_bytes}
-use Rattle.checkpoint.specs.Body.{body_bytes}
-use Rattle.checkpoint.specs.Digest.{record_bytes, list_bytes, digest_text}
+use Rattle.checkpoint.specs.Body.{body_bytes, last_sequence}
+use Rattle.checkpoint.specs.Digest.{list_bytes, digest_text}
 use Rattle.checkpoint.specs.Reading.{Begins, BeginsWithNone, AreMany, FitsEntry, FitsTable, FitsSnapshot}
 use Rattle.checkpoint.proofs.LengthLemmas.{length-entry}
 
@@ -78,6 +78,9 @@ body_has_as_many_bytes = refl
 
 pub sequence_0_is_not_saved : (digest : List ℕ) → IsSaved 1 2 (nothing_yet 0 digest) → ⊥
 sequence_0_is_not_saved digest is = omega (arith, is.sequenced)
+
+pub sequence_above_the_last_is_not_saved : (digest : List ℕ) → IsSaved 1 2 (nothing_yet (last_sequence + 1) digest) → ⊥
+sequence_above_the_last_is_not_saved digest is = omega (arith, is.early)
 
 pub digest_of_31_bytes_is_not_saved : IsSaved 1 2 (nothing_yet 1 (number_bytes 31 0)) → ⊥
 unfolding number_bytes

@@ -15,8 +15,14 @@ length-entry entry =
     let key = number_bytes 8 entry.key in
     let count = number_bytes 8 entry.count in
     let error = number_bytes 8 entry.error in
-    omega (arith, length-append key (count ++ error), length-append count error,
-      length-number_bytes 8 entry.key, length-number_bytes 8 entry.count, length-number_bytes 8 entry.error)
+    omega (
+      arith,
+      length-append key (count ++ error),
+      length-append count error,
+      length-number_bytes 8 entry.key,
+      length-number_bytes 8 entry.count,
+      length-number_bytes 8 entry.error,
+    )
 
 pub length-entries : (entries : List Entry) → length (flat_map entry_bytes entries) ≡ 24 * length entries
 length-entries [] = refl
@@ -29,8 +35,14 @@ length-table entries =
     let total = number_bytes 8 (total_count entries) in
     let count = number_bytes 4 (length entries) in
     let all = flat_map entry_bytes entries in
-    omega (arith, length-append total (count ++ all), length-append count all,
-      length-number_bytes 8 (total_count entries), length-number_bytes 4 (length entries), length-entries entries)
+    omega (
+      arith,
+      length-append total (count ++ all),
+      length-append count all,
+      length-number_bytes 8 (total_count entries),
+      length-number_bytes 4 (length entries),
+      length-entries entries,
+    )
 
 -- values of at most so many bytes each
 pub length-le : {A : Type 0} (spell : A → List ℕ) (most : ℕ) (xs : List A) → All (λ x. length (spell x) ≤ most) xs

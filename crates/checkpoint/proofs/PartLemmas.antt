@@ -1,5 +1,5 @@
 -- The parts of a body: what fits, and that no spelling of one begins another.
-use Rattle.std.proofs.Common.{◌≡◌, ℕ, ◌+◌, ◌*◌, ◌^◌, ◌<◌, ◌≤◌, List, [], ◌++◌, length, get_or, All, refl, sym}
+use Rattle.std.proofs.Common.{◌≡◌, ℕ, ◌<◌, ◌≤◌, List, [], ◌++◌, length, get_or, All, sym}
 use Rattle.std.proofs.Common.{ap, subst, ◌∙◌, append_assoc, arith}
 use Rattle.std.specs.List.{flat_map}
 use Rattle.std.proofs.lemmas.List.{get_or_default}
@@ -8,7 +8,7 @@ use Rattle.prefix_lattice.specs.{index_of, node_at}
 use Rattle.prefix_lattice.proofs.NodePlaceLemmas.{index_of-node_at, IsNode-node_at}
 use Rattle.space_saving.specs.declared.entry.Entry.{Entry}
 use Rattle.space_saving.specs.{total_count, AreEntries}
-use Rattle.shard_state.specs.{SnapshotValue, IsSnapshot}
+use Rattle.shard_state.specs.{SnapshotValue}
 use Rattle.checkpoint.specs.Numbers.{number_bytes}
 use Rattle.checkpoint.specs.Body.{entry_bytes, table_bytes, snapshot_bytes}
 use Rattle.checkpoint.specs.Reading.{FitsEntry, FitsTable, FitsSnapshot}

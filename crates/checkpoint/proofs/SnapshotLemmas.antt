@@ -1,5 +1,5 @@
 -- A snapshot that bytes begin with, and the tables that it is made of.
-use Rattle.std.proofs.Common.{◌≡◌, ℕ, ◌+◌, ◌^◌, ◌<◌, ◌≤◌, List, [], ◌∷◌, ◌++◌, length, get_or, map, slice_get}
+use Rattle.std.proofs.Common.{◌≡◌, ℕ, ◌^◌, ◌<◌, ◌≤◌, List, [], ◌∷◌, ◌++◌, length, get_or, map, slice_get}
 use Rattle.std.proofs.Common.{Some, All, refl, sym, ap, subst, ◌∙◌, append_assoc, arith}
 use Rattle.std.specs.List.{flat_map}
 use Rattle.std.proofs.lemmas.List.{length-append, length-map, get_or-map}
@@ -38,8 +38,13 @@ pub snapshot_is_long : (capacity : ℕ) (bytes : List ℕ) (snapshot : SnapshotV
 snapshot_is_long capacity bytes snapshot rest begins =
     let position = number_bytes 8 snapshot.position in
     let tables = flat_map table_bytes snapshot.tables in
-    omega (arith, ap length begins.spelled, length-append (position ++ tables) rest, length-append position tables,
-      length-number_bytes 8 snapshot.position)
+    omega (
+      arith,
+      ap length begins.spelled,
+      length-append (position ++ tables) rest,
+      length-append position tables,
+      length-number_bytes 8 snapshot.position,
+    )
 
 -- what was read in front of a snapshot's tables
 pub record SnapshotParts (capacity position : ℕ) (snapshot : SnapshotValue) (middle rest : List ℕ) : Type 0 where

@@ -1,16 +1,14 @@
 -- Spellings of which none begins another: of numbers, of lists, and of the parts of a body.
-use Rattle.std.proofs.Common.{◌≡◌, ℕ, zero, suc, ◌+◌, ◌*◌, ◌^◌, ◌<◌, ◌≤◌, List, [], ◌∷◌, ◌++◌, length, take}
-use Rattle.std.proofs.Common.{drop, get_or, All, refl, sym, ap, subst, ◌∙◌, append_assoc, arith}
+use Rattle.std.proofs.Common.{◌≡◌, ℕ, ◌^◌, ◌<◌, List, [], ◌∷◌, ◌++◌, length, take}
+use Rattle.std.proofs.Common.{drop, All, refl, sym, ap, ◌∙◌, append_assoc, arith}
 use Rattle.std.specs.List.{flat_map}
-use Rattle.std.specs.Int.{w64, w32, from_be_bytes, bytes_high_first}
-use Rattle.std.proofs.lemmas.List.{take_at, drop_at, length-append, take-append-drop, length-take, get_or-take}
-use Rattle.std.proofs.lemmas.List.{get_or_past}
+use Rattle.std.specs.Int.{bytes_high_first}
+use Rattle.std.proofs.lemmas.List.{take_at, drop_at}
 use Rattle.std.proofs.lemmas.List.Elements.{All-head, All-tail}
 use Rattle.std.proofs.lemmas.List.Concat.{flat_map-cons}
 use Rattle.byteorder.specs.Numbers.{length-bytes_high_first, big_number-reads_back}
 use Rattle.byteorder.specs.Endian.{big_from}
 use Rattle.checkpoint.specs.Numbers.{number_bytes}
-use Rattle.checkpoint.specs.Reading.{Begins, BeginsWithNone, AreMany}
 
 -- no spelling of a value that fits begins that of another, and each spells one value
 abbrev pub IsPrefixFree : {A : Type 0} → (A → List ℕ) → (A → Type 0) → Type 0
@@ -29,8 +27,7 @@ pub numbers_are_apart : (count : ℕ) → IsPrefixFree (number_bytes count) (λ 
 unfolding number_bytes
 numbers_are_apart count x y r s fits_x fits_y same =
     let front = same_front (bytes_high_first count x) (bytes_high_first count y) r s
-    (length-bytes_high_first count x ∙ sym (length-bytes_high_first count y)) same in
-    (
+    (length-bytes_high_first count x ∙ sym (length-bytes_high_first count y)) same in (
       sym (big_number-reads_back count x r fits_x) ∙ ap (big_from 0 count) same ∙ big_number-reads_back count y s fits_y,
       front.1,
     )

@@ -1,8 +1,8 @@
 -- What bytes begin with, which no public contract cites.
-use Rattle.std.specs.Prelude.{ℕ, ◌≡◌, ◌^◌, ◌<◌, ◌≤◌, List, ◌++◌, length, All}
+use Rattle.std.specs.Prelude.{ℕ, ◌≡◌, ◌^◌, ◌<◌, List, ◌++◌, length, All}
 use Rattle.space_saving.specs.declared.entry.Entry.{Entry}
 use Rattle.space_saving.specs.{AreEntries}
-use Rattle.shard_state.specs.{SnapshotValue, IsSnapshot, least_capacity, most_capacity}
+use Rattle.shard_state.specs.{SnapshotValue, IsSnapshot}
 use Rattle.checkpoint.specs.Body.{HasShortKeys, KeysFit}
 
 -- bytes begin with the spelling of a value that fits, and go on with the rest

@@ -17,17 +17,16 @@ use shard_state::{Cut, Snapshot};
 use space_saving::{Entry, Flat};
 use std::alloc::Global;
 
+/// The last sequence.
+const LAST_SEQUENCE: u64 = 1 << 62;
+
 /// What a body spells under these settings. `Damaged` is returned exactly where the bytes are no body: where they aren't
 /// as many as their length says, the sequence isn't from 1 to 2^62, a position is above 16,777,216, a table isn't one of
 /// the capacity, its total isn't the sum of its counts or that of another table of its shard, a key has a bit set that
 /// its node doesn't keep, or bytes are missing or follow.
 ///
 /// Whatever the bytes say, memory is taken for the tables of one cut and of one shard under the settings.
-pub fn decode(
-    alloc: Global,
-    bytes: &[u8],
-    settings: &StoreSettings,
-) -> Result<Saved, DecodeFault>
+pub fn decode(alloc: Global, bytes: &[u8], settings: &StoreSettings) -> Result<Saved, DecodeFault>
     requires { AreSettings settings.now }
     ensures body { IfOk result (λ saved. IsBody settings.now.shards settings.now.capacity
         (record { sequence = saved.sequence; digest = saved.digest; cut = saved.cut }) bytes.now) }
@@ -55,9 +54,6 @@ pub fn decode(
         cut,
     })
 }
-
-/// The last sequence.
-const LAST_SEQUENCE: u64 = 1 << 62;
 
 // The cut whose snapshots these bytes, all of them, spell.
 fn read_cut(alloc: Global, settings: &StoreSettings, bytes: &[u8]) -> Result<Cut, DecodeFault>

@@ -47,7 +47,11 @@ fn headers_spell_settings(rt: HostRuntime) {
     // The letters, the version, the shards, the capacity, the weighing and the dealing.
     let rows = [
         (smallest, [0x48, 0x48, 0x48, 0x53, 1, 1, 0, 2, 0, 0], 1_556),
-        (ONE_SHARD, [0x48, 0x48, 0x48, 0x53, 1, 1, 2, 0, 0, 0], 307_556),
+        (
+            ONE_SHARD,
+            [0x48, 0x48, 0x48, 0x53, 1, 1, 2, 0, 0, 0],
+            307_556,
+        ),
         (
             greatest,
             [0x48, 0x48, 0x48, 0x53, 1, 16, 0x10, 0, 1, 2],

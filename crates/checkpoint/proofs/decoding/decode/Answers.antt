@@ -1,4 +1,4 @@
-use Rattle.std.proofs.Common.{◌≡◌, ◌∙◌, ap, length, sym, arith}
+use Rattle.std.proofs.Common.{arith}
 use Rattle.std.proofs.lemmas.Result.{err_from_is_err_and}
 use Rattle.checkpoint.proofs.BodyLemmas.{body_is_long, head_parts, length_part, sequence_part}
 use Rattle.checkpoint.proofs.FaultLemmas.{same_fault}

@@ -29,10 +29,9 @@ loop-shard-preserved c =
     let front : take (shard + 1) c.put_shard.new.self.shards ≡ take shard shards ++ c.in_ok-snapshot.snapshot ∷ [] =
     ap (take (shard + 1)) are ∙ take_more_set shards shard c.in_ok-snapshot.snapshot within in
     let more = begins_more snapshot_bytes (FitsSnapshot capacity) c.args.bytes.now c.loop-shard.rest.now c.in_ok-snapshot.after.now
-    shard (take shard shards) c.in_ok-snapshot.snapshot c.loop-shard.invariant.2 c.in_ok-snapshot.ensures.read in
-    (
+    shard (take shard shards) c.in_ok-snapshot.snapshot c.loop-shard.invariant.2 c.in_ok-snapshot.ensures.read in (
       ap length are ∙ length-set shards shard c.in_ok-snapshot.snapshot ∙ c.loop-shard.invariant.0,
       ap (λ (cut : CutValue). cut.capacity) c.put_shard.ensures ∙ c.loop-shard.invariant.1,
       subst (λ (l : List SnapshotValue). Begins (flat_map snapshot_bytes) (AreMany (FitsSnapshot capacity) (shard + 1)) c.args.bytes.now l
-      c.in_ok-snapshot.after.now) (sym front) more,
+          c.in_ok-snapshot.after.now) (sym front) more,
     )

@@ -1,9 +1,5 @@
-use Rattle.std.proofs.Common.{◌≡◌, ◌++◌, ◌+◌, ℕ, List, length, sym, ap, ◌∙◌, append_assoc, arith}
-use Rattle.std.specs.List.{flat_map}
-use Rattle.std.proofs.lemmas.List.{length-append}
+use Rattle.std.proofs.Common.{◌++◌, ℕ, List, length, ap, ◌∙◌, arith}
 use Rattle.checkpoint.specs.Numbers.{number_bytes}
-use Rattle.checkpoint.specs.Body.{SavedValue, content_bytes, snapshot_bytes}
-use Rattle.checkpoint.proofs.NumberLemmas.{length-number_bytes}
 use Rattle.checkpoint.proofs.BodyLemmas.{body_fits, written_body}
 use Rattle.checkpoint.proofs.encoding.encode.Goals as goal
 

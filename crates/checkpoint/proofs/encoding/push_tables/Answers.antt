@@ -13,9 +13,8 @@ loop-index-preserved c =
     let entries = c.table.result.now.entries in
     let placed = subst (λ (node : _). IfSome node (λ n. index_of n ≡ index)) c.unwrap-node.ensures c.from_index.ensures.back in
     let got : slice_get tables index ≡ Some entries =
-    got_table c.args.snapshot.now _ index c.table.result.now c.table.ensures.table placed (omega (arith, c.requires.shape)) in
-    (
+    got_table c.args.snapshot.now _ index c.table.result.now c.table.ensures.table placed (omega (arith, c.requires.shape)) in (
       append_more table_bytes c.args.out.now.items c.loop-index.out.items c.push_table.new.out.items tables index entries
-      got c.loop-index.invariant.0 c.in_ok-push_table.ensures.spelled,
+          got c.loop-index.invariant.0 c.in_ok-push_table.ensures.spelled,
       all_more HasShortKeys tables index entries got c.loop-index.invariant.1 c.in_ok-push_table.ensures.keys,
     )

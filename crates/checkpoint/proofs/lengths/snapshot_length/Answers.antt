@@ -11,6 +11,10 @@ pub returns-clause-is : goal.returns-clause-is
 returns-clause-is c =
     let snapshot = c.args.snapshot.now in
     let all : length snapshot.tables ≤ c.loop-index.index = omega (arith, c.requires.shape) in
-    omega (arith, length-append (number_bytes 8 snapshot.position) (flat_map table_bytes snapshot.tables),
-      length-number_bytes 8 snapshot.position, c.loop-index.invariant.0,
-      ap (λ (l : List (List Entry)). length (flat_map table_bytes l)) (take_all c.loop-index.index snapshot.tables all))
+    omega (
+      arith,
+      length-append (number_bytes 8 snapshot.position) (flat_map table_bytes snapshot.tables),
+      length-number_bytes 8 snapshot.position,
+      c.loop-index.invariant.0,
+      ap (λ (l : List (List Entry)). length (flat_map table_bytes l)) (take_all c.loop-index.index snapshot.tables all),
+    )

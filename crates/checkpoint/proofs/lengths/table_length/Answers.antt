@@ -1,4 +1,4 @@
-use Rattle.std.proofs.Common.{sym, ◌∙◌, arith}
+use Rattle.std.proofs.Common.{arith}
 use Rattle.checkpoint.proofs.LengthLemmas.{length-table}
 use Rattle.checkpoint.proofs.lengths.table_length.Goals as goal
 
