@@ -1,0 +1,12 @@
+pub mod FaultLemmas
+pub mod NumberLemmas
+pub mod LengthLemmas
+pub mod SpellingLemmas
+pub mod AppendLemmas
+pub mod ReadLemmas
+pub mod PartLemmas
+pub mod TableLemmas
+pub mod SnapshotLemmas
+pub mod BodyLemmas
+pub mod BodyLawLemmas
+pub mod Examples

@@ -1,0 +1,48 @@
+//! How many bytes the parts of a body have.
+
+ghost use Rattle.std.specs.Prelude.{◌≡◌, ◌+◌, ◌*◌, ◌≤◌, length};
+ghost use Rattle.std.specs.List.{flat_map};
+ghost use Rattle.prefix_lattice.specs.{most_shards};
+ghost use Rattle.shard_state.specs.{IsCut, IsSnapshot};
+ghost use Rattle.checkpoint.specs.Body.{table_bytes, snapshot_bytes};
+
+use prefix_lattice::Node;
+use shard_state::{Cut, Snapshot};
+use space_saving::Flat;
+
+/// The number of nodes of the lattice, which is also the number of tables of a shard.
+pub(crate) const NODES: u8 = 25;
+
+/// How many bytes the body of a cut of at most 16 shards has.
+pub(crate) fn body_length(cut: &Cut) -> usize
+    requires { length cut.now.shards ≤ most_shards }
+    ensures is { result ≡ 48 + length (flat_map snapshot_bytes cut.now.shards) }
+    ensures kept { IsCut cut.now }
+{
+    let mut length = 48;
+    for shard in 0..cut.shards() {
+        length += snapshot_length(cut.shard(shard));
+    }
+    length
+}
+
+fn snapshot_length(snapshot: &Snapshot) -> usize
+    requires { IsSnapshot snapshot.now }
+    ensures is { result ≡ length (snapshot_bytes snapshot.now) }
+    ensures bounded { result ≤ 8 + 25 * 98316 }
+{
+    let mut length = 8;
+    for index in 0..NODES {
+        let node = Node::from_index(index).unwrap();
+        length += table_length(snapshot.table(node));
+    }
+    length
+}
+
+fn table_length(table: &Flat) -> usize
+    ensures is { result ≡ length (table_bytes table.now.entries) }
+    ensures bounded { result ≤ 98316 }
+{
+    let _capacity = table.capacity();
+    12 + 24 * table.len()
+}
