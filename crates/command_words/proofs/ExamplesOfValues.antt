@@ -11,11 +11,12 @@ use Rattle.command_words.specs.Options.{IsGoodText, IsGood, IsNoNumber, IsOutsid
 use Rattle.command_words.specs.Options.{greatest_capacity, greatest_phi}
 use Rattle.command_words.specs.Settings.{Values, values_in, SetsNumber, SetsWeigh, SetsDeal, weigh_word, deal_word}
 use Rattle.command_words.specs.Settings.{SetsSettings, IsWide, AreLimited}
-use Rattle.command_words.specs.Settings.{greatest_block, greatest_workers, greatest_callers, greatest_rounds}
+use Rattle.command_words.specs.Options.{greatest_block, greatest_workers, greatest_callers, greatest_rounds}
 use Rattle.command_words.specs.Words.{IsFirstBad, HasValueFault}
 use Rattle.command_words.specs.OneValue.{IsBadNumber, IsBadChoice}
 use Rattle.command_words.specs.declared.opt.Opt.{Opt}
 use Rattle.command_words.specs.declared.opt.Opt.TheVariants.{Weigh, Shards, Capacity, Phi, Deal}
+use Rattle.command_words.specs.declared.opt.Opt.TheVariants.{Block, Workers, Callers, Rounds}
 use Rattle.command_words.specs.declared.settings.Settings.{Settings}
 use Rattle.command_words.specs.declared.words_kind.WordsKind.TheVariants.{BadNumber, OutOfLimits, BadChoice}
 use Rattle.command_words.proofs.ElementLemmas.{among, not_among}
@@ -97,6 +98,10 @@ good_before_shards Shards before = absurd (omega (arith, before))
 good_before_shards Capacity before = tt
 good_before_shards Phi before = tt
 good_before_shards Deal before = absurd (omega (arith, before))
+good_before_shards Block before = absurd (omega (arith, before))
+good_before_shards Workers before = absurd (omega (arith, before))
+good_before_shards Callers before = absurd (omega (arith, before))
+good_before_shards Rounds before = absurd (omega (arith, before))
 
 pub shards_are_the_first_bad : IsFirstBad IsOutside two_bad_values Shards
 shards_are_the_first_bad = record {

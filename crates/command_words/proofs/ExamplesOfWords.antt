@@ -251,6 +251,10 @@ good_before_shards opt.Shards before = absurd (omega (arith, before))
 good_before_shards opt.Capacity before = tt
 good_before_shards opt.Phi before = tt
 good_before_shards opt.Deal before = tt
+good_before_shards opt.Block before = tt
+good_before_shards opt.Workers before = tt
+good_before_shards opt.Callers before = tt
+good_before_shards opt.Rounds before = tt
 
 pub more_shards_than_there_may_be : HasBadValue (codes "report" ∷ codes "--shards=17" ∷ []) (OutOfLimits opt.Shards)
 more_shards_than_there_may_be = record {

@@ -7,7 +7,7 @@ use Rattle.command_words.specs.Words.{AskFor, IsLimited}
 use Rattle.command_words.specs.declared.command.Command.{Command}
 use Rattle.command_words.specs.declared.command.Command.TheVariants.{Weigh, Report}
 use Rattle.command_words.specs.declared.opt.Opt.{Opt}
-use Rattle.command_words.specs.declared.opt.Opt.TheVariants.{Shards, Capacity, Phi}
+use Rattle.command_words.specs.declared.opt.Opt.TheVariants.{Shards, Capacity, Phi, Block, Workers, Callers, Rounds}
 use Rattle.command_words.specs.declared.settings.Settings.{Settings}
 
 -- a number that an option sets is within its limits, if the default is
@@ -27,6 +27,14 @@ set_is_limited values settings set =
     set_within Capacity 512 2 4096 (values Capacity) settings.capacity refl (omega arith) (omega arith)
     set.capacity in
     let phi = set_within Phi 10000 1 1000000 (values Phi) settings.phi refl (omega arith) (omega arith) set.phi in
+    let block =
+    set_within Block 1024 1 65536 (values Block) settings.block refl (omega arith) (omega arith) set.block in
+    let workers =
+    set_within Workers 4 1 16 (values Workers) settings.workers refl (omega arith) (omega arith) set.workers in
+    let callers =
+    set_within Callers 0 0 8 (values Callers) settings.callers refl (omega arith) (omega arith) set.callers in
+    let rounds =
+    set_within Rounds 0 0 32 (values Rounds) settings.rounds refl (omega arith) (omega arith) set.rounds in
     record {
       some_shards = shards.0;
       few_shards = shards.1;
@@ -34,12 +42,12 @@ set_is_limited values settings set =
       most_capacity = capacity.1;
       some_phi = phi.0;
       most_phi = phi.1;
-      some_block = omega (arith, set.block);
-      most_block = omega (arith, set.block);
-      some_workers = omega (arith, set.workers);
-      few_workers = omega (arith, set.workers);
-      few_callers = omega (arith, set.callers);
-      few_rounds = omega (arith, set.rounds);
+      some_block = block.0;
+      most_block = block.1;
+      some_workers = workers.0;
+      few_workers = workers.1;
+      few_callers = callers.1;
+      few_rounds = rounds.1;
     }
 
 -- so the settings of what is asked for are

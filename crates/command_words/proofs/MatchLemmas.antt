@@ -41,6 +41,10 @@ small_name opt.Shards = omega arith
 small_name opt.Capacity = omega arith
 small_name opt.Phi = omega arith
 small_name opt.Deal = omega arith
+small_name opt.Block = omega arith
+small_name opt.Workers = omega arith
+small_name opt.Callers = omega arith
+small_name opt.Rounds = omega arith
 
 -- the values that are told are those of the arguments
 pub told_values : (word : CommandWord) (arguments : List Argument) (matches : ArgMatches)

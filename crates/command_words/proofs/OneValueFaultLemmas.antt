@@ -145,6 +145,14 @@ set_is_good values settings set opt.Capacity =
     number_is_good opt.Capacity 512 (values opt.Capacity) settings.capacity set.capacity
 set_is_good values settings set opt.Phi = number_is_good opt.Phi 10000 (values opt.Phi) settings.phi set.phi
 set_is_good values settings set opt.Deal = deal_is_good (values opt.Deal) settings.deal set.deal
+set_is_good values settings set opt.Block =
+    number_is_good opt.Block 1024 (values opt.Block) settings.block set.block
+set_is_good values settings set opt.Workers =
+    number_is_good opt.Workers 4 (values opt.Workers) settings.workers set.workers
+set_is_good values settings set opt.Callers =
+    number_is_good opt.Callers 0 (values opt.Callers) settings.callers set.callers
+set_is_good values settings set opt.Rounds =
+    number_is_good opt.Rounds 0 (values opt.Rounds) settings.rounds set.rounds
 
 -- values that set something have no fault
 pub no_value_fault : (values : Values) (settings : Settings) (kind : WordsKind) → SetsSettings values settings
@@ -193,10 +201,12 @@ one_set values settings other one two =
           one_set_number opt.Capacity 512 (values opt.Capacity) settings.capacity other.capacity one.capacity
           two.capacity i;
       phi = one_set_number opt.Phi 10000 (values opt.Phi) settings.phi other.phi one.phi two.phi i;
-      block = (one.block ∙ sym two.block) i;
-      workers = (one.workers ∙ sym two.workers) i;
-      callers = (one.callers ∙ sym two.callers) i;
-      rounds = (one.rounds ∙ sym two.rounds) i;
+      block = one_set_number opt.Block 1024 (values opt.Block) settings.block other.block one.block two.block i;
+      workers =
+          one_set_number opt.Workers 4 (values opt.Workers) settings.workers other.workers one.workers two.workers i;
+      callers =
+          one_set_number opt.Callers 0 (values opt.Callers) settings.callers other.callers one.callers two.callers i;
+      rounds = one_set_number opt.Rounds 0 (values opt.Rounds) settings.rounds other.rounds one.rounds two.rounds i;
       weigh = one_set_weigh (values opt.Weigh) settings.weigh other.weigh one.weigh two.weigh i;
       deal = one_set_deal (values opt.Deal) settings.deal other.deal one.deal two.deal i;
       store = (one.store ∙ sym two.store) i;

@@ -10,7 +10,7 @@ use Rattle.command_words.specs.Options.{Kind, number, choice, kind_of, place_of,
 use Rattle.command_words.specs.Options.{IsGood, IsNoNumber, IsNoChoice, IsOutside}
 use Rattle.command_words.specs.Settings.{Values, SetsNumber, SetsWeigh, SetsDeal}
 use Rattle.command_words.specs.Words.{IsFirstBad, HasValueFault}
-use Rattle.command_words.specs.OneValue.{IsBadNumber, IsBadChoice}
+use Rattle.command_words.specs.OneValue.{AreGoodBefore, IsBadNumber, IsBadChoice}
 use Rattle.command_words.specs.declared.opt.Opt.{Opt}
 use Rattle.command_words.specs.declared.words_kind.WordsKind.{WordsKind}
 use Rattle.command_words.specs.declared.words_kind.WordsKind.TheVariants.{BadNumber, OutOfLimits, BadChoice}
@@ -22,7 +22,8 @@ use Rattle.command_words.specs.declared.opt.Opt.TheVariants as opt
 abbrev opt_at : ℕ → Opt
 opt_at place =
     if place == 0 then opt.Weigh else if place == 1 then opt.Shards else if place
-    == 2 then opt.Capacity else if place == 3 then opt.Phi else opt.Deal
+    == 2 then opt.Capacity else if place == 3 then opt.Phi else if place == 4 then opt.Deal else if place
+    == 5 then opt.Block else if place == 6 then opt.Workers else if place == 7 then opt.Callers else opt.Rounds
 
 at_place : (opt : Opt) → opt_at (place_of opt) ≡ opt
 at_place opt.Weigh = refl
@@ -30,14 +31,14 @@ at_place opt.Shards = refl
 at_place opt.Capacity = refl
 at_place opt.Phi = refl
 at_place opt.Deal = refl
+at_place opt.Block = refl
+at_place opt.Workers = refl
+at_place opt.Callers = refl
+at_place opt.Rounds = refl
 
 -- options at one place are one option
 pub same_opt : (opt other : Opt) → place_of opt ≡ place_of other → opt ≡ other
 same_opt opt other same = sym (at_place opt) ∙ ap opt_at same ∙ at_place other
-
--- each option before a place has a good value
-abbrev pub AreGoodBefore : Values → ℕ → Type 0
-AreGoodBefore values place = (other : Opt) → place_of other < place → IsGood other (values other)
 
 -- no option stands before the first place
 pub good_before_first : (values : Values) → AreGoodBefore values 0

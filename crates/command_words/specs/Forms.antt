@@ -17,7 +17,9 @@ form_of Weigh = record {
 }
 form_of Report = record {
   positionals = [];
-  options = codes "capture" ∷ codes "weigh" ∷ codes "shards" ∷ codes "capacity" ∷ codes "phi" ∷ codes "deal" ∷ [];
+  options =
+      codes "capture" ∷ codes "weigh" ∷ codes "shards" ∷ codes "capacity" ∷ codes "phi" ∷ codes "deal" ∷ codes "block"
+      ∷ codes "workers" ∷ codes "callers" ∷ codes "rounds" ∷ [];
 }
 
 -- the words are a command's name followed by well-formed words that spell these arguments

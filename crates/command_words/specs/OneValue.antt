@@ -1,8 +1,11 @@
--- What is wrong with the value of one option, which no public contract cites.
-use Rattle.std.specs.Prelude.{◌≡◌, Option, Some, None}
+-- What some of the values give, and what is wrong with one, which no public contract cites.
+use Rattle.std.specs.Prelude.{ℕ, ◌≡◌, ◌<◌, Option, Some, None}
 use Rattle.command_words.specs.Arguments.{Text}
-use Rattle.command_words.specs.Options.{kind_of, IsNoNumber, IsOutside, IsNoChoice}
+use Rattle.command_words.specs.Options.{kind_of, place_of, IsGood, IsNoNumber, IsOutside, IsNoChoice}
+use Rattle.command_words.specs.Settings.{Values, SetsNumber}
 use Rattle.command_words.specs.declared.opt.Opt.{Opt}
+use Rattle.command_words.specs.declared.opt.Opt.TheVariants.{Block, Workers, Callers, Rounds}
+use Rattle.command_words.specs.declared.values.Running.{Running}
 use Rattle.command_words.specs.declared.words_kind.WordsKind.{WordsKind}
 use Rattle.command_words.specs.declared.words_kind.WordsKind.TheVariants.{BadNumber, OutOfLimits, BadChoice}
 
@@ -18,3 +21,14 @@ abbrev pub IsBadChoice : Opt → Option Text → WordsKind → Type 0
 IsBadChoice opt None kind = ⊥
 IsBadChoice opt (Some text) (BadChoice at) = (at ≡ opt) × IsNoChoice (kind_of opt) text
 IsBadChoice opt (Some text) _ = ⊥
+
+-- each option before an index has a good value, or is missing
+abbrev pub AreGoodBefore : Values → ℕ → Type 0
+AreGoodBefore values place = (other : Opt) → place_of other < place → IsGood other (values other)
+
+-- what threads do while records are folded, as the values of options give it, with defaults filled in
+pub record SetsRunning (values : Values) (running : Running) : Type 0 where
+  pub block : SetsNumber Block 1024 (values Block) running.block
+  pub workers : SetsNumber Workers 4 (values Workers) running.workers
+  pub callers : SetsNumber Callers 0 (values Callers) running.callers
+  pub rounds : SetsNumber Rounds 0 (values Rounds) running.rounds

@@ -4,6 +4,7 @@ use Rattle.std.specs.Prelude.{None}
 use Rattle.command_words.specs.Arguments.{Text}
 use Rattle.command_words.specs.declared.opt.Opt.{Opt}
 use Rattle.command_words.specs.declared.opt.Opt.TheVariants.{Weigh, Shards, Capacity, Phi, Deal}
+use Rattle.command_words.specs.declared.opt.Opt.TheVariants.{Block, Workers, Callers, Rounds}
 use Rattle.prefix_lattice.specs.{most_shards}
 
 -- the name of an option
@@ -13,6 +14,10 @@ name_of Shards = codes "shards"
 name_of Capacity = codes "capacity"
 name_of Phi = codes "phi"
 name_of Deal = codes "deal"
+name_of Block = codes "block"
+name_of Workers = codes "workers"
+name_of Callers = codes "callers"
+name_of Rounds = codes "rounds"
 
 -- the index of an option in the order in which values are checked
 abbrev pub place_of : Opt → ℕ
@@ -21,6 +26,10 @@ place_of Shards = 1
 place_of Capacity = 2
 place_of Phi = 3
 place_of Deal = 4
+place_of Block = 5
+place_of Workers = 6
+place_of Callers = 7
+place_of Rounds = 8
 
 -- what the value of an option may be: a number from the least to the greatest, or one of some choices
 pub data Kind : Type 0 where
@@ -35,6 +44,22 @@ greatest_capacity = 4096
 abbrev pub greatest_phi : ℕ
 greatest_phi = 1000000
 
+-- the most records that one fold counts
+abbrev pub greatest_block : ℕ
+greatest_block = 65536
+
+-- the most threads that fold records
+abbrev pub greatest_workers : ℕ
+greatest_workers = 16
+
+-- the most threads that report besides the calling one
+abbrev pub greatest_callers : ℕ
+greatest_callers = 8
+
+-- the most reports that each of them makes while records are folded
+abbrev pub greatest_rounds : ℕ
+greatest_rounds = 32
+
 -- the values that each option takes
 abbrev pub kind_of : Opt → Kind
 kind_of Weigh = choice (codes "bytes" ∷ codes "packets" ∷ [])
@@ -42,6 +67,10 @@ kind_of Shards = number 1 most_shards
 kind_of Capacity = number 2 greatest_capacity
 kind_of Phi = number 1 greatest_phi
 kind_of Deal = choice (codes "round" ∷ codes "source" ∷ codes "free" ∷ [])
+kind_of Block = number 1 greatest_block
+kind_of Workers = number 1 greatest_workers
+kind_of Callers = number 0 greatest_callers
+kind_of Rounds = number 0 greatest_rounds
 
 -- the text is a number below 2^64 in decimal, without leading zeros
 pub record IsNumber (text : Text) (value : ℕ) : Type 0 where

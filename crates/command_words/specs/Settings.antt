@@ -6,8 +6,10 @@ use Rattle.deal_rules.specs.declared.deal_kind.DealKind.{DealKind}
 use Rattle.deal_rules.specs.declared.deal_kind.DealKind.TheVariants as dealing
 use Rattle.command_words.specs.Arguments.{Text, Argument, value_of}
 use Rattle.command_words.specs.Options.{name_of, kind_of, IsNumber, IsAllowed, greatest_capacity, greatest_phi}
+use Rattle.command_words.specs.Options.{greatest_block, greatest_workers, greatest_callers, greatest_rounds}
 use Rattle.command_words.specs.declared.opt.Opt.{Opt}
 use Rattle.command_words.specs.declared.opt.Opt.TheVariants.{Weigh as ByWeigh, Shards, Capacity, Phi, Deal}
+use Rattle.command_words.specs.declared.opt.Opt.TheVariants.{Block, Workers, Callers, Rounds}
 use Rattle.command_words.specs.declared.settings.Settings.{Settings}
 use Rattle.prefix_lattice.specs.{most_shards}
 
@@ -52,31 +54,15 @@ pub record SetsSettings (values : Values) (settings : Settings) : Type 0 where
   pub capacity : SetsNumber Capacity 512 (values Capacity) settings.capacity
   pub phi : SetsNumber Phi 10000 (values Phi) settings.phi
   pub deal : SetsDeal (values Deal) settings.deal
-  pub block : settings.block ≡ 1024
-  pub workers : settings.workers ≡ 4
-  pub callers : settings.callers ≡ 0
-  pub rounds : settings.rounds ≡ 0
+  pub block : SetsNumber Block 1024 (values Block) settings.block
+  pub workers : SetsNumber Workers 4 (values Workers) settings.workers
+  pub callers : SetsNumber Callers 0 (values Callers) settings.callers
+  pub rounds : SetsNumber Rounds 0 (values Rounds) settings.rounds
   pub store : settings.store ≡ false
 
 -- tables of this capacity can't hide a prefix of this share: phi times capacity is at least 2,000,000
 abbrev pub IsWide : Settings → Type 0
 IsWide settings = 2 * greatest_phi ≤ settings.phi * settings.capacity
-
--- the most records that one fold counts
-abbrev pub greatest_block : ℕ
-greatest_block = 65536
-
--- the most threads that fold records
-abbrev pub greatest_workers : ℕ
-greatest_workers = 16
-
--- the most threads that report besides the calling one
-abbrev pub greatest_callers : ℕ
-greatest_callers = 8
-
--- the most reports that each of them makes while records are folded
-abbrev pub greatest_rounds : ℕ
-greatest_rounds = 32
 
 -- each number of the settings is within its limits
 pub record AreLimited (settings : Settings) : Type 0 where

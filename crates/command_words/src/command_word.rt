@@ -17,7 +17,9 @@ static WEIGH_OPTIONS: [&str; 2] = ["capture", "weigh"];
 
 static REPORT_POSITIONALS: [&str; 0] = [];
 
-static REPORT_OPTIONS: [&str; 6] = ["capture", "weigh", "shards", "capacity", "phi", "deal"];
+static REPORT_OPTIONS: [&str; 10] = [
+    "capture", "weigh", "shards", "capacity", "phi", "deal", "block", "workers", "callers", "rounds",
+];
 
 impl CommandWord {
     /// The command of this name, if there is one.

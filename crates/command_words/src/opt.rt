@@ -18,6 +18,14 @@ pub enum Opt {
     Phi,
     /// How records are dealt to shards: `round`, `source` or `free`.
     Deal,
+    /// The most records that one fold counts, 1 to 65,536.
+    Block,
+    /// How many threads fold records, 1 to 16.
+    Workers,
+    /// How many threads report besides the calling one, 0 to 8.
+    Callers,
+    /// How many reports each of them makes while records are folded, 0 to 32.
+    Rounds,
 }
 
 impl Opt {
@@ -31,6 +39,10 @@ impl Opt {
             Opt::Capacity => "capacity",
             Opt::Phi => "phi",
             Opt::Deal => "deal",
+            Opt::Block => "block",
+            Opt::Workers => "workers",
+            Opt::Callers => "callers",
+            Opt::Rounds => "rounds",
         }
     }
 }

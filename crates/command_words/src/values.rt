@@ -2,13 +2,13 @@
 
 ghost use Rattle.std.specs.Prelude.{◌≡◌, ◌↔◌, IfOk, IfErr, IsTrue};
 ghost use Rattle.command_words.specs.Scanning.{text_at};
-ghost use Rattle.command_words.specs.Options.{kind_of, number};
+ghost use Rattle.command_words.specs.Options.{kind_of, number, place_of};
 ghost use Rattle.command_words.specs.Settings.{SetsDeal, SetsNumber, SetsSettings, SetsWeigh, IsWide};
 ghost use Rattle.command_words.specs.Matches.{values_in_matches};
 ghost use Rattle.command_words.specs.Words.{HasValueFault};
-ghost use Rattle.command_words.specs.OneValue.{IsBadChoice, IsBadNumber};
+ghost use Rattle.command_words.specs.OneValue.{AreGoodBefore, IsBadChoice, IsBadNumber, SetsRunning};
 ghost use Rattle.command_words.specs.declared.words_kind.WordsKind.TheVariants.{BadChoice};
-ghost use Rattle.command_words.specs.declared.opt.Opt.TheVariants.{Weigh as ByWeigh, Deal};
+ghost use Rattle.command_words.specs.declared.opt.Opt.TheVariants.{Weigh as ByWeigh, Deal, Block};
 
 use crate::{Opt, Settings, WordsKind};
 use clap::ArgMatches;
@@ -45,6 +45,43 @@ const PHI: Numeric = Numeric {
     default: 10_000,
 };
 
+const BLOCK: Numeric = Numeric {
+    opt: Opt::Block,
+    least: 1,
+    greatest: 65_536,
+    default: 1024,
+};
+
+const WORKERS: Numeric = Numeric {
+    opt: Opt::Workers,
+    least: 1,
+    greatest: 16,
+    default: 4,
+};
+
+const CALLERS: Numeric = Numeric {
+    opt: Opt::Callers,
+    least: 0,
+    greatest: 8,
+    default: 0,
+};
+
+const ROUNDS: Numeric = Numeric {
+    opt: Opt::Rounds,
+    least: 0,
+    greatest: 32,
+    default: 0,
+};
+
+// What threads do while records are folded.
+#[derive(Drop)]
+struct Running {
+    block: u32,
+    workers: u32,
+    callers: u32,
+    rounds: u32,
+}
+
 // The least product of `phi` and the capacity at which no table hides a heavy prefix.
 const LEAST_WIDTH: u64 = 2_000_000;
 
@@ -58,17 +95,36 @@ pub(crate) fn settings_of(matches: &ArgMatches<'_>) -> Result<Settings, WordsKin
     let capacity = CAPACITY.read(text_of(matches, Opt::Capacity))?;
     let phi = PHI.read(text_of(matches, Opt::Phi))?;
     let deal = deal_of(text_of(matches, Opt::Deal))?;
+    let running = running_of(matches)?;
     Ok(Settings {
         shards,
         capacity,
         phi,
-        block: 1024,
-        workers: 4,
-        callers: 0,
-        rounds: 0,
+        block: running.block,
+        workers: running.workers,
+        callers: running.callers,
+        rounds: running.rounds,
         weigh,
         deal,
         store: false,
+    })
+}
+
+// What the options of threads give, or the fault of the first wrong value. The values of all options before them are good.
+fn running_of(matches: &ArgMatches<'_>) -> Result<Running, WordsKind>
+    requires { AreGoodBefore (values_in_matches matches.now) (place_of Block) }
+    ensures ok { IfOk result (SetsRunning (values_in_matches matches.now)) }
+    ensures err { IfErr result (HasValueFault (values_in_matches matches.now)) }
+{
+    let block = BLOCK.read(text_of(matches, Opt::Block))?;
+    let workers = WORKERS.read(text_of(matches, Opt::Workers))?;
+    let callers = CALLERS.read(text_of(matches, Opt::Callers))?;
+    let rounds = ROUNDS.read(text_of(matches, Opt::Rounds))?;
+    Ok(Running {
+        block,
+        workers,
+        callers,
+        rounds,
     })
 }
 

@@ -1,12 +1,12 @@
 -- Cuts of the pure core, and rounds of reads.
-use Rattle.std.proofs.Common.{◌≡◌, ℕ, zero, suc, ◌+◌, ◌-◌, ◌<◌, ◌≤◌, List, [], ◌∷◌, ◌++◌, map, length, get_or}
+use Rattle.std.proofs.Common.{◌≡◌, ℕ, zero, suc, ◌+◌, ◌-◌, ◌<◌, ◌≤◌, List, [], ◌∷◌, ◌++◌, map, length, drop, get_or}
 use Rattle.std.proofs.Common.{slice_get, Some, None, All, refl, sym, ap, ap₂, ◌∙◌, arith, subst}
 use Rattle.std.specs.Prelude.{slice_index}
 use Rattle.std.specs.List.{AllZip}
 use Rattle.std.specs.List.Sorted.{IsNonDecreasing}
 use Rattle.std.proofs.lemmas.List.Elements.{All-nil, All-cons, All-append, All-head, All-tail}
-use Rattle.std.proofs.lemmas.List.{length-map}
-use Rattle.std.proofs.lemmas.List.Sorted.{IsNonDecreasingBy-push, IsNonDecreasingBy-short}
+use Rattle.std.proofs.lemmas.List.{length-map, length-append, map-append}
+use Rattle.std.proofs.lemmas.List.Sorted.{IsNonDecreasingBy-drop, IsNonDecreasingBy-short}
 use Rattle.prefix_lattice.specs.{RecordValue}
 use Rattle.shard_state.specs.{AreShards, BasesRepresent, CutRepresents, CutValue, HasShape, IsShard, ShardValue}
 use Rattle.shard_state.specs.{SnapshotRepresents, SnapshotValue, capacity_of, lists_of, positions_of, snapshot_of}
@@ -17,7 +17,7 @@ use Rattle.hhh_output.specs.declared.reports.Reported.{Reported}
 use Rattle.position_words.specs.declared.view.Trail.{Trail}
 use Rattle.position_words.specs.declared.view.View.{View}
 use Rattle.pass_tokens.specs.{IsOdd, ReadsCut, ShardRead, after_reads, seen_of, states_read}
-use Rattle.gate_workers.specs.Call.{Calls, CallsSoFar, IsCutAt, IsReportAt, after_rounds, cut_at}
+use Rattle.gate_workers.specs.Call.{Calls, IsCutAt, IsReportAt, after_rounds, cut_at}
 use Rattle.gate_workers.specs.Call.{positions_of_shard, positions_read, states_at}
 
 states_are : (opening : List ShardValue) (reads : List ShardRead)
@@ -129,20 +129,34 @@ report_is_at opening positions cut phi report at here is =
           (subst (λ (c : CutValue). IsReportOf c phi report) at.is is);
     }
 
-map-snoc : {A B : Type 0} (f : A → B) (xs : List A) (x : A) → map f (xs ++ x ∷ []) ≡ map f xs ++ f x ∷ []
-map-snoc f [] x = refl
-map-snoc f (y ∷ ys) x = ap (λ zs. f y ∷ zs) (map-snoc f ys x)
-
-rounds-snoc : (trails : List Trail) (rounds : List (List ShardRead)) (reads : List ShardRead)
-    → after_rounds trails (rounds ++ reads ∷ []) ≡ after_reads (after_rounds trails rounds) reads
-rounds-snoc trails [] reads = refl
-rounds-snoc trails (first ∷ rounds) reads = rounds-snoc (after_reads trails first) rounds reads
+-- trails after rounds, and then more of them
+rounds-append : (trails : List Trail) (rounds more : List (List ShardRead))
+    → after_rounds trails (rounds ++ more) ≡ after_rounds (after_rounds trails rounds) more
+rounds-append trails [] more = refl
+rounds-append trails (first ∷ rounds) more = rounds-append (after_reads trails first) rounds more
 
 -- the last of some numbers
-last_is : (first : ℕ) (numbers : List ℕ) (last d : ℕ)
-    → get_or (first ∷ (numbers ++ last ∷ [])) (length (numbers ++ last ∷ [])) d ≡ last
-last_is first [] last d = refl
-last_is first (next ∷ numbers) last d = last_is next numbers last d
+abbrev last_of : ℕ → List ℕ → ℕ
+last_of first [] = first
+last_of first (next ∷ numbers) = last_of next numbers
+
+-- numbers that never fall, after one that is at most their first
+one_before : (number first : ℕ) (numbers : List ℕ) → number ≤ first → IsNonDecreasing (first ∷ numbers)
+    → IsNonDecreasing (number ∷ first ∷ numbers)
+one_before number first numbers below up zero zero d le inside = omega arith
+one_before number first numbers below up zero (suc j) d le inside =
+    omega (arith, below, up 0 j d (omega arith) (omega (arith, inside)))
+one_before number first numbers below up (suc i) zero d le inside = absurd (omega (arith, le))
+one_before number first numbers below up (suc i) (suc j) d le inside =
+    up i j d (omega (arith, le)) (omega (arith, inside))
+
+-- numbers that never fall, and more that never fall from the last of them on
+never_fall_on : (first : ℕ) (numbers more : List ℕ) → IsNonDecreasing (first ∷ numbers)
+    → IsNonDecreasing (last_of first numbers ∷ more) → IsNonDecreasing (first ∷ (numbers ++ more))
+never_fall_on first [] more up on = on
+never_fall_on first (next ∷ numbers) more up on =
+    one_before first next (numbers ++ more) (up 0 1 0 (omega arith) (omega arith))
+    (never_fall_on next numbers more (IsNonDecreasingBy-drop (λ x. x) 1 (first ∷ next ∷ numbers) up) on)
 
 -- what was seen of a shard after a round is the position that it read
 seen_after_round : (trails : List Trail) (reads : List ShardRead) (shard : ℕ) → shard < length trails
@@ -162,83 +176,116 @@ some_read [] shard inside = absurd (omega arith)
 some_read (read ∷ reads) zero inside = (read, refl, refl)
 some_read (read ∷ reads) (suc shard) inside = some_read reads shard (omega arith)
 
-pub no_calls : (opening : List ShardValue) (phi : ℕ) (view : View) → CallsSoFar opening phi 0 view view []
+length_after_reads : (trails : List Trail) (reads : List ShardRead) → length (after_reads trails reads) ≡ length trails
+length_after_reads [] reads = refl
+length_after_reads (trail ∷ rest) [] = refl
+length_after_reads (trail ∷ rest) (read ∷ reads) = ap suc (length_after_reads rest reads)
+
+-- what was seen of a shard after rounds is the position that the last of them read
+seen_after_rounds : (trails : List Trail) (rounds : List (List ShardRead)) (shards shard : ℕ) → shard < shards
+    → length trails ≡ shards → All (λ round. length round ≡ shards) rounds
+    → last_of (slice_index (map (λ trail. trail.seen) trails) shard) (positions_of_shard shard rounds)
+    ≡ slice_index (map (λ trail. trail.seen) (after_rounds trails rounds)) shard
+seen_after_rounds trails [] shards shard inside many whole = refl
+seen_after_rounds trails (first ∷ rounds) shards shard inside many whole =
+    let is_whole : length first ≡ shards = All-head (λ round. length round ≡ shards) first rounds whole in
+    ap (λ seen. last_of seen (positions_of_shard shard rounds))
+    (sym (seen_after_round trails first shard (omega (arith, inside, many)) (omega (arith, inside, is_whole))))
+    ∙ seen_after_rounds (after_reads trails first) rounds shards shard inside
+    (length_after_reads trails first ∙ many) (All-tail (λ round. length round ≡ shards) first rounds whole)
+
+-- each round read each shard
+rounds_are_whole : (opening : List ShardValue) (phi : ℕ) (reports : List Reported) (rounds : List (List ShardRead))
+    → map (λ (reported : Reported). reported.report.positions) reports ≡ map positions_read rounds
+    → All (λ (reported : Reported). IsReportAt opening phi reported.report) reports
+    → All (λ (round : List ShardRead). length round ≡ length opening) rounds
+rounds_are_whole opening phi reports [] same each = All-nil (λ (round : List ShardRead). length round ≡ length opening)
+rounds_are_whole opening phi [] (round ∷ rounds) same each = cc same
+rounds_are_whole opening phi (reported ∷ reports) (round ∷ rounds) same each =
+    let first : reported.report.positions ≡ positions_read round =
+    ap (λ all. get_or all 0 []) same in
+    let rest : map (λ (reported : Reported). reported.report.positions) reports ≡ map positions_read rounds =
+    ap (λ all. drop 1 all) same in
+    let at : IsReportAt opening phi reported.report =
+    All-head (λ (reported : Reported). IsReportAt opening phi reported.report) reported reports each in
+    All-cons (λ (round : List ShardRead). length round ≡ length opening) round rounds
+    (sym (length-map round (λ read. read.position)) ∙ ap length (sym first) ∙ at.as_many)
+    (rounds_are_whole opening phi reports rounds rest
+    (All-tail (λ (reported : Reported). IsReportAt opening phi reported.report) reported reports each))
+
+pub no_calls : (opening : List ShardValue) (phi : ℕ) (view : View) → Calls opening phi 0 view view []
 no_calls opening phi view = record {
-  calls = record {
-    reads = [];
-    as_many = refl;
-    odd = All-nil (λ round. All (λ (read : ShardRead). All IsOdd read.losses) round);
-    view = refl;
-    positions = refl;
-    never_fall = λ shard inside. IsNonDecreasingBy-short (λ x. x) (seen_of shard view ∷ []) (omega arith);
-    each = All-nil (λ (reported : Reported). IsReportAt opening phi reported.report);
-    unsaved = All-nil (λ (reported : Reported). reported.saved ≡ None);
-  };
-  last = λ shard inside d. refl;
+  reads = [];
+  as_many = refl;
+  odd = All-nil (λ round. All (λ (read : ShardRead). All IsOdd read.losses) round);
+  view = refl;
+  positions = refl;
+  never_fall = λ shard inside. IsNonDecreasingBy-short (λ x. x) (seen_of shard view ∷ []) (omega arith);
+  each = All-nil (λ (reported : Reported). IsReportAt opening phi reported.report);
+  unsaved = All-nil (λ (reported : Reported). reported.saved ≡ None);
 }
 
--- one round more
-pub next_call : (opening : List ShardValue) (phi rounds : ℕ) (before now after : View) (reports : List Reported)
-    (cut changed : CutValue) (report : Report) → length now.trails ≡ length opening
-    → CallsSoFar opening phi rounds before now reports → ReadsCut opening now cut after changed
-    → HasShape (length opening) (capacity_of opening) cut → report.positions ≡ positions_of changed
-    → IsReportAt opening phi report
-    → CallsSoFar opening phi (rounds + 1) before after (reports ++ record { report = report; saved = None } ∷ [])
-next_call opening phi rounds before now after reports cut changed report many far round shape here is_report =
-    let calls : Calls opening phi rounds before now reports = far.calls in
+-- one round
+pub one_call : (opening : List ShardValue) (phi : ℕ) (before after : View) (cut changed : CutValue) (report : Report)
+    → ReadsCut opening before cut after changed → HasShape (length opening) (capacity_of opening) cut
+    → report.positions ≡ positions_of changed → IsReportAt opening phi report
+    → Calls opening phi 1 before after (record { report = report; saved = None } ∷ [])
+one_call opening phi before after cut changed report round shape here is_report =
     let reads : List ShardRead = round.reads in
-    let all : List (List ShardRead) = calls.reads ++ reads ∷ [] in
     let reported : Reported = record { report = report; saved = None } in
-    let report_positions : report.positions ≡ positions_read reads =
-    here
-    ∙ cut_positions opening (positions_read reads) changed
-    (cut_was_read opening now after cut changed round shape) in
     record {
-      calls = record {
-        reads = all;
-        as_many = omega (arith, length-snoc calls.reads reads, calls.as_many);
-        odd =
-            All-append (λ round. All (λ (read : ShardRead). All IsOdd read.losses) round) calls.reads (reads ∷ [])
-            calls.odd
-            (All-cons (λ round. All (λ (read : ShardRead). All IsOdd read.losses) round) reads [] round.odd
-            (All-nil (λ round. All (λ (read : ShardRead). All IsOdd read.losses) round)));
-        view = round.view ∙ ap (λ (v : View). record v { trails = after_reads v.trails reads }) calls.view
-            ∙ ap (λ trails. record before { trails = trails }) (sym (rounds-snoc before.trails calls.reads reads));
-        positions = map-snoc (λ (reported : Reported). reported.report.positions) reports reported
-            ∙ ap₂ (λ ps p. ps ++ p ∷ []) calls.positions report_positions
-            ∙ sym (map-snoc positions_read calls.reads reads);
-        never_fall = λ shard inside.
-            let seen : ℕ = seen_of shard before in
-            let earlier : List ℕ = positions_of_shard shard calls.reads in
-            let position : ℕ = slice_index (positions_read reads) shard in
-            let read = some_read reads shard (omega (arith, inside, round.as_many)) in
-            let later : seen_of shard now ≤ position = omega (arith, round.later shard read.0 read.1, read.2) in
-            subst (λ ps. IsNonDecreasing (seen ∷ ps))
-            (sym (map-snoc (λ reads. slice_index (positions_read reads) shard) calls.reads reads))
-            (IsNonDecreasingBy-push (λ x. x) (seen ∷ earlier) position (calls.never_fall shard inside)
-            (λ d _. let index : length (seen ∷ earlier) - 1 ≡ length earlier = omega arith in
-            subst (λ k. get_or (seen ∷ earlier) k d ≤ position) (sym index)
-            (omega (arith, far.last shard inside d, later))));
-        each =
-            All-append (λ (reported : Reported). IsReportAt opening phi reported.report) reports (reported ∷ [])
-            calls.each
-            (All-cons (λ (reported : Reported). IsReportAt opening phi reported.report) reported [] is_report
-            (All-nil (λ (reported : Reported). IsReportAt opening phi reported.report)));
-        unsaved = All-append (λ (reported : Reported). reported.saved ≡ None) reports (reported ∷ []) calls.unsaved
-            (All-cons (λ (reported : Reported). reported.saved ≡ None) reported [] refl
-            (All-nil (λ (reported : Reported). reported.saved ≡ None)));
-      };
-      last = λ shard inside d.
+      reads = reads ∷ [];
+      as_many = refl;
+      odd =
+          All-cons (λ round. All (λ (read : ShardRead). All IsOdd read.losses) round) reads [] round.odd
+          (All-nil (λ round. All (λ (read : ShardRead). All IsOdd read.losses) round));
+      view = round.view;
+      positions =
+          ap (λ positions. positions ∷ []) (here
+          ∙ cut_positions opening (positions_read reads) changed
+          (cut_was_read opening before after cut changed round shape));
+      never_fall = λ shard inside.
           let position : ℕ = slice_index (positions_read reads) shard in
-          let seen_now : seen_of shard after ≡ position =
-          ap (seen_of shard) round.view
-          ∙ seen_after_round now.trails reads shard (omega (arith, inside, many))
-          (omega (arith, inside, round.as_many)) in
-          subst (λ ps. get_or (seen_of shard before ∷ ps) (length ps) d ≡ seen_of shard after)
-          (sym (map-snoc (λ reads. slice_index (positions_read reads) shard) calls.reads reads))
-          (last_is (seen_of shard before) (positions_of_shard shard calls.reads) position d ∙ sym seen_now);
+          let read = some_read reads shard (omega (arith, inside, round.as_many)) in
+          let later : seen_of shard before ≤ position = omega (arith, round.later shard read.0 read.1, read.2) in
+          one_before (seen_of shard before) position [] later
+          (IsNonDecreasingBy-short (λ x. x) (position ∷ []) (omega arith));
+      each =
+          All-cons (λ (reported : Reported). IsReportAt opening phi reported.report) reported [] is_report
+          (All-nil (λ (reported : Reported). IsReportAt opening phi reported.report));
+      unsaved = All-cons (λ (reported : Reported). reported.saved ≡ None) reported [] refl
+          (All-nil (λ (reported : Reported). reported.saved ≡ None));
     }
-  where
-    length-snoc : {A : Type 0} (xs : List A) (x : A) → length (xs ++ x ∷ []) ≡ length xs + 1
-    length-snoc [] x = refl
-    length-snoc (y ∷ ys) x = let rest : length (ys ++ x ∷ []) ≡ length ys + 1 = length-snoc ys x in omega (arith, rest)
+
+-- some rounds, and then more
+pub more_calls : (opening : List ShardValue) (phi rounds more : ℕ) (before middle now : View)
+    (reports later : List Reported) → length before.trails ≡ length opening
+    → Calls opening phi rounds before middle reports → Calls opening phi more middle now later
+    → Calls opening phi (rounds + more) before now (reports ++ later)
+more_calls opening phi rounds more before middle now reports later many one two = record {
+  reads = one.reads ++ two.reads;
+  as_many = length-append one.reads two.reads ∙ ap₂ (λ a b. a + b) one.as_many two.as_many;
+  odd =
+      All-append (λ round. All (λ (read : ShardRead). All IsOdd read.losses) round) one.reads two.reads one.odd
+      two.odd;
+  view =
+      two.view ∙ ap (λ (v : View). record v { trails = after_rounds v.trails two.reads }) one.view
+      ∙ ap (λ trails. record before { trails = trails }) (sym (rounds-append before.trails one.reads two.reads));
+  positions =
+      map-append (λ (reported : Reported). reported.report.positions) reports later
+      ∙ ap₂ (λ a b. a ++ b) one.positions two.positions ∙ sym (map-append positions_read one.reads two.reads);
+  never_fall = λ shard inside.
+      let whole = rounds_are_whole opening phi reports one.reads one.positions one.each in
+      let last : last_of (seen_of shard before) (positions_of_shard shard one.reads) ≡ seen_of shard middle =
+      seen_after_rounds before.trails one.reads (length opening) shard inside many whole
+      ∙ ap (seen_of shard) (sym one.view) in
+      subst (λ ps. IsNonDecreasing (seen_of shard before ∷ ps))
+      (sym (map-append (λ reads. slice_index (positions_read reads) shard) one.reads two.reads))
+      (never_fall_on (seen_of shard before) (positions_of_shard shard one.reads)
+      (positions_of_shard shard two.reads)
+      (one.never_fall shard inside)
+      (subst (λ seen. IsNonDecreasing (seen ∷ positions_of_shard shard two.reads)) (sym last)
+      (two.never_fall shard inside)));
+  each = All-append (λ (reported : Reported). IsReportAt opening phi reported.report) reports later one.each two.each;
+  unsaved = All-append (λ (reported : Reported). reported.saved ≡ None) reports later one.unsaved two.unsaved;
+}

@@ -10,7 +10,7 @@ use Rattle.position_words.specs.declared.view.Trail.{Trail}
 use Rattle.position_words.specs.declared.view.View.{View}
 use Rattle.pass_tokens.specs.{IsFoldOf, IsOdd, ShardRead, first_view, folded_once}
 use Rattle.gate_workers.specs.Feed.{IsFed, Feeds, HasSeenEnd, HasSeenEnds}
-use Rattle.gate_workers.specs.Call.{Calls, CallsSoFar, IsCutAt, after_rounds, cut_at, positions_of_shard}
+use Rattle.gate_workers.specs.Call.{Calls, IsCutAt, ReadsOnce, after_rounds, cut_at, positions_of_shard}
 use Rattle.gate_workers.specs.Call.{positions_read, states_at}
 use Rattle.gate_workers.proofs.FeedLemmas.{nothing_fed}
 use Rattle.gate_workers.proofs.CallLemmas.{no_calls}
@@ -110,7 +110,7 @@ pub positions_of_the_second_shard : positions_of_shard 1 (reads ∷ reads_again 
 positions_of_the_second_shard = refl
 
 pub no_round_no_report : Calls shards 500000 0 first first []
-no_round_no_report = let far : CallsSoFar shards 500000 0 first first [] = no_calls shards 500000 first in far.calls
+no_round_no_report = no_calls shards 500000 first
 
 -- a round without a report
 pub round_without_a_report : Calls shards 500000 1 first first [] → ⊥

@@ -1,6 +1,5 @@
 -- What a caller that reports round after round knows and answers.
 use Rattle.std.specs.Prelude.{ℕ, ◌≡◌, ◌<◌, List, [], ◌∷◌, map, fold, length, All, None, slice_index}
-use Rattle.std.specs.Prelude.{slice_index_or}
 use Rattle.std.specs.List.Sorted.{IsNonDecreasing}
 use Rattle.shard_state.specs.{CutValue, IsShard, ShardValue, capacity_of, snapshot_of, state_at}
 use Rattle.hhh_output.specs.{IsReportOf}
@@ -61,10 +60,9 @@ pub record Calls (opening : List ShardValue) (phi rounds : ℕ) (before now : Vi
   pub each : All (λ reported. IsReportAt opening phi reported.report) reports
   pub unsaved : All (λ reported. reported.saved ≡ None) reports
 
--- within the crate: the rounds so far, the last of which read what the view has seen
-pub record CallsSoFar (opening : List ShardValue) (phi rounds : ℕ) (before now : View) (reports : List Reported)
-    : Type 0 where
-  pub calls : Calls opening phi rounds before now reports
-  pub last : (shard : ℕ) → shard < length opening → (d : ℕ)
-      → slice_index_or (seen_of shard before ∷ positions_of_shard shard calls.reads)
-      (length (positions_of_shard shard calls.reads)) d ≡ seen_of shard now
+-- one read of each shard, and no other step
+pub record ReadsOnce (opening : List ShardValue) (before now : View) : Type 0 where
+  pub reads : List ShardRead
+  pub as_many : length reads ≡ length opening
+  pub odd : All (λ read. All IsOdd read.losses) reads
+  pub view : now ≡ record before { trails = after_reads before.trails reads }

@@ -4,7 +4,7 @@ ghost use Rattle.std.specs.Prelude.{◌≡◌, ◌≤◌, ◌<◌, ◌++◌, [],
 ghost use Rattle.shard_state.specs.{BasesRepresent, HasShape, capacity_of, lists_of, positions_of};
 ghost use Rattle.hhh_output.specs.{IsSound, IsWideShare, million};
 ghost use Rattle.pass_tokens.specs.{IsPassOf, view};
-ghost use Rattle.gate_workers.specs.Call.{Calls, IsCutAt, IsReportAt};
+ghost use Rattle.gate_workers.specs.Call.{Calls, IsCutAt, IsReportAt, ReadsOnce};
 
 use crate::Gate;
 use hhh_output::{Report, Reported, Reports, report_of};
@@ -66,16 +66,47 @@ pub(crate) fn report_in_rounds<R: Wait, G: Gate>(
 {
     let mut reports = Reports::new(alloc);
     for round in 0..rounds {
-        gate.before_read(caller, round);
-        board.read_cut(rt, pass, cut);
-        gate.after_read(caller, round);
-        let report = report_at(alloc, board, cut, phi)?;
+        let report = report_once(rt, alloc, board, pass, caller, round, phi, cut, gate)?;
         reports.push(Reported {
             report,
             saved: None,
         })?;
     }
     Ok(reports)
+}
+
+/// Reads a cut of the board's shape with a pass, between two calls of the gate, and reports on it. `phi` is 1 to
+/// 1,000,000 parts per million, and wide enough for the capacity of the board's tables. After an error, which means that
+/// memory ran out, the pass has read each shard all the same, and the cut has what it read.
+pub fn report_once<R: Wait, G: Gate>(
+    rt: &R,
+    alloc: Global,
+    board: &Board,
+    pass: &mut Pass,
+    caller: u32,
+    round: u32,
+    phi: u32,
+    cut: &mut Cut,
+    gate: &G,
+) -> Result<Report, AllocError>
+    requires pass { IsPassOf board.now pass.old }
+    requires shape { HasShape (length board.now.opening) (capacity_of board.now.opening) cut.old }
+    requires some { 1 ≤ phi }
+    requires most { phi ≤ million }
+    requires wide { IsWideShare phi (capacity_of board.now.opening) }
+    ensures reads { ReadsOnce board.now.opening (view pass.old) (view pass.new) }
+    ensures calls { IfOk result (λ report. Calls board.now.opening phi 1 (view pass.old) (view pass.new)
+        (record { report = report; saved = None } ∷ [])) }
+    ensures sound { IfOk result (λ report. BasesRepresent board.now.opening
+        → IsSound report (lists_of board.now.opening) (capacity_of board.now.opening) phi) }
+    ensures shape { HasShape (length board.now.opening) (capacity_of board.now.opening) cut.new }
+    ensures pass { IsPassOf board.now pass.new }
+{
+    gate.before_read(caller, round);
+    board.read_cut(rt, pass, cut);
+    gate.after_read(caller, round);
+    let report = report_at(alloc, board, cut, phi)?;
+    Ok(report)
 }
 
 // The report of a cut that was just read.

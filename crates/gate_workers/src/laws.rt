@@ -1,9 +1,11 @@
 //! Laws of what workers and callers do, each the contract of a function that does nothing.
 
-ghost use Rattle.std.specs.Prelude.{ℕ, List};
+ghost use Rattle.std.specs.Prelude.{◌≡◌, ℕ, ◌+◌, ◌++◌, List, [], length};
 ghost use Rattle.shard_state.specs.{AreShards, BasesRepresent, CutRepresents, ShardValue, lists_of};
 ghost use Rattle.hhh_output.specs.declared.report.Report.{Report};
-ghost use Rattle.gate_workers.specs.Call.{IsReportAt, cut_at};
+ghost use Rattle.hhh_output.specs.declared.reports.Reported.{Reported};
+ghost use Rattle.position_words.specs.declared.view.View.{View};
+ghost use Rattle.gate_workers.specs.Call.{Calls, IsReportAt, cut_at};
 
 use shard_state::shards_stand;
 
@@ -15,3 +17,12 @@ pub fn reported_cuts_represent()
 {
     shards_stand();
 }
+
+/// No rounds are rounds without a report, and rounds that follow rounds of the same pass are rounds: their positions never
+/// fall from the first to the last.
+pub fn calls_follow_calls()
+    ensures none { (opening : List ShardValue) (phi : ℕ) (now : View) → Calls opening phi 0 now now [] }
+    ensures more { (opening : List ShardValue) (phi rounds more : ℕ) (before middle now : View) (reports later : List Reported)
+        → length before.trails ≡ length opening → Calls opening phi rounds before middle reports
+        → Calls opening phi more middle now later → Calls opening phi (rounds + more) before now (reports ++ later) }
+{}

@@ -12,11 +12,11 @@ mod rounds;
 mod running;
 mod workers;
 
-pub use calling::call_reports;
+pub use calling::{call_reports, report_once};
 pub use feeding::feed_all;
 pub use gate::{Gate, OpenGate};
 pub use gathered::{Called, Gathered};
-pub use laws::reported_cuts_represent;
+pub use laws::{calls_follow_calls, reported_cuts_represent};
 pub use plan::ThreadPlan;
 pub use rounds::Rounds;
 pub use running::run_threads;

@@ -1,8 +1,9 @@
-pub mod StatusLemmas
-pub mod WiderRulesLemmas
-pub mod CutAtEndsLemmas
-pub mod SessionLemmas
 pub mod WeightTextLemmas
-pub mod Examples
-pub mod ExamplesOfSessions
-pub mod ExamplesOfStatuses
+pub mod StatusLemmas
+pub mod RoundLemmas
+pub mod OpeningLemmas
+pub mod SessionLemmas
+pub mod SessionTextLemmas
+pub mod CaptureLemmas
+pub mod WiderRulesLemmas
+pub mod LastReportLemmas

@@ -1,50 +1,372 @@
--- The session over a capture, by what its parts came to.
-use Rattle.std.proofs.Common.{◌≡◌, ◌∙◌, ap, ap₂, ℕ, List, [], Option, Some, None, IfSome, ◌++◌}
-use Rattle.prefix_lattice.specs.{RecordValue}
-use Rattle.deal_rules.specs.{IsDealing}
+-- The reports of a session, by what threads did.
+use Rattle.std.proofs.Common.{◌≡◌, ◌∙◌, ◌≤◌, ◌<◌, ◌+◌, ◌⊎◌, inl, inr, ℕ, List, [], ◌∷◌, ◌++◌, Option, None, Some}
+use Rattle.std.proofs.Common.{Ok, Err, All, refl, sym, ap, ap₂, subst, arith, length, map, append_assoc, append-nil, get_or, take, zero, suc, slice_get}
+use Rattle.std.specs.Prelude.{slice_index}
+use Rattle.std.specs.Result.{IfOk, OnErr, OnOk}
+use Rattle.std.specs.List.{flat_map}
+use Rattle.std.specs.List.Sorted.{IsNonDecreasing}
+use Rattle.std.specs.declared.result.Result.{Result}
+use Rattle.std.specs.Io.KnownBytes.{Appends}
+use Rattle.std.proofs.KnownBytes.{Appends-trans, Appends-nil}
+use Rattle.std.proofs.lemmas.List.{length-map, length-append, take_more}
+use Rattle.std.proofs.lemmas.List.Elements.{All-map, All-append, All-cons, All-head, All-nil, All-tail}
+use Rattle.std.proofs.lemmas.List.Sorted.{IsNonDecreasingBy-short}
+use Rattle.outside_io.specs.{AppendsBeginning, IsBeginning, Rose}
+use Rattle.shard_state.specs.{BasesRepresent, IsShard, ShardValue, capacity_of, lists_of, state_at}
+use Rattle.hhh_output.specs.{IsSound}
 use Rattle.hhh_output.specs.declared.report.Report.{Report}
-use Rattle.frame_records.specs.{HasRecords}
-use Rattle.frame_records.specs.declared.records.Records.{Records}
-use Rattle.report_text.specs.{mark_text, report_text, tail_text}
-use Rattle.report_text.specs.declared.mark.Mark.TheVariants.{Opened}
+use Rattle.hhh_output.specs.declared.reports.Reported.{Reported}
+use Rattle.pass_tokens.specs.{ShardRead, first_view, newcomer, seen_of, view as view_of}
+use Rattle.gate_workers.specs.{AreSound, Calls, Gathers, GoesOnce, HasSeenEnds, View, states_at}
+use Rattle.gate_workers.specs.declared.gathered.Called.{Called}
+use Rattle.gate_workers.specs.declared.gathered.Gathered.{Gathered}
+use Rattle.gate_workers.specs.declared.plan.ThreadPlan.{ThreadPlan}
 use Rattle.command_words.specs.declared.settings.Settings.{Settings}
-use Rattle.hhh_engine.specs.Session.{Rules, IsReportAtEnds, IsSession, start_of}
+use Rattle.report_text.specs.{report_text}
+use Rattle.hhh_engine.specs.Feed.{IsFault, WritesRoundsInPart, reports_of}
+use Rattle.hhh_engine.specs.Rounds.{BreakOff, EndRounds, WritesRounds}
+use Rattle.hhh_engine.specs.Session.{AreReportsOf, IsShown, ends_of, part_text, parts_text, saved_text, start_of}
+use Rattle.hhh_engine.specs.declared.status.Status.{Status}
+use Rattle.hhh_engine.specs.declared.status.Status.TheVariants.{Done, BadWords, BadCapture, ReadFault, WriteFault}
+use Rattle.hhh_engine.specs.declared.status.Status.TheVariants.{OutOfMemory}
+use Rattle.hhh_engine.proofs.RoundLemmas.{CallsFollow, flat_map-append, one_part, report_of_call}
 
--- a report at the ends of lists, and the text of it with this tail
-abbrev pub SessionOver : Settings → List (List RecordValue) → List ℕ → List ℕ → Type 0
-SessionOver settings lists tail text =
-    (report : Report) × IsReportAtEnds settings lists report
-    × (text ≡ mark_text Opened (start_of lists) ++ report_text report ++ tail)
+-- a view has seen the positions at which shards start, and no others
+abbrev pub HasSeenStarts : List ShardValue → View → Type 0
+HasSeenStarts opening view = map (λ trail. trail.seen) view.trails ≡ start_of opening
 
--- a text made of an opening, a report and a tail
-pub three_parts : (opening other report tail none first second third : List ℕ) → none ≡ [] → other ≡ opening
-    → first ≡ none ++ other → second ≡ first ++ report → third ≡ second ++ tail
-    → third ≡ opening ++ report ++ tail
-three_parts opening other report tail none first second third empty same one two three =
-    three ∙ ap (λ t. t ++ tail) (two ∙ ap (λ t. t ++ report) (one ∙ ap₂ (λ n t. n ++ t) empty same))
+pub first_has_seen_starts : (opening : List ShardValue) → HasSeenStarts opening (first_view opening)
+first_has_seen_starts [] = refl
+first_has_seen_starts (shard ∷ rest) = ap (λ positions. shard.position ∷ positions) (first_has_seen_starts rest)
 
--- what follows of each capture told follows of the one that is
-session_told : (left : Option (List ℕ)) (P Q : List ℕ → Type 0) → ((file : List ℕ) → P file → Q file)
-    → IfSome left P → IfSome left Q
-session_told None P Q follows has = tt
-session_told (Some file) P Q follows has = follows file has
+map-map : {A B C : Type 0} (f : A → B) (g : B → C) (xs : List A) → map g (map f xs) ≡ map (λ x. g (f x)) xs
+map-map f g [] = refl
+map-map f g (x ∷ xs) = ap (λ rest. g (f x) ∷ rest) (map-map f g xs)
 
--- the records of a capture, dealt and reported, make its session
-pub session_of : (settings : Settings) (rules : Rules) (left : Option (List ℕ)) (records : Records)
-    (lists : List (List RecordValue)) (tail text : List ℕ)
-    → HasRecords settings.weigh left records
-    → IsDealing settings.deal (rules settings.deal) settings.shards records.list lists → tail ≡ tail_text records
-    → SessionOver settings lists tail text → IfSome left (λ file. IsSession settings rules file text)
-session_of settings rules left records lists tail text has dealt is_tail session =
-    session_told left _ _
-    (λ file capture. record {
-      frames = has.frames;
-      capture = capture;
-      records = records;
-      are_records = has.are;
-      lists = lists;
-      dealt = dealt;
-      report = session.0;
-      is_report = session.1;
-      spelled = session.2 ∙ ap (λ t. mark_text Opened (start_of lists) ++ report_text session.0 ++ t) is_tail;
-    }) has.told
+-- so has one that was split off from it
+pub newcomer_has_seen_starts : (opening : List ShardValue) (view : View) → HasSeenStarts opening view
+    → HasSeenStarts opening (newcomer view)
+newcomer_has_seen_starts opening view seen = map-map _ (λ trail. trail.seen) view.trails ∙ seen
+
+-- what a caller with such a view reports in its rounds
+pub reports_of_calls : (opening : List ShardValue) (settings : Settings) (rounds : ℕ) (before now : View)
+    (reports : List Reported) → capacity_of opening ≡ settings.capacity → HasSeenStarts opening before
+    → Calls opening settings.phi rounds before now reports → AreSound opening settings.phi reports
+    → AreReportsOf opening settings rounds reports
+reports_of_calls opening settings rounds before now reports alike seen calls sound = record {
+  as_many =
+      sym (length-map reports _) ∙ ap length calls.positions ∙ length-map calls.reads _ ∙ calls.as_many;
+  shown = λ k d lt. record {
+    is_report = calls.each k d lt;
+    is_sound = subst (λ capacity. IsSound (get_or reports k d).report (lists_of opening) capacity settings.phi) alike
+        (sound k d lt);
+    unsaved = calls.unsaved k d lt;
+  };
+  never_fall = λ shard inside.
+      let many : length (start_of opening) ≡ length opening = length-map opening _ in
+      let read : List ℕ = map (λ reads. slice_index (map (λ read. read.position) reads) shard) calls.reads in
+      let same : map (λ (reported : Reported). slice_index reported.report.positions shard) reports ≡ read =
+      sym (map-map (λ (reported : Reported). reported.report.positions) (λ ps. slice_index ps shard) reports)
+      ∙ ap (map (λ ps. slice_index ps shard)) calls.positions ∙ map-map _ (λ ps. slice_index ps shard) calls.reads in
+      subst (λ ps. IsNonDecreasing (slice_index (start_of opening) shard ∷ ps)) (sym same)
+      (subst (λ positions. IsNonDecreasing (slice_index positions shard ∷ read)) seen
+      (calls.never_fall shard (omega (arith, inside, many))));
+}
+
+-- appended bytes of which a beginning was written
+begun_behind : (old between new : Option (List ℕ)) (first second : List ℕ) → Appends old between first
+    → AppendsBeginning between new second
+    → (front : List ℕ) × IsBeginning front (first ++ second) × Appends old new front
+begun_behind old between new first second one two = (
+  first ++ two.front,
+  (two.is_beginning.0,
+   ap (λ rest. first ++ rest) two.is_beginning.1 ∙ sym (append_assoc first two.front two.is_beginning.0)),
+  Appends-trans old between new first two.front one two.appended,
+)
+
+-- rounds that broke off: whole reports, and a beginning of one more
+broken_in_part : (opening : List ShardValue) (settings : Settings) (before now : View) (old new : Option (List ℕ))
+    (faults_before faults_now : ℕ) (status : Status) → capacity_of opening ≡ settings.capacity
+    → HasSeenStarts opening before → BasesRepresent opening → CallsFollow opening before
+    → BreakOff opening settings.phi settings.rounds before now old new faults_before faults_now status
+    → WritesRoundsInPart opening settings old new
+broken_in_part opening settings before now old new faults_before faults_now WriteFault alike seen bases follow off =
+    let whole = off.written in
+    let last = off.broken.0 in
+    let next : Reported = record { report = last.report; saved = None } in
+    let calls : Calls opening settings.phi (off.whole + 1) before now (whole.reports ++ next ∷ []) =
+    follow settings.phi off.whole 1 off.middle now whole.reports (next ∷ []) whole.calls last.calls in
+    let sound : AreSound opening settings.phi (whole.reports ++ next ∷ []) =
+    All-append (λ (reported : Reported). IsSound reported.report (lists_of opening) (capacity_of opening) settings.phi)
+    whole.reports (next ∷ []) (whole.sound bases)
+    (All-cons (λ (reported : Reported). IsSound reported.report (lists_of opening) (capacity_of opening) settings.phi)
+    next [] (last.sound bases)
+    (All-nil (λ (reported : Reported). IsSound reported.report (lists_of opening) (capacity_of opening) settings.phi))) in
+    let are : AreReportsOf opening settings (off.whole + 1) (whole.reports ++ next ∷ []) =
+    reports_of_calls opening settings (off.whole + 1) before now (whole.reports ++ next ∷ []) alike seen calls sound in
+    let begun = begun_behind old off.between new (parts_text whole.reports) (report_text last.report) whole.written
+    last.written in
+    let few : off.whole < settings.rounds = off.few in
+    record {
+      rounds = whole.reports ++ next ∷ [];
+      few = omega (arith, few, are.as_many);
+      are_rounds =
+          subst (λ n. AreReportsOf opening settings n (whole.reports ++ next ∷ [])) (sym are.as_many) are;
+      front = begun.0;
+      begins =
+          subst (IsBeginning begun.0)
+          (ap (λ text. parts_text whole.reports ++ text) (sym (one_part last.report))
+          ∙ sym (flat_map-append part_text whole.reports (next ∷ []))) begun.1;
+      written = begun.2;
+    }
+broken_in_part opening settings before now old new faults_before faults_now OutOfMemory alike seen bases follow off =
+    let whole = off.written in
+    let are : AreReportsOf opening settings off.whole whole.reports =
+    reports_of_calls opening settings off.whole before off.middle whole.reports alike seen whole.calls
+    (whole.sound bases) in
+    let few : off.whole < settings.rounds = off.few in
+    record {
+      rounds = whole.reports;
+      few = omega (arith, few, are.as_many);
+      are_rounds = subst (λ n. AreReportsOf opening settings n whole.reports) (sym are.as_many) are;
+      front = parts_text whole.reports;
+      begins = ([], sym (append-nil (parts_text whole.reports)));
+      written = subst (λ o. Appends old o (parts_text whole.reports)) (sym off.broken.0.unwritten) whole.written;
+    }
+broken_in_part opening settings before now old new faults_before faults_now Done alike seen bases follow off =
+    absurd off.broken
+broken_in_part opening settings before now old new faults_before faults_now (BadWords kind) alike seen bases follow
+    off = absurd off.broken
+broken_in_part opening settings before now old new faults_before faults_now (BadCapture fault) alike seen bases follow
+    off = absurd off.broken
+broken_in_part opening settings before now old new faults_before faults_now ReadFault alike seen bases follow off =
+    absurd off.broken
+
+-- rounds that ended, whole or not
+ended_in_part : (opening : List ShardValue) (settings : Settings) (before now : View) (old new : Option (List ℕ))
+    (faults_before faults_now : ℕ) (stop : Option Status) → capacity_of opening ≡ settings.capacity
+    → HasSeenStarts opening before → BasesRepresent opening → CallsFollow opening before
+    → EndRounds opening settings.phi settings.rounds before now old new faults_before faults_now stop
+    → WritesRoundsInPart opening settings old new
+ended_in_part opening settings before now old new faults_before faults_now None alike seen bases follow ended =
+    let whole = ended.0 in
+    let are : AreReportsOf opening settings settings.rounds whole.reports =
+    reports_of_calls opening settings settings.rounds before now whole.reports alike seen whole.calls
+    (whole.sound bases) in
+    record {
+      rounds = whole.reports;
+      few = omega (arith, are.as_many);
+      are_rounds = subst (λ n. AreReportsOf opening settings n whole.reports) (sym are.as_many) are;
+      front = parts_text whole.reports;
+      begins = ([], sym (append-nil (parts_text whole.reports)));
+      written = whole.written;
+    }
+ended_in_part opening settings before now old new faults_before faults_now (Some status) alike seen bases follow
+    ended =
+    broken_in_part opening settings before now old new faults_before faults_now status alike seen bases follow ended
+
+-- no round was begun
+none_in_part : (opening : List ShardValue) (settings : Settings) (old new : Option (List ℕ)) → new ≡ old
+    → WritesRoundsInPart opening settings old new
+none_in_part opening settings old new same = record {
+  rounds = [];
+  few = omega arith;
+  are_rounds = record {
+    as_many = refl;
+    shown = All-nil (IsShown opening settings);
+    never_fall = λ shard inside. IsNonDecreasingBy-short (λ x. x) (slice_index (start_of opening) shard ∷ []) (omega arith);
+  };
+  front = [];
+  begins = ([], refl);
+  written = subst (λ o. Appends old o []) (sym same) (Appends-nil old);
+}
+
+-- what the rounds of the calling thread leave, where the threads of a plan were run over a new board, or memory ran out
+-- before they were
+pub feed_in_part : (same : Type 0) (relates : View → View → Type 0) (opening : List ShardValue) (settings : Settings)
+    (passes : ℕ) (view : View) (old new : Option (List ℕ)) (faults_before faults_now : ℕ) (stop : Option Status)
+    → view ≡ first_view opening → capacity_of opening ≡ settings.capacity → BasesRepresent opening
+    → ((before now : View) → relates before now
+    → EndRounds before.opening settings.phi settings.rounds before now old new faults_before faults_now stop)
+    → ((phi rounds more : ℕ) (before middle now : View) (reports later : List Reported)
+    → length before.trails ≡ length opening → Calls opening phi rounds before middle reports
+    → Calls opening phi more middle now later → Calls opening phi (rounds + more) before now (reports ++ later))
+    → (same → new ≡ old) → same ⊎ GoesOnce relates passes view → WritesRoundsInPart opening settings old new
+feed_in_part same relates opening settings passes view old new faults_before faults_now stop first alike bases ends
+    follow unmoved (inl is_same) = none_in_part opening settings old new (unmoved is_same)
+feed_in_part same relates opening settings passes view old new faults_before faults_now stop first alike bases ends
+    follow unmoved (inr once) =
+    let before : View = record view { splits = view.splits + passes } in
+    let seen : HasSeenStarts opening before =
+    ap (λ (v : View). map (λ trail. trail.seen) v.trails) first ∙ first_has_seen_starts opening in
+    let many : length before.trails ≡ length opening =
+    ap (λ (v : View). length v.trails) first ∙ length-map opening _ in
+    let ended : EndRounds before.opening settings.phi settings.rounds before once.now old new faults_before faults_now
+    stop = ends before once.now once.does in
+    ended_in_part opening settings before once.now old new faults_before faults_now stop alike seen bases
+    (λ phi rounds more middle now reports later one two.
+    follow phi rounds more before middle now reports later many one two)
+    (subst (λ shards. EndRounds shards settings.phi settings.rounds before once.now old new faults_before faults_now
+    stop) (ap (λ (v : View). v.opening) first) ended)
+
+-- either the threads were run, or memory ran out before
+pub once_or_not : {E : Type 0} (same : Type 0) (relates : View → View → Type 0) (opening : List ShardValue)
+    (plan : ThreadPlan) (view : View) (result : Result Gathered E)
+    → IfOk result (Gathers opening plan relates view)
+    → OnErr result (same ⊎ GoesOnce relates (plan.workers + plan.callers) view)
+    → same ⊎ GoesOnce relates (plan.workers + plan.callers) view
+once_or_not same relates opening plan view (Ok gathered) gathers memory = inr gathers.rounds
+once_or_not same relates opening plan view (Err error) gathers memory = memory
+
+pub on_err : {T E : Type 0} (result : Result T E) (P : Type 0) → P → OnErr result P
+on_err (Ok value) P holds = tt
+on_err (Err error) P holds = holds
+
+-- the share and the rounds that settings ask for
+pub ended_as_set : (shards : List ShardValue) (share phi made rounds : ℕ) (before now : View) (old new : Option (List ℕ))
+    (faults_before faults_now : ℕ) (stop : Option Status) → share ≡ phi → made ≡ rounds
+    → EndRounds shards share made before now old new faults_before faults_now stop
+    → EndRounds shards phi rounds before now old new faults_before faults_now stop
+ended_as_set shards share phi made rounds before now old new faults_before faults_now stop same_share same_rounds ended =
+    subst (λ n. EndRounds shards phi n before now old new faults_before faults_now stop) same_rounds
+    (subst (λ n. EndRounds shards n made before now old new faults_before faults_now stop) same_share ended)
+
+-- rounds that were not stopped were all made
+pub ended_whole : (shards : List ShardValue) (phi rounds : ℕ) (before now : View) (old new : Option (List ℕ))
+    (faults_before faults_now : ℕ) (stop : Option Status) → stop ≡ None
+    → EndRounds shards phi rounds before now old new faults_before faults_now stop
+    → WritesRounds shards phi rounds before now old new
+ended_whole shards phi rounds before now old new faults_before faults_now stop none ended =
+    (subst (λ s. EndRounds shards phi rounds before now old new faults_before faults_now s) none ended).0
+
+-- what the threads bring back, where the rounds of the calling thread were all made
+pub gathered_whole : (relates : View → View → Type 0) (opening : List ShardValue) (settings : Settings)
+    (plan : ThreadPlan) (view : View) (gathered : Gathered) (old new : Option (List ℕ))
+    → view ≡ first_view opening → capacity_of opening ≡ settings.capacity → BasesRepresent opening
+    → plan.phi ≡ settings.phi → plan.rounds ≡ settings.rounds → plan.callers ≡ settings.callers
+    → ((before now : View) → relates before now
+    → WritesRounds before.opening settings.phi settings.rounds before now old new)
+    → Gathers opening plan relates view gathered
+    → (BasesRepresent opening → All (λ (called : Called). AreSound opening plan.phi called.reports) gathered.called.items)
+    → (rounds : List Reported) × AreReportsOf opening settings settings.rounds rounds
+    × Appends old new (parts_text rounds) × (length gathered.called.items ≡ settings.callers)
+    × All (AreReportsOf opening settings settings.rounds) (reports_of gathered.called.items)
+gathered_whole relates opening settings plan view gathered old new first alike bases phi rounds callers ends gathers
+    sound =
+    let before : View = record view { splits = view.splits + (plan.workers + plan.callers) } in
+    let seen : HasSeenStarts opening view =
+    ap (λ (v : View). map (λ trail. trail.seen) v.trails) first ∙ first_has_seen_starts opening in
+    let whole : WritesRounds opening settings.phi settings.rounds before gathers.rounds.now old new =
+    subst (λ shards. WritesRounds shards settings.phi settings.rounds before gathers.rounds.now old new)
+    (ap (λ (v : View). v.opening) first) (ends before gathers.rounds.now gathers.rounds.does) in
+    (
+      whole.reports,
+      reports_of_calls opening settings settings.rounds before gathers.rounds.now whole.reports alike seen whole.calls
+          (whole.sound bases),
+      whole.written,
+      gathers.as_many_callers ∙ callers,
+      All-map (AreReportsOf opening settings settings.rounds) (λ (called : Called). called.reports)
+          gathered.called.items
+          (λ k d lt.
+          let called : Called = get_or gathered.called.items k d in
+          reports_of_calls opening settings settings.rounds (newcomer view) (view_of called.pass) called.reports alike
+          (newcomer_has_seen_starts opening view seen)
+          (subst (λ n. Calls opening settings.phi n (newcomer view) (view_of called.pass) called.reports) rounds
+          (subst (λ n. Calls opening n plan.rounds (newcomer view) (view_of called.pass) called.reports) phi
+          (gathers.called k d lt)))
+          (subst (λ n. AreSound opening n called.reports) phi (sound bases k d lt))),
+    )
+
+-- one report more of a list whose reports are shown
+pub parts-more : (opening : List ShardValue) (settings : Settings) (reports : List Reported) (index : ℕ) (d : Reported)
+    → All (IsShown opening settings) reports → index < length reports
+    → parts_text (take (index + 1) reports) ≡ parts_text (take index reports) ++ report_text (get_or reports index d).report
+parts-more opening settings reports index d shown inside =
+    let reported : Reported = get_or reports index d in
+    let is_shown : IsShown opening settings reported = shown index d inside in
+    let text : part_text reported ≡ report_text reported.report =
+    ap (λ saved. report_text reported.report ++ saved_text saved) is_shown.unsaved
+    ∙ append-nil (report_text reported.report) in
+    ap parts_text (take_more reports index d inside)
+    ∙ flat_map-append part_text (take index reports) (reported ∷ [])
+    ∙ ap (λ rest. parts_text (take index reports) ++ rest) (append-nil (part_text reported) ∙ text)
+
+-- the reports of one of several callers
+pub caller_at : (called : List Called) (index : ℕ) (d : Called)
+    → get_or (reports_of called) index d.reports ≡ (get_or called index d).reports
+caller_at [] index d = refl
+caller_at (first ∷ rest) zero d = refl
+caller_at (first ∷ rest) (suc index) d = caller_at rest index d
+
+-- one caller's reports more
+pub callers-more : (called : List Called) (index : ℕ) (d : Called) → index < length called
+    → flat_map parts_text (take (index + 1) (reports_of called))
+    ≡ flat_map parts_text (take index (reports_of called)) ++ parts_text (get_or called index d).reports
+callers-more called index d inside =
+    let callers : List (List Reported) = reports_of called in
+    let within : index < length callers = omega (arith, inside, length-map called (λ (caller : Called). caller.reports)) in
+    ap (flat_map parts_text) (take_more callers index d.reports within)
+    ∙ flat_map-append parts_text (take index callers) (get_or callers index d.reports ∷ [])
+    ∙ ap (λ rest. flat_map parts_text (take index callers) ++ rest)
+    (append-nil (parts_text (get_or callers index d.reports)) ∙ ap parts_text (caller_at called index d))
+
+inside : {A : Type 0} (xs : List A) (index : ℕ) (x : A) → slice_get xs index ≡ Some x → index < length xs
+inside [] index x is = cc is
+inside (first ∷ rest) zero x is = omega arith
+inside (first ∷ rest) (suc index) x is = let within : index < length rest = inside rest index x is in omega (arith, within)
+
+-- positions that are neither before nor past the ends of lists
+at_ends : (opening : List ShardValue) (positions : List ℕ) → length positions ≡ length opening
+    → All IsShard (states_at opening positions)
+    → ((shard : ℕ) (state : ShardValue) → slice_get opening shard ≡ Some state
+    → length state.list ≤ slice_index positions shard)
+    → positions ≡ ends_of opening
+at_ends [] [] many kept behind = refl
+at_ends [] (position ∷ positions) many kept behind = absurd (omega (arith, many))
+at_ends (shard ∷ rest) [] many kept behind = absurd (omega (arith, many))
+at_ends (shard ∷ rest) (position ∷ positions) many kept behind =
+    let is_shard : IsShard (state_at position shard) =
+    All-head IsShard (state_at position shard) (states_at rest positions) kept in
+    let first : position ≡ length shard.list = omega (arith, is_shard.within, behind 0 shard refl) in
+    ap₂ (λ p ps. p ∷ ps) first
+    (at_ends rest positions (omega (arith, many))
+    (All-tail IsShard (state_at position shard) (states_at rest positions) kept)
+    (λ index state is. behind (suc index) state is))
+
+-- one read of a shard is at or past what was seen
+one_read : (reads : List (List ShardRead)) (positions : List ℕ) (shard seen : ℕ)
+    → positions ∷ [] ≡ map (λ round. map (λ read. read.position) round) reads
+    → IsNonDecreasing (seen ∷ map (λ round. slice_index (map (λ read. read.position) round) shard) reads)
+    → seen ≤ slice_index positions shard
+one_read [] positions shard seen same up = cc same
+one_read (round ∷ rounds) positions shard seen same up =
+    let is : positions ≡ map (λ read. read.position) round = ap (λ all. get_or all 0 []) same in
+    subst (λ ps. seen ≤ slice_index ps shard) (sym is) (up 0 1 0 (omega arith) (omega arith))
+
+-- a report that was read after the ends of all lists were seen is that over all records
+pub last_report : (opening : List ShardValue) (settings : Settings) (before now : View) (report : Report)
+    → capacity_of opening ≡ settings.capacity → HasSeenEnds opening before
+    → Calls opening settings.phi 1 before now (record { report = report; saved = None } ∷ [])
+    → IsSound report (lists_of opening) (capacity_of opening) settings.phi
+    → IsShown opening settings (record { report = report; saved = None }) × (report.positions ≡ ends_of opening)
+last_report opening settings before now report alike ends calls sound =
+    let is_report = report_of_call opening settings.phi before now report calls in (
+      record {
+        is_report = is_report;
+        is_sound = subst (λ capacity. IsSound report (lists_of opening) capacity settings.phi) alike sound;
+        unsaved = refl;
+      },
+      at_ends opening report.positions is_report.as_many is_report.kept
+          (λ shard state is.
+          let seen : length state.list ≤ seen_of shard before = ends shard state is in
+          let read = one_read calls.reads report.positions shard (seen_of shard before) calls.positions
+          (calls.never_fall shard (inside opening shard state is)) in omega (arith, seen, read)),
+    )
+
+pub on_ok_of : {T E : Type 0} (result : Result T E) (P Q : Type 0) → (P → Q) → OnOk result P → OnOk result Q
+on_ok_of (Ok value) P Q follows holds = follows holds
+on_ok_of (Err error) P Q follows holds = tt
+
+pub on_err_of : {T E : Type 0} (result : Result T E) (P Q : Type 0) → (P → Q) → OnErr result P → OnErr result Q
+on_err_of (Ok value) P Q follows holds = tt
+on_err_of (Err error) P Q follows holds = follows holds

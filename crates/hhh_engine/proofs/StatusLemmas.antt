@@ -6,10 +6,10 @@ use Rattle.frame_records.specs.{HasFrames, IsRefusedFor}
 use Rattle.pcap_frames.specs.declared.fault.CaptureFault.{CaptureFault}
 use Rattle.command_words.specs.declared.command.Command.{Command}
 use Rattle.command_words.specs.declared.command.Command.TheVariants.{Weigh, Report}
-use Rattle.hhh_engine.specs.Answer.{IsAnswer}
+use Rattle.hhh_engine.specs.Answer.{IsAnswer, IsAnswerInPart, IsWeightTextInPart}
+use Rattle.hhh_engine.specs.Ending.{Ends}
 use Rattle.hhh_engine.specs.Inputs.{CanBeAnswered, HasKnownCapture, inputs}
-use Rattle.hhh_engine.specs.NoText.{HasNoText}
-use Rattle.hhh_engine.specs.Session.{IsSession, Rules}
+use Rattle.hhh_engine.specs.Session.{IsSession, IsSessionInPart, Rules}
 use Rattle.hhh_engine.specs.WeightText.{IsWeightText}
 use Rattle.hhh_engine.specs.declared.status.Status.{Status}
 use Rattle.hhh_engine.specs.declared.status.Status.TheVariants.{Done, BadWords, BadCapture, ReadFault, WriteFault}
@@ -26,22 +26,59 @@ abbrev pub OneFault : Type 0
 OneFault =
     (file : List ℕ) (fault other : CaptureFault) → IsRefusedFor file fault → IsRefusedFor file other → other ≡ fault
 
--- what is told of a source that told this file
+-- what is known of a source with this file
 of_file : (left : Option (List ℕ)) (file : List ℕ) (P : List ℕ → Type 0) → left ≡ Some file → IfSome left P → P file
-of_file left file P told holds = subst (λ o. IfSome o P) told holds
+of_file left file P known holds = subst (λ o. IfSome o P) known holds
 
--- a file with a fault is refused for it, unless the source fails or memory runs out
-pub refused_for : OneFault
-    → (status : Status) (left : Option (List ℕ)) (before now : ℕ) (file : List ℕ) (fault : CaptureFault)
-    → left ≡ Some file → IsRefusedFor file fault
-    → HasNoText left before now status → (status ≡ BadCapture fault) ⊎ ((status ≡ ReadFault) ⊎ (status ≡ OutOfMemory))
-refused_for one_fault Done left before now file fault told has none = absurd none
-refused_for one_fault (BadWords kind) left before now file fault told has none = absurd none
-refused_for one_fault (BadCapture other) left before now file fault told has none =
-    inl (ap BadCapture (one_fault file fault other has (of_file left file (λ f. IsRefusedFor f other) told none)))
-refused_for one_fault ReadFault left before now file fault told has none = inr (inl refl)
-refused_for one_fault WriteFault left before now file fault told has none = absurd none
-refused_for one_fault OutOfMemory left before now file fault told has none = inr (inr refl)
+-- the file is a capture
+abbrev IsCapture : List ℕ → Type 0
+IsCapture file = (frames : List FrameValue) × HasFrames file frames
+
+-- a command has a text over captures alone
+captured : (rules : Rules) (command : Command) (left rest : Option (List ℕ)) (file text : List ℕ)
+    → left ≡ Some file → IsAnswer rules command (inputs left rest) text → IsCapture file
+captured rules (Weigh prefix settings) left rest file text known answer =
+    let is = of_file left file (λ f. IsWeightText prefix settings.weigh f text) known answer in
+    (is.frames, is.capture)
+captured rules (Report settings) left rest file text known answer =
+    let is = of_file left file (λ f. IsSession settings rules f text) known answer in
+    (is.dealt.frames, is.dealt.capture)
+
+-- and a part of a text
+captured_in_part : (rules : Rules) (command : Command) (left rest : Option (List ℕ)) (file front : List ℕ)
+    → left ≡ Some file → IsAnswerInPart rules command (inputs left rest) front → IsCapture file
+captured_in_part rules (Weigh prefix settings) left rest file front known answer =
+    let is = of_file left file (λ f. IsWeightTextInPart prefix settings.weigh f front) known answer in
+    (is.is_text.frames, is.is_text.capture)
+captured_in_part rules (Report settings) left rest file front known answer =
+    let is = of_file left file (λ f. IsSessionInPart settings rules f front) known answer in
+    (is.dealt.frames, is.dealt.capture)
+
+-- a command that reads a capture over a file with a fault is refused for it, unless the source fails or memory runs out
+pub refused_for : {K : Type 0} → NeverBoth → OneFault
+    → (rules : Rules) (command : Command) (left rest : Option (List ℕ)) (ReadToEnd : Type 0) (read_before read_now : ℕ)
+    (sink written : K) (old new : Option (List ℕ)) (write_before write_now : ℕ) (status : Status) (file : List ℕ)
+    (fault : CaptureFault) → left ≡ Some file → IsRefusedFor file fault
+    → Ends (IsAnswer rules command (inputs left rest)) (IsAnswerInPart rules command (inputs left rest)) ReadToEnd left
+      read_before read_now sink written old new write_before write_now status
+    → (status ≡ BadCapture fault) ⊎ ((status ≡ ReadFault) ⊎ (status ≡ OutOfMemory))
+refused_for never_both one_fault rules command left rest ReadToEnd read_before read_now sink written old new
+    write_before write_now Done file fault known has ends =
+    let capture = captured rules command left rest file ends.1.text known ends.1.is_text in
+    absurd (never_both file capture.0 fault capture.1 has)
+refused_for never_both one_fault rules command left rest ReadToEnd read_before read_now sink written old new
+    write_before write_now (BadWords kind) file fault known has ends = absurd ends
+refused_for never_both one_fault rules command left rest ReadToEnd read_before read_now sink written old new
+    write_before write_now (BadCapture other) file fault known has ends =
+    inl (ap BadCapture (one_fault file fault other has (of_file left file (λ f. IsRefusedFor f other) known ends.0)))
+refused_for never_both one_fault rules command left rest ReadToEnd read_before read_now sink written old new
+    write_before write_now ReadFault file fault known has ends = inr (inl refl)
+refused_for never_both one_fault rules command left rest ReadToEnd read_before read_now sink written old new
+    write_before write_now WriteFault file fault known has ends =
+    let capture = captured_in_part rules command left rest file ends.1.text known ends.1.is_text in
+    absurd (never_both file capture.0 fault capture.1 has)
+refused_for never_both one_fault rules command left rest ReadToEnd read_before read_now sink written old new
+    write_before write_now OutOfMemory file fault known has ends = inr (inr refl)
 
 -- what each command that reads a capture needs of it
 known_capture : (command : Command) (left rest : Option (List ℕ)) → CanBeAnswered command (inputs left rest)
@@ -49,40 +86,26 @@ known_capture : (command : Command) (left rest : Option (List ℕ)) → CanBeAns
 known_capture (Weigh prefix settings) left rest can = can
 known_capture (Report settings) left rest can = can
 
--- over a told capture and with no fault of the source, only want of memory leaves no text
-over_capture : NeverBoth → (status : Status) (left : Option (List ℕ)) (before now : ℕ) → HasKnownCapture left
-    → (Rose before now → ⊥) → HasNoText left before now status
+-- over a known capture and with no fault of source or sink, a command is answered unless memory runs out
+pub answered : {K : Type 0} → NeverBoth
+    → (IsText IsPart : List ℕ → Type 0) (command : Command) (left rest : Option (List ℕ)) (ReadToEnd : Type 0)
+    (read_before read_now : ℕ) (sink written : K) (old new : Option (List ℕ)) (write_before write_now : ℕ)
+    (status : Status) → CanBeAnswered command (inputs left rest) → (Rose read_before read_now → ⊥)
+    → (Rose write_before write_now → ⊥)
+    → Ends IsText IsPart ReadToEnd left read_before read_now sink written old new write_before write_now status
     → (status ≡ Done) ⊎ (status ≡ OutOfMemory)
-over_capture never_both Done left before now tells no_fault none = inl refl
-over_capture never_both (BadWords kind) left before now tells no_fault none = absurd none
-over_capture never_both (BadCapture fault) left before now tells no_fault none =
+answered never_both IsText IsPart command left rest ReadToEnd read_before read_now sink written old new write_before
+    write_now Done can no_read no_write ends = inl refl
+answered never_both IsText IsPart command left rest ReadToEnd read_before read_now sink written old new write_before
+    write_now (BadWords kind) can no_read no_write ends = absurd ends
+answered never_both IsText IsPart command left rest ReadToEnd read_before read_now sink written old new write_before
+    write_now (BadCapture fault) can no_read no_write ends =
+    let tells = known_capture command left rest can in
     absurd (never_both tells.file tells.frames fault tells.capture
-    (of_file left tells.file (λ f. IsRefusedFor f fault) tells.told none))
-over_capture never_both ReadFault left before now tells no_fault none = absurd (no_fault none)
-over_capture never_both WriteFault left before now tells no_fault none = absurd none
-over_capture never_both OutOfMemory left before now tells no_fault none = inr refl
-
-pub wants_memory : NeverBoth → (command : Command) (status : Status) (left rest : Option (List ℕ)) (before now : ℕ)
-    → CanBeAnswered command (inputs left rest) → (Rose before now → ⊥) → HasNoText left before now status
-    → (status ≡ Done) ⊎ (status ≡ OutOfMemory)
-wants_memory never_both command status left rest before now can no_fault none =
-    over_capture never_both status left before now (known_capture command left rest can) no_fault none
-
--- a command has a text over captures alone
-captured : (rules : Rules) (command : Command) (left rest : Option (List ℕ)) (file text : List ℕ)
-    → left ≡ Some file → IsAnswer rules command (inputs left rest) text
-    → (frames : List FrameValue) × HasFrames file frames
-captured rules (Weigh prefix settings) left rest file text told answer =
-    let is = of_file left file (λ f. IsWeightText prefix settings.weigh f text) told answer in
-    (is.frames, is.capture)
-captured rules (Report settings) left rest file text told answer =
-    let is = of_file left file (λ f. IsSession settings rules f text) told answer in
-    (is.frames, is.capture)
-
--- so it has none over a file with a fault
-pub no_answer : NeverBoth
-    → (rules : Rules) (command : Command) (left rest : Option (List ℕ)) (file text : List ℕ) (fault : CaptureFault)
-    → left ≡ Some file → IsRefusedFor file fault → IsAnswer rules command (inputs left rest) text → ⊥
-no_answer never_both rules command left rest file text fault told has answer =
-    let capture = captured rules command left rest file text told answer in
-    never_both file capture.0 fault capture.1 has
+    (of_file left tells.file (λ f. IsRefusedFor f fault) tells.told ends.0))
+answered never_both IsText IsPart command left rest ReadToEnd read_before read_now sink written old new write_before
+    write_now ReadFault can no_read no_write ends = absurd (no_read ends.0)
+answered never_both IsText IsPart command left rest ReadToEnd read_before read_now sink written old new write_before
+    write_now WriteFault can no_read no_write ends = absurd (no_write ends.2)
+answered never_both IsText IsPart command left rest ReadToEnd read_before read_now sink written old new write_before
+    write_now OutOfMemory can no_read no_write ends = inr refl

@@ -5,9 +5,11 @@ use Rattle.deal_rules.specs.declared.deal_kind.DealKind.{DealKind}
 use Rattle.deal_rules.specs.{IsDealing}
 use Rattle.command_words.specs.declared.command.Command.{Command}
 use Rattle.command_words.specs.declared.command.Command.TheVariants.{Weigh, Report}
-use Rattle.hhh_engine.specs.Answer.{IsAnswer, Answers, AnswersInPart}
-use Rattle.hhh_engine.specs.Session.{IsSession, Rules}
+use Rattle.hhh_engine.specs.Answer.{IsAnswer, IsAnswerInPart, Answers, AnswersInPart}
+use Rattle.frame_records.specs.declared.records.Records.{Records}
+use Rattle.hhh_engine.specs.Session.{AreDealtFrom, IsSession, IsSessionInPart, Rules}
 use Rattle.hhh_engine.specs.Inputs.{InputBytes}
+use Rattle.hhh_engine.proofs.CaptureLemmas.{if_known}
 use Rattle.command_words.specs.declared.settings.Settings.{Settings}
 
 -- rules of a kind of dealing
@@ -27,32 +29,41 @@ wider_dealing narrow wide kind shards records lists widen dealing = record {
       record { below = dealt.below; of_kind = dealt.of_kind; answered = widen place rec shards number dealt.answered };
 }
 
+wider_records : (narrow wide : Rules) (settings : Settings) (file : List ℕ) (records : Records)
+    (lists : List (List RecordValue))
+    → ((kind : DealKind) (place : ℕ) (rec : RecordValue) (shards number : ℕ) → narrow kind place rec shards number
+    → wide kind place rec shards number)
+    → AreDealtFrom settings narrow file records lists → AreDealtFrom settings wide file records lists
+wider_records narrow wide settings file records lists widen dealt = record {
+  frames = dealt.frames;
+  capture = dealt.capture;
+  are_records = dealt.are_records;
+  dealt =
+      wider_dealing (narrow settings.deal) (wide settings.deal) settings.deal settings.shards records.list lists
+      (widen settings.deal) dealt.dealt;
+}
+
 wider_session : (narrow wide : Rules) (settings : Settings) (file text : List ℕ)
     → ((kind : DealKind) (place : ℕ) (rec : RecordValue) (shards number : ℕ) → narrow kind place rec shards number
     → wide kind place rec shards number)
     → IsSession settings narrow file text → IsSession settings wide file text
 wider_session narrow wide settings file text widen session = record {
-  frames = session.frames;
-  capture = session.capture;
   records = session.records;
-  are_records = session.are_records;
   lists = session.lists;
-  dealt =
-      wider_dealing (narrow settings.deal) (wide settings.deal) settings.deal settings.shards session.records.list
-      session.lists (widen settings.deal) session.dealt;
-  report = session.report;
-  is_report = session.is_report;
+  dealt = wider_records narrow wide settings file session.records session.lists widen session.dealt;
   spelled = session.spelled;
 }
 
-wider_sessions : (narrow wide : Rules) (settings : Settings) (capture : Option (List ℕ)) (text : List ℕ)
+wider_part : (narrow wide : Rules) (settings : Settings) (file front : List ℕ)
     → ((kind : DealKind) (place : ℕ) (rec : RecordValue) (shards number : ℕ) → narrow kind place rec shards number
     → wide kind place rec shards number)
-    → IfSome capture (λ file. IsSession settings narrow file text)
-    → IfSome capture (λ file. IsSession settings wide file text)
-wider_sessions narrow wide settings None text widen session = session
-wider_sessions narrow wide settings (Some file) text widen session =
-    wider_session narrow wide settings file text widen session
+    → IsSessionInPart settings narrow file front → IsSessionInPart settings wide file front
+wider_part narrow wide settings file front widen session = record {
+  records = session.records;
+  lists = session.lists;
+  dealt = wider_records narrow wide settings file session.records session.lists widen session.dealt;
+  begun = session.begun;
+}
 
 wider_answer : (narrow wide : Rules) (command : Command) (read : InputBytes) (text : List ℕ)
     → ((kind : DealKind) (place : ℕ) (rec : RecordValue) (shards number : ℕ) → narrow kind place rec shards number
@@ -60,7 +71,18 @@ wider_answer : (narrow wide : Rules) (command : Command) (read : InputBytes) (te
     → IsAnswer narrow command read text → IsAnswer wide command read text
 wider_answer narrow wide (Weigh prefix settings) read text widen answer = answer
 wider_answer narrow wide (Report settings) read text widen answer =
-    wider_sessions narrow wide settings read.capture text widen answer
+    if_known read.capture (λ file. IsSession settings narrow file text) (λ file. IsSession settings wide file text)
+    (λ file session. wider_session narrow wide settings file text widen session) answer
+
+wider_answer_in_part : (narrow wide : Rules) (command : Command) (read : InputBytes) (front : List ℕ)
+    → ((kind : DealKind) (place : ℕ) (rec : RecordValue) (shards number : ℕ) → narrow kind place rec shards number
+    → wide kind place rec shards number)
+    → IsAnswerInPart narrow command read front → IsAnswerInPart wide command read front
+wider_answer_in_part narrow wide (Weigh prefix settings) read front widen answer = answer
+wider_answer_in_part narrow wide (Report settings) read front widen answer =
+    if_known read.capture (λ file. IsSessionInPart settings narrow file front)
+    (λ file. IsSessionInPart settings wide file front)
+    (λ file session. wider_part narrow wide settings file front widen session) answer
 
 pub wider_answers : (narrow wide : Rules) (words : List (List ℕ)) (read : InputBytes) (old new : Option (List ℕ))
     → ((kind : DealKind) (place : ℕ) (rec : RecordValue) (shards number : ℕ) → narrow kind place rec shards number
@@ -70,9 +92,11 @@ wider_answers narrow wide words read old new widen answers = record {
   command = answers.command;
   asked = answers.asked;
   read_to_end = answers.read_to_end;
-  text = answers.text;
-  is_answer = wider_answer narrow wide answers.command read answers.text widen answers.is_answer;
-  written = answers.written;
+  answer = record {
+    text = answers.answer.text;
+    is_text = wider_answer narrow wide answers.command read answers.answer.text widen answers.answer.is_text;
+    written = answers.answer.written;
+  };
 }
 
 pub wider_answers_in_part : (narrow wide : Rules) (words : List (List ℕ)) (read : InputBytes) (old new : Option (List ℕ))
@@ -83,7 +107,9 @@ wider_answers_in_part narrow wide words read old new widen answers = record {
   command = answers.command;
   asked = answers.asked;
   read_to_end = answers.read_to_end;
-  text = answers.text;
-  is_answer = wider_answer narrow wide answers.command read answers.text widen answers.is_answer;
-  written = answers.written;
+  answer = record {
+    text = answers.answer.text;
+    is_text = wider_answer_in_part narrow wide answers.command read answers.answer.text widen answers.answer.is_text;
+    written = answers.answer.written;
+  };
 }

@@ -1,27 +1,47 @@
 -- What commands write.
-use Rattle.std.specs.Prelude.{ℕ, List, Option, IfSome}
+use Rattle.std.specs.Prelude.{ℕ, ◌<◌, List, length, Option, IfSome}
 use Rattle.command_words.specs.{AskFor}
 use Rattle.command_words.specs.declared.command.Command.{Command}
 use Rattle.std.specs.Io.KnownBytes.{Appends}
-use Rattle.outside_io.specs.{AppendsBeginning}
+use Rattle.outside_io.specs.{IsBeginning}
 use Rattle.command_words.specs.declared.command.Command.TheVariants.{Weigh, Report}
+use Rattle.frame_records.specs.declared.weigh.Weigh.{Weigh as Weighing}
+use Rattle.prefix_lattice.specs.{PrefixValue}
 use Rattle.hhh_engine.specs.Inputs.{InputBytes, WasRead}
 use Rattle.hhh_engine.specs.WeightText.{IsWeightText}
-use Rattle.hhh_engine.specs.Session.{Rules, IsSession}
+use Rattle.hhh_engine.specs.Session.{Rules, IsSession, IsSessionInPart}
 
 -- the text that a command writes for its inputs, where they are known
 abbrev pub IsAnswer : Rules → Command → InputBytes → List ℕ → Type 0
 IsAnswer rules (Weigh prefix settings) read text = IfSome read.capture (λ file. IsWeightText prefix settings.weigh file text)
 IsAnswer rules (Report settings) read text = IfSome read.capture (λ file. IsSession settings rules file text)
 
+-- bytes of the text with the weight of a prefix, not all of them
+pub record IsWeightTextInPart (prefix : PrefixValue) (weigh : Weighing) (file front : List ℕ) : Type 0 where
+  pub text : List ℕ
+  pub is_text : IsWeightText prefix weigh file text
+  pub begins : IsBeginning front text
+  pub cut : length front < length text
+
+-- bytes with which the text of a command begins, not all of it
+abbrev pub IsAnswerInPart : Rules → Command → InputBytes → List ℕ → Type 0
+IsAnswerInPart rules (Weigh prefix settings) read front =
+    IfSome read.capture (λ file. IsWeightTextInPart prefix settings.weigh file front)
+IsAnswerInPart rules (Report settings) read front =
+    IfSome read.capture (λ file. IsSessionInPart settings rules file front)
+
+-- bytes of this kind were appended to what the sink held
+pub record Writes (IsText : List ℕ → Type 0) (old new : Option (List ℕ)) : Type 0 where
+  pub text : List ℕ
+  pub is_text : IsText text
+  pub written : Appends old new text
+
 -- the text of the command that the arguments ask for was written, for its inputs, which were read to their ends
 pub record Answers (rules : Rules) (words : List (List ℕ)) (read : InputBytes) (old new : Option (List ℕ)) : Type 0 where
   pub command : Command
   pub asked : AskFor words command
   pub read_to_end : WasRead command read
-  pub text : List ℕ
-  pub is_answer : IsAnswer rules command read text
-  pub written : Appends old new text
+  pub answer : Writes (IsAnswer rules command read) old new
 
 -- a strict prefix of that text was written, after the inputs were read to their ends
 pub record AnswersInPart (rules : Rules) (words : List (List ℕ)) (read : InputBytes) (old new : Option (List ℕ))
@@ -29,6 +49,4 @@ pub record AnswersInPart (rules : Rules) (words : List (List ℕ)) (read : Input
   pub command : Command
   pub asked : AskFor words command
   pub read_to_end : WasRead command read
-  pub text : List ℕ
-  pub is_answer : IsAnswer rules command read text
-  pub written : AppendsBeginning old new text
+  pub answer : Writes (IsAnswerInPart rules command read) old new

@@ -1,14 +1,20 @@
 //! Laws of what commands write, each the contract of a function that does nothing.
 
-ghost use Rattle.std.specs.Prelude.{◌≡◌, ℕ, List, Option};
+ghost use Rattle.std.specs.Prelude.{◌≡◌, ℕ, ◌++◌, List, Option};
 ghost use Rattle.prefix_lattice.specs.{RecordValue};
 ghost use Rattle.deal_rules.specs.{dealer_of};
 ghost use Rattle.deal_rules.specs.declared.deal_kind.DealKind.{DealKind};
 ghost use Rattle.hhh_engine.specs.Answer.{Answers, AnswersInPart};
 ghost use Rattle.hhh_engine.specs.Inputs.{InputBytes};
-ghost use Rattle.hhh_engine.specs.Session.{by_formula};
+ghost use Rattle.command_words.specs.declared.settings.Settings.{Settings};
+ghost use Rattle.report_text.specs.{mark_text, report_text};
+ghost use Rattle.report_text.specs.declared.mark.Mark.TheVariants.{Opened};
+ghost use Rattle.shard_state.specs.{ShardValue};
+ghost use Rattle.hhh_engine.specs.Session.{AreSessionReports, SessionReports, by_formula, opening_of, session_text, start_of};
 
 use deal_rules::{Dealer, Dealers, Deals};
+use hhh_output::a_cut_has_one_report;
+use report_text::same_reports_have_one_text;
 
 /// If each dealer answers by a formula, one for each kind of dealing, then an answer under what the dealers may
 /// answer is also an answer under the formulas: the records are dealt by them.
@@ -22,4 +28,23 @@ pub fn answers_follow_formulas(dealers: &Dealers)
         → ⟦<Dealer as Deals>⟧.may_answer (dealer_of kind dealers.now) place rec shards number → number ≡ formula kind place rec shards)
         → AnswersInPart (λ kind. ⟦<Dealer as Deals>⟧.may_answer (dealer_of kind dealers.now)) words read old new
         → AnswersInPart (by_formula formula) words read old new }
+{}
+
+/// The text of the last report of a session depends on the dealt lists, the capacity and the share alone: whatever the
+/// numbers of workers, callers and rounds, the block and the threads, its bytes are the same.
+pub fn last_reports_are_one()
+    ensures { (lists : List (List RecordValue)) (settings other : Settings) (reports others : SessionReports) → settings.capacity ≡ other.capacity
+        → settings.phi ≡ other.phi → AreSessionReports (opening_of settings.capacity lists) settings reports
+        → AreSessionReports (opening_of other.capacity lists) other others
+        → report_text reports.last.report ≡ report_text others.last.report }
+{
+    a_cut_has_one_report();
+    same_reports_have_one_text();
+}
+
+/// A session without rounds has one report, the last one, whatever the numbers of workers and callers.
+pub fn sessions_without_rounds_have_one_report()
+    ensures { (opening : List ShardValue) (settings : Settings) (reports : SessionReports) (tail : List ℕ) → settings.rounds ≡ 0
+        → AreSessionReports opening settings reports
+        → session_text (start_of opening) reports tail ≡ mark_text Opened (start_of opening) ++ (report_text reports.last.report ++ tail) }
 {}

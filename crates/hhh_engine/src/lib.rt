@@ -10,7 +10,10 @@ mod top_call;
 pub use command_words::{
     Command, Opt, PathTexts, Settings, WordsKind, WordsRefusal, paths, read_words,
 };
-pub use laws::answers_follow_formulas;
+pub use commands::LiveRounds;
+pub use laws::{
+    answers_follow_formulas, last_reports_are_one, sessions_without_rounds_have_one_report,
+};
 pub use status::{Status, fault_line};
 pub use top_call::run;
 

@@ -2,16 +2,22 @@ ghost use Rattle.std.specs.Prelude.{◌≡◌, ◌%◌, bit_xor};
 ghost use Rattle.deal_rules.specs.{IsAsked};
 
 mod captures;
+mod gates;
 mod refusals;
 mod reports;
+mod rounds;
 mod weights;
 
 use super::*;
 use deal_rules::{DealKind, Dealer, Dealers};
+use gate_workers::{Gate, OpenGate};
 use outside_io::{MemorySink, MemorySource};
 use prefix_lattice::Record;
 use std::alloc::{AllocError, Global};
+use std::marker::Sync;
+use std::sync::Wait;
 use std::test::Fail;
+use std::thread::Threads;
 
 #[derive(Drop)]
 pub(crate) struct Ended {
@@ -34,17 +40,39 @@ pub(crate) const SOUND: Outside = Outside {
 };
 
 // Runs over these bytes, read in pieces of at most 7.
-pub(crate) fn run_over(
+pub(crate) fn run_over<R: Threads + Wait + Sync>(
+    rt: &R,
     alloc: Global,
     dealers: &Dealers,
     words: &[&str],
     bytes: Vec<u8>,
     outside: Outside,
 ) -> Result<Ended, AllocError> {
+    run_gated(rt, alloc, dealers, words, bytes, outside, &OpenGate)
+}
+
+// The same with a gate.
+pub(crate) fn run_gated<R: Threads + Wait + Sync, G: Gate + Sync>(
+    rt: &R,
+    alloc: Global,
+    dealers: &Dealers,
+    words: &[&str],
+    bytes: Vec<u8>,
+    outside: Outside,
+    gate: &G,
+) -> Result<Ended, AllocError> {
     let mut source = MemorySource::new(bytes, Vec::from_slice(alloc, outside.source_fails)?, 7);
     let fails = Vec::from_slice(alloc, outside.sink_fails)?;
     let mut sink = MemorySink::with_room(alloc, outside.room, fails)?;
-    let status = run(alloc, words, &mut source, &mut sink, dealers);
+    let status = run(
+        rt,
+        alloc,
+        words,
+        &mut source,
+        &mut sink,
+        gate,
+        dealers,
+    );
     let text = Vec::from_slice(alloc, sink.taken())?;
     Ok(Ended { status, text })
 }
@@ -93,7 +121,11 @@ fn answers_and_refuses(rt: HostRuntime) -> Result<(), Fail> {
     reports::counts_frames_without_a_record(&rt, alloc, &dealers)?;
     refusals::refuses_words(&rt, alloc, &dealers)?;
     refusals::refuses_captures(&rt, alloc, &dealers)?;
-    refusals::tells_the_faults_of_source_and_sink(&rt, alloc, &dealers)
+    refusals::tells_the_faults_of_source_and_sink(&rt, alloc, &dealers)?;
+    rounds::reports_in_rounds(&rt, alloc, &dealers)?;
+    rounds::ends_at_the_first_fault(&rt, alloc, &dealers)?;
+    rounds::two_workers_feed_at_once(&rt, alloc, &dealers)?;
+    rounds::a_round_reads_what_was_folded(&rt, alloc, &dealers)
 }
 
 #[test]

@@ -1,6 +1,6 @@
 //! The top call: from arguments and a capture to an output text and a status.
 
-ghost use Rattle.std.specs.Prelude.{◌≡◌, ◌⊎◌, ℕ, List, Some, IfOk, IfErr, OnOk, IsErrOf};
+ghost use Rattle.std.specs.Prelude.{◌≡◌, ◌⊎◌, ℕ, List, Some};
 ghost use Rattle.outside_io.specs.{Rose};
 ghost use Rattle.frame_records.specs.{IsRefusedFor};
 ghost use Rattle.pcap_frames.specs.declared.fault.CaptureFault.{CaptureFault};
@@ -8,10 +8,9 @@ ghost use Rattle.deal_rules.specs.{dealer_of};
 ghost use Rattle.command_words.specs.{texts, AskFor, HasWordsFault, IsLimited};
 ghost use Rattle.command_words.specs.declared.command.Command.{Command};
 ghost use Rattle.command_words.specs.declared.words_kind.WordsKind.{WordsKind};
-ghost use Rattle.hhh_engine.specs.Answer.{Answers, IsAnswer};
-ghost use Rattle.hhh_engine.specs.Ending.{RefusedWords, RefusedCapture, FailedToRead, FailedToWrite};
+ghost use Rattle.hhh_engine.specs.Answer.{Answers, AnswersInPart, IsAnswer, IsAnswerInPart};
+ghost use Rattle.hhh_engine.specs.Ending.{Ends, RefusedWords, RefusedCapture, FailedToRead, FailedToWrite};
 ghost use Rattle.hhh_engine.specs.Inputs.{AskToRead, CanBeAnswered, WasRead, inputs};
-ghost use Rattle.hhh_engine.specs.NoText.{HasNoText};
 ghost use Rattle.hhh_engine.specs.declared.status.Status.TheVariants.{Done, BadWords, BadCapture, ReadFault, WriteFault, OutOfMemory};
 
 use crate::Status;
@@ -20,22 +19,31 @@ use crate::commands::weigh::weigh;
 use command_words::{Command, read_words};
 use deal_rules::{Dealer, Dealers, Deals};
 use frame_records::files_are_read_or_refused;
-use outside_io::{Sink, Source, write_all};
+use gate_workers::Gate;
+use outside_io::{Sink, Source};
 use std::alloc::Global;
+use std::marker::Sync;
+use std::sync::Wait;
+use std::thread::Threads;
 
 /// Runs the command that the arguments `words` ask for.
 ///
 /// `weigh SRC DST` reads a capture to its end, weighs its records, and writes three lines: the least and the
 /// greatest weight of the prefix, as given by its Space-Saving table, and the weight of all records.
 ///
-/// `report` reads a capture to its end, deals its records to shards, counts them in the tables of each shard,
-/// and writes a session with one report: the prefixes that carry heavy load which no more specific reported
-/// prefix explains.
-pub fn run<S: Source, K: Sink>(
+/// `report` reads a capture to its end, deals its records to shards, and writes a session. While workers count the
+/// records in the tables of the shards, the calling thread writes its reports, and the other callers make theirs, which
+/// are written after the workers have ended, before a last report over all records. A report names the prefixes that
+/// carry heavy load which no more specific reported prefix explains, over the records before its positions.
+///
+/// `gate` is called around each fold and each read, and changes nothing of what is written.
+pub fn run<R: Threads + Wait + Sync, S: Source, K: Sink, G: Gate + Sync>(
+    rt: &R,
     alloc: Global,
     words: &[&str],
     capture: &mut S,
     sink: &mut K,
+    gate: &G,
     dealers: &Dealers,
 ) -> Status
     // The text of the command was written for its inputs, which were read to their ends. What the text says of weights
@@ -60,8 +68,10 @@ pub fn run<S: Source, K: Sink>(
         (inputs (S.left capture.old) (S.left capture.new)) (K.taken sink.old) (K.taken sink.new) (K.faults sink.old) (K.faults sink.new) }
     ensures write_fault_told { (result ≡ WriteFault → ⊥) → K.faults sink.new ≡ K.faults sink.old }
 
-    // Memory may run out at any time before the text is written.
-    ensures out_of_memory_unwritten { result ≡ OutOfMemory → sink.new ≡ sink.old }
+    // Memory may run out at any time: nothing was written then, or a part of the text.
+    ensures out_of_memory { result ≡ OutOfMemory → (sink.new ≡ sink.old)
+        ⊎ AnswersInPart (λ kind. ⟦<Dealer as Deals>⟧.may_answer (dealer_of kind dealers.now)) (texts words.now)
+          (inputs (S.left capture.old) (S.left capture.new)) (K.taken sink.old) (K.taken sink.new) }
 
     // With arguments that ask for a command, inputs in their formats and no fault of source or sink, the run ends in
     // Done unless memory runs out.
@@ -74,32 +84,27 @@ pub fn run<S: Source, K: Sink>(
         Ok(command) => command,
         Err(refusal) => return Status::from(refusal),
     };
-    let text = match answer(alloc, &command, capture, dealers) {
-        Ok(text) => text,
-        Err(status) => return status,
-    };
-    match write_all(sink, &text) {
-        Ok(()) => Status::Done,
-        Err(_) => Status::WriteFault,
-    }
+    answer(rt, alloc, &command, capture, sink, gate, dealers)
 }
 
-// Reads the capture to its end, and returns the text of the command.
-fn answer<S: Source>(
+// Runs the command.
+fn answer<R: Threads + Wait + Sync, S: Source, K: Sink, G: Gate + Sync>(
+    rt: &R,
     alloc: Global,
     command: &Command,
     capture: &mut S,
+    sink: &mut K,
+    gate: &G,
     dealers: &Dealers,
-) -> Result<Vec<u8>, Status>
+) -> Status
     requires { IsLimited command.now }
-    ensures text { IfOk result (λ text. IsAnswer (λ kind. ⟦<Dealer as Deals>⟧.may_answer (dealer_of kind dealers.now)) command.now
-        (inputs (S.left capture.old) (S.left capture.new)) text.items) }
-    ensures read { OnOk result (WasRead command.now (inputs (S.left capture.old) (S.left capture.new))) }
-    ensures refused { IfErr result (HasNoText (S.left capture.old) (S.faults capture.old) (S.faults capture.new)) }
-    ensures told { (IsErrOf result ReadFault → ⊥) → S.faults capture.new ≡ S.faults capture.old }
+    ensures { Ends (IsAnswer (λ kind. ⟦<Dealer as Deals>⟧.may_answer (dealer_of kind dealers.now)) command.now (inputs (S.left capture.old) (S.left capture.new)))
+        (IsAnswerInPart (λ kind. ⟦<Dealer as Deals>⟧.may_answer (dealer_of kind dealers.now)) command.now (inputs (S.left capture.old) (S.left capture.new)))
+        (WasRead command.now (inputs (S.left capture.old) (S.left capture.new))) (S.left capture.old) (S.faults capture.old) (S.faults capture.new)
+        sink.old sink.new (K.taken sink.old) (K.taken sink.new) (K.faults sink.old) (K.faults sink.new) result }
 {
     match command {
-        Command::Weigh { prefix, settings } => weigh(alloc, prefix, settings, capture),
-        Command::Report(settings) => report(alloc, settings, capture, dealers),
+        Command::Weigh { prefix, settings } => weigh(alloc, prefix, settings, capture, sink),
+        Command::Report(settings) => report(rt, alloc, settings, capture, sink, gate, dealers),
     }
 }

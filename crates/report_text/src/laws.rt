@@ -13,3 +13,8 @@ pub fn report_texts_are_apart()
 {
     prefix_texts_read_back();
 }
+
+/// A law of reports: reports that show the same have the same text.
+pub fn same_reports_have_one_text()
+    ensures { (report other : Report) → AreSame report other → report_text report ≡ report_text other }
+{}

@@ -6,7 +6,7 @@ mod mark;
 mod printing;
 mod putting;
 
-pub use laws::report_texts_are_apart;
+pub use laws::{report_texts_are_apart, same_reports_have_one_text};
 pub use mark::Mark;
 pub use printing::{print, print_positions, print_tail};
 

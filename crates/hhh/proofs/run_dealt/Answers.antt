@@ -1,4 +1,5 @@
 use Rattle.hhh.specs.Rules.{shard_by}
+use Rattle.hhh.proofs.RanOutLemmas.{or_in_part}
 use Rattle.hhh.proofs.run_dealt.Goals as goal
 
 pub returns-clause-done : goal.returns-clause-done
@@ -8,3 +9,8 @@ returns-clause-done g c = λ done.
 pub returns-clause-in_part : goal.returns-clause-in_part
 returns-clause-in_part g c = λ failed.
     c.answers_follow_formulas.ensures.part shard_by _ _ _ _ c.requires.by_formulas (c.run.ensures.write_fault failed).in_part
+
+pub returns-clause-ran_out : goal.returns-clause-ran_out
+returns-clause-ran_out g c = λ failed.
+    or_in_part (c.answers_follow_formulas.ensures.part shard_by _ _ _ _ c.requires.by_formulas)
+    (c.run.ensures.out_of_memory failed)

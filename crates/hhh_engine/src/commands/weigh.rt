@@ -4,13 +4,15 @@ ghost use Rattle.std.specs.Prelude.{◌≡◌, ◌≤◌, List, length, All, IfO
 ghost use Rattle.std.specs.Io.KnownBytes.{IsAtEnd};
 ghost use Rattle.prefix_lattice.specs.{RecordValue, most_records};
 ghost use Rattle.shard_state.specs.{records_table, HoldsWeightOver};
+ghost use Rattle.hhh_engine.specs.Answer.{IsWeightTextInPart};
+ghost use Rattle.hhh_engine.specs.Ending.{Ends};
 ghost use Rattle.hhh_engine.specs.NoText.{HasNoText};
 ghost use Rattle.hhh_engine.specs.WeightText.{text_for, weigh_capacity, weigh_text, IsWeightText};
 
 use crate::decimal_text::push_number;
 use crate::{Settings, Status};
 use frame_records::read_records;
-use outside_io::Source;
+use outside_io::{Sink, Source, write_all};
 use prefix_lattice::{Node, Prefix, Record};
 use shard_state::tables_hold_weights;
 use space_saving::{PlainTable, Summary};
@@ -19,8 +21,31 @@ use std::alloc::{AllocError, Global};
 // How many prefixes of the same node the table can monitor.
 const WEIGH_CAPACITY: u32 = 64;
 
-/// Reads a capture to its end, and returns the text with the weight of a prefix over its records.
-pub fn weigh<S: Source>(
+/// Reads a capture to its end, and writes the weight of a prefix over its records.
+pub(crate) fn weigh<S: Source, K: Sink>(
+    alloc: Global,
+    prefix: &Prefix,
+    settings: &Settings,
+    capture: &mut S,
+    sink: &mut K,
+) -> Status
+    ensures { Ends (λ text. IfSome (S.left capture.old) (λ file. IsWeightText prefix.now settings.now.weigh file text))
+        (λ front. IfSome (S.left capture.old) (λ file. IsWeightTextInPart prefix.now settings.now.weigh file front))
+        (IsAtEnd (S.left capture.new)) (S.left capture.old) (S.faults capture.old) (S.faults capture.new)
+        sink.old sink.new (K.taken sink.old) (K.taken sink.new) (K.faults sink.old) (K.faults sink.new) result }
+{
+    let text = match read_weight(alloc, prefix, settings, capture) {
+        Ok(text) => text,
+        Err(status) => return status,
+    };
+    match write_all(sink, &text) {
+        Ok(()) => Status::Done,
+        Err(_) => Status::WriteFault,
+    }
+}
+
+// Reads a capture to its end, and returns the text with the weight of a prefix over its records.
+fn read_weight<S: Source>(
     alloc: Global,
     prefix: &Prefix,
     settings: &Settings,

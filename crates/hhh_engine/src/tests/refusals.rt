@@ -7,8 +7,11 @@ use deal_rules::Dealers;
 use pcap_frames::{CaptureFault, FaultKind};
 use prefix_lattice::{PrefixFault, Side};
 use std::alloc::Global;
+use std::marker::Sync;
 use std::process::Abort;
+use std::sync::Wait;
 use std::test::Fail;
+use std::thread::Threads;
 
 // The arguments, what is wrong with them, and the line that reports it.
 type Case = (&'static [&'static str], WordsKind, &'static str);
@@ -68,9 +71,13 @@ const CASES: [Case; 12] = [
     ),
 ];
 
-pub(crate) fn refuses_words(rt: &impl Abort, alloc: Global, dealers: &Dealers) -> Result<(), Fail> {
+pub(crate) fn refuses_words<R: Abort + Threads + Wait + Sync>(
+    rt: &R,
+    alloc: Global,
+    dealers: &Dealers,
+) -> Result<(), Fail> {
     for (words, kind, line) in CASES {
-        let ended = run_over(alloc, dealers, words, capture_of(alloc, &[ONE])?, SOUND)?;
+        let ended = run_over(rt, alloc, dealers, words, capture_of(alloc, &[ONE])?, SOUND)?;
         assert_eq!(rt; ended.status, Status::BadWords(kind));
         assert_eq!(rt; ended.status.number(), 2);
         assert_eq!(rt; ended.text.as_slice(), b"".as_slice());
@@ -82,8 +89,8 @@ pub(crate) fn refuses_words(rt: &impl Abort, alloc: Global, dealers: &Dealers) -
     Ok(())
 }
 
-pub(crate) fn refuses_captures(
-    rt: &impl Abort,
+pub(crate) fn refuses_captures<R: Abort + Threads + Wait + Sync>(
+    rt: &R,
     alloc: Global,
     dealers: &Dealers,
 ) -> Result<(), Fail> {
@@ -105,7 +112,7 @@ pub(crate) fn refuses_captures(
         assert!(rt; place < bytes.len());
         bytes[place] = byte;
         bytes.truncate(length);
-        let ended = run_over(alloc, dealers, &words, bytes, SOUND)?;
+        let ended = run_over(rt, alloc, dealers, &words, bytes, SOUND)?;
         assert_eq!(rt;
             ended.status,
             Status::BadCapture(CaptureFault { kind, place: at }),
@@ -119,8 +126,8 @@ pub(crate) fn refuses_captures(
 // The calls of a source of 74 bytes in pieces of 7: eleven, and one more at the end.
 const CALLS: [[u64; 1]; 12] = [[0], [1], [2], [3], [4], [5], [6], [7], [8], [9], [10], [11]];
 
-pub(crate) fn tells_the_faults_of_source_and_sink(
-    rt: &impl Abort,
+pub(crate) fn tells_the_faults_of_source_and_sink<R: Abort + Threads + Wait + Sync>(
+    rt: &R,
     alloc: Global,
     dealers: &Dealers,
 ) -> Result<(), Fail> {
@@ -130,7 +137,7 @@ pub(crate) fn tells_the_faults_of_source_and_sink(
             source_fails: call,
             ..SOUND
         };
-        let ended = run_over(alloc, dealers, &words, capture_of(alloc, &[ONE])?, outside)?;
+        let ended = run_over(rt, alloc, dealers, &words, capture_of(alloc, &[ONE])?, outside)?;
         assert_eq!(rt; ended.status, Status::ReadFault);
         assert_eq!(rt; ended.text.as_slice(), b"".as_slice());
     }
@@ -138,11 +145,11 @@ pub(crate) fn tells_the_faults_of_source_and_sink(
         sink_fails: &[0],
         ..SOUND
     };
-    let ended = run_over(alloc, dealers, &words, capture_of(alloc, &[ONE])?, outside)?;
+    let ended = run_over(rt, alloc, dealers, &words, capture_of(alloc, &[ONE])?, outside)?;
     assert_eq!(rt; ended.status, Status::WriteFault);
     assert_eq!(rt; ended.text.as_slice(), b"".as_slice());
     let outside = Outside { room: 12, ..SOUND };
-    let ended = run_over(alloc, dealers, &words, capture_of(alloc, &[ONE])?, outside)?;
+    let ended = run_over(rt, alloc, dealers, &words, capture_of(alloc, &[ONE])?, outside)?;
     assert_eq!(rt; ended.status, Status::WriteFault);
     assert_eq!(rt; ended.text.as_slice(), b"opened 0\nrep".as_slice());
     Ok(())

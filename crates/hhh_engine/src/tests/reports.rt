@@ -5,8 +5,11 @@ use super::{SOUND, run_over};
 use crate::Status;
 use deal_rules::Dealers;
 use std::alloc::{AllocError, Global};
+use std::marker::Sync;
 use std::process::Abort;
+use std::sync::Wait;
 use std::test::Fail;
+use std::thread::Threads;
 
 // Packets from N.0.0.1 to (100 + N).0.0.1, N being 1 to 6.
 const X: Packet = (0x0100_0001, 0x6500_0001);
@@ -21,7 +24,7 @@ const W: Packet = (0x0500_0001, 0x6900_0001);
 
 const V: Packet = (0x0600_0001, 0x6a00_0001);
 
-const ELEVEN: [Packet; 11] = [X, X, X, Y, X, Z, X, W, X, V, U];
+pub(crate) const ELEVEN: [Packet; 11] = [X, X, X, Y, X, Z, X, W, X, V, U];
 
 // Four sources of one network to one destination.
 const NETWORK: [Packet; 4] = [
@@ -121,9 +124,13 @@ const CASES: [Case; 8] = [
     ),
 ];
 
-pub(crate) fn reports(rt: &impl Abort, alloc: Global, dealers: &Dealers) -> Result<(), Fail> {
+pub(crate) fn reports<R: Abort + Threads + Wait + Sync>(
+    rt: &R,
+    alloc: Global,
+    dealers: &Dealers,
+) -> Result<(), Fail> {
     for (words, packets, want) in CASES {
-        let ended = run_over(alloc, dealers, words, capture_of(alloc, packets)?, SOUND)?;
+        let ended = run_over(rt, alloc, dealers, words, capture_of(alloc, packets)?, SOUND)?;
         assert_eq!(rt; ended.status, Status::Done, "{want}");
         assert_eq!(rt; ended.text.as_slice(), want.as_bytes(), "{want}");
     }
@@ -131,15 +138,15 @@ pub(crate) fn reports(rt: &impl Abort, alloc: Global, dealers: &Dealers) -> Resu
 }
 
 // The rule answers shard 0 for each record.
-pub(crate) fn deals_to_the_first(
-    rt: &impl Abort,
+pub(crate) fn deals_to_the_first<R: Abort + Threads + Wait + Sync>(
+    rt: &R,
     alloc: Global,
     dealers: &Dealers,
 ) -> Result<(), Fail> {
     let words = ["report", "--shards", "2", "--deal", "free"];
     let want =
         "opened 0 0\nreport\nat 1 0\ntotal 100\nthreshold 1\nline 10.1.2.3/32 20.1.2.3/32 100 100\ndone\nframes 1\nskipped 0 0 0\nend\n";
-    let ended = run_over(alloc, dealers, &words, capture_of(alloc, &[ONE])?, SOUND)?;
+    let ended = run_over(rt, alloc, dealers, &words, capture_of(alloc, &[ONE])?, SOUND)?;
     assert_eq!(rt; ended.status, Status::Done);
     assert_eq!(rt; ended.text.as_slice(), want.as_bytes());
     Ok(())
@@ -172,8 +179,8 @@ fn capture_by(alloc: Global, big: bool, magic: &[u8]) -> Result<Vec<u8>, AllocEr
     Ok(bytes)
 }
 
-pub(crate) fn reads_the_four_spellings_of_the_magic(
-    rt: &impl Abort,
+pub(crate) fn reads_the_four_spellings_of_the_magic<R: Abort + Threads + Wait + Sync>(
+    rt: &R,
     alloc: Global,
     dealers: &Dealers,
 ) -> Result<(), Fail> {
@@ -185,7 +192,7 @@ pub(crate) fn reads_the_four_spellings_of_the_magic(
         (true, [0xa1, 0xb2, 0x3c, 0x4d]),
     ] {
         let bytes = capture_by(alloc, big, &magic)?;
-        let ended = run_over(alloc, dealers, words, bytes, SOUND)?;
+        let ended = run_over(rt, alloc, dealers, words, bytes, SOUND)?;
         assert_eq!(rt; ended.status, Status::Done);
         assert_eq!(rt; ended.text.as_slice(), want.as_bytes());
     }
@@ -224,15 +231,15 @@ fn mixed_capture(alloc: Global) -> Result<Vec<u8>, AllocError> {
     Ok(bytes)
 }
 
-pub(crate) fn counts_frames_without_a_record(
-    rt: &impl Abort,
+pub(crate) fn counts_frames_without_a_record<R: Abort + Threads + Wait + Sync>(
+    rt: &R,
     alloc: Global,
     dealers: &Dealers,
 ) -> Result<(), Fail> {
     let words = ["report", "--shards", "1"];
     let want =
         "opened 0\nreport\nat 3\ntotal 300\nthreshold 3\nline 10.1.2.3/32 20.1.2.3/32 300 300\ndone\nframes 8\nskipped 3 1 1\nend\n";
-    let ended = run_over(alloc, dealers, &words, mixed_capture(alloc)?, SOUND)?;
+    let ended = run_over(rt, alloc, dealers, &words, mixed_capture(alloc)?, SOUND)?;
     assert_eq!(rt; ended.status, Status::Done);
     assert_eq!(rt; ended.text.as_slice(), want.as_bytes());
     Ok(())

@@ -4,11 +4,15 @@ use super::captures::{HEADER, ONE, Packet, capture_of};
 use super::{SOUND, run_over};
 use crate::{Status, run};
 use deal_rules::Dealers;
+use gate_workers::OpenGate;
 use outside_io::{MemorySink, MemorySource};
 use pcap_frames::{CaptureFault, FaultKind};
 use std::alloc::{AllocError, Global};
+use std::marker::Sync;
 use std::process::Abort;
+use std::sync::Wait;
 use std::test::Fail;
+use std::thread::Threads;
 
 // The arguments, the packets, and what is written.
 type Case = (&'static [&'static str], &'static [Packet], &'static str);
@@ -46,13 +50,13 @@ const CASES: [Case; 6] = [
     ),
 ];
 
-pub(crate) fn weighs_prefixes(
-    rt: &impl Abort,
+pub(crate) fn weighs_prefixes<R: Abort + Threads + Wait + Sync>(
+    rt: &R,
     alloc: Global,
     dealers: &Dealers,
 ) -> Result<(), Fail> {
     for (words, packets, want) in CASES {
-        let ended = run_over(alloc, dealers, words, capture_of(alloc, packets)?, SOUND)?;
+        let ended = run_over(rt, alloc, dealers, words, capture_of(alloc, packets)?, SOUND)?;
         assert_eq!(rt; ended.status, Status::Done, "{want}");
         assert_eq!(rt; ended.text.as_slice(), want.as_bytes(), "{want}");
     }
@@ -70,8 +74,8 @@ fn long_capture(alloc: Global, captured: u32) -> Result<Vec<u8>, AllocError> {
     Ok(bytes)
 }
 
-pub(crate) fn weighs_the_longest_frame(
-    rt: &impl Abort,
+pub(crate) fn weighs_the_longest_frame<R: Abort + Threads + Wait + Sync>(
+    rt: &R,
     alloc: Global,
     dealers: &Dealers,
 ) -> Result<(), Fail> {
@@ -79,7 +83,7 @@ pub(crate) fn weighs_the_longest_frame(
     let mut source = MemorySource::new(long_capture(alloc, 262_144)?, Vec::new(alloc), 4096);
     let mut sink = MemorySink::with_room(alloc, 4096, Vec::new(alloc))?;
     assert_eq!(rt;
-        run(alloc, &words, &mut source, &mut sink, dealers),
+        run(rt, alloc, &words, &mut source, &mut sink, &OpenGate, dealers),
         Status::Done
     );
     assert_eq!(rt;
@@ -90,7 +94,7 @@ pub(crate) fn weighs_the_longest_frame(
         kind: FaultKind::LongFrame,
         place: 24,
     };
-    let ended = run_over(alloc, dealers, &words, long_capture(alloc, 262_145)?, SOUND)?;
+    let ended = run_over(rt, alloc, dealers, &words, long_capture(alloc, 262_145)?, SOUND)?;
     assert_eq!(rt; ended.status, Status::BadCapture(fault));
     Ok(())
 }

@@ -3,7 +3,7 @@ use Rattle.std.proofs.Common.{sym}
 use Rattle.std.proofs.lemmas.Result.{err_from_is_err_and}
 use Rattle.command_words.specs.Matches.{values_in_matches}
 use Rattle.command_words.specs.declared.opt.Opt.TheVariants.{Weigh, Shards, Capacity, Phi, Deal}
-use Rattle.command_words.proofs.ValueLemmas.{good_before_first, good_before_next, weigh_is_good, number_is_good}
+use Rattle.command_words.proofs.ValueLemmas.{good_before_first, good_before_next, weigh_is_good, number_is_good, deal_is_good}
 use Rattle.command_words.proofs.ValueLemmas.{number_is_first, choice_is_first}
 use Rattle.command_words.proofs.values.settings_of.Goals as goal
 
@@ -70,3 +70,20 @@ returns-in_err-deal-clause-err c =
     (number_is_good Phi 10000 _ _ c.in_ok-phi.ensures.ok) in
     let p = err_from_is_err_and c.from_residual-in_err-deal.result c.from_residual-in_err-deal.ensures.1 in
     rw (p.1, p.2) (choice_is_first values Deal _ _ (sym c.text_of-5.ensures) before_deal c.in_err-deal.ensures.err)
+
+pub running_of-requires : goal.running_of-requires
+running_of-requires c =
+    let values = values_in_matches c.args.matches.now in
+    let before_shards =
+    good_before_next values Weigh _ (sym c.text_of.ensures) (good_before_first values)
+    (weigh_is_good _ _ c.in_ok-weigh.ensures.ok) in
+    let before_capacity =
+    good_before_next values Shards _ (sym c.text_of-2.ensures) before_shards
+    (number_is_good Shards 4 _ _ c.in_ok-shards.ensures.ok) in
+    let before_phi =
+    good_before_next values Capacity _ (sym c.text_of-3.ensures) before_capacity
+    (number_is_good Capacity 512 _ _ c.in_ok-capacity.ensures.ok) in
+    let before_deal =
+    good_before_next values Phi _ (sym c.text_of-4.ensures) before_phi
+    (number_is_good Phi 10000 _ _ c.in_ok-phi.ensures.ok) in
+    good_before_next values Deal _ (sym c.text_of-5.ensures) before_deal (deal_is_good _ _ c.in_ok-deal.ensures.ok)

@@ -4,8 +4,8 @@ use Rattle.shard_state.specs.{capacity_of, lists_of}
 use Rattle.hhh_output.specs.{IsSound}
 use Rattle.hhh_output.specs.declared.reports.Reported.{Reported}
 use Rattle.pass_tokens.specs.{view}
-use Rattle.gate_workers.specs.Call.{CallsSoFar}
-use Rattle.gate_workers.proofs.CallLemmas.{cut_at_its_positions, no_calls, next_call}
+use Rattle.gate_workers.specs.Call.{Calls}
+use Rattle.gate_workers.proofs.CallLemmas.{no_calls, more_calls}
 use Rattle.gate_workers.proofs.calling.report_in_rounds.Goals as goal
 
 pub loop-round-init : goal.loop-round-init
@@ -20,26 +20,19 @@ loop-round-init g c =
           (sym none)
           (All-nil
           (λ (reported : Reported). IsSound reported.report (lists_of opening) (capacity_of opening) c.args.phi)),
-      subst (CallsSoFar opening c.args.phi 0 (view c.args.pass.now) (view c.args.pass.now)) (sym none)
+      subst (Calls opening c.args.phi 0 (view c.args.pass.now) (view c.args.pass.now)) (sym none)
           (no_calls opening c.args.phi (view c.args.pass.now)),
     )
-
-pub report_at-requires-clause-cut : goal.report_at-requires-clause-cut
-report_at-requires-clause-cut g c =
-    cut_at_its_positions c.args.board.now.opening (view c.loop-round.pass) (view c.read_cut.new.pass)
-    c.loop-round.cut c.read_cut.new.cut c.read_cut.ensures.read c.loop-round.invariant.1
 
 pub loop-round-preserved : goal.loop-round-preserved
 loop-round-preserved g c =
     let opening = c.args.board.now.opening in
     let far = c.loop-round.invariant in
-    let read = c.read_cut.ensures in
-    let report = c.in_ok-report.report in
-    let at = c.in_ok-report.ensures in
-    let reported : Reported = record { report = report; saved = None } in
+    let once = c.in_ok-report.ensures in
+    let reported : Reported = record { report = c.in_ok-report.report; saved = None } in
     let pushed : c.push.new.self ≡ c.loop-round.reports ++ reported ∷ [] = c.in_ok-push.ensures.ok in (
-      read.pass,
-      read.shape,
+      once.pass,
+      once.shape,
       λ bases.
           subst (All
           (λ (reported : Reported). IsSound reported.report (lists_of opening) (capacity_of opening) c.args.phi))
@@ -47,13 +40,13 @@ loop-round-preserved g c =
           (All-append (λ (reported : Reported). IsSound reported.report (lists_of opening) (capacity_of opening)
           c.args.phi) c.loop-round.reports (reported ∷ []) (far.2 bases)
           (All-cons (λ (reported : Reported). IsSound reported.report (lists_of opening) (capacity_of opening)
-          c.args.phi) reported [] (at.sound bases)
+          c.args.phi) reported [] (once.sound bases)
           (All-nil (λ (reported : Reported). IsSound reported.report (lists_of opening) (capacity_of opening)
           c.args.phi)))),
       subst
-          (CallsSoFar opening c.args.phi (c.loop-round.round + 1) (view c.args.pass.now) (view c.read_cut.new.pass))
+          (Calls opening c.args.phi (c.loop-round.round + 1) (view c.args.pass.now) (view c.report_once.new.pass))
           (sym pushed)
-          (next_call opening c.args.phi c.loop-round.round (view c.args.pass.now) (view c.loop-round.pass)
-          (view c.read_cut.new.pass) c.loop-round.reports c.loop-round.cut c.read_cut.new.cut report
-          far.0.seat.trails far.3 read.read far.1 at.positions at.report),
+          (more_calls opening c.args.phi c.loop-round.round 1 (view c.args.pass.now) (view c.loop-round.pass)
+          (view c.report_once.new.pass) c.loop-round.reports (reported ∷ []) c.requires.pass.seat.trails far.3
+          once.calls),
     )

@@ -2,7 +2,7 @@ use Rattle.std.proofs.Common.{length, All}
 use Rattle.shard_state.specs.{BasesRepresent, HasShape, capacity_of, lists_of}
 use Rattle.hhh_output.specs.{IsSound}
 use Rattle.pass_tokens.specs.{IsPassOf, view}
-use Rattle.gate_workers.specs.Call.{CallsSoFar}
+use Rattle.gate_workers.specs.Call.{Calls}
 use Rattle.gate_workers.proofs.calling.report_in_rounds.Given as goal
 
 -- the reports of the rounds so far
@@ -12,4 +12,4 @@ invariant-loop-round g l =
     × (BasesRepresent l.board.opening
     → All (λ reported. IsSound reported.report (lists_of l.board.opening) (capacity_of l.board.opening) l.phi)
     l.reports)
-    × CallsSoFar l.board.opening l.phi l.round (view l.initial.pass) (view l.pass) l.reports
+    × Calls l.board.opening l.phi l.round (view l.initial.pass) (view l.pass) l.reports

@@ -1,0 +1,7 @@
+-- What follows of one of two cases.
+use Rattle.std.proofs.Common.{◌⊎◌, inl, inr}
+
+-- nothing was written, or a part
+pub or_in_part : {Nothing Part Other : Type 0} → (Part → Other) → Nothing ⊎ Part → Nothing ⊎ Other
+or_in_part follows (inl nothing) = inl nothing
+or_in_part follows (inr part) = inr (follows part)
