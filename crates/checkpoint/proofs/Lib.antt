@@ -13,3 +13,4 @@ pub mod OptionLemmas
 pub mod StoreLemmas
 pub mod SaverLemmas
 pub mod Examples
+pub mod ExamplesOfStores

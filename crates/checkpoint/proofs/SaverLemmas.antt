@@ -1,12 +1,14 @@
 -- A saver, and the store that it knows.
-use Rattle.std.proofs.Common.{◌≡◌, ℕ, zero, suc, ◌+◌, ◌<◌, List, Some, refl, sym, ap, subst, ◌∙◌, inl, arith, length}
+use Rattle.std.proofs.Common.{◌≡◌, ℕ, zero, suc, ◌+◌, ◌<◌, List, Bool, false, None, Some, refl, sym, ap, subst, ◌∙◌, inl, arith, length}
 use Rattle.shard_state.specs.{CutValue, HasShape}
-use Rattle.slot_disk.specs.{IsPut, IsReady, IsStore, Leaves, Leaves-weaker, MayLeave, SlotsState, other, with_open}
-use Rattle.checkpoint.specs.Settings.{span_of}
+use Rattle.slot_disk.specs.{IsPut, IsReady, IsStore, Leaves, Leaves-weaker, MayLeave, SlotsState, closed_slots, other, with_open}
+use Rattle.checkpoint.specs.declared.settings.StoreSettings.{StoreSettings}
+use Rattle.checkpoint.specs.Settings.{header_bytes, span_of}
 use Rattle.checkpoint.specs.Body.{SavedValue, IsBody}
 use Rattle.checkpoint.specs.Store.{OldOrNew, Opens, newest, opened_positions, opened_sequence}
-use Rattle.checkpoint.specs.Saver.{SaverState, StandsBytes, after_save, next_saved}
+use Rattle.checkpoint.specs.Saver.{SaverState, IsStoreFor, after_save, next_saved, saver_of}
 use Rattle.checkpoint.proofs.StoreLemmas.{puts_open_old_or_new, puts_open_the_new, put_holds_new, stores_are_ready}
+use Rattle.checkpoint.proofs.StoreLemmas.{closed_store_holds}
 
 -- the other slot is one of two
 pub other_is_small : (slot : ℕ) → other slot < 2
@@ -28,12 +30,12 @@ next_body saver cut sequence digest bytes body same_sequence same_digest shape s
     let alike = subst (λ (n : ℕ). IsBody saver.settings.shards n (next_saved saver cut) body) shape.alike shaped in
     subst (IsBody saver.settings.shards saver.settings.capacity (next_saved saver cut)) (sym same) alike
 
-pub saver_stands : (saver : SaverState) (possible : List ℕ → Type 0) (old : List ℕ) → StandsBytes saver possible old
+pub saver_stands : (saver : SaverState) (possible : List ℕ → Type 0) (old : List ℕ) → IsStoreFor saver possible old
     → IsStore old possible saver.slots
 saver_stands saver possible old stands =
     record { long = stands.is_known.holds.long; slots_are = stands.is_known.slots_are; only = stands.only }
 
-module _ (saver : SaverState) (possible : List ℕ → Type 0) (old : List ℕ) (stands : StandsBytes saver possible old) (span slot : ℕ)
+module _ (saver : SaverState) (possible : List ℕ → Type 0) (old : List ℕ) (stands : IsStoreFor saver possible old) (span slot : ℕ)
     (is_span : span ≡ span_of saver.settings) (is_slot : slot ≡ other saver.newest_slot) where
   pub saver_is_ready : IsReady span slot old
   saver_is_ready =
@@ -61,7 +63,7 @@ module _ (saver : SaverState) (possible : List ℕ → Type 0) (old : List ℕ) 
         leaves saver_may_leave
 
     pub saver_stands_after : (possible_after : List ℕ → Type 0) (new : List ℕ) (slots : SlotsState) → IsPut span slot body old new
-        → IsStore new possible_after slots → slots ≡ with_open saver.slots slot → StandsBytes (after_save saver cut) possible_after new
+        → IsStore new possible_after slots → slots ≡ with_open saver.slots slot → IsStoreFor (after_save saver cut) possible_after new
     saver_stands_after possible_after new slots put store is_open =
         let known = stands.is_known in
         let spanned = subst (λ (n : ℕ). IsPut n slot body old new) is_span put in
@@ -93,7 +95,7 @@ module _ (saver : SaverState) (possible : List ℕ → Type 0) (old : List ℕ) 
         (other_is_small saver.newest_slot) known.holds (inl (ap other known.slot_is)) is (omega (arith, known.sequence_is)) put_there)
 
 -- a crash before the first call of the disk
-pub saver_leaves_none : (saver : SaverState) (possible : List ℕ → Type 0) (old : List ℕ) (saved : SavedValue) → StandsBytes saver possible old
+pub saver_leaves_none : (saver : SaverState) (possible : List ℕ → Type 0) (old : List ℕ) (saved : SavedValue) → IsStoreFor saver possible old
     → (image : List ℕ) → possible image → OldOrNew saver.settings old saved image
 saver_leaves_none saver possible old saved stands image may =
     let known = stands.is_known in
@@ -103,3 +105,28 @@ saver_leaves_none saver possible old saved stands image may =
       opens,
       subst (λ (bytes : List ℕ). Opens saver.settings bytes (newest known.first known.second)) (sym (stands.only image may)) opens,
     )
+
+-- two closed gates and a header
+pub closed_by_parts : (slots : SlotsState) (header : List ℕ) → slots.first_open ≡ false → slots.second_open ≡ false
+    → slots.header ≡ header → slots ≡ closed_slots header
+closed_by_parts slots header first second same =
+    ap (λ (b : Bool). let s : SlotsState = record slots { first_open = b } in s) first
+    ∙ ap (λ (b : Bool). let s : SlotsState = record slots { first_open = false; second_open = b } in s) second
+    ∙ ap closed_slots same
+
+-- a saver of a store with no gate open
+pub new_saver_stands : (settings : StoreSettings) (slots : SlotsState) (digest : List ℕ) (possible : List ℕ → Type 0) (bytes : List ℕ)
+    → slots ≡ closed_slots (header_bytes settings) → IsStore bytes possible slots
+    → IsStoreFor (saver_of slots settings digest None) possible bytes
+new_saver_stands settings slots digest possible bytes closed store = record {
+  is_known = record {
+    slots_are = store.slots_are;
+    first = None;
+    second = None;
+    holds = closed_store_holds settings bytes store.long (sym store.slots_are ∙ closed);
+    slot_is = refl;
+    sequence_is = refl;
+    positions_are = refl;
+  };
+  only = store.only;
+}

@@ -1,7 +1,7 @@
 -- What a store opens to, and what puts into it leave.
 use Rattle.std.proofs.Common.{◌≡◌, ◌⊎◌, ℕ, zero, suc, ◌+◌, ◌<◌, ◌≤◌, Bool, true, false, List, length, Option, Some, None}
 use Rattle.std.proofs.Common.{refl, sym, ap, subst, ◌∙◌, inl, inr, ⊎_elim, arith, le-ltb, lt-ltb, nat_lt, if◌then◌else◌}
-use Rattle.slot_disk.specs.{Closed, Whole, content, other, shown, is_open, stored_body, number_at, SlotsState, IsWhole}
+use Rattle.slot_disk.specs.{Closed, Whole, closed_slots, content, front_bytes, other, shown, slots_of, is_open, stored_body, number_at, SlotsState, IsWhole}
 use Rattle.byteorder.specs.Endian.{big_from}
 use Rattle.byteorder.specs.Numbers.{big_number-reads_back}
 use Rattle.slot_disk.specs.{IsReady, MayLeave, IsPut}
@@ -9,7 +9,7 @@ use Rattle.checkpoint.specs.declared.settings.StoreSettings.{StoreSettings}
 use Rattle.checkpoint.specs.Settings.{AreSettings, header_bytes, span_of}
 use Rattle.checkpoint.specs.Body.{SavedValue, IsBody, content_bytes}
 use Rattle.checkpoint.specs.Numbers.{number_bytes}
-use Rattle.checkpoint.specs.Store.{SlotHolds, StoreHolds, newest, newest_slot, IsNotNewest, Opens, OldOrNew}
+use Rattle.checkpoint.specs.Store.{SlotHolds, StoreHolds, newest, newest_slot, IsNotNewest, OldOrNew}
 use Rattle.checkpoint.specs.Store.{opened_sequence}
 use Rattle.checkpoint.specs.StoreLaws.{BodiesFitSlots}
 use Rattle.checkpoint.specs.StoreLaws.{FormattedStoresAreEmpty, PutsOpenOldOrNew, PutsOpenTheNew, StoresAreReady, StoresOpenToOne}
@@ -71,7 +71,7 @@ first_replaced (Some one) (Some two) saved free lt = by_test (nat_lt one.sequenc
     by_test : (b : Bool) → (0 ≡ other (if b then 1 else 0)) ⊎ ((if b then Some two else Some one) ≡ None)
         → opened_sequence (if b then Some two else Some one) < saved.sequence
         → Replaced (if b then Some two else Some one) (Some two) (newest (Some saved) (Some two))
-          (newest_slot (Some saved) (Some two)) 0 saved
+        (newest_slot (Some saved) (Some two)) 0 saved
     by_test true free lt =
         record { closed_is = refl; written_is = later_first saved two lt; slot_is = first_slot_later saved two lt }
     by_test false free lt = absurd (⊎_elim (λ same. cc same) (λ none. cc none) free)
@@ -88,7 +88,7 @@ second_replaced (Some one) (Some two) saved free lt = by_test (nat_lt one.sequen
     by_test : (b : Bool) → (1 ≡ other (if b then 1 else 0)) ⊎ ((if b then Some two else Some one) ≡ None)
         → opened_sequence (if b then Some two else Some one) < saved.sequence
         → Replaced (if b then Some two else Some one) (Some one) (newest (Some one) (Some saved))
-          (newest_slot (Some one) (Some saved)) 1 saved
+        (newest_slot (Some one) (Some saved)) 1 saved
     by_test true free lt = absurd (⊎_elim (λ same. cc same) (λ none. cc none) free)
     by_test false free lt =
         record { closed_is = refl; written_is = later_second one saved lt; slot_is = second_slot_later one saved lt }
@@ -182,20 +182,21 @@ puts_open_the_new settings slot saved body old image first second within holds f
     let new = put_holds_new settings slot saved body old image first second within holds free is lt put in
     (new.first, new.second, new.holds, new.newest_is)
 
-pub formatted_stores_are_empty : FormattedStoresAreEmpty
-formatted_stores_are_empty settings image long slots =
+-- a store whose gates are closed
+pub closed_store_holds : (settings : StoreSettings) (image : List ℕ) → front_bytes ≤ length image
+    → slots_of image ≡ closed_slots (header_bytes settings) → StoreHolds settings image None None
+closed_store_holds settings image long slots =
     let shut_first : is_open 0 image ≡ false = ap (λ (s : SlotsState). s.first_open) slots in
-    let shut_second : is_open 1 image ≡ false = ap (λ (s : SlotsState). s.second_open) slots in (
-      None,
-      None,
-      record {
-        long = long;
-        header = ap (λ (s : SlotsState). s.header) slots;
-        first_slot = ap (λ (b : Bool). if b then shown (stored_body (span_of settings) 0 image) else Closed) shut_first;
-        second_slot = ap (λ (b : Bool). if b then shown (stored_body (span_of settings) 1 image) else Closed) shut_second;
-      },
-      refl,
-    )
+    let shut_second : is_open 1 image ≡ false = ap (λ (s : SlotsState). s.second_open) slots in
+    record {
+      long = long;
+      header = ap (λ (s : SlotsState). s.header) slots;
+      first_slot = ap (λ (b : Bool). if b then shown (stored_body (span_of settings) 0 image) else Closed) shut_first;
+      second_slot = ap (λ (b : Bool). if b then shown (stored_body (span_of settings) 1 image) else Closed) shut_second;
+    }
+
+pub formatted_stores_are_empty : FormattedStoresAreEmpty
+formatted_stores_are_empty settings image long slots = (None, None, closed_store_holds settings image long slots, refl)
 
 -- a slot that holds something is whole, and one that holds nothing is closed
 slot_is_sound : (settings : StoreSettings) (slot : ℕ) (image : List ℕ) (held : Option SavedValue)

@@ -17,5 +17,5 @@ pub use Rattle.checkpoint.specs.Store.{Belongs, IsNotNewest, IsOfLists, IsSoundS
 pub use Rattle.checkpoint.specs.Store.{StoreHolds, newest, newest_slot, opened_positions, opened_sequence}
 pub use Rattle.checkpoint.specs.StoreLaws.{BodiesFitSlots, FormattedStoresAreEmpty, PutsOpenOldOrNew, PutsOpenTheNew}
 pub use Rattle.checkpoint.specs.StoreLaws.{StoresAreReady, StoresOpenToOne}
-pub use Rattle.checkpoint.specs.Saver.{IsKnownStore, IsNewestOf, SaverState, StandsBytes, StandsFor, after_save, next_saved}
+pub use Rattle.checkpoint.specs.Saver.{IsKnownStore, IsNewestOf, SaverState, IsStoreFor, StandsFor, after_save, next_saved}
 pub use Rattle.checkpoint.specs.Saver.{saved_in, saver_of}

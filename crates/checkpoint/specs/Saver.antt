@@ -56,14 +56,14 @@ pub record IsKnownStore (saver : SaverState) (image : List ℕ) : Type 0 where
   pub sequence_is : saver.sequence ≡ opened_sequence (newest first second)
   pub positions_are : saver.positions ≡ opened_positions saver.settings (newest first second)
 
--- the disk stands as the saver knows it: what a read gives, where it is known, is such a store, and a crash leaves
--- nothing else
-pub record StandsBytes (saver : SaverState) (possible : List ℕ → Type 0) (bytes : List ℕ) : Type 0 where
+-- the bytes are such a store, and a crash leaves nothing else
+pub record IsStoreFor (saver : SaverState) (possible : List ℕ → Type 0) (bytes : List ℕ) : Type 0 where
   pub is_known : IsKnownStore saver bytes
   pub only : Only bytes possible
 
+-- the disk stands as the saver knows it: what a read gives, where it is known, is such a store
 abbrev pub StandsFor : Option (List ℕ) → (List ℕ → Type 0) → SaverState → Type 0
-StandsFor reads possible saver = IfKnown reads (StandsBytes saver possible)
+StandsFor reads possible saver = IfKnown reads (IsStoreFor saver possible)
 
 -- what the next save of a cut writes: the cut, under the next sequence and the saver's digest
 abbrev pub next_saved : SaverState → CutValue → SavedValue

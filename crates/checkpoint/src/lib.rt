@@ -19,8 +19,10 @@ pub use digest::digest_of;
 pub use encoding::encode;
 pub use fault::{DecodeFault, SaveFault};
 pub use header::{header_of, read_header};
-pub use laws::{bodies_are_apart, bodies_fit_slots, bodies_spell_one, formatted_stores_are_empty};
-pub use laws::{puts_open_old_or_new, puts_open_the_new, stores_are_ready, stores_open_to_one};
+pub use laws::{
+    bodies_are_apart, bodies_fit_slots, bodies_spell_one, formatted_stores_are_empty,
+    puts_open_old_or_new, puts_open_the_new, stores_are_ready, stores_open_to_one,
+};
 pub use newest::Newest;
 pub use saved::Saved;
 pub use saver::Saver;

@@ -91,7 +91,7 @@ impl Saver {
         requires early { self.sequence < last_sequence }
         requires stands { StandsFor (D.reads disk.old) (D.image_now disk.old) self }
         requires shape { HasShape self.settings.shards self.settings.capacity cut.now }
-        requires later { AreNotPast self.positions (positions_of cut.now) }
+        requires no_earlier { AreNotPast self.positions (positions_of cut.now) }
         ensures known { is_some (D.reads disk.new) ≡ is_some (D.reads disk.old) }
         ensures saved { IfOk result (λ saver. saver ≡ after_save self cut.now) }
         ensures stands { IfOk result (λ saver. StandsFor (D.reads disk.new) (D.image_now disk.new) saver) }

@@ -1,9 +1,9 @@
-use Rattle.std.proofs.Common.{◌≡◌, ◌<◌, ℕ, List, ap, sym, ◌∙◌, subst, rules}
-use Rattle.std.specs.Prelude.{is_some, Some}
-use Rattle.slot_disk.specs.{FitsSlot, IsReady, IsStore, Leaves-none, SlotsState, other, with_open}
+use Rattle.std.proofs.Common.{◌≡◌, ℕ, ap, sym, ◌∙◌, subst, rules}
+use Rattle.std.specs.Prelude.{is_some}
+use Rattle.slot_disk.specs.{FitsSlot, IsStore, Leaves-none, SlotsState, other, with_open}
 use Rattle.checkpoint.specs.Settings.{AreSettings, span_of}
-use Rattle.checkpoint.specs.Store.{OldOrNew, Opens}
-use Rattle.checkpoint.specs.Saver.{SaverState, StandsBytes, after_save, next_saved}
+use Rattle.checkpoint.specs.Store.{OldOrNew}
+use Rattle.checkpoint.specs.Saver.{SaverState, IsStoreFor, after_save, next_saved}
 use Rattle.checkpoint.proofs.OptionLemmas.{some_of}
 use Rattle.checkpoint.proofs.StoreLemmas.{bodies_fit_slots}
 use Rattle.checkpoint.proofs.SaverLemmas.{next_body, saver_is_ready, saver_leaves, saver_leaves_none, saver_stands, saver_stands_after}
@@ -60,7 +60,7 @@ pub returns-clause-stands : goal.returns-clause-stands
 returns-clause-stands g c = λ new is.
     let begun = some_of (g.D.Disk.reads c.args.disk.now) (sym c.in_ok-slots.ensures.known ∙ ap is_some is) in
     let saved : _ ≡ after_save c.args.self c.args.cut.now = search rules in
-    subst (λ (s : SaverState). StandsBytes s (g.D.Disk.image_now c.put.new.disk) new) (sym saved)
+    subst (λ (s : SaverState). IsStoreFor s (g.D.Disk.image_now c.put.new.disk) new) (sym saved)
     (saver_stands_after c.args.self (g.D.Disk.image_now c.args.disk.now) begun.0 (c.requires.stands begun.0 begun.1)
     c.span.result c.other_slot-slot.result
     (c.span.ensures.span ∙ ap (λ (s : SaverState). span_of s.settings) c.self.view_is)
