@@ -1,12 +1,11 @@
 -- Worked examples of stores and savers, most by computing.
-use Rattle.std.proofs.Common.{◌≡◌, ◌⊎◌, ℕ, List, [], ◌∷◌, ◌++◌, length, take, drop, Option, Some, None, true, refl, ap, subst, ◌∙◌, inl, inr, arith}
+use Rattle.std.proofs.Common.{◌≡◌, ℕ, List, [], ◌∷◌, Some, None, refl, ap, subst, ◌∙◌, inl, inr, arith}
 use Rattle.std.specs.Prelude.{slice_index}
 use Rattle.prefix_lattice.specs.{RecordValue}
 use Rattle.frame_records.specs.declared.weigh.Weigh.TheVariants.{Bytes}
 use Rattle.deal_rules.specs.declared.deal_kind.DealKind.TheVariants.{RoundRobin}
 use Rattle.shard_state.specs.{CutValue, empty_snapshot, no_entries}
-use Rattle.slot_disk.specs.{SlotsState, closed_slots, front_bytes, slots_of}
-use Rattle.checkpoint.specs.declared.newest.Newest.{Newest}
+use Rattle.slot_disk.specs.{slots_of}
 use Rattle.checkpoint.specs.declared.settings.StoreSettings.{StoreSettings}
 use Rattle.checkpoint.specs.Settings.{header_bytes}
 use Rattle.checkpoint.specs.Body.{SavedValue}

@@ -10,9 +10,9 @@ use Rattle.checkpoint.specs.Settings.{AreSettings, header_bytes, span_of}
 use Rattle.checkpoint.specs.Body.{SavedValue, IsBody, content_bytes}
 use Rattle.checkpoint.specs.Numbers.{number_bytes}
 use Rattle.checkpoint.specs.Store.{SlotHolds, StoreHolds, newest, newest_slot, IsNotNewest, OldOrNew}
-use Rattle.checkpoint.specs.Store.{opened_sequence}
-use Rattle.checkpoint.specs.StoreLaws.{BodiesFitSlots}
-use Rattle.checkpoint.specs.StoreLaws.{FormattedStoresAreEmpty, PutsOpenOldOrNew, PutsOpenTheNew, StoresAreReady, StoresOpenToOne}
+use Rattle.checkpoint.specs.Store.{HasNewest, opened_sequence}
+use Rattle.checkpoint.specs.StoreLaws.{BodiesFitSlots, FormattedStoresAreEmpty, PutsOpenOldOrNew, PutsOpenTheNew}
+use Rattle.checkpoint.specs.StoreLaws.{StoresAreReady, StoresHoldOne, StoresOpenToOne}
 use Rattle.checkpoint.proofs.BodyLemmas.{body_fits, body_is_long}
 use Rattle.checkpoint.proofs.BodyLawLemmas.{body_is_short, bodies_spell_one}
 
@@ -132,18 +132,11 @@ puts_open_old_or_new settings (suc zero) saved body old image first second withi
 puts_open_old_or_new settings (suc (suc slot)) saved body old image first second within holds free is lt may =
     absurd (omega (arith, within))
 
--- a store whose newest slot is this one, and holds this
-pub record HoldsNew (settings : StoreSettings) (slot : ℕ) (saved : SavedValue) (image : List ℕ) : Type 0 where
-  pub first : Option SavedValue
-  pub second : Option SavedValue
-  pub holds : StoreHolds settings image first second
-  pub newest_is : newest first second ≡ Some saved
-  pub slot_is : newest_slot first second ≡ slot
-
+-- once a put is done, the slot is the newest, and holds the new body
 pub put_holds_new : (settings : StoreSettings) (slot : ℕ) (saved : SavedValue) (body old image : List ℕ)
     (first second : Option SavedValue) → slot < 2 → StoreHolds settings old first second → IsNotNewest slot first second
     → IsBody settings.shards settings.capacity saved body → opened_sequence (newest first second) < saved.sequence
-    → IsPut (span_of settings) slot body old image → HoldsNew settings slot saved image
+    → IsPut (span_of settings) slot body old image → HasNewest settings slot saved image
 put_holds_new settings zero saved body old image first second within holds free is lt put =
     let replaced = first_replaced first second saved free lt in
     let beside = holds_same settings 1 old image second put.beside.other_slot holds.second_slot in
@@ -246,12 +239,17 @@ slot_holds_one settings slot image (Some saved) (Some other_one) are holds holds
     ap Some (bodies_spell_one settings saved other_one holds.0 are holds.2
     (subst (IsBody settings.shards settings.capacity other_one) (sym same) holds_again.2))
 
+pub stores_hold_one : StoresHoldOne
+stores_hold_one settings image first second again other_one are holds holds_again = (
+  slot_holds_one settings 0 image first again are holds.first_slot holds_again.first_slot,
+  slot_holds_one settings 1 image second other_one are holds.second_slot holds_again.second_slot,
+)
+
 pub stores_open_to_one : StoresOpenToOne
 stores_open_to_one settings image opened again are opens opens_again =
-    let first = slot_holds_one settings 0 image opens.0 opens_again.0 are opens.2.first_slot opens_again.2.first_slot in
-    let second = slot_holds_one settings 1 image opens.1 opens_again.1 are opens.2.second_slot opens_again.2.second_slot in
-    sym opens.3 ∙ ap (λ (held : Option SavedValue). newest held opens.1) first
-    ∙ ap (λ (held : Option SavedValue). newest opens_again.0 held) second ∙ opens_again.3
+    let same = stores_hold_one settings image opens.0 opens.1 opens_again.0 opens_again.1 are opens.2 opens_again.2 in
+    sym opens.3 ∙ ap (λ (held : Option SavedValue). newest held opens.1) same.0
+    ∙ ap (λ (held : Option SavedValue). newest opens_again.0 held) same.1 ∙ opens_again.3
 
 -- a body begins with its length
 body_says_its_length : (settings : StoreSettings) (saved : SavedValue) (body : List ℕ) → AreSettings settings

@@ -4,7 +4,7 @@ use Rattle.shard_state.specs.{CutValue, positions_of}
 use Rattle.slot_disk.specs.{IfKnown, Only, SlotsState, known_open, other, slots_of, with_open}
 use Rattle.checkpoint.specs.declared.settings.StoreSettings.{StoreSettings}
 use Rattle.checkpoint.specs.declared.newest.Newest.{Newest}
-use Rattle.checkpoint.specs.Body.{SavedValue, IsSaved}
+use Rattle.checkpoint.specs.Body.{SavedValue, IsSaved, saved_value}
 use Rattle.checkpoint.specs.Store.{StoreHolds, newest, newest_slot, opened_positions, opened_sequence}
 
 -- the settings of the store, its gates and header, the digest that saves write, and of the newest slot its number (1
@@ -19,7 +19,7 @@ pub record SaverState : Type 0 where
 
 -- what the body of the newest slot spells
 abbrev pub saved_in : Newest → SavedValue
-saved_in newest = record { sequence = newest.saved.sequence; digest = newest.saved.digest; cut = newest.saved.cut }
+saved_in newest = saved_value newest.saved
 
 -- this is the newest slot of a store, as far as its gates show: it is open and may have been saved, or no gate is open
 abbrev pub IsNewestOf : StoreSettings → SlotsState → Option Newest → Type 0

@@ -48,6 +48,14 @@ Opens settings image opened =
     (first : Option SavedValue) × (second : Option SavedValue) × StoreHolds settings image first second
     × (newest first second ≡ opened)
 
+-- this slot of a sound store is the newest, and holds this
+pub record HasNewest (settings : StoreSettings) (slot : ℕ) (saved : SavedValue) (image : List ℕ) : Type 0 where
+  pub first : Option SavedValue
+  pub second : Option SavedValue
+  pub holds : StoreHolds settings image first second
+  pub newest_is : newest first second ≡ Some saved
+  pub slot_is : newest_slot first second ≡ slot
+
 -- the positions that a store opens to, each 0 where no gate is open
 abbrev pub opened_positions : StoreSettings → Option SavedValue → List ℕ
 opened_positions settings None = replicate settings.shards 0

@@ -6,6 +6,17 @@ use Rattle.checkpoint.specs.Settings.{AreSettings, header_bytes, span_of}
 use Rattle.checkpoint.specs.Body.{SavedValue, IsBody}
 use Rattle.checkpoint.specs.Store.{IsNotNewest, OldOrNew, Opens, StoreHolds, newest, opened_sequence}
 
+-- a header spells one set of settings
+abbrev pub HeadersSpellOne : Type 0
+HeadersSpellOne = (settings others : StoreSettings) → AreSettings settings → AreSettings others
+    → header_bytes settings ≡ header_bytes others → settings ≡ others
+
+-- under its settings each slot of a store holds one thing at most
+abbrev pub StoresHoldOne : Type 0
+StoresHoldOne = (settings : StoreSettings) (image : List ℕ) (first second again other_one : Option SavedValue)
+    → AreSettings settings → StoreHolds settings image first second → StoreHolds settings image again other_one
+    → (first ≡ again) × (second ≡ other_one)
+
 -- a store opens to one thing at most
 abbrev pub StoresOpenToOne : Type 0
 StoresOpenToOne = (settings : StoreSettings) (image : List ℕ) (opened again : Option SavedValue) → AreSettings settings

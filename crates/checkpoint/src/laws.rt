@@ -1,8 +1,8 @@
 //! What holds of bodies and of stores, each law the contract of a function with an empty body.
 
 ghost use Rattle.checkpoint.specs.BodyLaws.{BodiesAreApart, BodiesSpellOne};
-ghost use Rattle.checkpoint.specs.StoreLaws.{BodiesFitSlots, FormattedStoresAreEmpty, PutsOpenOldOrNew, PutsOpenTheNew};
-ghost use Rattle.checkpoint.specs.StoreLaws.{StoresAreReady, StoresOpenToOne};
+ghost use Rattle.checkpoint.specs.StoreLaws.{BodiesFitSlots, FormattedStoresAreEmpty, HeadersSpellOne, PutsOpenOldOrNew};
+ghost use Rattle.checkpoint.specs.StoreLaws.{PutsOpenTheNew, StoresAreReady, StoresHoldOne, StoresOpenToOne};
 
 /// No body begins another one, whatever the settings. So bytes that follow a body don't change what is read.
 pub fn bodies_are_apart()
@@ -13,6 +13,16 @@ pub fn bodies_are_apart()
 /// `encode` wrote is what was written.
 pub fn bodies_spell_one()
     ensures { BodiesSpellOne }
+{}
+
+/// A header spells one set of settings.
+pub fn headers_spell_one()
+    ensures { HeadersSpellOne }
+{}
+
+/// Under its settings each slot of a store holds one thing at most.
+pub fn stores_hold_one()
+    ensures { StoresHoldOne }
 {}
 
 /// Under its settings a store opens to one thing at most.

@@ -21,7 +21,8 @@ pub use fault::{DecodeFault, SaveFault};
 pub use header::{header_of, read_header};
 pub use laws::{
     bodies_are_apart, bodies_fit_slots, bodies_spell_one, formatted_stores_are_empty,
-    puts_open_old_or_new, puts_open_the_new, stores_are_ready, stores_open_to_one,
+    headers_spell_one, puts_open_old_or_new, puts_open_the_new, stores_are_ready, stores_hold_one,
+    stores_open_to_one,
 };
 pub use newest::Newest;
 pub use saved::Saved;
