@@ -1,0 +1,4 @@
+pub mod ListLemmas
+pub mod SlotLemmas
+pub mod DecisionLemmas
+pub mod OpeningLemmas
