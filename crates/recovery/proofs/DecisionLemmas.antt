@@ -1,16 +1,15 @@
 -- Bytes open to one base, or are refused for one fault.
-use Rattle.std.proofs.Common.{◌≡◌, ◌⊎◌, ◌≢◌, ℕ, ◌<◌, List, Option, Some, None, IfSome, refl, sym, ap, subst, ◌∙◌, inl, inr, ⊎_elim, arith}
+use Rattle.std.proofs.Common.{◌≡◌, ℕ, List, Option, Some, IfSome, refl, sym, ap, subst, ◌∙◌, inl, inr, ⊎_elim, arith}
 use Rattle.std.specs.Prelude.{option_map}
 use Rattle.std.proofs.lemmas.Bool.{cases_lt}
 use Rattle.prefix_lattice.specs.{RecordValue}
 use Rattle.shard_state.specs.{CutValue}
 use Rattle.checkpoint.specs.declared.settings.StoreSettings.{StoreSettings}
 use Rattle.checkpoint.specs.{AreSettings, HasNewest, HeadersSpellOne, SavedValue, StoreHolds, StoresHoldOne, newest, newest_slot}
-use Rattle.checkpoint.specs.{digest_of_lists}
 use Rattle.recovery.specs.declared.fault.OpenFault.{OpenFault}
 use Rattle.recovery.specs.declared.fault.OpenFault.TheVariants.{DiskFault, NotFormatted, OtherSettings, Damaged, OtherCapture, OutOfMemory}
 use Rattle.recovery.specs.Opening.{HasHeader, IsFirstDamaged, IsRefused, IsSavedOf, OpensToBase}
-use Rattle.recovery.specs.OpeningLaws.{IsShown, IsDecided, OpeningsAreDecided}
+use Rattle.recovery.specs.OpeningLaws.{IsShown, OpeningsAreDecided}
 use Rattle.recovery.proofs.SlotLemmas.{store_is_not_damaged}
 
 module _ (spell : HeadersSpellOne) (hold : StoresHoldOne) (settings : StoreSettings) (lists : List (List RecordValue))

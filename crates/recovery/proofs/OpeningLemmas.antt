@@ -1,5 +1,5 @@
 -- The newest slot of a store, and what it opens to.
-use Rattle.std.proofs.Common.{◌≡◌, ◌≤◌, ℕ, ◌<◌, Bool, true, false, nat_lt, if◌then◌else◌, List, Option, None, Some, IfSome, length}
+use Rattle.std.proofs.Common.{◌≡◌, ◌≤◌, ℕ, Bool, true, false, nat_lt, if◌then◌else◌, List, Option, None, Some, IfSome, length}
 use Rattle.std.proofs.Common.{refl, sym, ap, subst, ◌∙◌, inr, arith}
 use Rattle.prefix_lattice.specs.{RecordValue}
 use Rattle.shard_state.specs.{CutValue}

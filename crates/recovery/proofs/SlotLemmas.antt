@@ -1,6 +1,6 @@
 -- Slots whose gate is open.
 use Rattle.std.proofs.Common.{◌≡◌, ℕ, zero, suc, ◌<◌, Bool, true, List, Option, Some, None, refl, sym, ap, subst, ◌∙◌, arith, if◌then◌else◌}
-use Rattle.slot_disk.specs.{Closed, Broken, Whole, SlotsState, content, is_open, known_open, shown, slots_of, stored_body}
+use Rattle.slot_disk.specs.{Closed, Whole, SlotsState, content, is_open, known_open, shown, slots_of, stored_body}
 use Rattle.checkpoint.specs.declared.settings.StoreSettings.{StoreSettings}
 use Rattle.checkpoint.specs.{IsBody, SavedValue, SlotHolds, StoreHolds, span_of}
 use Rattle.checkpoint.specs.declared.fault.DecodeFault.{DecodeFault}

@@ -1,5 +1,5 @@
 -- What the bytes of a store open to over dealt lists, or why they are refused.
-use Rattle.std.specs.Prelude.{ℕ, ◌≡◌, ◌≢◌, ◌+◌, ◌-◌, ◌^◌, ◌<◌, ◌≤◌, ◌⊎◌, ⊤, true, List, length, take, replicate, Option, Some, None, IfSome, option_map}
+use Rattle.std.specs.Prelude.{ℕ, ◌≡◌, ◌≢◌, ◌-◌, ◌<◌, ◌≤◌, ◌⊎◌, ⊤, true, List, length, take, replicate, Option, Some, None, IfSome, option_map}
 use Rattle.std.specs.List.{AllZip}
 use Rattle.prefix_lattice.specs.{RecordValue, total_weight}
 use Rattle.shard_state.specs.{CutValue, SnapshotValue, HasShape, positions_of, total_of}
@@ -55,7 +55,7 @@ IsRefused settings lists image (OtherSettings stored asked) = HasHeader stored i
 IsRefused settings lists image (Damaged slot) =
     (HasHeader settings image × IsFirstDamaged settings slot image)
     ⊎ ((saved : SavedValue) × HasNewest settings slot saved image × (saved.digest ≡ digest_of_lists settings lists)
-      × (IsContinuable saved lists → ⊥))
+    × (IsContinuable saved lists → ⊥))
 IsRefused settings lists image (OtherCapture stored asked) =
     (slot : ℕ) × (saved : SavedValue) × HasNewest settings slot saved image × (stored ≡ saved.digest)
     × (asked ≡ digest_of_lists settings lists) × (stored ≢ asked)

@@ -1,5 +1,5 @@
-use Rattle.std.proofs.Common.{◌≡◌, ◌∙◌, ap, refl, sym, subst, true, ℕ, Some, Err, rules}
-use Rattle.slot_disk.specs.{Whole, content, is_open, known_open, shown, slots_of, stored_body}
+use Rattle.std.proofs.Common.{◌≡◌, ◌∙◌, ap, sym, subst, true, ℕ, Some, Err, rules}
+use Rattle.slot_disk.specs.{known_open, shown, stored_body}
 use Rattle.checkpoint.specs.{IsBody, span_of, saved_value}
 use Rattle.recovery.specs.Parts.{IsBodyFault}
 use Rattle.recovery.specs.declared.fault.OpenFault.{OpenFault}
@@ -15,7 +15,7 @@ returns-in-Ok-decode-clause-holds g c = λ image is slots.
       c.in-Ok.body.items,
       shows ∙ ap shown stored,
       subst (IsBody c.args.settings.now.shards c.args.settings.now.capacity (saved_value c.in-Ok-decode.saved)) c.deref.ensures.value
-      c.in-Ok-decode.ensures.body,
+          c.in-Ok-decode.ensures.body,
     )
 
 pub returns-clause-refused : goal.returns-clause-refused

@@ -1,4 +1,4 @@
-use Rattle.std.proofs.Common.{◌≡◌, ◌≢◌, ◌∙◌, ap, refl, sym, rules}
+use Rattle.std.proofs.Common.{◌≢◌, ◌∙◌, ap, refl, sym, rules}
 use Rattle.slot_disk.specs.{SlotsState}
 use Rattle.recovery.proofs.front.open_front.Goals as goal
 

@@ -1,4 +1,4 @@
-use Rattle.std.proofs.Common.{◌≡◌, ◌∙◌, ap, sym, arith}
+use Rattle.std.proofs.Common.{◌∙◌, ap, sym}
 use Rattle.std.proofs.lemmas.Result.{err_from_is_err_and}
 use Rattle.slot_disk.specs.{SlotsState, StandsAs-unchanged}
 use Rattle.recovery.proofs.OpeningLemmas.{first_fault, second_fault}

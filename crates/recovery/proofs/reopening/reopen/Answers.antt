@@ -1,4 +1,4 @@
-use Rattle.std.proofs.Common.{◌≡◌, ◌∙◌, sym, subst}
+use Rattle.std.proofs.Common.{◌∙◌, sym, subst}
 use Rattle.std.proofs.lemmas.Result.{err_from_is_err_and}
 use Rattle.checkpoint.specs.{IsStoreFor, SaverState}
 use Rattle.recovery.proofs.OpeningLemmas.{found_saver_stands, list_fault, opens_to_base}
