@@ -99,7 +99,7 @@ none_is_newest (Some one) None none = cc none
 none_is_newest (Some one) (Some two) none = by_test (nat_lt one.sequence two.sequence) none
   where
     by_test : (b : Bool) → None ≡ (if b then Some two else Some one) → 1 ≡ (let n : ℕ = (if b then 1 else 0) in n)
-    by_test true none = cc none
+    by_test true none = refl
     by_test false none = cc none
 
 -- the disk stands as the saver of that store knows it

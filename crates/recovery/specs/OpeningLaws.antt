@@ -1,10 +1,10 @@
 -- What holds of openings, as a law on a public function.
-use Rattle.std.specs.Prelude.{ℕ, ◌≡◌, ◌≢◌, List, Option}
+use Rattle.std.specs.Prelude.{ℕ, ◌≡◌, ◌≢◌, ◌≤◌, List, Option, option_map}
 use Rattle.prefix_lattice.specs.{RecordValue}
 use Rattle.shard_state.specs.{CutValue}
-use Rattle.checkpoint.specs.{AreSettings}
+use Rattle.checkpoint.specs.{AreSettings, IsOfLists, Opens, SavedValue, opened_sequence}
 use Rattle.checkpoint.specs.declared.settings.StoreSettings.{StoreSettings}
-use Rattle.recovery.specs.Opening.{IsRefused, OpensToBase}
+use Rattle.recovery.specs.Opening.{IsRefused, OpensToBase, last_opened_sequence}
 use Rattle.recovery.specs.declared.fault.OpenFault.{OpenFault}
 use Rattle.recovery.specs.declared.fault.OpenFault.TheVariants.{DiskFault, OutOfMemory}
 
@@ -26,3 +26,10 @@ pub record IsDecided (settings : StoreSettings) (lists : List (List RecordValue)
 abbrev pub OpeningsAreDecided : Type 0
 OpeningsAreDecided = (settings : StoreSettings) (lists : List (List RecordValue)) (image : List ℕ) → AreSettings settings
     → IsDecided settings lists image
+
+-- a store that belongs to dealt lists opens to its newest cut, where its sequence isn't too late
+abbrev pub BelongingStoresAreOpened : Type 0
+BelongingStoresAreOpened = (settings : StoreSettings) (lists : List (List RecordValue)) (image : List ℕ)
+    (opened : Option SavedValue) → Opens settings image opened → IsOfLists settings lists opened
+    → opened_sequence opened ≤ last_opened_sequence
+    → OpensToBase settings lists image (option_map (λ saved. saved.cut) opened)

@@ -11,7 +11,7 @@ mod opened;
 mod reopening;
 
 pub use fault::OpenFault;
-pub use laws::openings_are_decided;
+pub use laws::{belonging_stores_are_opened, openings_are_decided};
 pub use opened::Opened;
 pub use reopening::reopen;
 
