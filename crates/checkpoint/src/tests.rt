@@ -383,6 +383,8 @@ fn saves_go_to_both_slots_in_turn(rt: HostRuntime) -> Result<(), Fail> {
             &image[1_620..1_636],
             [0, 0, 0, 0, 0, 0, 3, 0xbc, 0, 0, 0, 0, 0, 0, 0, 2].as_slice()
         );
+        assert_eq!(rt; &image[80..112], DIGEST.as_slice());
+        assert_eq!(rt; &image[1_636..1_668], DIGEST.as_slice());
         assert_eq!(rt; newest_of(alloc, image)?, (2, 2));
     }
     Ok(())
