@@ -14,7 +14,7 @@ turns=${1:-25}
 work=$(mktemp -d)
 trap 'rm -rf "$work"' EXIT
 
-program=$("$here/build_board.sh" "$work")
+program=$("$here/build_program.sh" "$work" board none 1 0 2 0)
 
 # The instructions of one run: WORD...
 instructions() {

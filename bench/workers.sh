@@ -14,7 +14,7 @@ here=$(dirname "$(readlink -f "$0")")
 turns=${1:-15}
 work=$(mktemp -d)
 trap 'rm -rf "$work"' EXIT
-program=$("$here/build_board.sh" "$work")
+program=$("$here/build_program.sh" "$work" board none 1 0 2 0)
 
 # The times of a line less those of the line before it, which only makes what the line needs: NAME COPIES ARGUMENTS
 compare() {

@@ -22,7 +22,7 @@ span_is_small settings are =
     omega (arith, most, are.most)
 
 -- a body's length is a small number
-body_is_short : (settings : StoreSettings) (saved : SavedValue) (body : List ℕ) → AreSettings settings
+pub body_is_short : (settings : StoreSettings) (saved : SavedValue) (body : List ℕ) → AreSettings settings
     → IsBody settings.shards settings.capacity saved body → length body < 2 ^ 32
 body_is_short settings saved body are is =
     omega (arith, body_fits settings.shards settings.capacity saved body is, span_is_small settings are)

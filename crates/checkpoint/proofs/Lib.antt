@@ -9,4 +9,9 @@ pub mod TableLemmas
 pub mod SnapshotLemmas
 pub mod BodyLemmas
 pub mod BodyLawLemmas
+pub mod HeaderLemmas
+pub mod OptionLemmas
+pub mod StoreLemmas
+pub mod SaverLemmas
 pub mod Examples
+pub mod ExamplesOfStores

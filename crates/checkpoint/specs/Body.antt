@@ -5,6 +5,7 @@ use Rattle.std.specs.List.{flat_map}
 use Rattle.space_saving.specs.declared.entry.Entry.{Entry}
 use Rattle.space_saving.specs.{total_count}
 use Rattle.shard_state.specs.{CutValue, IsCut, SnapshotValue}
+use Rattle.checkpoint.specs.declared.saved.Saved.{Saved}
 use Rattle.checkpoint.specs.Numbers.{number_bytes}
 
 -- what a body spells: a sequence, the digest of the dealt records, and a cut
@@ -12,6 +13,10 @@ pub record SavedValue : Type 0 where
   pub sequence : ℕ
   pub digest : List ℕ
   pub cut : CutValue
+
+-- what was decoded, as definitions see it
+abbrev pub saved_value : Saved → SavedValue
+saved_value saved = record { sequence = saved.sequence; digest = saved.digest; cut = saved.cut }
 
 -- the last sequence
 abbrev pub last_sequence : ℕ

@@ -7,7 +7,7 @@ ghost use Rattle.space_saving.specs.declared.entry.Entry.{Entry};
 ghost use Rattle.prefix_lattice.specs.{node_count};
 ghost use Rattle.shard_state.specs.{IsCut, SnapshotValue, least_capacity, most_capacity};
 ghost use Rattle.checkpoint.specs.Settings.{AreSettings};
-ghost use Rattle.checkpoint.specs.Body.{SavedValue, IsBody, entry_bytes, table_bytes, snapshot_bytes};
+ghost use Rattle.checkpoint.specs.Body.{SavedValue, IsBody, saved_value, entry_bytes, table_bytes, snapshot_bytes};
 ghost use Rattle.checkpoint.specs.Reading.{AreMany, Begins, BeginsWithNone, FitsEntry, FitsSnapshot, FitsTable};
 
 use crate::lengths::NODES;
@@ -29,7 +29,7 @@ const LAST_SEQUENCE: u64 = 1 << 62;
 pub fn decode(alloc: Global, bytes: &[u8], settings: &StoreSettings) -> Result<Saved, DecodeFault>
     requires { AreSettings settings.now }
     ensures body { IfOk result (λ saved. IsBody settings.now.shards settings.now.capacity
-        (record { sequence = saved.sequence; digest = saved.digest; cut = saved.cut }) bytes.now) }
+        (saved_value saved) bytes.now) }
     ensures damaged { IsErrOf result DecodeFault.Damaged → (saved : SavedValue) → IsBody settings.now.shards settings.now.capacity saved bytes.now → ⊥ }
 {
     if bytes.len() < 48 {

@@ -1,8 +1,11 @@
-//! Why a body was not decoded.
+//! Why a body was not decoded, and why a cut was not saved.
 
 ghost use Rattle.std.specs.Prelude.{◌≡◌};
 ghost use Rattle.checkpoint.specs.declared.fault.DecodeFault.TheVariants.{OutOfMemory};
+ghost use Rattle.checkpoint.specs.declared.fault.SaveFault.TheVariants.{DiskFault};
 
+use crate::Saver;
+use outside_io::Failed;
 use std::alloc::{AllocError, AllocFailed};
 use thiserror::Error;
 
@@ -15,6 +18,25 @@ pub enum DecodeFault {
     /// Out of memory.
     #[error("out of memory")]
     OutOfMemory,
+}
+
+/// Why a cut was not saved.
+#[derive(Debug, Drop, Error)]
+pub enum SaveFault {
+    /// A call of the disk failed. The store is opened again.
+    #[error("disk fault")]
+    DiskFault,
+    /// Out of memory. The disk is unchanged, and the saver is the one that was to save.
+    #[error("out of memory")]
+    OutOfMemory(Saver),
+}
+
+impl From<Failed> for SaveFault {
+    ghost from_gives = { λ _ fault. fault ≡ DiskFault };
+
+    fn from(_: Failed) -> SaveFault {
+        SaveFault::DiskFault
+    }
 }
 
 impl From<AllocError> for DecodeFault {

@@ -1,6 +1,8 @@
-//! What the spellings of bodies keep, each law the contract of a function with an empty body.
+//! What holds of bodies and of stores, each law the contract of a function with an empty body.
 
 ghost use Rattle.checkpoint.specs.BodyLaws.{BodiesAreApart, BodiesSpellOne};
+ghost use Rattle.checkpoint.specs.StoreLaws.{BodiesFitSlots, FormattedStoresAreEmpty, HeadersSpellOne, PutsOpenOldOrNew};
+ghost use Rattle.checkpoint.specs.StoreLaws.{PutsOpenTheNew, StoresAreReady, StoresHoldOne, StoresOpenToOne};
 
 /// No body begins another one, whatever the settings. So bytes that follow a body don't change what is read.
 pub fn bodies_are_apart()
@@ -11,4 +13,45 @@ pub fn bodies_are_apart()
 /// `encode` wrote is what was written.
 pub fn bodies_spell_one()
     ensures { BodiesSpellOne }
+{}
+
+/// A header spells one set of settings.
+pub fn headers_spell_one()
+    ensures { HeadersSpellOne }
+{}
+
+/// Under its settings each slot of a store holds one thing at most.
+pub fn stores_hold_one()
+    ensures { StoresHoldOne }
+{}
+
+/// Under its settings a store opens to one thing at most.
+pub fn stores_open_to_one()
+    ensures { StoresOpenToOne }
+{}
+
+/// What `format` of `slot_disk` leaves, where its header is that of the settings, is a sound store with no gate open.
+pub fn formatted_stores_are_empty()
+    ensures { FormattedStoresAreEmpty }
+{}
+
+/// A body fits a slot of the span of its settings, so it may be put there.
+pub fn bodies_fit_slots()
+    ensures { BodiesFitSlots }
+{}
+
+/// A sound store is ready for a put into a slot that isn't the newest.
+pub fn stores_are_ready()
+    ensures { StoresAreReady }
+{}
+
+/// A put of a later body over a sound store, into a slot that isn't the newest, leaves at any moment a sound store that
+/// opens as the old one did, or to the new body.
+pub fn puts_open_old_or_new()
+    ensures { PutsOpenOldOrNew }
+{}
+
+/// Once such a put is done, the store opens to the new body.
+pub fn puts_open_the_new()
+    ensures { PutsOpenTheNew }
 {}

@@ -1,12 +1,14 @@
-ghost use Rattle.std.specs.Prelude.{◌≡◌, ◌≤◌, ◌%◌, ◌^◌, length, IfOk};
+ghost use Rattle.std.specs.Prelude.{◌≡◌, ◌≤◌, ◌%◌, ◌^◌, [], ◌∷◌, length, IfOk};
 ghost use Rattle.deal_rules.specs.{IsAsked};
-ghost use Rattle.checkpoint.specs.Settings.{AreSettings};
+ghost use Rattle.shard_state.specs.{positions_of};
+ghost use Rattle.checkpoint.specs.Saver.{StandsFor};
 
 use super::*;
 use deal_rules::{DealKind, Dealer, deal};
 use frame_records::Weigh;
 use prefix_lattice::{Node, Record, RecordList};
 use shard_state::{Cut, ShardState, Snapshot};
+use slot_disk::{Disk, MemoryDisk, Slots, format};
 use std::alloc::{AllocError, Global};
 use std::process::Abort;
 use std::test::Fail;
@@ -129,6 +131,7 @@ fn cut_of(alloc: Global, list: RecordList, capacity: u32) -> Result<Cut, AllocEr
     requires most { capacity ≤ 4096 }
     ensures shards { IfOk result (λ cut. length cut.shards ≡ 1) }
     ensures capacity { IfOk result (λ cut. cut.capacity ≡ capacity) }
+    ensures positions { IfOk result (λ cut. positions_of cut ≡ length list ∷ []) }
 {
     let mut shard = ShardState::start(alloc, list, capacity)?;
     shard.fold_block(u32::MAX);
@@ -261,5 +264,151 @@ fn full_tables_go_both_ways(rt: HostRuntime) -> Result<(), Fail> {
     }
     let again = encode_again(&rt, alloc, &saved)?;
     assert_eq!(rt; again.as_slice(), body.as_slice());
+    Ok(())
+}
+
+// The smallest settings: tables of two entries.
+const SMALLEST: StoreSettings = StoreSettings {
+    capacity: 2,
+    ..ONE_SHARD
+};
+
+// A disk of these bytes, with room for a store of the smallest settings.
+fn disk_of(alloc: Global, bytes: Vec<u8>, fuse: Option<u64>) -> Result<MemoryDisk, AllocError> {
+    let room = bytes.len().max(64 + 2 * 1_556);
+    MemoryDisk::with_room(alloc, room, 1_048_576, bytes, fuse, Vec::new(alloc))
+}
+
+// Makes a store, and a saver of it: calls 0 to 3 of the disk.
+fn make_store<D: Disk>(alloc: Global, disk: &mut D) -> Result<Saver, Fail>
+    ensures stands { IfOk result (λ saver. StandsFor (D.reads disk.new) (D.image_now disk.new) saver) }
+    ensures settings { IfOk result (λ saver. saver.settings ≡ SMALLEST) }
+    ensures sequence { IfOk result (λ saver. saver.sequence ≡ 0) }
+    ensures positions { IfOk result (λ saver. saver.positions ≡ 0 ∷ []) }
+{
+    let header = header_of(&SMALLEST);
+    format(disk, &header)?;
+    let slots = Slots::begin(disk)?;
+    if slots.gate(0) {
+        return Err("gate 0 is open".into());
+    }
+    if slots.gate(1) {
+        return Err("gate 1 is open".into());
+    }
+    if slots.header() != &header {
+        return Err("another header".into());
+    }
+    Ok(Saver::new(alloc, slots, SMALLEST, DIGEST, &None)?)
+}
+
+// So many packets.
+fn packets(alloc: Global, count: usize) -> Result<RecordList, AllocError>
+    ensures { IfOk result (λ list. length list ≡ count) }
+{
+    let mut list = RecordList::new(alloc);
+    for _packet in 0..count {
+        list.push(PACKET)?;
+    }
+    Ok(list)
+}
+
+// Saves a cut of one packet: calls 4 to 9 of the disk.
+fn save_first<D: Disk>(alloc: Global, disk: &mut D) -> Result<Saver, Fail>
+    ensures stands { IfOk result (λ saver. StandsFor (D.reads disk.new) (D.image_now disk.new) saver) }
+    ensures settings { IfOk result (λ saver. saver.settings ≡ SMALLEST) }
+    ensures sequence { IfOk result (λ saver. saver.sequence ≡ 1) }
+    ensures positions { IfOk result (λ saver. saver.positions ≡ 1 ∷ []) }
+{
+    let saver = make_store(alloc, disk)?;
+    let cut = cut_of(alloc, packets(alloc, 1)?, 2)?;
+    Ok(saver.save(alloc, disk, &cut)?)
+}
+
+// Then saves a cut of two packets: calls 10 to 15 of the disk.
+fn save_both<D: Disk>(alloc: Global, disk: &mut D) -> Result<Saver, Fail> {
+    let saver = save_first(alloc, disk)?;
+    let cut = cut_of(alloc, packets(alloc, 2)?, 2)?;
+    Ok(saver.save(alloc, disk, &cut)?)
+}
+
+// The newest sequence in these bytes, and the position of its cut, or zeros where no gate is open.
+fn newest_of(alloc: Global, bytes: Vec<u8>) -> Result<(u64, u64), Fail> {
+    let mut disk = disk_of(alloc, bytes, None)?;
+    let slots = Slots::begin(&mut disk)?;
+    let mut newest = (0, 0);
+    for slot in 0..2 {
+        if slots.gate(slot) {
+            let body = slots.read_body(alloc, &mut disk, slot, span(&SMALLEST))?;
+            let saved = decode(alloc, &body, &SMALLEST)?;
+            newest = newest.max((saved.sequence, saved.cut.shard(0).position()));
+        }
+    }
+    Ok(newest)
+}
+
+#[test]
+fn a_store_is_made_with_its_header(rt: HostRuntime) -> Result<(), Fail> {
+    let alloc = rt.alloc();
+    let mut disk = disk_of(alloc, Vec::new(alloc), None)?;
+    let saver = make_store(alloc, &mut disk)?;
+    assert_eq!(rt; saver.sequence(), 0);
+    assert_eq!(rt; saver.positions().as_slice(), [0].as_slice());
+    assert_eq!(rt; saver.digest(), &DIGEST);
+    let mut want = [0; 64];
+    let front = [
+        0x00, 0x00, 0x48, 0x48, 0x48, 0x53, 0x01, 0x01, 0x00, 0x02, 0x00, 0x00,
+    ];
+    want[..12].copy_from_slice(&front);
+    assert_eq!(rt; disk.crash(alloc, 0)?.as_slice(), want.as_slice());
+    Ok(())
+}
+
+#[test]
+fn saves_go_to_both_slots_in_turn(rt: HostRuntime) -> Result<(), Fail> {
+    let alloc = rt.alloc();
+    let mut disk = disk_of(alloc, Vec::new(alloc), None)?;
+    let saver = save_both(alloc, &mut disk)?;
+    assert_eq!(rt; saver.sequence(), 2);
+    assert_eq!(rt; saver.positions().as_slice(), [2].as_slice());
+    for choice in 0..4 {
+        let image = disk.crash(alloc, choice)?;
+        // Both gates are open, and the bodies are a span of 1,556 bytes apart.
+        assert_eq!(rt; image.len(), 64 + 1_556 + 956);
+        assert_eq!(rt; &image[..2], [1, 1].as_slice());
+        assert_eq!(rt;
+            &image[64..80],
+            [0, 0, 0, 0, 0, 0, 3, 0xbc, 0, 0, 0, 0, 0, 0, 0, 1].as_slice()
+        );
+        assert_eq!(rt;
+            &image[1_620..1_636],
+            [0, 0, 0, 0, 0, 0, 3, 0xbc, 0, 0, 0, 0, 0, 0, 0, 2].as_slice()
+        );
+        assert_eq!(rt; &image[80..112], DIGEST.as_slice());
+        assert_eq!(rt; &image[1_636..1_668], DIGEST.as_slice());
+        assert_eq!(rt; newest_of(alloc, image)?, (2, 2));
+    }
+    Ok(())
+}
+
+// A stop at each call of the second save, and each choice of what a crash leaves. Only a crash that keeps all leaves the
+// new cut, and only once its gate was written. Half of a gate is none of it.
+#[test]
+fn a_stop_leaves_the_old_cut_or_the_new_one(rt: HostRuntime) -> Result<(), Fail> {
+    let alloc = rt.alloc();
+    for call in 0..6 {
+        let mut disk = disk_of(alloc, Vec::new(alloc), Some(10 + call))?;
+        let saver = save_first(alloc, &mut disk)?;
+        let cut = cut_of(alloc, packets(alloc, 2)?, 2)?;
+        let saved = saver.save(alloc, &mut disk, &cut);
+        assert!(rt;
+            matches!(saved, Err(SaveFault::DiskFault)),
+            "at call {call}"
+        );
+        for choice in 0..4 {
+            let want = if call >= 4 && choice == 1 { 2 } else { 1 };
+            let newest = newest_of(alloc, disk.crash(alloc, choice)?)?;
+            assert_eq!(rt; newest, (want, want), "at call {call}, choice {choice}");
+        }
+    }
     Ok(())
 }

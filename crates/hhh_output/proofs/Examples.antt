@@ -15,7 +15,7 @@ use Rattle.shard_state.specs.{fold_from, no_entries, empty_snapshot, CutValue}
 use Rattle.cut_merge.specs.{monitored_keys}
 use Rattle.hhh_output.specs.Lines.{prefixes_of, AreLines}
 use Rattle.hhh_output.specs.Report.{IsMonitored, low_in, high_in, IsUnexplained, IsLineOf, IsReportOf, AreSame}
-use Rattle.hhh_output.specs.SoundReport.{AreNotPast, HoldsWeight, IsNarrowLine, IsJustified, IsSound}
+use Rattle.hhh_output.specs.SoundReport.{HoldsWeight, IsNarrowLine, IsJustified, IsSound}
 use Rattle.hhh_output.specs.Threshold.{IsHeavy, IsThreshold, million, IsWideShare}
 use Rattle.hhh_output.specs.declared.line.Line.{Line}
 use Rattle.hhh_output.specs.declared.report.Report.{Report}
@@ -235,12 +235,6 @@ reports_with_other_lines same = let count : 1 ≡ 0 = ap length same.lines in om
 pub silence_is_no_report_of_the_cut : ¬ IsReportOf cut 10000 silent
 silence_is_no_report_of_the_cut report =
     let inside = (report.lines own).1 own_line_of_the_cut in omega (arith, inside.1)
-
-pub positions_of_two_shards_not_past : AreNotPast (1 ∷ 2 ∷ []) (1 ∷ 3 ∷ [])
-positions_of_two_shards_not_past = (omega arith, omega arith)
-
-pub one_shard_past : ¬ AreNotPast (1 ∷ 3 ∷ []) (2 ∷ 2 ∷ [])
-one_shard_past order = omega (arith, order.1.0)
 
 -- a cut of one shard that counted nothing, and what is reported of it
 abbrev nothing_counted : CutValue

@@ -4,8 +4,7 @@ use Rattle.std.specs.List.{sum_by}
 use Rattle.std.proofs.lemmas.List.Elements.{filter-append}
 use Rattle.std.proofs.lemmas.List.Sums.{sum_by-append}
 use Rattle.prefix_lattice.specs.{PrefixValue, RecordValue, covers, weight_of}
-use Rattle.shard_state.specs.{records_before}
-use Rattle.hhh_output.specs.SoundReport.{AreNotPast}
+use Rattle.shard_state.specs.{AreNotPast, records_before}
 
 weight-append : (prefix : PrefixValue) (first second : List RecordValue)
     → weight_of prefix (first ++ second) ≡ weight_of prefix first + weight_of prefix second

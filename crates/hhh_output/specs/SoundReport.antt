@@ -24,10 +24,6 @@ IsJustified capacity threshold lines records line =
     capacity * threshold ≤ capacity * conditioned_weight line.prefix lines records
     + (1 + length (closest line.prefix lines) + length (kept_pairs (closest line.prefix lines))) * total_weight records
 
--- positions that aren't past others, shard by shard
-abbrev pub AreNotPast : List ℕ → List ℕ → Type 0
-AreNotPast earlier later = AllZip (λ one other. one ≤ other) earlier later
-
 -- a report is sound over lists of records, for tables of this capacity: eight tests hold
 pub record IsSound (report : Report) (lists : List (List RecordValue)) (capacity phi : ℕ) : Type 0 where
   pub positions : AllZip (λ position list. position ≤ length list) report.positions lists

@@ -3,12 +3,12 @@
 ghost use Rattle.std.specs.Prelude.{◌≡◌, ℕ, ◌≤◌, List, All, Some, length, slice_get};
 ghost use Rattle.prefix_lattice.specs.{RecordValue, weight_of};
 ghost use Rattle.shard_state.specs.{CutValue, IsCut, positions_of, CutRepresents, CoreValue, HasShape, records_before};
-ghost use Rattle.shard_state.specs.{IsCore, capacity_of, run, BasesRepresent, ReadsEach, lists_of};
+ghost use Rattle.shard_state.specs.{AreNotPast, IsCore, capacity_of, run, BasesRepresent, ReadsEach, lists_of};
 ghost use Rattle.shard_state.specs.declared.event.Event.{Event};
 ghost use Rattle.hhh_output.specs.declared.report.Report.{Report};
 ghost use Rattle.hhh_output.specs.Lines.{AreLines};
 ghost use Rattle.hhh_output.specs.Report.{IsReportOf, AreSame};
-ghost use Rattle.hhh_output.specs.SoundReport.{AreNotPast, IsSound};
+ghost use Rattle.hhh_output.specs.SoundReport.{IsSound};
 ghost use Rattle.hhh_output.specs.Threshold.{IsWideShare};
 
 use conditioned_bounds::{bounds_hold, only_prefixes_are_asked};

@@ -7,7 +7,8 @@ use Rattle.space_saving.specs.{TableValue}
 use Rattle.shard_state.specs.Snapshot.{SnapshotValue, IsSnapshot, no_entries, empty_snapshot, entries_at, table_at}
 use Rattle.shard_state.specs.Snapshot.{tables_of, total_of, IsLike, AreTables, AreParts, copied_from}
 use Rattle.shard_state.specs.Snapshot.{SnapshotRepresents}
-use Rattle.shard_state.specs.Cut.{CutValue, IsCut, empty_cut, positions_of, total_of_cut, CutRepresents, records_before}
+use Rattle.shard_state.specs.Cut.{AreNotPast, CutValue, IsCut, empty_cut, positions_of, total_of_cut}
+use Rattle.shard_state.specs.Cut.{CutRepresents, records_before}
 use Rattle.shard_state.specs.ShardState.{folded, snapshot_of}
 use Rattle.shard_state.proofs.EmptyTableLemmas.{empty_table, IsSnapshot-empty, IsCut-empty}
 use Rattle.shard_state.proofs.RepresentationLemmas.{stands-empty, stands-shard}
@@ -93,6 +94,12 @@ positions_of_two_shards = refl
 pub total_of_two_shards : total_of_cut cut ≡ 6
 unfolding no_entries
 total_of_two_shards = refl
+
+pub positions_of_two_shards_not_past : AreNotPast (1 ∷ 2 ∷ []) (1 ∷ 3 ∷ [])
+positions_of_two_shards_not_past = (omega arith, omega arith)
+
+pub one_shard_past : ¬ AreNotPast (1 ∷ 3 ∷ []) (2 ∷ 2 ∷ [])
+one_shard_past order = omega (arith, order.1.0)
 
 pub cut_of_no_record : IsCut (empty_cut 2 4)
 cut_of_no_record = IsCut-empty 2 4 (omega arith) (omega arith) (omega arith) (omega arith)

@@ -15,6 +15,10 @@ pub record CutValue : Type 0 where
 abbrev pub positions_of : CutValue → List ℕ
 positions_of cut = map (λ snapshot. snapshot.position) cut.shards
 
+-- positions that aren't past others, shard by shard
+abbrev pub AreNotPast : List ℕ → List ℕ → Type 0
+AreNotPast earlier later = AllZip (λ one other. one ≤ other) earlier later
+
 -- the weight that the shards of a cut counted together
 abbrev pub total_of_cut : CutValue → ℕ
 total_of_cut cut = sum_by total_of cut.shards

@@ -8,7 +8,7 @@ use Rattle.std.proofs.lemmas.List.{take_all, length-drop, length-take, get_or-ta
 use Rattle.slot_disk.specs.Images.{Torn, TornFrom, Written, Only}
 use Rattle.slot_disk.specs.StoreLayout.{front_bytes, is_open, header_of, number_at, body_place, is_whole, body_at}
 use Rattle.slot_disk.specs.StoreLayout.{stored_body, content, shown, SlotContent, Closed, Broken, Whole}
-use Rattle.slot_disk.specs.Puts.{other, closing, IsSound, IsBody, CanClose, CanWrite, CanOpen, IsSameBeside}
+use Rattle.slot_disk.specs.Puts.{other, closing, IsSound, FitsSlot, CanClose, CanWrite, CanOpen, IsSameBeside}
 use Rattle.slot_disk.specs.Puts.{MayBeClosed, IsClosed, IsStored, MayBeOpen, IsPut}
 use Rattle.slot_disk.proofs.BodyLemmas.{number_at_same, is_whole_by}
 
@@ -242,7 +242,7 @@ writing_torn span slot count old image small fits can torn = record {
 }
 
 -- a body that was written
-pub writing_written : (span slot : ℕ) (body old new : List ℕ) → slot < 2 → IsBody span body → CanWrite span slot old
+pub writing_written : (span slot : ℕ) (body old new : List ℕ) → slot < 2 → FitsSlot span body → CanWrite span slot old
     → Written (body_place span slot) body old new → IsStored span slot body old new
 writing_written span slot body old new small is can written =
     let place = body_place span slot in

@@ -4,7 +4,7 @@ use Rattle.slot_disk.specs.Recorded.{zeros}
 use Rattle.slot_disk.specs.StoreLayout.{is_open, header_of, body_place, number_at, IsNumber}
 use Rattle.slot_disk.specs.StoreLayout.{stored_body, Closed, Broken, Whole, content}
 use Rattle.slot_disk.specs.KnownSlots.{SlotsState, known_open, with_open, slots_of, closed_slots, StandsAs}
-use Rattle.slot_disk.specs.Puts.{closing, IsWhole, IsReady, IsBody}
+use Rattle.slot_disk.specs.Puts.{closing, IsWhole, IsReady, FitsSlot}
 use Rattle.slot_disk.specs.Puts.{CanClose, CanWrite, CanOpen, MayBeClosed, IsStored, MayBeOpen, MayLeave, IsPut, HoldsNewest}
 
 -- a body of 9 bytes: its length, and a byte 5
@@ -19,11 +19,11 @@ pub body_says_its_length : number_at 0 body ≡ 9
 unfolding number_at
 body_says_its_length = refl
 
-pub body_fits_a_span_of_9 : IsBody 9 body
+pub body_fits_a_span_of_9 : FitsSlot 9 body
 unfolding number_at
 body_fits_a_span_of_9 = record { least = omega arith; most = omega arith; says = refl }
 
-pub body_is_too_long_for_a_span_of_8 : IsBody 8 body → ⊥
+pub body_is_too_long_for_a_span_of_8 : FitsSlot 8 body → ⊥
 body_is_too_long_for_a_span_of_8 is = omega (arith, is.most)
 
 pub gate_is_open : is_open 0 (store 1 0) ≡ true

@@ -26,8 +26,8 @@ pub record IsReady (span slot : ℕ) (image : List ℕ) : Type 0 where
       ⊎ ((content span (other slot) image ≡ Closed) × (content span slot image ≡ Closed))
   pub slot_holds : IsSound (content span slot image)
 
--- the bytes are a body that fits the span: their first 8 bytes are their length
-pub record IsBody (span : ℕ) (body : List ℕ) : Type 0 where
+-- the bytes fit a slot as a body: their first 8 bytes are their length, at most the span
+pub record FitsSlot (span : ℕ) (body : List ℕ) : Type 0 where
   pub least : 8 ≤ length body
   pub most : length body ≤ span
   pub says : number_at 0 body ≡ length body

@@ -4,7 +4,7 @@ ghost use Rattle.std.specs.Prelude.{◌≡◌, ℕ, ◌<◌, ◌≤◌, ◌^◌,
 ghost use Rattle.outside_io.specs.{FailsByFault};
 ghost use Rattle.slot_disk.specs.Images.{IfKnown, IfBothKnown, Only};
 ghost use Rattle.slot_disk.specs.Moments.{Leaves};
-ghost use Rattle.slot_disk.specs.Puts.{closing, CanClose, MayBeClosed, IsClosed, CanWrite, IsBody, IsStored, CanOpen, MayBeOpen, IsPut};
+ghost use Rattle.slot_disk.specs.Puts.{closing, CanClose, MayBeClosed, IsClosed, CanWrite, FitsSlot, IsStored, CanOpen, MayBeOpen, IsPut};
 
 use crate::Disk;
 use crate::safe_write::write_safely;
@@ -43,7 +43,7 @@ pub(crate) fn write_body<D: Disk>(
 ) -> Result<(), Failed>
     requires slot { slot < 2 }
     requires span { span < 2 ^ 32 }
-    requires body { IsBody span body.now }
+    requires body { FitsSlot span body.now }
     ensures known { is_some (D.reads disk.new) ≡ is_some (D.reads disk.old) }
     ensures stored { OnOk result (IfBothKnown (D.reads disk.old) (D.reads disk.new)
         (λ old new. CanWrite span slot old → IsStored span slot body.now old new)) }

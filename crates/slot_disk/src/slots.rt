@@ -5,7 +5,7 @@ ghost use Rattle.outside_io.specs.{FailsByFault, Rose};
 ghost use Rattle.slot_disk.specs.Images.{IfKnown, IfBothKnown};
 ghost use Rattle.slot_disk.specs.Moments.{Leaves, Unchanged};
 ghost use Rattle.slot_disk.specs.KnownSlots.{known_open, with_open, slots_of, StandsAs};
-ghost use Rattle.slot_disk.specs.Puts.{IsBody, IsReady, IsPut, MayLeave};
+ghost use Rattle.slot_disk.specs.Puts.{FitsSlot, IsReady, IsPut, MayLeave};
 ghost use Rattle.slot_disk.specs.StoreLayout.{front_bytes, body_place, stored_body, is_whole, number_at, IsNumber};
 
 use crate::putting::{close_gate, open_gate, write_body};
@@ -113,12 +113,13 @@ impl Slots {
     ) -> Result<Slots, Failed>
         requires slot { slot < 2 }
         requires span { span < 2 ^ 32 }
-        requires body { IsBody span body.now }
+        requires body { FitsSlot span body.now }
         requires stands { StandsAs (D.reads disk.old) (D.image_now disk.old) self }
         requires ready { IfKnown (D.reads disk.old) (IsReady span slot) }
         ensures known { is_some (D.reads disk.new) ≡ is_some (D.reads disk.old) }
         ensures done { OnOk result (IfBothKnown (D.reads disk.old) (D.reads disk.new) (IsPut span slot body.now)) }
         ensures stands { IfOk result (λ slots. StandsAs (D.reads disk.new) (D.image_now disk.new) slots) }
+        ensures opened { IfOk result (λ slots. slots ≡ with_open self slot) }
         ensures any_moment { IfKnown (D.reads disk.old) (λ old. Leaves D.moment D.image_since disk.old disk.new (MayLeave span slot body.now old)) }
         ensures cause { FailsByFault (D.faults disk.old) (D.faults disk.new) result }
     {

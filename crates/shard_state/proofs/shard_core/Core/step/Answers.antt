@@ -1,5 +1,5 @@
 use Rattle.std.proofs.Common.{◌≡◌, length, All, ap, sym, ◌∙◌, subst}
-use Rattle.shard_state.specs.ShardCore.{CoreValue, HasShape, MovedOn, after, capacity_of}
+use Rattle.shard_state.specs.ShardCore.{CoreValue, HasShape, MovedOn, capacity_of}
 use Rattle.shard_state.proofs.EventLemmas.{shapes_after, many_after, callers_after, capacity_after, stands_after}
 use Rattle.shard_state.proofs.EventRunLemmas.{shard_within}
 use Rattle.shard_state.proofs.shard_core.Core.step.Goals as goal

@@ -1,0 +1,164 @@
+//! Saves cuts into a store.
+
+ghost use Rattle.std.specs.Prelude.{◌≡◌, ◌<◌, ◌≤◌, ℕ, List, Some, Err, replicate, is_some, IfOk, IsErrOf, OnOk};
+ghost use Rattle.outside_io.specs.{Rose};
+ghost use Rattle.shard_state.specs.{AreNotPast, HasShape, positions_of};
+ghost use Rattle.slot_disk.specs.{IfKnown, Leaves, other};
+ghost use Rattle.checkpoint.specs.Settings.{AreSettings, header_bytes};
+ghost use Rattle.checkpoint.specs.Body.{last_sequence};
+ghost use Rattle.checkpoint.specs.Store.{OldOrNew, Opens};
+ghost use Rattle.checkpoint.specs.Saver.{SaverState, StandsFor, IsNewestOf, after_save, next_saved, saver_of};
+
+use crate::{Newest, SaveFault, StoreSettings, encode, span};
+use shard_state::{Cut, Positions};
+use slot_disk::{Disk, Slots};
+use std::alloc::{AllocError, Global};
+use std::marker::Model;
+
+/// What is known of a sound store: its settings, its gates, and the sequence and the positions of its newest slot. It
+/// saves cuts into the slot that isn't the newest.
+#[derive(Debug, Drop)]
+pub struct Saver {
+    settings: StoreSettings,
+    slots: Slots,
+    digest: [u8; 32],
+    newest_slot: u8,
+    sequence: u64,
+    positions: Positions,
+}
+
+impl Model for Saver {
+    ghost use Rattle.std.specs.Prelude.{◌<◌};
+    ghost use Rattle.checkpoint.specs.Settings.{AreSettings};
+    ghost use Rattle.checkpoint.specs.Saver.{SaverState};
+
+    ghost Value = { SaverState };
+
+    ghost view = { λ s. record {
+      settings = s.settings;
+      slots = s.slots;
+      digest = s.digest;
+      newest_slot = s.newest_slot;
+      sequence = s.sequence;
+      positions = s.positions;
+    } };
+
+    ghost invariant = { λ s. AreSettings s.settings × (s.newest_slot < 2) };
+}
+
+impl Saver {
+    /// A saver of the store whose gates and header these slots are, with the digest that its saves write and the newest
+    /// of its open slots, `None` where no gate is open. The only error is that memory runs out.
+    pub fn new(
+        alloc: Global,
+        slots: Slots,
+        settings: StoreSettings,
+        digest: [u8; 32],
+        newest: &Option<Newest>,
+    ) -> Result<Saver, AllocError>
+        requires settings { AreSettings settings }
+        requires header { slots.header ≡ header_bytes settings }
+        requires newest { IsNewestOf settings slots newest.now }
+        ensures { IfOk result (λ saver. saver ≡ saver_of slots settings digest newest.now) }
+    {
+        match newest {
+            None => Ok(Saver {
+                settings,
+                slots,
+                digest,
+                newest_slot: 1,
+                sequence: 0,
+                positions: zero_positions(alloc, settings.shards)?,
+            }),
+            Some(newest) => Ok(Saver {
+                settings,
+                slots,
+                digest,
+                newest_slot: newest.slot,
+                sequence: newest.saved.sequence,
+                positions: newest.saved.cut.positions(alloc)?,
+            }),
+        }
+    }
+
+    /// Saves a cut of the store's shape, none of whose positions is before that of the last saved one, under the next
+    /// sequence, which is at most 2^62. It goes to the slot that isn't the newest, so a crash at any moment leaves the
+    /// store as it opened before, or with the new cut.
+    ///
+    /// The memory for the body is taken before the first call of the disk: where there is none, the saver is handed back
+    /// and the disk is unchanged. After `DiskFault` the store is opened again.
+    pub fn save<D: Disk>(self, alloc: Global, disk: &mut D, cut: &Cut) -> Result<Saver, SaveFault>
+        requires early { self.sequence < last_sequence }
+        requires stands { StandsFor (D.reads disk.old) (D.image_now disk.old) self }
+        requires shape { HasShape self.settings.shards self.settings.capacity cut.now }
+        requires no_earlier { AreNotPast self.positions (positions_of cut.now) }
+        ensures known { is_some (D.reads disk.new) ≡ is_some (D.reads disk.old) }
+        ensures saved { IfOk result (λ saver. saver ≡ after_save self cut.now) }
+        ensures stands { IfOk result (λ saver. StandsFor (D.reads disk.new) (D.image_now disk.new) saver) }
+        ensures opens { OnOk result (IfKnown (D.reads disk.new) (λ _. (image : List ℕ) → D.image_now disk.new image
+            → Opens self.settings image (Some (next_saved self cut.now)))) }
+        ensures any_moment { IfKnown (D.reads disk.old)
+            (λ old. Leaves D.moment D.image_since disk.old disk.new (OldOrNew self.settings old (next_saved self cut.now))) }
+        ensures handed_back { (saver : SaverState) → result ≡ Err (SaveFault.OutOfMemory saver) → saver ≡ self }
+        ensures untouched { (saver : SaverState) → result ≡ Err (SaveFault.OutOfMemory saver) → disk.new ≡ disk.old }
+        ensures later { D.faults disk.old ≤ D.faults disk.new }
+        ensures fault { IsErrOf result SaveFault.DiskFault → Rose (D.faults disk.old) (D.faults disk.new) }
+        ensures no_fault { (IsErrOf result SaveFault.DiskFault → ⊥) → D.faults disk.new ≡ D.faults disk.old }
+    {
+        let Ok(body) = encode(alloc, self.sequence + 1, &self.digest, cut) else {
+            return Err(SaveFault::OutOfMemory(self));
+        };
+        let Ok(positions) = cut.positions(alloc) else {
+            return Err(SaveFault::OutOfMemory(self));
+        };
+        let slot = other_slot(self.newest_slot);
+        let slots = self.slots.put(disk, slot, span(&self.settings), &body)?;
+        Ok(Saver {
+            slots,
+            newest_slot: slot,
+            sequence: self.sequence + 1,
+            positions,
+            ..self
+        })
+    }
+
+    /// The positions of the newest slot, each 0 where no gate is open.
+    pub fn positions(&self) -> &Positions
+        ensures { result.now ≡ self.now.positions }
+    {
+        &self.positions
+    }
+
+    /// The sequence of the newest slot, 0 where no gate is open.
+    pub fn sequence(&self) -> u64
+        ensures { result ≡ self.now.sequence }
+    {
+        self.sequence
+    }
+
+    /// The digest of the dealt records, which each save writes.
+    pub fn digest(&self) -> &[u8; 32]
+        ensures { result.now ≡ self.now.digest }
+    {
+        &self.digest
+    }
+}
+
+// The other of two slots.
+fn other_slot(slot: u8) -> u8
+    requires { slot < 2 }
+    ensures { result ≡ other slot }
+{
+    1 - slot
+}
+
+// The position 0 for each shard.
+fn zero_positions(alloc: Global, shards: u32) -> Result<Positions, AllocError>
+    ensures { IfOk result (λ positions. positions ≡ replicate shards 0) }
+{
+    let mut positions = Positions::new(alloc);
+    for _shard in 0..shards {
+        positions.push(0)?;
+    }
+    Ok(positions)
+}

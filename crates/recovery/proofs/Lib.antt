@@ -1,0 +1,6 @@
+pub mod ListLemmas
+pub mod SlotLemmas
+pub mod DecisionLemmas
+pub mod OpeningLemmas
+pub mod BelongingLemmas
+pub mod ExamplesOfOpenings

@@ -1,0 +1,86 @@
+//! Why a store was not opened.
+
+ghost use Rattle.std.specs.Prelude.{◌≡◌};
+ghost use Rattle.recovery.specs.Faults.{fault_of_begin, fault_of_body, fault_of_decode};
+ghost use Rattle.recovery.specs.declared.fault.OpenFault.TheVariants.{OutOfMemory};
+
+use checkpoint::{DecodeFault, StoreSettings};
+use slot_disk::{BeginFault, BodyFault};
+use std::alloc::AllocError;
+use thiserror::Error;
+
+/// Why a store was not opened. They are tested in this order, but for the first and the last, which come at the call
+/// that failed.
+#[derive(Clone, Copy, Debug, PartialEq, Eq, Error)]
+pub enum OpenFault {
+    /// A call of the disk failed.
+    #[error("disk fault")]
+    DiskFault,
+    /// The disk is shorter than 64 bytes, or its header spells no settings.
+    #[error("store not formatted")]
+    NotFormatted,
+    /// The header spells other settings.
+    #[error("store has other settings")]
+    OtherSettings {
+        /// The settings that the header spells.
+        stored: StoreSettings,
+        /// The settings that were asked for.
+        asked: StoreSettings,
+    },
+    /// The gate of this slot, the first such, is open over no body of the settings. Or the slot is the newest, and its
+    /// cut can't be continued from over the dealt records: its sequence is above 2^62 - 64, a position is past the end of
+    /// its list, or a total isn't the weight of the records before its position.
+    #[error("store damaged: slot {0}")]
+    Damaged(u8),
+    /// The newest slot has the digest of other records.
+    #[error("store is of another capture")]
+    OtherCapture {
+        /// The digest in the newest slot.
+        stored: [u8; 32],
+        /// The digest of the dealt records.
+        asked: [u8; 32],
+    },
+    /// Out of memory.
+    #[error("out of memory")]
+    OutOfMemory,
+}
+
+impl From<BeginFault> for OpenFault {
+    ghost from_gives = { λ begin fault. fault ≡ fault_of_begin begin };
+
+    fn from(fault: BeginFault) -> OpenFault {
+        match fault {
+            BeginFault::DiskFault => OpenFault::DiskFault,
+            BeginFault::TooShort => OpenFault::NotFormatted,
+        }
+    }
+}
+
+impl From<AllocError> for OpenFault {
+    ghost from_gives = { λ _ fault. fault ≡ OutOfMemory };
+
+    fn from(_: AllocError) -> OpenFault {
+        OpenFault::OutOfMemory
+    }
+}
+
+/// Why a store was not opened whose slot has a body that wasn't read.
+pub(crate) fn fault_of_body(fault: BodyFault, slot: u8) -> OpenFault
+    ensures { result ≡ fault_of_body fault slot }
+{
+    match fault {
+        BodyFault::DiskFault => OpenFault::DiskFault,
+        BodyFault::Damaged => OpenFault::Damaged(slot),
+        BodyFault::OutOfMemory => OpenFault::OutOfMemory,
+    }
+}
+
+/// Why a store was not opened whose slot has a body that wasn't decoded.
+pub(crate) fn fault_of_decode(fault: DecodeFault, slot: u8) -> OpenFault
+    ensures { result ≡ fault_of_decode fault slot }
+{
+    match fault {
+        DecodeFault::Damaged => OpenFault::Damaged(slot),
+        DecodeFault::OutOfMemory => OpenFault::OutOfMemory,
+    }
+}

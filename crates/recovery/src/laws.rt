@@ -1,0 +1,23 @@
+//! What holds of openings, each law the contract of a function that does nothing.
+
+ghost use Rattle.recovery.specs.OpeningLaws.{BelongingStoresAreOpened, OpeningsAreDecided};
+
+use checkpoint::{headers_spell_one, stores_hold_one};
+use shard_state::snapshots_hold_weights;
+
+/// The bytes of a store open to one base over dealt records, or are refused for one fault, and never both. So each
+/// answer of `reopen` comes exactly where its condition holds, unless a call of the disk fails or memory runs out.
+pub fn openings_are_decided()
+    ensures { OpeningsAreDecided }
+{
+    headers_spell_one();
+    stores_hold_one();
+}
+
+/// A store that belongs to dealt records opens to what it holds, unless its newest sequence is above 2^62 - 64. So
+/// `reopen` refuses no such store, unless a call of the disk fails or memory runs out.
+pub fn belonging_stores_are_opened()
+    ensures { BelongingStoresAreOpened }
+{
+    snapshots_hold_weights();
+}

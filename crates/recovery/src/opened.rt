@@ -1,0 +1,15 @@
+//! What an opened store gives.
+
+use checkpoint::Saver;
+use shard_state::{Cut, Positions};
+
+/// A store that was opened.
+#[derive(Debug, Drop)]
+pub struct Opened {
+    /// The newest saved cut, `None` where no gate is open.
+    pub base: Option<Cut>,
+    /// Its positions, each 0 where no gate is open.
+    pub positions: Positions,
+    /// What saves into the store.
+    pub saver: Saver,
+}

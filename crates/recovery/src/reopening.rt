@@ -1,0 +1,111 @@
+//! Opens a store.
+
+ghost use Rattle.std.specs.Prelude.{◌≡◌, ◌≤◌, ◌<◌, ℕ, length, option_map, IfErr, IfOk, IfSome, IsErrOf, Some};
+ghost use Rattle.outside_io.specs.{Rose};
+ghost use Rattle.slot_disk.specs.{IfKnown, Leaves, StandsAs};
+ghost use Rattle.checkpoint.specs.{AreSettings, IsNewestOf, StandsFor, header_bytes, saved_in};
+ghost use Rattle.recovery.specs.Opening.{CanGoOn, IsRefused, OpensToBase, base_positions};
+ghost use Rattle.recovery.specs.Parts.{HoldsFound, IsFoundFault, base_in};
+
+use crate::belonging::check_newest;
+use crate::bodies::read_slot;
+use crate::front::open_front;
+use crate::newest::newest_of;
+use crate::{OpenFault, Opened};
+use checkpoint::{Newest, Saver, StoreSettings, digest_of};
+use deal_rules::Dealt;
+use shard_state::{Cut, Positions};
+use slot_disk::{Disk, Slots};
+use std::alloc::{AllocError, Global};
+
+/// Opens the store of these settings, which has saved cuts of the dealt records, with as many shards as the settings
+/// have. The base is the newest saved cut, `None` where no gate is open.
+///
+/// Each refusal comes exactly where its variant says, and in their order. Whatever is returned, the disk reads as before,
+/// and a crash leaves nothing that it could not have left before. After `Ok` it leaves the disk as it reads, and the saver
+/// may save.
+pub fn reopen<D: Disk>(
+    alloc: Global,
+    disk: &mut D,
+    settings: &StoreSettings,
+    dealt: &Dealt,
+) -> Result<Opened, OpenFault>
+    requires settings { AreSettings settings.now }
+    requires shards { length dealt.now ≡ settings.now.shards }
+    ensures opens { IfOk result (λ opened. IfKnown (D.reads disk.old)
+        (λ image. OpensToBase settings.now dealt.now image opened.base)) }
+    ensures stands { IfOk result (λ opened. StandsFor (D.reads disk.new) (D.image_now disk.new) opened.saver) }
+    ensures goes_on { IfOk result (CanGoOn settings.now dealt.now) }
+    ensures refused { IfErr result (λ fault. IfKnown (D.reads disk.old) (λ image. IsRefused settings.now dealt.now image fault)) }
+    ensures reads { D.reads disk.new ≡ D.reads disk.old }
+    ensures any_moment { Leaves D.moment D.image_since disk.old disk.new (D.image_now disk.old) }
+    ensures later { D.faults disk.old ≤ D.faults disk.new }
+    ensures fault { IsErrOf result OpenFault.DiskFault → Rose (D.faults disk.old) (D.faults disk.new) }
+    ensures no_fault { (IsErrOf result OpenFault.DiskFault → ⊥) → D.faults disk.new ≡ D.faults disk.old }
+{
+    let found = find_newest(alloc, disk, settings)?;
+    let digest = digest_of(dealt, settings);
+    check_newest(&found.newest, dealt, &digest)?;
+    let saver = Saver::new(alloc, found.slots, *settings, digest, &found.newest)?;
+    let positions = copy_positions(alloc, saver.positions())?;
+    Ok(Opened {
+        base: into_base(found.newest),
+        positions,
+        saver,
+    })
+}
+
+/// The gates and the header of a store, and its newest slot.
+#[derive(Drop)]
+pub(crate) struct Found {
+    pub(crate) slots: Slots,
+    pub(crate) newest: Option<Newest>,
+}
+
+// Finds the newest slot of a store of these settings.
+fn find_newest<D: Disk>(
+    alloc: Global,
+    disk: &mut D,
+    settings: &StoreSettings,
+) -> Result<Found, OpenFault>
+    requires { AreSettings settings.now }
+    ensures stands { IfOk result (λ found. StandsAs (D.reads disk.new) (D.image_now disk.new) found.slots) }
+    ensures header { IfOk result (λ found. found.slots.header ≡ header_bytes settings.now) }
+    ensures newest { IfOk result (λ found. IsNewestOf settings.now found.slots found.newest) }
+    ensures holds { IfOk result (λ found. IfKnown (D.reads disk.old) (HoldsFound settings.now found.newest)) }
+    ensures refused { IfErr result (λ fault. IfKnown (D.reads disk.old) (λ image. IsFoundFault settings.now image fault)) }
+    ensures reads { D.reads disk.new ≡ D.reads disk.old }
+    ensures any_moment { Leaves D.moment D.image_since disk.old disk.new (D.image_now disk.old) }
+    ensures later { D.faults disk.old ≤ D.faults disk.new }
+    ensures fault { IsErrOf result OpenFault.DiskFault → Rose (D.faults disk.old) (D.faults disk.new) }
+    ensures no_fault { (IsErrOf result OpenFault.DiskFault → ⊥) → D.faults disk.new ≡ D.faults disk.old }
+{
+    let slots = open_front(disk, settings)?;
+    let first = read_slot(alloc, disk, &slots, settings, 0)?;
+    let second = read_slot(alloc, disk, &slots, settings, 1)?;
+    Ok(Found {
+        slots,
+        newest: newest_of(first, second),
+    })
+}
+
+// The cut of the newest slot.
+fn into_base(newest: Option<Newest>) -> Option<Cut>
+    ensures { result ≡ base_in newest }
+{
+    match newest {
+        None => None,
+        Some(newest) => Some(newest.saved.cut),
+    }
+}
+
+// The same positions.
+fn copy_positions(alloc: Global, positions: &Positions) -> Result<Positions, AllocError>
+    ensures { IfOk result (λ copy. copy ≡ positions.now) }
+{
+    let mut copy = Positions::new(alloc);
+    for position in positions.as_slice() {
+        copy.push(*position)?;
+    }
+    Ok(copy)
+}
