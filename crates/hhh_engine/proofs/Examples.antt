@@ -24,7 +24,7 @@ abbrev other_source : PrefixValue
 other_source = record { source = 11 ∷ []; dest = 20 ∷ [] }
 
 -- a shard with the packet, and one without records
-abbrev two_shards : List ShardValue
+abbrev pub two_shards : List ShardValue
 two_shards = opening_of 512 ((packet ∷ []) ∷ [] ∷ [])
 
 pub start_of_two_shards : start_of two_shards ≡ 0 ∷ 0 ∷ []

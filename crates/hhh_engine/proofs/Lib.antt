@@ -9,3 +9,5 @@ pub mod WiderRulesLemmas
 pub mod LastReportLemmas
 pub mod Examples
 pub mod ExamplesOfStatuses
+pub mod ExamplesOfSessions
+pub mod ExamplesOfAnswers
