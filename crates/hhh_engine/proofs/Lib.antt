@@ -7,3 +7,7 @@ pub mod SessionTextLemmas
 pub mod CaptureLemmas
 pub mod WiderRulesLemmas
 pub mod LastReportLemmas
+pub mod Examples
+pub mod ExamplesOfStatuses
+pub mod ExamplesOfSessions
+pub mod ExamplesOfAnswers

@@ -1,0 +1,114 @@
+-- Worked examples of what is written for a capture of one packet.
+use Rattle.std.proofs.Common.{◌≡◌, ℕ, List, [], ◌∷◌, ◌++◌, map, refl, codes, arith, ◌%◌}
+use Rattle.std.specs.Fmt.{digits}
+use Rattle.prefix_lattice.specs.{RecordValue, PrefixValue}
+use Rattle.shard_state.specs.{ShardValue}
+use Rattle.pcap_frames.specs.declared.file_order.FileOrder.TheVariants.{Little}
+use Rattle.pcap_frames.specs.{number_at, FrameValue, magic_order}
+use Rattle.frame_records.specs.{HasFrames}
+use Rattle.frame_records.specs.declared.weigh.Weigh.TheVariants.{Bytes, Packets}
+use Rattle.hhh_engine.specs.Session.{by_formula, ends_of, opening_of, start_of}
+use Rattle.hhh_engine.specs.WeightText.{weigh_capacity, weigh_text, text_for, IsWeightText}
+use Rattle.deal_rules.specs.declared.deal_kind.DealKind.{DealKind}
+use Rattle.deal_rules.specs.declared.deal_kind.DealKind.TheVariants.{Free}
+
+-- 100 bytes from 10.1.2.3 to 20.1.2.3
+abbrev packet : RecordValue
+packet = record { src = 0x0a010203; dst = 0x14010203; weight = 100 }
+
+-- 10.0.0.0/8 20.0.0.0/8, and 11.0.0.0/8 20.0.0.0/8
+abbrev pub prefix : PrefixValue
+prefix = record { source = 10 ∷ []; dest = 20 ∷ [] }
+
+abbrev other_source : PrefixValue
+other_source = record { source = 11 ∷ []; dest = 20 ∷ [] }
+
+-- a shard with the packet, and one without records
+abbrev pub two_shards : List ShardValue
+two_shards = opening_of 512 ((packet ∷ []) ∷ [] ∷ [])
+
+pub start_of_two_shards : start_of two_shards ≡ 0 ∷ 0 ∷ []
+start_of_two_shards = refl
+
+pub ends_of_two_shards : ends_of two_shards ≡ 1 ∷ 0 ∷ []
+ends_of_two_shards = refl
+
+pub capacity_of_two_shards : map (λ shard. shard.base.capacity) two_shards ≡ 512 ∷ 512 ∷ []
+capacity_of_two_shards = refl
+
+pub text_of_a_weight : weigh_text 60 100 100 ≡ codes "low 60\nhigh 100\ntotal 100\n"
+unfolding digits
+text_of_a_weight = refl
+
+pub text_of_the_packet : text_for prefix (packet ∷ []) ≡ weigh_text 100 100 100
+text_of_the_packet = refl
+
+-- a table with room left tells that nothing came from other sources
+pub text_of_another_source : text_for other_source (packet ∷ []) ≡ weigh_text 0 0 100
+text_of_another_source = refl
+
+pub room_for_other_prefixes : weigh_capacity ≡ 64
+room_for_other_prefixes = refl
+
+-- the header of a little-endian capture
+abbrev pub header : List ℕ
+header = 0xd4 ∷ 0xc3 ∷ 0xb2 ∷ 0xa1 ∷ 2 ∷ 0 ∷ 4 ∷ 0 ∷ 0 ∷ 0 ∷ 0 ∷ 0 ∷ 0 ∷ 0 ∷ 0 ∷ 0 ∷ 0 ∷ 0 ∷ 4 ∷ 0 ∷ 1 ∷ 0 ∷ 0 ∷ 0 ∷ []
+
+-- the header of its frame, 34 captured bytes of 100, and those bytes
+abbrev frame_header : List ℕ
+frame_header = 0 ∷ 0 ∷ 0 ∷ 0 ∷ 0 ∷ 0 ∷ 0 ∷ 0 ∷ 34 ∷ 0 ∷ 0 ∷ 0 ∷ 100 ∷ 0 ∷ 0 ∷ 0 ∷ []
+
+abbrev captured : List ℕ
+captured =
+    2 ∷ 0 ∷ 0 ∷ 0 ∷ 0 ∷ 2 ∷ 2 ∷ 0 ∷ 0 ∷ 0 ∷ 0 ∷ 1 ∷ 8 ∷ 0 ∷ 0x45 ∷ 0 ∷ 0 ∷ 86 ∷ 0 ∷ 0 ∷ 0 ∷ 0 ∷ 64 ∷ 17 ∷ 0 ∷ 0 ∷ 10
+    ∷ 1 ∷ 2 ∷ 3 ∷ 20 ∷ 1 ∷ 2 ∷ 3 ∷ []
+
+abbrev pub file : List ℕ
+file = header ++ frame_header ++ captured
+
+abbrev frame : FrameValue
+frame = record { head = captured; captured = 34; original = 100 }
+
+pub file_is_a_capture : HasFrames file (frame ∷ [])
+unfolding number_at magic_order
+file_is_a_capture = (
+  Little,
+  record {
+    header = record { whole = omega arith; magic = refl; major = refl; minor = refl; link = refl };
+    begins = (record { header = omega arith; is_frame = refl; limit = omega arith; room = omega arith }, refl);
+    limit = omega arith;
+  },
+)
+
+-- `weigh 10.0.0.0/8 20.0.0.0/8` over the file
+pub weight_of_the_file : IsWeightText prefix Bytes file (codes "low 100\nhigh 100\ntotal 100\n")
+unfolding digits
+weight_of_the_file = record {
+  frames = frame ∷ [];
+  capture = file_is_a_capture;
+  spelled = refl;
+  holds = record { holds = record { low = omega arith; high = omega arith }; narrow = omega arith };
+}
+
+-- and with `--weigh packets`
+pub packets_of_the_file : IsWeightText prefix Packets file (codes "low 1\nhigh 1\ntotal 1\n")
+unfolding digits
+packets_of_the_file = record {
+  frames = frame ∷ [];
+  capture = file_is_a_capture;
+  spelled = refl;
+  holds = record { holds = record { low = omega arith; high = omega arith }; narrow = omega arith };
+}
+
+-- ---- rules of dealing
+
+-- each record goes to the shard that the lowest bits of its destination name, whatever the kind
+abbrev by_destination : DealKind → ℕ → RecordValue → ℕ → ℕ
+by_destination kind place rec shards = rec.dst % shards
+
+pub shard_of_the_packet : by_formula by_destination Free 0 packet 4 3
+shard_of_the_packet = refl
+
+-- a formula gives a record one shard alone
+pub no_other_shard_of_the_packet : by_formula by_destination Free 0 packet 4 2 → ⊥
+no_other_shard_of_the_packet is = omega (arith, is)

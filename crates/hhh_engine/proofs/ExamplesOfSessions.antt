@@ -1,0 +1,402 @@
+-- Worked examples of the session over a capture without frames, and of its parts.
+use Rattle.std.proofs.Common.{◌≡◌, ◌%◌, ◌≤◌, ℕ, List, [], ◌∷◌, ◌++◌, Some, None, inl, inr, refl, sym, ap, codes}
+use Rattle.std.specs.Prelude.{slice_index}
+use Rattle.std.proofs.Common.{arith, All, subst, lit<, zero, suc, false, get_or}
+use Rattle.std.specs.Fmt.{digits}
+use Rattle.std.proofs.lemmas.List.{get_or-replicate}
+use Rattle.std.specs.List.Sorted.{IsNonDecreasing}
+use Rattle.std.proofs.lemmas.List.Sorted.{IsNonDecreasingBy-short}
+use Rattle.std.proofs.lemmas.List.Elements.{All-nil, All-cons, All-head, All-replicate}
+use Rattle.prefix_lattice.specs.{RecordValue, NodeValue, IsKeyOf, IsNode, index_of, node_of, key_of}
+use Rattle.deal_rules.specs.declared.deal_kind.DealKind.TheVariants.{RoundRobin}
+use Rattle.deal_rules.specs.{IsDealing}
+use Rattle.shard_state.specs.{CutValue, IsShard, IsSnapshot, ShardValue, no_entries, empty_snapshot, entries_at, table_at}
+use Rattle.space_saving.specs.declared.entry.Entry.{Entry}
+use Rattle.space_saving.specs.{AreEntries, interval_in, total_count}
+use Rattle.hhh_output.specs.{AreLines, IsLineOf, IsReportOf, IsSound, IsThreshold}
+use Rattle.hhh_output.specs.declared.line.Line.{Line}
+use Rattle.hhh_output.specs.declared.report.Report.{Report}
+use Rattle.hhh_output.specs.declared.reports.Reported.{Reported}
+use Rattle.gate_workers.specs.{IsReportAt, cut_at}
+use Rattle.pcap_frames.specs.declared.file_order.FileOrder.TheVariants.{Little}
+use Rattle.pcap_frames.specs.{number_at, magic_order}
+use Rattle.frame_records.specs.{HasFrames}
+use Rattle.frame_records.specs.declared.records.Records.{Records}
+use Rattle.frame_records.specs.declared.weigh.Weigh.TheVariants.{Bytes}
+use Rattle.report_text.specs.{tail_text}
+use Rattle.command_words.specs.declared.settings.Settings.{Settings}
+use Rattle.hhh_engine.specs.Session.{AreDealtFrom, AreReportsOf, AreSessionReports, BeginsSession, BreaksOffInRounds}
+use Rattle.hhh_engine.specs.Session.{BreaksOffLater, IsSession, IsSessionInPart, IsShown, NeverFall, Rules}
+use Rattle.hhh_engine.specs.Session.{SessionReports, SpellsSession, ends_of, opening_of, part_text, parts_text}
+use Rattle.hhh_engine.specs.Session.{rest_text, saved_text, session_text, start_of}
+use Rattle.hhh_engine.proofs.Examples.{header, two_shards}
+
+-- `report`, with all that it doesn't say
+abbrev pub settings : Settings
+settings = record {
+  shards = 4;
+  capacity = 512;
+  phi = 10000;
+  block = 1024;
+  workers = 4;
+  callers = 0;
+  rounds = 0;
+  weigh = Bytes;
+  deal = RoundRobin;
+  store = false;
+}
+
+-- what is handed in for each kind of dealing: records are dealt in turn
+abbrev pub in_turn : Rules
+in_turn kind place rec shards number = number ≡ place % shards
+
+pub header_is_a_capture : HasFrames header []
+unfolding number_at magic_order
+header_is_a_capture = (
+  Little,
+  record {
+    header = record { whole = omega arith; magic = refl; major = refl; minor = refl; link = refl };
+    begins = refl;
+    limit = omega arith;
+  },
+)
+
+-- four shards without records
+abbrev pub lists : List (List RecordValue)
+lists = [] ∷ [] ∷ [] ∷ [] ∷ []
+
+abbrev pub opening : List ShardValue
+opening = opening_of 512 lists
+
+abbrev shard : ShardValue
+shard = record { list = []; base = empty_snapshot 512; position = 0 }
+
+-- no table has an entry
+nothing_counted : (node : NodeValue) → IsNode node → entries_at node (empty_snapshot 512) ≡ []
+unfolding no_entries
+nothing_counted node is_node = get_or-replicate 25 (index_of node) [] [] (omega (arith, is_node.source, is_node.dest))
+
+empty_tables : IsSnapshot (empty_snapshot 512)
+unfolding no_entries
+empty_tables = record {
+  least = omega arith;
+  most = omega arith;
+  placed = omega arith;
+  shape = refl;
+  tables = λ node is_node. record {
+    are_entries =
+        subst (AreEntries 512) (sym (nothing_counted node is_node)) (record {
+          is_table = record { fits = omega arith; ascending = tt; distinct = tt; small_errors = All-nil _ };
+          bounded = lit< tt;
+        });
+    counted = ap total_count (nothing_counted node is_node);
+    keyed =
+        subst (All (λ (entry : Entry). IsKeyOf node entry.key)) (sym (nothing_counted node is_node)) (All-nil _);
+  };
+}
+
+empty_shard : IsShard shard
+unfolding no_entries
+empty_shard = record {
+  few = omega arith;
+  begun = omega arith;
+  within = omega arith;
+  weighed = All-nil _;
+  bounded = All-nil _;
+  counted = refl;
+  tables = empty_tables;
+}
+
+-- the cut at their ends
+abbrev cut : CutValue
+cut = cut_at opening (0 ∷ 0 ∷ 0 ∷ 0 ∷ [])
+
+-- its report has no line
+pub no_lines : AreLines []
+no_lines = record {
+  few = omega arith;
+  ordered = All-nil _;
+  rising = λ i j d before within. absurd (omega (arith, within));
+}
+
+abbrev pub report : Report
+report = record { positions = 0 ∷ 0 ∷ 0 ∷ 0 ∷ []; total = 0; threshold = 1; lines = []; are_lines = no_lines }
+
+abbrev pub last : Reported
+last = record { report = report; saved = None }
+
+least_threshold : IsThreshold 10000 0 1
+least_threshold = record {
+  heavy = record { some = omega arith; share = omega arith };
+  least = λ weight heavy. heavy.some;
+}
+
+high_of_nothing : (node : NodeValue) (key : ℕ) → IsNode node
+    → (interval_in (table_at node (empty_snapshot 512)) key).high ≡ 0
+high_of_nothing node key is_node =
+    ap (λ entries. (interval_in (record { capacity = 512; entries = entries }) key).high)
+    (nothing_counted node is_node)
+
+nothing_is_heavy : (line : Line) → IsLineOf cut 1 [] line → ⊥
+unfolding no_entries
+nothing_is_heavy line is_line =
+    let is_node : IsNode (node_of line.prefix) = record {
+      source = is_line.is_prefix.source.few;
+      dest = is_line.is_prefix.dest.few;
+    } in
+    let nothing = high_of_nothing (node_of line.prefix) (key_of line.prefix) is_node in
+    omega (arith, is_line.high, is_line.heavy, nothing)
+
+report_of_nothing : IsReportOf cut 10000 report
+unfolding no_entries
+report_of_nothing = record {
+  positions = refl;
+  total = refl;
+  threshold = least_threshold;
+  lines = λ line. (λ h. absurd (omega (arith, h.1)), λ is_line. absurd (nothing_is_heavy line is_line));
+}
+
+nothing_is_sound : IsSound report lists 512 10000
+nothing_is_sound = record {
+  positions = (omega arith, (omega arith, (omega arith, (omega arith, tt))));
+  total = refl;
+  threshold = least_threshold;
+  interval = All-nil _;
+  width = All-nil _;
+  heavy = All-nil _;
+  justified = All-nil _;
+  complete = λ prefix is_prefix no_line. omega arith;
+}
+
+pub report_at_the_ends : IsReportAt opening 10000 report
+report_at_the_ends = record { as_many = refl; kept = All-replicate IsShard 4 shard empty_shard; is = report_of_nothing }
+
+-- with so many rounds and other callers
+abbrev with_rounds : ℕ → ℕ → Settings
+with_rounds rounds callers = record settings { rounds = rounds; callers = callers }
+
+shown_with : (rounds callers : ℕ) → IsShown opening (with_rounds rounds callers) last
+shown_with rounds callers = record {
+  is_report = report_at_the_ends;
+  is_sound = nothing_is_sound;
+  unsaved = refl;
+}
+
+pub report_is_shown : IsShown opening settings last
+report_is_shown = shown_with 0 0
+
+-- a report after which a cut was saved
+abbrev saved : Reported
+saved = record { report = report; saved = Some (1 ∷ []) }
+
+-- no report of this program is shown with it
+pub saved_report_is_not_shown : IsShown opening settings saved → ⊥
+saved_report_is_not_shown shown = cc shown.unsaved
+
+-- ---- the text
+
+pub nothing_was_saved : saved_text None ≡ []
+nothing_was_saved = refl
+
+pub one_position_was_saved : saved_text (Some (1 ∷ [])) ≡ codes "saved 1\n"
+unfolding digits
+one_position_was_saved = refl
+
+pub text_of_a_report : part_text last ≡ codes "report\nat 0 0 0 0\ntotal 0\nthreshold 1\ndone\n"
+unfolding digits
+text_of_a_report = refl
+
+pub text_of_a_saved_report : part_text saved ≡ codes "report\nat 0 0 0 0\ntotal 0\nthreshold 1\ndone\nsaved 1\n"
+unfolding digits
+text_of_a_saved_report = refl
+
+pub no_report_no_text : parts_text [] ≡ []
+no_report_no_text = refl
+
+pub text_of_two_reports : parts_text (saved ∷ last ∷ []) ≡ part_text saved ++ part_text last
+unfolding digits
+text_of_two_reports = refl
+
+-- the reports of two callers stand before the last one
+pub text_behind_the_rounds : rest_text ((saved ∷ []) ∷ (last ∷ []) ∷ []) last (codes "end\n")
+    ≡ part_text saved ++ part_text last ++ part_text last ++ codes "end\n"
+unfolding digits
+text_behind_the_rounds = refl
+
+-- ---- the reports
+
+-- a number before numbers that never fall, the first of which it is
+once_more : (x : ℕ) (xs : List ℕ) → IsNonDecreasing (x ∷ xs) → IsNonDecreasing (x ∷ x ∷ xs)
+once_more x xs up zero zero d le inside = omega arith
+once_more x xs up zero (suc j) d le inside = up 0 j d (omega arith) (omega (arith, inside))
+once_more x xs up (suc i) zero d le inside = absurd (omega (arith, le))
+once_more x xs up (suc i) (suc j) d le inside = up i j d (omega (arith, le)) (omega (arith, inside))
+
+one_number : (x : ℕ) → IsNonDecreasing (x ∷ [])
+one_number x = IsNonDecreasingBy-short (λ x. x) (x ∷ []) (omega arith)
+
+pub one_report_does_not_fall : NeverFall (start_of opening) (last ∷ [])
+one_report_does_not_fall place inside = once_more _ [] (one_number _)
+
+two_reports_do_not_fall : NeverFall (start_of opening) (last ∷ last ∷ [])
+two_reports_do_not_fall place inside =
+    let position = slice_index (start_of opening) place in
+    once_more position (position ∷ []) (once_more position [] (one_number position))
+
+-- the first shard began at 1
+pub report_before_the_start : NeverFall (1 ∷ 0 ∷ 0 ∷ 0 ∷ []) (last ∷ []) → ⊥
+report_before_the_start never =
+    let later : 1 ≤ 0 = never 0 (omega arith) 0 1 0 (omega arith) (omega arith) in omega (arith, later)
+
+one_report_with : (rounds callers : ℕ) → AreReportsOf opening (with_rounds rounds callers) 1 (last ∷ [])
+one_report_with rounds callers = record {
+  as_many = refl;
+  shown =
+      All-cons (IsShown opening (with_rounds rounds callers)) last [] (shown_with rounds callers) (All-nil _);
+  never_fall = one_report_does_not_fall;
+}
+
+pub one_report : AreReportsOf opening settings 1 (last ∷ [])
+one_report = one_report_with 0 0
+
+pub no_report_is_not_one : AreReportsOf opening settings 1 [] → ⊥
+no_report_is_not_one are = cc are.as_many
+
+-- no rounds, and no other callers
+abbrev pub reports : SessionReports
+reports = record { rounds = []; callers = []; last = last }
+
+pub reports_of_the_session : AreSessionReports opening settings reports
+reports_of_the_session = record { calling = one_report; at_ends = refl; as_many = refl; callers = All-nil _ }
+
+-- the last report doesn't count the packet of the first shard
+pub last_report_before_an_end : AreSessionReports two_shards settings reports → ⊥
+last_report_before_an_end are = cc are.at_ends
+
+-- with a round and another caller
+abbrev running : Settings
+running = with_rounds 1 1
+
+abbrev running_reports : SessionReports
+running_reports = record { rounds = last ∷ []; callers = (last ∷ []) ∷ []; last = last }
+
+pub reports_of_a_running_session : AreSessionReports opening running running_reports
+reports_of_a_running_session = record {
+  calling = record {
+    as_many = refl;
+    shown =
+        All-cons (IsShown opening running) last (last ∷ []) (shown_with 1 1)
+        (All-cons (IsShown opening running) last [] (shown_with 1 1) (All-nil _));
+    never_fall = two_reports_do_not_fall;
+  };
+  at_ends = refl;
+  as_many = refl;
+  callers = All-cons (AreReportsOf opening running 1) (last ∷ []) [] (one_report_with 1 1) (All-nil _);
+}
+
+-- the other caller is missing
+pub session_without_its_caller : AreSessionReports opening running (record running_reports { callers = [] }) → ⊥
+session_without_its_caller are = cc are.as_many
+
+-- ---- the session
+
+abbrev records : Records
+records = record { list = []; frames = 0; not_ipv4 = 0; short = 0; bad_header = 0 }
+
+abbrev pub text : List ℕ
+text = codes "opened 0 0 0 0\nreport\nat 0 0 0 0\ntotal 0\nthreshold 1\ndone\nframes 0\nskipped 0 0 0\nend\n"
+
+pub text_of_the_session : session_text (start_of opening) reports (tail_text records) ≡ text
+unfolding digits
+text_of_the_session = refl
+
+pub text_of_a_running_session : session_text (start_of opening) running_reports (codes "end\n")
+    ≡ codes "opened 0 0 0 0\n" ++ part_text last ++ part_text last ++ part_text last ++ codes "end\n"
+unfolding digits
+text_of_a_running_session = refl
+
+pub session_is_spelled : SpellsSession opening settings (tail_text records) text
+session_is_spelled = record {
+  reports = reports;
+  are_reports = reports_of_the_session;
+  spelled = sym text_of_the_session;
+}
+
+dealt_in_turn : IsDealing RoundRobin (in_turn RoundRobin) 4 [] lists
+dealt_in_turn = record {
+  numbers = [];
+  dealt = record { as_many = refl; below = All-nil _; parted = refl };
+  ruled = λ place number rec at numbered. let wrong : ⊥ = cc in absurd wrong;
+}
+
+pub dealt_from_the_header : AreDealtFrom settings in_turn header records lists
+dealt_from_the_header = record {
+  frames = [];
+  capture = header_is_a_capture;
+  are_records = record { list = refl; frames = refl; not_ipv4 = refl; short = refl; bad_header = refl };
+  dealt = dealt_in_turn;
+}
+
+pub session_over_the_header : IsSession settings in_turn header text
+session_over_the_header = record {
+  records = records;
+  lists = lists;
+  dealt = dealt_from_the_header;
+  spelled = session_is_spelled;
+}
+
+-- ---- a session that broke off
+
+-- a sink with room for 12 bytes took a part of the first line
+pub broken_off_in_the_first_line : BreaksOffInRounds opening settings (codes "opened 0 0 0")
+unfolding digits
+broken_off_in_the_first_line = record {
+  rounds = [];
+  few = omega arith;
+  are_reports = record {
+    as_many = refl;
+    shown = All-nil _;
+    never_fall = λ place inside. one_number _;
+  };
+  begins = (codes " 0\n", refl);
+}
+
+-- and one with room for 22 bytes a part of the report of the first round
+pub broken_off_in_a_round : BreaksOffInRounds opening running (codes "opened 0 0 0 0\nreport\n")
+unfolding digits
+broken_off_in_a_round = record {
+  rounds = last ∷ [];
+  few = omega arith;
+  are_reports = one_report_with 1 1;
+  begins = (codes "at 0 0 0 0\ntotal 0\nthreshold 1\ndone\n", refl);
+}
+
+-- no session begins with a report
+pub session_without_a_first_line : BreaksOffInRounds opening settings (codes "report\n") → ⊥
+unfolding digits
+session_without_a_first_line breaks =
+    let same : 111 ≡ 114 = ap (λ bytes. get_or bytes 0 0) breaks.begins.1 in omega (arith, same)
+
+pub broken_off_in_the_last_lines : BreaksOffLater opening settings (tail_text records)
+    (codes "opened 0 0 0 0\nreport\nat 0 0 0 0\ntotal 0\nthreshold 1\ndone\nframes")
+broken_off_in_the_last_lines = record {
+  text = text;
+  is_session = session_is_spelled;
+  begins = (codes " 0\nskipped 0 0 0\nend\n", refl);
+  cut = omega arith;
+}
+
+pub first_bytes_of_the_session : BeginsSession opening settings (tail_text records) (codes "opened 0 0 0")
+first_bytes_of_the_session = inl broken_off_in_the_first_line
+
+pub most_bytes_of_the_session : BeginsSession opening settings (tail_text records)
+    (codes "opened 0 0 0 0\nreport\nat 0 0 0 0\ntotal 0\nthreshold 1\ndone\nframes")
+most_bytes_of_the_session = inr broken_off_in_the_last_lines
+
+pub session_in_part : IsSessionInPart settings in_turn header (codes "opened 0 0 0")
+session_in_part = record {
+  records = records;
+  lists = lists;
+  dealt = dealt_from_the_header;
+  begun = first_bytes_of_the_session;
+}

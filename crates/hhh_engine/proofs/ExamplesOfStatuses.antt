@@ -1,0 +1,57 @@
+-- Worked examples of statuses, and of the line that tells them.
+use Rattle.std.proofs.Common.{◌≡◌, codes, refl}
+use Rattle.std.specs.Fmt.{digits}
+use Rattle.pcap_frames.specs.declared.fault.CaptureFault.{CaptureFault}
+use Rattle.pcap_frames.specs.declared.fault.FaultKind.TheVariants.{CutFrame, TooManyFrames}
+use Rattle.pcap_frames.specs.declared.fault.ReadRefusal.TheVariants as refusals
+use Rattle.command_words.specs.declared.opt.Opt.TheVariants.{Shards}
+use Rattle.command_words.specs.declared.words_kind.WordsKind.TheVariants.{Refused, OutOfLimits, Bound}
+use Rattle.command_words.specs.declared.words_kind.WordsRefusal.TheVariants as words
+use Rattle.hhh_engine.specs.Status.{words_text, fault_text, status_text, line_of, number_of, status_of, status_of_words}
+use Rattle.hhh_engine.specs.declared.status.Status.TheVariants.{Done, BadWords, BadCapture, WriteFault}
+
+-- a capture that ends inside its first frame
+abbrev cut_frame : CaptureFault
+cut_frame = record { kind = CutFrame; place = 24 }
+
+pub status_of_a_cut_frame : status_of (refusals.Capture cut_frame) ≡ BadCapture cut_frame
+status_of_a_cut_frame = refl
+
+pub number_of_a_cut_frame : number_of (BadCapture cut_frame) ≡ 3
+number_of_a_cut_frame = refl
+
+pub line_of_a_cut_frame : line_of (BadCapture cut_frame) ≡ codes "hhh: bad capture: cut frame at 24\n"
+unfolding digits
+line_of_a_cut_frame = refl
+
+pub text_of_too_many_frames : fault_text TooManyFrames ≡ codes "too many frames"
+text_of_too_many_frames = refl
+
+-- the line doesn't tell which option is bad
+pub text_of_a_number_outside_its_limits : words_text (OutOfLimits Shards) ≡ codes "limits"
+text_of_a_number_outside_its_limits = refl
+
+pub status_of_refused_words : status_of_words (words.Bad Refused) ≡ BadWords Refused
+status_of_refused_words = refl
+
+pub number_of_bad_words : number_of (BadWords Bound) ≡ 2
+number_of_bad_words = refl
+
+pub line_of_small_tables : line_of (BadWords Bound) ≡ codes "hhh: bad words: bound\n"
+line_of_small_tables = refl
+
+-- want of memory is told alike, whether the words or the capture were being read
+pub want_of_memory_for_words : number_of (status_of_words words.OutOfMemory) ≡ 13
+want_of_memory_for_words = refl
+
+pub want_of_memory_for_a_capture : status_of refusals.OutOfMemory ≡ status_of_words words.OutOfMemory
+want_of_memory_for_a_capture = refl
+
+pub text_of_a_write_fault : status_text WriteFault ≡ codes "write fault"
+text_of_a_write_fault = refl
+
+pub number_of_a_read_fault : number_of (status_of refusals.ReadFault) ≡ 4
+number_of_a_read_fault = refl
+
+pub number_of_success : number_of Done ≡ 0
+number_of_success = refl
