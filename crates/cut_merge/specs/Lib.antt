@@ -1,5 +1,6 @@
 pub mod Tables
 pub mod MergedInterval
+pub mod Run
 pub mod NodeMerge
 pub mod Merged
 -- the face: what contracts of other crates cite

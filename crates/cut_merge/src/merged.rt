@@ -108,7 +108,7 @@ fn merge_node(alloc: Global, cut: &Cut, node: Node) -> Result<NodeMerge, AllocEr
     tables_are_bounded();
     let mut merge = NodeMerge::new(alloc);
     for shard in 0..cut.shards() {
-        merge.add(cut.shard(shard).table(node))?;
+        merge.add(alloc, cut.shard(shard).table(node))?;
     }
     Ok(merge)
 }

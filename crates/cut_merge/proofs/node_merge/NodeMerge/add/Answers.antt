@@ -1,26 +1,10 @@
-use Rattle.std.proofs.Common.{ℕ, ◌+◌, ◌<◌, ◌^◌, sym, subst, arith}
-use Rattle.space_saving.specs.{total_count}
-use Rattle.cut_merge.specs.Merged.{interval_for_key}
-use Rattle.cut_merge.specs.NodeMerge.{NodeMergeValue}
+use Rattle.std.proofs.Common.{◌≡◌, sym, ap, ◌∙◌, subst, eqb}
+use Rattle.std.specs.List.{list_any}
+use Rattle.cut_merge.specs.NodeMerge.{NodeMergeValue, is_monitored}
 use Rattle.cut_merge.proofs.node_merge.NodeMerge.add.Goals as goal
 
-pub overflow_add-self : goal.overflow_add-self
-overflow_add-self c =
-    let room =
-    subst (λ (v : NodeMergeValue). (interval_for_key v 0).high + total_count c.args.table.now.entries < 2 ^ 64)
-    (sym c.self.view_is) (c.requires.high 0) in
-    omega (arith, room, c.missing_in-missing.ensures.within_total)
-
-pub note_entries-requires-clause-low : goal.note_entries-requires-clause-low
-note_entries-requires-clause-low c =
-    subst (λ (v : NodeMergeValue).
-    (key : ℕ) → (interval_for_key v key).low + total_count c.args.table.now.entries < 2 ^ 64) (sym c.self.view_is)
-    c.requires.low
-
-pub note_entries-requires-clause-high : goal.note_entries-requires-clause-high
-note_entries-requires-clause-high c = λ key.
-    let room =
-    subst
-    (λ (v : NodeMergeValue). (interval_for_key v key).high + total_count c.args.table.now.entries < 2 ^ 64)
-    (sym c.self.view_is) (c.requires.high key) in
-    omega (arith, room)
+pub push_new_keys-requires : goal.push_new_keys-requires
+push_new_keys-requires c = λ key.
+    subst (λ (v : NodeMergeValue). list_any (λ other. eqb key other) v.keys ≡ is_monitored key v.runs)
+    (sym c.self.view_is) (c.requires.known key)
+    ∙ ap (is_monitored key) (sym c.deref.ensures.value)
