@@ -11,7 +11,7 @@ use Rattle.hhh_output.specs.declared.line.Line.{Line}
 use Rattle.hhh_output.specs.Selecting.{merged_low, merged_high, IsMergedLine, IsSelected, most_candidates}
 use Rattle.hhh_output.specs.Selecting.{AreCandidates, nodes_before, nodes_down, AreDistinct, AreOfLevel, AreDownTo}
 use Rattle.hhh_output.proofs.Examples.{root, whole, whole_is_prefix, own, of_all, alike}
-use Rattle.hhh_output.specs.Lines.{line_limit}
+use Rattle.conditioned_bounds.specs.{line_limit}
 
 -- of the nodes one has level 8, and two have level 7
 pub nodes_of_the_first_levels : nodes_down 2 ≡ 3
