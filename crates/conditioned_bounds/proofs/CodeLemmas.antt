@@ -1,19 +1,18 @@
 -- The codes of the prefixes that a prefix is strictly under, one node after another.
 use Rattle.std.proofs.Common.{◌≡◌, ◌≢◌, ℕ, ◌+◌, ◌*◌, ◌^◌, ◌<◌, ◌≤◌, eqb, Bool, true, false, ◌||◌, not, List, [], ◌∷◌}
-use Rattle.std.proofs.Common.{◌++◌, All, AllPairs, Option, None, Some, refl, sym, ap, ◌∙◌, subst, arith, ◌⊎◌, inl, inr}
+use Rattle.std.proofs.Common.{◌++◌, All, AllPairs, Option, Some, refl, sym, ap, ◌∙◌, subst, arith, ◌⊎◌, inl, inr}
 use Rattle.std.proofs.Common.{get_or, length, ⊎_elim}
 use Rattle.std.proofs.lemmas.List.{get_or_append_left, get_or_push, length_push}
 use Rattle.std.specs.List.{list_any}
 use Rattle.std.proofs.lemmas.Bool.{false≢true, eqb-true, eq-eqb, ne_eqb, and_parts, and_from, false_from_ne_true}
-use Rattle.std.proofs.lemmas.Bool.{cases_lt, not_from_true}
-use Rattle.std.proofs.lemmas.Option.{none-some}
+use Rattle.std.proofs.lemmas.Bool.{cases_lt}
 use Rattle.std.proofs.lemmas.List.Folds.{list_any-append, list_any_none}
 use Rattle.std.proofs.lemmas.List.Elements.{All-push, All-weaker, All-nil}
-use Rattle.prefix_lattice.specs.{NodeValue, IsNode, index_of, node_at, level_of, PrefixValue, IsPrefix, node_of}
-use Rattle.prefix_lattice.specs.{key_of, under, same_prefix, strictly_under}
+use Rattle.prefix_lattice.specs.{index_of, node_at, level_of, PrefixValue, IsPrefix, node_of}
+use Rattle.prefix_lattice.specs.{under, same_prefix, strictly_under}
 use Rattle.prefix_lattice.proofs.NodePlaceLemmas.{node_at-index_of, index_small}
 use Rattle.conditioned_bounds.specs.Uppers.{upper_at, code_of, AreCodesAbove}
-use Rattle.conditioned_bounds.proofs.UpperLemmas.{KeysAreApart, key_small, node_kept, same_code, IsUpper, upper-is}
+use Rattle.conditioned_bounds.proofs.UpperLemmas.{KeysAreApart, key_small, node_kept, same_code}
 use Rattle.conditioned_bounds.proofs.UpperLemmas.{upper-only}
 
 -- what the laws of the lattice say of prefixes that are under others

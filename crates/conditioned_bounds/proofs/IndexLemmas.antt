@@ -1,6 +1,6 @@
 -- Lines and the numbers of those that are strictly under each prefix.
 use Rattle.std.proofs.Common.{◌≡◌, ◌≢◌, ℕ, ◌+◌, ◌<◌, ◌≤◌, eqb, cond, Bool, true, false, not, List, [], ◌∷◌, ◌++◌, length, map}
-use Rattle.std.proofs.Common.{filter, get_or, take, All, AllPairs, Contains, Vec, refl, sym, ap, ◌∙◌, subst, arith}
+use Rattle.std.proofs.Common.{filter, get_or, take, All, Contains, Vec, refl, sym, ap, ◌∙◌, subst, arith}
 use Rattle.std.proofs.Common.{if◌then◌else◌, append-nil}
 use Rattle.std.specs.List.{list_any}
 use Rattle.std.specs.BTreeMap.{BTreeMap}
@@ -65,6 +65,7 @@ indexed_push lines line kept noted codes number are new above is_number less not
   where
     same-at : (k : ℕ) (d : PrefixValue) → k < length lines → get_or lines k line ≡ get_or lines k d
     same-at k d within = get_or_default lines k line d within
+
     few : (code : ℕ) (b : Bool) → All (λ n. n < length (lines ++ line ∷ []))
         (if b then numbers_at kept code ++ number ∷ [] else numbers_at kept code)
     few code true =
@@ -75,10 +76,12 @@ indexed_push lines line kept noted codes number are new above is_number less not
     few code false =
         All-weaker (λ n. n < length lines) (λ n. n < length (lines ++ line ∷ []))
         (λ n less. omega (arith, less, length_push lines line)) (numbers_at kept code) (are.numbers code)
+
     stays : (prefix : PrefixValue) → IsPrefix prefix
         → map (line_of (lines ++ line ∷ [])) (numbers_at kept (code_of prefix)) ≡ lines_under prefix lines
     stays prefix is =
         lines-stay lines line (numbers_at kept (code_of prefix)) (are.numbers (code_of prefix)) ∙ are.under prefix is
+
     by : (prefix : PrefixValue) → IsPrefix prefix → (b : Bool) → strictly_under line prefix ≡ b
         → map (line_of (lines ++ line ∷ []))
         (if b then numbers_at kept (code_of prefix) ++ number ∷ [] else numbers_at kept (code_of prefix))

@@ -1,12 +1,10 @@
 -- Sums over the meets of kept pairs, one pair after another.
-use Rattle.std.proofs.Common.{◌≡◌, ℕ, ◌+◌, ◌-◌, ◌<◌, ◌≤◌, List, [], ◌∷◌, ◌++◌, length, get_or, take, drop, sum_by, Option}
-use Rattle.std.proofs.Common.{None, Some, refl, sym, ap, ◌∙◌, arith, append-nil, length-append, length-drop, take_all}
-use Rattle.std.proofs.Common.{drop-cons}
+use Rattle.std.proofs.Common.{◌≡◌, ℕ, ◌+◌, ◌<◌, List, [], ◌∷◌, ◌++◌, length, get_or, take, Option}
+use Rattle.std.proofs.Common.{None, Some, sym, ap, ◌∙◌, append-nil}
 use Rattle.std.specs.List.{filter_map, cons_option}
 use Rattle.std.proofs.lemmas.List.{take_more}
 use Rattle.std.proofs.lemmas.List.Elements.{filter_map-append}
-use Rattle.std.proofs.lemmas.List.Sums.{sum_by-append}
-use Rattle.prefix_lattice.specs.{PrefixValue, kept_meet, kept_among}
+use Rattle.prefix_lattice.specs.{PrefixValue}
 
 -- one more element that gives something
 pub kept_more : (f : PrefixValue → Option PrefixValue) (xs : List PrefixValue) (at : ℕ) (x y : PrefixValue)

@@ -1,6 +1,6 @@
 -- Members, their codes and their nodes.
-use Rattle.std.proofs.Common.{◌≡◌, ℕ, ◌+◌, ◌<◌, eqb, cond, Bool, true, false, ◌&&◌, List, [], ◌∷◌, ◌++◌, length, All, Contains}
-use Rattle.std.proofs.Common.{refl, sym, ap, ◌∙◌, subst, arith, ⊎_elim, slice_index_or}
+use Rattle.std.proofs.Common.{◌≡◌, ℕ, ◌+◌, ◌<◌, eqb, cond, Bool, true, false, ◌&&◌, List, [], ◌∷◌, ◌++◌, length, Contains}
+use Rattle.std.proofs.Common.{refl, sym, ap, ◌∙◌, subst, arith, ⊎_elim}
 use Rattle.std.specs.List.{list_any}
 use Rattle.std.specs.Ordering.{nat_cmp, eq_by_cmp}
 use Rattle.std.specs.BTreeSet.{BTreeSet, contains}
@@ -64,6 +64,7 @@ members_push apart members prefix codes new_codes at new_at are is few adds kept
     old_or : (b old : Bool) → old ≡ true → cond b true old ≡ true
     old_or true old is = refl
     old_or false old is = is
+
     by : (other : PrefixValue) → IsPrefix other → (b : Bool) → eqb (code_of prefix) (code_of other) ≡ b
         → cond b true (contains nat_cmp codes (code_of other)) ≡ true → Contains (members ++ prefix ∷ []) other
     by other other_is true same _ =

@@ -1,8 +1,8 @@
 -- Numbers that are noted under distinct codes, one code after another.
-use Rattle.std.proofs.Common.{◌≡◌, ◌≢◌, ℕ, ◌+◌, ◌<◌, ◌≤◌, eqb, cond, Bool, true, false, ◌||◌, List, [], ◌∷◌, ◌++◌, take}
-use Rattle.std.proofs.Common.{get_or, length, All, AllPairs, refl, sym, ap, ◌∙◌, subst, arith, if◌then◌else◌}
+use Rattle.std.proofs.Common.{◌≡◌, ◌≢◌, ℕ, ◌+◌, ◌<◌, eqb, Bool, true, false, ◌||◌, List, [], ◌∷◌, ◌++◌, take}
+use Rattle.std.proofs.Common.{get_or, length, AllPairs, refl, sym, ap, ◌∙◌, subst, arith, if◌then◌else◌}
 use Rattle.std.specs.List.{list_any}
-use Rattle.std.proofs.lemmas.Bool.{eqb-true, ne_eqb, eq-eqb}
+use Rattle.std.proofs.lemmas.Bool.{eqb-true, ne_eqb}
 use Rattle.std.proofs.lemmas.List.{take_more, get_or-take, get_or_default, length-take}
 use Rattle.std.proofs.lemmas.List.Folds.{list_any-append, list_any_none}
 
@@ -35,9 +35,11 @@ noted_more codes i number first before after distinct within so_far noted code =
     or_true : (b : Bool) → (b || (true || false)) ≡ true
     or_true true = refl
     or_true false = refl
+
     or_false : (b : Bool) → (b || (false || false)) ≡ b
     or_false true = refl
     or_false false = refl
+
     by : (b : Bool) → eqb (get_or codes i 0) code ≡ b
         → (if b then before code ++ number ∷ [] else before code)
         ≡ (if list_any (λ other. eqb other code) (take i codes) || (eqb (get_or codes i 0) code || false)

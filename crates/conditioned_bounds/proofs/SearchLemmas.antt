@@ -1,19 +1,17 @@
 -- Members that pass a test, looked for at one node after another.
-use Rattle.std.proofs.Common.{◌≡◌, ◌≢◌, ℕ, ◌+◌, ◌<◌, ◌≤◌, cond, Bool, true, false, ◌&&◌, ◌||◌, not, List, [], ◌∷◌, ◌++◌}
+use Rattle.std.proofs.Common.{◌≡◌, ◌≢◌, ℕ, ◌+◌, ◌<◌, ◌≤◌, cond, Bool, true, false, ◌&&◌, ◌||◌, not, List, [], ◌∷◌}
 use Rattle.std.proofs.Common.{length, get_or, take, filter, All, Contains, Option, None, Some, refl, sym, ap, ◌∙◌, subst}
 use Rattle.std.proofs.Common.{arith, ⊎_elim, take_all}
 use Rattle.std.specs.List.{list_any}
-use Rattle.std.proofs.lemmas.Bool.{false≢true, and_parts, and_from, false_from_ne_true, and_right, or_from, not_from_true}
-use Rattle.std.proofs.lemmas.Bool.{not_from_false}
+use Rattle.std.proofs.lemmas.Bool.{false≢true, and_parts, and_from, false_from_ne_true, or_from}
 use Rattle.std.proofs.lemmas.Option.{none-some}
 use Rattle.std.proofs.lemmas.List.{take_more}
 use Rattle.std.proofs.lemmas.List.Elements.{Contains-get_or, Contains-push_cases}
 use Rattle.std.proofs.lemmas.List.Folds.{list_any_none, list_any-from_Any}
 use Rattle.prefix_lattice.specs.{NodeValue, PrefixValue, node_of, under, same_prefix, strictly_under, lines_under}
-use Rattle.prefix_lattice.specs.{under_third}
 use Rattle.conditioned_bounds.specs.Uppers.{upper_at}
 use Rattle.conditioned_bounds.proofs.UpperLemmas.{upper-only}
-use Rattle.conditioned_bounds.proofs.CodeLemmas.{AreOrdered, not_under_own_node, under-strictly, strictly-by_node}
+use Rattle.conditioned_bounds.proofs.CodeLemmas.{AreOrdered, not_under_own_node, under-strictly}
 
 -- no member of the first nodes passes the test
 abbrev pub NoneBefore : List PrefixValue → (PrefixValue → Bool) → List NodeValue → ℕ → Type 0

@@ -1,13 +1,12 @@
 -- The prefixes that a prefix is under, node by node, and their codes.
-use Rattle.std.proofs.Common.{◌≡◌, ◌≢◌, ℕ, ◌+◌, ◌*◌, ◌/◌, ◌%◌, ◌^◌, ◌<◌, ◌≤◌, nat_le, eqb, Bool, true, false, ◌&&◌, not}
-use Rattle.std.proofs.Common.{zero, suc, List, [], ◌∷◌, ◌++◌, length, take, get_or, Option, None, Some, cond, refl, sym, ap, ◌∙◌}
+use Rattle.std.proofs.Common.{◌≡◌, ◌≢◌, ℕ, ◌/◌, ◌%◌, ◌^◌, ◌<◌, ◌≤◌, nat_le, eqb, Bool, true, false, ◌&&◌}
+use Rattle.std.proofs.Common.{zero, suc, List, [], ◌∷◌, length, take, get_or, Option, None, Some, cond, refl, sym, ap, ◌∙◌}
 use Rattle.std.proofs.Common.{subst, arith}
 use Rattle.std.proofs.lemmas.Bool.{false≢true, eqb-true, eq-eqb, and_parts, and_from, false_from_ne_true}
 use Rattle.std.proofs.lemmas.Bool.Decides.{nat_tests}
 use Rattle.std.proofs.lemmas.Option.{none-some}
-use Rattle.prefix_lattice.specs.{RecordValue, NodeValue, IsNode, index_of, node_at, level_of, PrefixValue, IsPrefix}
+use Rattle.prefix_lattice.specs.{NodeValue, IsNode, index_of, node_at, PrefixValue, IsPrefix}
 use Rattle.prefix_lattice.specs.{node_of, key_of, prefix_at, address_of, begins_with, AreLeadingBytes, under}
-use Rattle.prefix_lattice.specs.{same_prefix, strictly_under}
 use Rattle.prefix_lattice.proofs.NodePlaceLemmas.{node_at-index_of}
 use Rattle.conditioned_bounds.specs.Uppers.{keeps_no_more, shortened, upper_at, code_of}
 
@@ -200,8 +199,10 @@ upper-is prefix upper node is found =
               (begins_with prefix.dest (take node.dest_bytes prefix.dest))
               (begins_with-take prefix.source node.source_bytes) (begins_with-take prefix.dest node.dest_bytes);
         }
+
     some-injective : (x y : PrefixValue) → ◌≡◌ {A = Option PrefixValue} (Some x) (Some y) → x ≡ y
     some-injective x y same = cc
+
     by : (b : Bool) → keeps_no_more node prefix ≡ b → cond b (Some (shortened prefix node)) None ≡ Some upper
         → IsUpper prefix upper node
     by true keeps same = subst (λ u. IsUpper prefix u node) (some-injective _ _ same) (of keeps)

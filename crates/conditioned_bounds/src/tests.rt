@@ -129,11 +129,7 @@ fn bounds_of_prefixes(rt: HostRuntime) -> Result<(), Fail> {
 }
 
 /// Pushes a prefix that neither has yet to both.
-fn push_new(
-    members: &mut Members,
-    index: &mut LineIndex,
-    prefix: &Prefix,
-) -> Result<(), AllocError>
+fn push_new(members: &mut Members, index: &mut LineIndex, prefix: &Prefix) -> Result<(), AllocError>
     requires { members.old ≡ index.old }
     ensures { OnOk result (members.new ≡ index.new) }
 {
@@ -252,7 +248,14 @@ fn an_index_gives_what_a_plain_list_gives(rt: HostRuntime) -> Result<(), Fail> {
         let lines = some_lines(alloc, &mut state, 2 + set % 8)?;
         let index = indexed(alloc, &lines)?;
         agree(&rt, alloc, &lines, &index, &parse(ROOT)?, &intervals)?;
-        agree(&rt, alloc, &lines, &index, &of_world(next(&mut state) % 49)?, &intervals)?;
+        agree(
+            &rt,
+            alloc,
+            &lines,
+            &index,
+            &of_world(next(&mut state) % 49)?,
+            &intervals,
+        )?;
         kept = kept.wrapping_add(index.bound(&parse(ROOT)?, &intervals)?.pairs);
     }
     assert!(rt; kept > 2000, "{kept} kept pairs");

@@ -4,7 +4,7 @@ use Rattle.std.proofs.Common.{slice_index_or, Some, inl, inr, refl, sym, ap, ◌
 use Rattle.std.proofs.lemmas.Bool.{cases_lt}
 use Rattle.std.proofs.lemmas.List.{take_more, get_or_default, get_or_append_left, get_or_push, get_or_past, length_push}
 use Rattle.std.proofs.lemmas.List.Sums.{sum_by-take-le}
-use Rattle.std.proofs.lemmas.List.Elements.{All-take}
+use Rattle.std.proofs.lemmas.List.Elements.{All-take, All-get_or}
 use Rattle.std.proofs.lemmas.Option.{get_or_from_slice_get, slice_get_within, slice_get-map}
 use Rattle.std.specs.Option.{option_map}
 use Rattle.prefix_lattice.specs.{NodeValue, IsNode, index_of, node_at, node_of, key_of}
@@ -39,6 +39,18 @@ within_cut node cut shards key merge law is_node kept stands =
     (sum_by-take-le (λ (t : TableValue). total_count t.entries) tables shards) in
     subst (IsWithinTotal (total_of_cut cut)) (sym (interval-of_merge merge (take shards tables) key stands))
     (record { ordered = bounded.ordered; within_total = omega (arith, few, bounded.within_total) })
+
+-- the intervals of the table of a shard are bounded
+pub bounded-at_shard : (node : NodeValue) (cut : CutValue) (shard : ℕ) (snapshot : SnapshotValue) (key : ℕ)
+    → TablesAreBounded → IsNode node → IsCut cut → slice_get cut.shards shard ≡ Some snapshot
+    → IsBounded key (table_at node snapshot)
+bounded-at_shard node cut shard snapshot key law is_node kept at =
+    let tables = node_tables node cut in
+    let table = table_at node snapshot in
+    let place = table-place node cut shard snapshot at in
+    subst (IsBounded key) (get_or_from_slice_get tables shard table table place)
+    (All-get_or (IsBounded key) tables shard table (slice_get_within tables shard table place)
+    (law cut node key kept is_node))
 
 -- one more shard
 pub one_more_shard : (node : NodeValue) (cut : CutValue) (shard : ℕ) (snapshot : SnapshotValue)

@@ -1,10 +1,10 @@
 -- The tables of a cut at a node.
-use Rattle.std.proofs.Common.{◌≡◌, ℕ, ◌+◌, ◌≤◌, List, [], ◌∷◌, map, sum_by, All, refl, sym, ap, ◌∙◌}
+use Rattle.std.proofs.Common.{◌≡◌, ℕ, ◌+◌, ◌≤◌, List, [], ◌∷◌, map, sum_by, All, None, refl, sym, ap, ◌∙◌}
 use Rattle.std.proofs.lemmas.List.Sums.{sum_by-cons}
 use Rattle.std.proofs.lemmas.List.Elements.{All-head, All-tail, All-nil, All-cons}
 use Rattle.prefix_lattice.specs.{NodeValue, IsNode}
 use Rattle.space_saving.specs.declared.entry.Entry.{Entry}
-use Rattle.space_saving.specs.{TableValue, interval_in, total_count, IsTable}
+use Rattle.space_saving.specs.{TableValue, interval_in, interval_from, total_count, IsTable}
 use Rattle.shard_state.specs.{SnapshotValue, IsSnapshot, table_at, total_of, CutValue, IsCut, total_of_cut}
 use Rattle.cut_merge.specs.MergedInterval.{node_tables}
 use Rattle.cut_merge.specs.Merged.{IsBounded}
@@ -17,6 +17,9 @@ pub record IntervalsAreBounded : Type 0 where
       ≤ (interval_in (record { capacity = capacity; entries = entries }) key).high
   pub within_total : (capacity : ℕ) (entries : List Entry) (key : ℕ) → IsTable capacity entries
       → (interval_in (record { capacity = capacity; entries = entries }) key).high ≤ total_count entries
+  pub above_missing : (capacity : ℕ) (entries : List Entry) (key : ℕ) → IsTable capacity entries
+      → (interval_from None (record { capacity = capacity; entries = entries })).high
+      ≤ (interval_in (record { capacity = capacity; entries = entries }) key).high
 
 -- in every cut the intervals of the tables at a node are bounded
 abbrev pub TablesAreBounded : Type 0
@@ -33,6 +36,7 @@ bounded_table node snapshot key law is_node kept =
     record {
       ordered = law.ordered t.capacity t.entries key table;
       within_total = law.within_total t.capacity t.entries key table;
+      above_missing = law.above_missing t.capacity t.entries key table;
     }
 
 -- and in those of all shards

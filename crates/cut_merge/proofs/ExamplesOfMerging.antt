@@ -104,7 +104,11 @@ pub a_seen_key_stays : seen (8 ∷ 5 ∷ []) 8 ≡ 8 ∷ 5 ∷ []
 a_seen_key_stays = refl
 
 pub bounded_in_the_full_table : IsBounded 8 full
-bounded_in_the_full_table = record { ordered = omega arith; within_total = omega arith }
+bounded_in_the_full_table = record { ordered = omega arith; within_total = omega arith; above_missing = omega arith }
+
+-- with its greatest count at the head, a table would take a missing key for heavier than one that it has
+pub unbounded_where_counts_fall : ¬ IsBounded 8 (record { capacity = 2; entries = entry 5 7 0 ∷ entry 8 3 1 ∷ [] })
+unbounded_where_counts_fall bounded = let above : 7 ≤ 3 = bounded.above_missing in omega (arith, above)
 
 -- the run of the table with room
 pub run_of_the_table_with_room : IsRunOf run_of_roomy roomy

@@ -4,6 +4,7 @@ pub mod RunLemmas
 pub mod FirstSeenLemmas
 pub mod TableMergeLemmas
 pub mod KeyLemmas
+pub mod HighBoundLemmas
 pub mod CutTableLemmas
 pub mod CutMergeLemmas
 pub mod MergedIntervalLemmas

@@ -19,7 +19,7 @@ use Rattle.cut_merge.specs.Merged.{IsBounded, seen, AddsTable, RepresentsTables,
 use Rattle.cut_merge.proofs.FirstSeenLemmas.{first_seen-append, first_seen-any}
 
 -- a run gives each key the interval of its table
-interval-of_run : (run : RunValue) (table : TableValue) (key : ℕ) → IsRunOf run table
+pub interval-of_run : (run : RunValue) (table : TableValue) (key : ℕ) → IsRunOf run table
     → run_interval run key ≡ interval_in table key
 interval-of_run run table key is =
     ap (λ found. interval_or run.missing found) (is.entries key)

@@ -6,7 +6,7 @@ use Rattle.prefix_lattice.specs.{NodeValue, IsNode, index_of, PrefixValue, IsPre
 use Rattle.prefix_lattice.specs.{total_limit}
 use Rattle.space_saving.specs.{Interval, TableValue, interval_in, total_count}
 use Rattle.shard_state.specs.{CutValue, total_of_cut}
-use Rattle.cut_merge.specs.Run.{RunValue, run_interval, IsRunOf}
+use Rattle.cut_merge.specs.Run.{RunValue, run_interval, IsRunOf, missing_high}
 use Rattle.cut_merge.specs.NodeMerge.{NodeMergeValue}
 use Rattle.cut_merge.specs.MergedInterval.{merged_interval_in, monitored_at, IsWithinTotal}
 use Rattle.cut_merge.specs.Tables.{table_keys, monitored_keys}
@@ -60,10 +60,12 @@ pub record IsMerged (merged : MergedValue) : Type 0 where
 abbrev pub seen : List ℕ → ℕ → List ℕ
 seen keys key = if list_any (λ other. key == other) keys then keys else keys ++ key ∷ []
 
--- an interval of a table has its ends in order and within the table's total
+-- an interval of a table has its ends in order and within the table's total, and its high is not below
+-- that of a missing key
 pub record IsBounded (key : ℕ) (table : TableValue) : Type 0 where
   pub ordered : (interval_in table key).low ≤ (interval_in table key).high
   pub within_total : (interval_in table key).high ≤ total_count table.entries
+  pub above_missing : missing_high table ≤ (interval_in table key).high
 
 -- one more table was merged in: its run, and the keys that are new
 pub record AddsTable (old : NodeMergeValue) (table : TableValue) (new : NodeMergeValue) : Type 0 where

@@ -2,6 +2,7 @@
 //! monitors.
 #![tactic(auto)]
 
+mod high_bounds;
 mod key_interval;
 mod laws;
 mod merged;

@@ -1,53 +1,71 @@
 //! The tables of one node, merged.
 
-ghost use Rattle.std.specs.Prelude.{◌≡◌, ◌==◌, ◌^◌, ◌<◌, ◌++◌, ◌∷◌, ℕ, [], IfOk, OnOk, fold};
+ghost use Rattle.std.specs.Prelude.{◌≡◌, ◌==◌, ◌^◌, ◌<◌, ◌≤◌, ℕ, true, [], IfOk, OnOk, fold, length};
 ghost use Rattle.std.specs.List.{list_any};
 ghost use Rattle.space_saving.specs.{AreApart};
-ghost use Rattle.cut_merge.specs.Merged.{seen, AddsTable, interval_for_key};
+ghost use Rattle.cut_merge.specs.Merged.{seen, AddsTable, IsBounded, interval_for_key};
 ghost use Rattle.cut_merge.specs.NodeMerge.{is_monitored};
-ghost use Rattle.cut_merge.specs.Run.{IsRunOf};
+ghost use Rattle.cut_merge.specs.Run.{IsRunOf, missing_high};
+ghost use Rattle.cut_merge.specs.HighBounds.{cell_of, NotesEntries};
 ghost use Rattle.cut_merge.specs.Tables.{table_keys};
 
+use crate::high_bounds::HighBounds;
 use crate::run::Run;
 use space_saving::Flat;
 use std::alloc::{AllocError, Global};
 use std::marker::Model;
 
-/// The tables of one node, merged: the run of each shard's table, and the keys that some table monitors.
+/// The tables of one node, merged: the run of each shard's table, the keys that some table monitors, and upper bounds on
+/// the highs of keys.
 #[derive(Debug, Drop)]
 pub(crate) struct NodeMerge {
     runs: Vec<Run>,
     keys: Vec<u64>,
+    bounds: HighBounds,
 }
 
 impl Model for NodeMerge {
     ghost use Rattle.cut_merge.specs.NodeMerge.{NodeMergeValue};
+    ghost use Rattle.cut_merge.specs.HighBounds.{BoundRuns};
 
     ghost Value = { NodeMergeValue };
 
     ghost view = { λ m. record { runs = m.runs.items; keys = m.keys.items } };
+
+    ghost invariant = { λ m. BoundRuns m.runs.items m.bounds };
 }
 
 impl NodeMerge {
-    /// No table is merged yet. It allocates no memory.
-    pub(crate) fn new(alloc: Global) -> NodeMerge
-        ensures { result ≡ record { runs = []; keys = [] } }
+    /// No table is merged yet. The only error is that memory runs out.
+    pub(crate) fn new(alloc: Global) -> Result<NodeMerge, AllocError>
+        ensures { IfOk result (λ merge. merge ≡ record { runs = []; keys = [] }) }
     {
-        NodeMerge {
+        Ok(NodeMerge {
             runs: Vec::new(alloc),
             keys: Vec::new(alloc),
-        }
+            bounds: HighBounds::new(alloc)?,
+        })
     }
 
     /// Merges one more table in. After an `Err` the table may be merged in part.
     pub(crate) fn add(&mut self, alloc: Global, table: &Flat) -> Result<(), AllocError>
         requires known { (key : ℕ) → list_any (λ other. key == other) self.old.keys ≡ is_monitored key self.old.runs }
         requires apart { AreApart table.now.entries }
+        requires bounded { (key : ℕ) → IsBounded key table.now }
         ensures { OnOk result (AddsTable self.old table.now self.new) }
     {
-        push_new_keys(&mut self.keys, &self.runs, table)?;
         let run = Run::of(alloc, table)?;
+        self.bounds.add_missing(run.missing());
+        note_keys(&mut self.keys, &mut self.bounds, &self.runs, table, run.missing())?;
         Ok(self.runs.push(run)?)
+    }
+
+    /// A bound on the greatest weight that the key can have had, found without a search.
+    pub(crate) fn at_most(&self, key: u64) -> u64
+        requires { (interval_for_key self.now key).high < 2 ^ 64 }
+        ensures { (interval_for_key self.now key).high ≤ result }
+    {
+        self.bounds.at_most(key)
     }
 
     /// The least and the greatest weight that the key can have had.
@@ -75,23 +93,39 @@ impl NodeMerge {
     }
 }
 
-// Appends the keys of a table that none of these runs has.
-fn push_new_keys(keys: &mut Vec<u64>, runs: &[Run], table: &Flat) -> Result<(), AllocError>
-    requires { (key : ℕ) → list_any (λ other. key == other) keys.old.items ≡ is_monitored key runs.now }
-    ensures { OnOk result (keys.new.items ≡ fold seen keys.old.items (table_keys table.now)) }
+// Appends the keys of a table that none of these runs has, and counts all its entries.
+fn note_keys(
+    keys: &mut Vec<u64>,
+    bounds: &mut HighBounds,
+    runs: &[Run],
+    table: &Flat,
+    missing: u64,
+) -> Result<(), AllocError>
+    requires known { (key : ℕ) → list_any (λ other. key == other) keys.old.items ≡ is_monitored key runs.now }
+    requires bounded { (key : ℕ) → is_monitored key runs.now ≡ true → 0 < cell_of bounds.old key }
+    requires missing { missing ≡ missing_high table.now }
+    ensures keys { OnOk result (keys.new.items ≡ fold seen keys.old.items (table_keys table.now)) }
+    ensures bounds { OnOk result (NotesEntries table.now bounds.old bounds.new (length table.now.entries)) }
+    ensures raises { (key : ℕ) → cell_of bounds.old key ≤ cell_of bounds.new key }
+    ensures same { bounds.new.missing ≡ bounds.old.missing }
 {
     for place in 0..table.len() {
-        let key = table.entry(place).key;
-        if !is_monitored(runs, key) {
-            keys.push(key)?;
+        let entry = table.entry(place);
+        if !is_known(bounds, runs, entry.key) {
+            keys.push(entry.key)?;
         }
+        bounds.note(entry.key, entry.count - missing);
     }
     Ok(())
 }
 
-// Whether one of these runs has the key.
-fn is_monitored(runs: &[Run], key: u64) -> bool
+// Whether one of these runs has the key. Where its home is empty, none has.
+fn is_known(bounds: &HighBounds, runs: &[Run], key: u64) -> bool
+    requires { is_monitored key runs.now ≡ true → 0 < cell_of bounds.now key }
     ensures { result ≡ is_monitored key runs.now }
 {
+    if bounds.is_empty_at(key) {
+        return false;
+    }
     runs.iter().any(|run| run.monitors(key))
 }

@@ -55,6 +55,13 @@ impl Run {
         }
     }
 
+    /// The high of a key that the table lacks.
+    pub(crate) fn missing(&self) -> u64
+        ensures { result ≡ self.now.missing }
+    {
+        self.missing
+    }
+
     /// Whether the table monitors the key.
     pub(crate) fn monitors(&self, key: u64) -> bool
         ensures { result ≡ is_monitored_in key self.now }

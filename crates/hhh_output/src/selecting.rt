@@ -17,7 +17,9 @@ use cut_merge::Merged;
 use prefix_lattice::{Node, Prefix, prefixes_are_ordered, report_order_is_total};
 use std::alloc::{AllocError, Global};
 
-/// The lines that merged tables give, in the order of a report.
+/// The lines that merged tables give, in the order of a report. It stays a function of its own in the binary, so that
+/// measurements can tell where it begins.
+#[inline(never)]
 pub(crate) fn select_lines(
     alloc: Global,
     merged: &Merged,
@@ -122,6 +124,9 @@ fn line_for(
         → (found ≡ Some line) ↔ IsMergedLine merged.now threshold reported.now line) }
     ensures prefix { IfOk result (λ found. (line : LineValue) → found ≡ Some line → line.prefix ≡ prefix) }
 {
+    if merged.at_most(&prefix) < threshold {
+        return Ok(None);
+    }
     let (lo, hi) = merged.interval(&prefix);
     if hi < threshold {
         return Ok(None);

@@ -1,8 +1,8 @@
-use Rattle.std.proofs.Common.{◌≡◌, ℕ, ◌+◌, ◌++◌, ◌∷◌, [], length, sum_by, take, Some, None, sym, ap, ◌∙◌, arith}
+use Rattle.std.proofs.Common.{◌≡◌, ◌+◌, ◌++◌, ◌∷◌, [], length, sum_by, take, sym, ap, ◌∙◌, arith}
 use Rattle.std.specs.List.{filter_map}
 use Rattle.std.proofs.lemmas.List.{length_push}
 use Rattle.std.proofs.lemmas.List.Sums.{sum_by_push}
-use Rattle.prefix_lattice.specs.{PrefixValue, kept_meet}
+use Rattle.prefix_lattice.specs.{kept_meet}
 use Rattle.conditioned_bounds.proofs.MeetSumLemmas.{kept_more, kept_no_more}
 use Rattle.conditioned_bounds.proofs.meet_sums.sum_of_meets_with.Goals as goal
 use Rattle.conditioned_bounds.proofs.meet_sums.sum_of_meets_with.Goals.{in-Some, in_default}

@@ -1,7 +1,7 @@
-use Rattle.std.proofs.Common.{◌≡◌, ◌≢◌, ◌+◌, List, ◌++◌, ◌∷◌, [], ℕ, Some, None, IfSome, subst, sym, ap, ◌∙◌, arith}
+use Rattle.std.proofs.Common.{◌≡◌, ◌+◌, ◌++◌, ◌∷◌, [], ℕ, Some, None, IfSome, subst, sym, ap, ◌∙◌}
 use Rattle.std.proofs.lemmas.Bool.{false_from_ne_true}
 use Rattle.std.proofs.lemmas.Option.{none-some}
-use Rattle.prefix_lattice.specs.{NodeValue, PrefixValue, IsPrefix, node_of, index_of, node_at, strictly_under}
+use Rattle.prefix_lattice.specs.{index_of, node_at, strictly_under}
 use Rattle.prefix_lattice.proofs.NodePlaceLemmas.{index_of-node_at}
 use Rattle.conditioned_bounds.specs.Uppers.{upper_at, code_of}
 use Rattle.conditioned_bounds.proofs.UpperLemmas.{upper-is, upper-only, same_node, other_node}

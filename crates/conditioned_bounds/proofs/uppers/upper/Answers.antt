@@ -1,4 +1,4 @@
-use Rattle.std.proofs.Common.{◌≡◌, ◌≤◌, ℕ, length, ap, ◌∙◌, sym, Some, arith}
+use Rattle.std.proofs.Common.{◌≤◌, ℕ, length, ap, ◌∙◌, sym, Some, arith}
 use Rattle.prefix_lattice.specs.{NodeValue, prefix_at, address_of}
 use Rattle.conditioned_bounds.proofs.UpperLemmas.{shortened-of_addresses, upper-some}
 use Rattle.conditioned_bounds.proofs.uppers.upper.Goals as goal

@@ -5,4 +5,5 @@ pub returns : goal.returns
 returns c = bounded_at (record {
   ordered = c.intervals_are_narrow.ensures.ordered;
   within_total = c.intervals_are_narrow.ensures.within_total;
+  above_missing = c.intervals_are_narrow.ensures.above_missing;
 })

@@ -1,8 +1,8 @@
-use Rattle.std.proofs.Common.{take, subst}
+use Rattle.std.proofs.Common.{sym, take, subst}
 use Rattle.space_saving.specs.{TableValue}
-use Rattle.cut_merge.specs.Merged.{AddsTable}
+use Rattle.cut_merge.specs.Merged.{AddsTable, IsBounded}
 use Rattle.cut_merge.specs.MergedInterval.{node_tables}
-use Rattle.cut_merge.proofs.CutMergeLemmas.{within_cut, one_more_shard}
+use Rattle.cut_merge.proofs.CutMergeLemmas.{within_cut, bounded-at_shard, one_more_shard}
 use Rattle.cut_merge.proofs.TableMergeLemmas.{monitored-of_merge}
 use Rattle.cut_merge.proofs.merged.merge_node.Goals as goal
 
@@ -10,6 +10,12 @@ pub add-requires-clause-known : goal.add-requires-clause-known
 add-requires-clause-known c = λ key.
     monitored-of_merge c.loop-shard.merge (take c.loop-shard.shard (node_tables c.args.node c.args.cut.now)) key
     c.loop-shard.invariant
+
+pub add-requires-clause-bounded : goal.add-requires-clause-bounded
+add-requires-clause-bounded c = λ key.
+    subst (IsBounded key) (sym c.table.ensures.table)
+    (bounded-at_shard c.args.node c.args.cut.now c.loop-shard.shard c.shard.result.now key
+    c.tables_are_bounded.ensures c.requires.is_node c.shards-shard-end.ensures.kept c.shard.ensures.shard)
 
 pub loop-shard-preserved : goal.loop-shard-preserved
 loop-shard-preserved c =

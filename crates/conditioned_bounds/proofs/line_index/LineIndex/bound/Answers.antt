@@ -1,4 +1,4 @@
-use Rattle.std.proofs.Common.{◌≡◌, ◌≢◌, ◌<◌, List, length, AllPairs, sym, ap, ◌∙◌, subst, arith}
+use Rattle.std.proofs.Common.{◌≡◌, ◌≢◌, ◌<◌, List, length, AllPairs, ap, subst, arith}
 use Rattle.prefix_lattice.specs.{PrefixValue, closest, kept_pairs}
 use Rattle.conditioned_bounds.specs.Bounds.{bound_of}
 use Rattle.conditioned_bounds.specs.Members.{line_limit}

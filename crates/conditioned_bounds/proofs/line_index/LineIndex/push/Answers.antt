@@ -1,4 +1,4 @@
-use Rattle.std.proofs.Common.{◌≡◌, ◌+◌, ◌<◌, length, ◌++◌, ◌∷◌, [], ℕ, List, Vec, Contains, if◌then◌else◌, eqb, sym, subst, ap, ◌∙◌, arith}
+use Rattle.std.proofs.Common.{◌≡◌, ◌+◌, ◌<◌, length, ◌++◌, ◌∷◌, [], ℕ, List, Contains, if◌then◌else◌, eqb, sym, subst}
 use Rattle.std.specs.List.{list_any}
 use Rattle.prefix_lattice.specs.{PrefixValue}
 use Rattle.conditioned_bounds.specs.Numbers.{numbers_at}
