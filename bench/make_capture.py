@@ -1,5 +1,5 @@
 #!/usr/bin/env python3
-"""Writes a capture of random IPv4 traffic: make_capture.py SEED FRAMES short|whole|skewed|met > FILE
+"""Writes a capture of random IPv4 traffic: make_capture.py SEED FRAMES short|whole|skewed|met|crossed > FILE
 
 Addresses come from a linear congruential generator; of each side a quarter is one host, a
 quarter falls into a /22, and the rest spreads over a /8. Lengths on the wire go 100, 200, 300, 400 in turn.
@@ -12,9 +12,14 @@ half of what the host of half its number has. The last quarter spreads over the 
 `met` frames are as short, and made against the index of the tables at their default capacity: no two have one pair
 of addresses, and all pairs share their first home in each of the nine tables that keep two bytes or more of
 each side. There are 1,048,576 such pairs.
+
+`crossed` frames are as short, and made against the query. Of each side there are a tenth as many /16 networks as
+frames. Each has ten frames, from ten /24 networks, and the order is random. So at a threshold of ten packets each
+network has a line, none of its parts has one, and nearly each pair of a source and a destination network is kept.
 """
 
 import bisect
+import random
 import struct
 import sys
 
@@ -72,9 +77,28 @@ def met_pairs():
             yield first << 16, second << 16
 
 
+def crossed_addresses(source, count):
+    """The addresses of one side: ten in each of a tenth as many /16 networks, in a random order."""
+    addresses = [
+        (net % 250 + 1) << 24 | net // 250 << 16 | part << 8 | source.randrange(1, 255)
+        for net in range(count // 10)
+        for part in range(10)
+    ]
+    source.shuffle(addresses)
+    return addresses
+
+
+def crossed_pairs(seed, count):
+    """Pairs of addresses of both sides."""
+    source = random.Random(seed)
+    return zip(crossed_addresses(source, count), crossed_addresses(source, count))
+
+
 def frames(seed, count, kind):
     if kind == "met":
         pairs = met_pairs()
+    elif kind == "crossed":
+        pairs = crossed_pairs(seed, count)
     else:
         pairs = random_pairs(seed, skewed_address if kind == "skewed" else address)
     for place, (source, destination) in zip(range(count), pairs):

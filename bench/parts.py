@@ -1,7 +1,8 @@
 """Run by gdb over `report`: the processor time and the peak memory of each of its parts.
 
-gdb -batch -x parts.py PROGRAM, where INPUT names the capture. For each part, in their order, a line with its
-name, the milliseconds that it took, and the peak memory of the program up to its end in kilobytes.
+gdb -batch -x parts.py PROGRAM, where INPUT names the capture, and WORDS may have further words. For each part, in
+their order, a line with its name, the milliseconds that it took, and the peak memory of the program up to its end
+in kilobytes.
 """
 
 import os
@@ -14,8 +15,8 @@ FIRST = "frame_records::reading::read_records"
 PARTS = [
     ("reading", "report_text::putting::put_number"),
     ("dealing", "report_text::putting::put_positions"),
-    ("folding", "indexmap::map::IndexMap::grow"),
-    ("merging", "cut_merge::merged::Merged::interval"),
+    ("folding", "cut_merge::merged::merge_node"),
+    ("merging", "hhh_output::selecting::select_lines"),
     ("selecting", "report_text::putting::put_positions"),
     ("printing", "write"),
 ]
@@ -40,7 +41,7 @@ def stand():
 
 def main():
     gdb.execute("set confirm off")
-    stop_at(FIRST, "run report <'%s' >/dev/null" % os.environ["INPUT"])
+    stop_at(FIRST, "run report %s <'%s' >/dev/null" % (os.environ.get("WORDS", ""), os.environ["INPUT"]))
     before, most = stand()
     for part, end in PARTS:
         stop_at(end, "continue")

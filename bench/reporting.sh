@@ -27,25 +27,26 @@ part_times() {
 }
 
 # The instructions of each part over the first frames of a capture: INPUT WORD... The profile is cut where the
-# functions of `parts.py` are entered, but for merging, whose end is taken to be the last growth of a map.
+# functions of `parts.py` are entered.
 part_instructions() {
     head -c "$few_bytes" "$1" >"$work/few"
     shift
     rm -f "$work"/profile*
     valgrind -q --tool=callgrind --callgrind-out-file="$work/profile" --combine-dumps=yes \
         --dump-before='frame_records::reading::read_records*' --dump-before='report_text::putting::put_number*' \
-        --dump-before='report_text::putting::put_positions*' --dump-before='indexmap::map::IndexMap::grow*' \
+        --dump-before='report_text::putting::put_positions*' --dump-before='cut_merge::merged::merge_node*' \
+        --dump-before='hhh_output::selecting::select_lines*' \
         "$hhh" report "$@" <"$work/few" >/dev/null
     awk '
         BEGIN { part = "starting" }
         /^desc: Trigger:/ { trigger = $0 }
         /^totals:/ {
-            if (part == "merging" && trigger !~ /IndexMap::grow/) part = "selecting"
             sum[part] += $2
             if (part == "starting" && trigger ~ /read_records/) part = "reading"
             else if (part == "reading" && trigger ~ /put_number/) part = "dealing"
             else if (part == "dealing" && trigger ~ /put_positions/) part = "folding"
-            else if (part == "folding" && trigger ~ /IndexMap::grow/) part = "merging"
+            else if (part == "folding" && trigger ~ /merge_node/) part = "merging"
+            else if (part == "merging" && trigger ~ /select_lines/) part = "selecting"
             else if (part == "selecting" && trigger ~ /put_positions/) part = "printing"
         }
         END {

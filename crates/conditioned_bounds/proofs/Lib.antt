@@ -2,4 +2,12 @@ pub mod WeightLemmas
 pub mod IntervalSumLemmas
 pub mod BalanceLemmas
 pub mod BoundLemmas
+pub mod UpperLemmas
+pub mod CodeLemmas
+pub mod MemberLemmas
+pub mod NumberLemmas
+pub mod SearchLemmas
+pub mod IndexLemmas
+pub mod MeetSumLemmas
 pub mod Examples
+pub mod ExamplesOfIndexes

@@ -1,9 +1,11 @@
-ghost use Rattle.std.specs.Prelude.{◌≤◌, ◌<◌, ◌^◌, if◌then◌else◌};
+ghost use Rattle.std.specs.Prelude.{◌≡◌, ◌≤◌, ◌<◌, ◌^◌, OnOk, if◌then◌else◌};
 ghost use Rattle.prefix_lattice.specs.{covers};
 
 use super::*;
+use crate::members::Members;
 use prefix_lattice::{Prefix, Prefixes, Record};
-use std::alloc::Global;
+use std::alloc::{AllocError, Global};
+use std::process::Abort;
 use std::test::Fail;
 
 /// The traffic of one packet, whose weight is known to be from `low` to `high`.
@@ -123,5 +125,139 @@ fn bounds_of_prefixes(rt: HostRuntime) -> Result<(), Fail> {
         let parts = bound(alloc, &parse(text)?, &reported, intervals)?;
         assert_eq!(rt; (parts.value, parts.closest, parts.pairs), want);
     }
+    Ok(())
+}
+
+/// Pushes a prefix that neither has yet to both.
+fn push_new(members: &mut Members, index: &mut LineIndex, prefix: &Prefix) -> Result<(), AllocError>
+    requires { members.old ≡ index.old }
+    ensures { OnOk result (members.new ≡ index.new) }
+{
+    if members.len() > 1000 {
+        return Ok(());
+    }
+    if members.has(prefix) {
+        return Ok(());
+    }
+    members.push(prefix)?;
+    index.push(prefix)
+}
+
+/// An index of these lines, pushed in their order.
+fn indexed(alloc: Global, lines: &Prefixes) -> Result<LineIndex, AllocError> {
+    let mut members = Members::new(alloc);
+    let mut index = LineIndex::new(alloc);
+    for line in lines.as_slice() {
+        push_new(&mut members, &mut index, line)?;
+    }
+    Ok(index)
+}
+
+#[test]
+fn lines_of_an_index(rt: HostRuntime) -> Result<(), Fail> {
+    let alloc = rt.alloc();
+    let packet = Record::new(0x0a01_0101, 0x1401_0101, 9).ok_or("a weight of 0")?;
+    let exact = OnePacket {
+        packet,
+        low: 9,
+        high: 9,
+    };
+    let lines = parse_all(alloc, &STAIRS)?;
+    let index = indexed(alloc, &lines)?;
+    assert_eq!(rt; index.closest(&parse(ROOT)?)?.as_slice(), lines.as_slice());
+    let parts = index.bound(&parse(ROOT)?, &exact)?;
+    // 9 - 27 + 18.
+    assert_eq!(rt; (parts.closest, parts.pairs, parts.value), (3, 2, 0));
+    let none = LineIndex::new(alloc).bound(&parse(ROOT)?, &exact)?;
+    assert_eq!(rt; (none.closest, none.pairs, none.value), (0, 0, 9));
+    Ok(())
+}
+
+/// The sides of a small world: a tree of six nets and the net above all. Two of them begin one another, are apart, or
+/// are equal, so in the 49 pairs of them every shape of a meet occurs.
+const SIDES: [(u32, u8); 7] = [
+    (0, 0),
+    (0x0a00_0000, 1),
+    (0x0b00_0000, 1),
+    (0x0a01_0000, 2),
+    (0x0a02_0000, 2),
+    (0x0b01_0000, 2),
+    (0x0a01_0300, 3),
+];
+
+/// The prefix of this number among the 49 of the small world.
+fn of_world(number: u32) -> Result<Prefix, Fail> {
+    let (source, source_bytes) = SIDES[(number % 7) as usize];
+    let (dest, dest_bytes) = SIDES[(number / 7 % 7) as usize];
+    let pair = Record::new(source, dest, 1).ok_or("a weight of 0")?;
+    let node = prefix_lattice::Node::new(source_bytes, dest_bytes).ok_or("a node")?;
+    Ok(Prefix::of(&pair, node))
+}
+
+/// The next number of a linear congruential generator.
+fn next(state: &mut u64) -> u32 {
+    *state = state
+        .wrapping_mul(6_364_136_223_846_793_005)
+        .wrapping_add(1_442_695_040_888_963_407);
+    (*state >> 33) as u32
+}
+
+/// Some lines of the small world, in an order that the state picks: each with a chance of one in `rarity`.
+fn some_lines(alloc: Global, state: &mut u64, rarity: u32) -> Result<Prefixes, Fail>
+    requires { 0 < rarity }
+{
+    let mut lines = Prefixes::new(alloc);
+    let first = next(state) % 49;
+    let stride = 1 + next(state) % 6;
+    for turn in 0..49 {
+        if next(state) % rarity == 0 {
+            lines.push(of_world((first + turn * stride) % 49)?)?;
+        }
+    }
+    Ok(lines)
+}
+
+/// Whether the index gives for a prefix what the plain calls give.
+fn agree(
+    rt: &impl Abort,
+    alloc: Global,
+    lines: &Prefixes,
+    index: &LineIndex,
+    prefix: &Prefix,
+    intervals: &OnePacket,
+) -> Result<(), Fail> {
+    let near = closest(alloc, prefix, lines)?;
+    assert_eq!(rt; index.closest(prefix)?.as_slice(), near.as_slice());
+    let parts = bound(alloc, prefix, lines, intervals)?;
+    assert_eq!(rt; index.bound(prefix, intervals)?, parts);
+    Ok(())
+}
+
+#[test]
+fn an_index_gives_what_a_plain_list_gives(rt: HostRuntime) -> Result<(), Fail> {
+    let alloc = rt.alloc();
+    let packet = Record::new(0x0a01_0305, 0x0a01_0307, 9).ok_or("a weight of 0")?;
+    let intervals = OnePacket {
+        packet,
+        low: 5,
+        high: 9,
+    };
+    let mut state = 7;
+    let mut kept = 0u64;
+    for set in 0..2000u32 {
+        let lines = some_lines(alloc, &mut state, 2 + set % 8)?;
+        let index = indexed(alloc, &lines)?;
+        agree(&rt, alloc, &lines, &index, &parse(ROOT)?, &intervals)?;
+        agree(
+            &rt,
+            alloc,
+            &lines,
+            &index,
+            &of_world(next(&mut state) % 49)?,
+            &intervals,
+        )?;
+        kept = kept.wrapping_add(index.bound(&parse(ROOT)?, &intervals)?.pairs);
+    }
+    assert!(rt; kept > 2000, "{kept} kept pairs");
     Ok(())
 }

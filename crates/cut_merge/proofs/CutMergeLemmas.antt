@@ -13,9 +13,9 @@ use Rattle.space_saving.specs.{TableValue, total_count}
 use Rattle.shard_state.specs.{SnapshotValue, table_at, CutValue, IsCut, total_of_cut}
 use Rattle.cut_merge.specs.NodeMerge.{NodeMergeValue}
 use Rattle.cut_merge.specs.Merged.{MergedValue, IsBounded, AddsTable, RepresentsTables, nothing_merged, IsMerged}
-use Rattle.cut_merge.specs.Merged.{RepresentsCut, interval_for_key}
+use Rattle.cut_merge.specs.Merged.{RepresentsCut, interval_for_key, merge_at}
 use Rattle.cut_merge.specs.MergedInterval.{node_tables, IsWithinTotal}
-use Rattle.cut_merge.proofs.TableMergeLemmas.{IsMergedBounded, counted, merged_bounded, represents_more}
+use Rattle.cut_merge.proofs.TableMergeLemmas.{IsMergedBounded, counted, merged_bounded, represents_more, interval-of_merge}
 use Rattle.cut_merge.proofs.CutTableLemmas.{TablesAreBounded, counted-at}
 
 -- the table of a shard stands at its place among the tables of the node
@@ -37,16 +37,27 @@ within_cut node cut shards key merge law is_node kept stands =
     let few : counted (take shards tables) ≤ total_of_cut cut =
     subst (λ n. counted (take shards tables) ≤ n) (counted-at node cut is_node kept)
     (sum_by-take-le (λ (t : TableValue). total_count t.entries) tables shards) in
-    subst (IsWithinTotal (total_of_cut cut)) (sym (stands.intervals key))
+    subst (IsWithinTotal (total_of_cut cut)) (sym (interval-of_merge merge (take shards tables) key stands))
     (record { ordered = bounded.ordered; within_total = omega (arith, few, bounded.within_total) })
+
+-- the intervals of the table of a shard are bounded
+pub bounded-at_shard : (node : NodeValue) (cut : CutValue) (shard : ℕ) (snapshot : SnapshotValue) (key : ℕ)
+    → TablesAreBounded → IsNode node → IsCut cut → slice_get cut.shards shard ≡ Some snapshot
+    → IsBounded key (table_at node snapshot)
+bounded-at_shard node cut shard snapshot key law is_node kept at =
+    let tables = node_tables node cut in
+    let table = table_at node snapshot in
+    let place = table-place node cut shard snapshot at in
+    subst (IsBounded key) (get_or_from_slice_get tables shard table table place)
+    (All-get_or (IsBounded key) tables shard table (slice_get_within tables shard table place)
+    (law cut node key kept is_node))
 
 -- one more shard
 pub one_more_shard : (node : NodeValue) (cut : CutValue) (shard : ℕ) (snapshot : SnapshotValue)
-    (old new : NodeMergeValue) → TablesAreBounded → IsNode node → IsCut cut
-    → slice_get cut.shards shard ≡ Some snapshot → RepresentsTables old (take shard (node_tables node cut))
-    → AddsTable old (table_at node snapshot) new
+    (old new : NodeMergeValue) → slice_get cut.shards shard ≡ Some snapshot
+    → RepresentsTables old (take shard (node_tables node cut)) → AddsTable old (table_at node snapshot) new
     → RepresentsTables new (take (shard + 1) (node_tables node cut))
-one_more_shard node cut shard snapshot old new law is_node kept at stands adds =
+one_more_shard node cut shard snapshot old new at stands adds =
     let tables = node_tables node cut in
     let table = table_at node snapshot in
     let place = table-place node cut shard snapshot at in
@@ -54,11 +65,7 @@ one_more_shard node cut shard snapshot old new law is_node kept at stands adds =
     let read : get_or tables shard table ≡ table = get_or_from_slice_get tables shard table table place in
     let more : take (shard + 1) tables ≡ take shard tables ++ table ∷ [] =
     take_more tables shard table within ∙ ap (λ t. take shard tables ++ t ∷ []) read in
-    let bounded : (key : ℕ) → IsBounded key table =
-    λ key.
-    subst (IsBounded key) read
-    (All-get_or (IsBounded key) tables shard table within (law cut node key kept is_node)) in
-    subst (RepresentsTables new) (sym more) (represents_more old new (take shard tables) table bounded stands adds)
+    subst (RepresentsTables new) (sym more) (represents_more old new (take shard tables) table stands adds)
 
 -- an interval of merged tables at a place
 pub within_merged : (merged : MergedValue) (place key : ℕ) (merge : NodeMergeValue) → IsMerged merged
@@ -146,7 +153,8 @@ merged_stands cut nodes merges =
       capacity = refl;
       total = refl;
       intervals = λ prefix is_prefix.
-          (at (node_of prefix) (record { source = is_prefix.source.few; dest = is_prefix.dest.few })).intervals
-          (key_of prefix);
+          interval-of_merge (merge_at (node_of prefix) (record { capacity = cut.capacity; total = total_of_cut cut; nodes = nodes }))
+          (node_tables (node_of prefix) cut) (key_of prefix)
+          (at (node_of prefix) (record { source = is_prefix.source.few; dest = is_prefix.dest.few }));
       candidates = λ node is_node. (at node is_node).keys;
     }

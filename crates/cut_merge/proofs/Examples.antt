@@ -3,14 +3,13 @@ use Rattle.std.proofs.Common.{◌≡◌, ℕ, zero, suc, ◌+◌, ◌*◌, ◌^�
 use Rattle.std.proofs.Common.{arith}
 use Rattle.std.proofs.Math.ListN.{replicate}
 use Rattle.std.specs.Prelude.{slice_index_or}
-use Rattle.std.specs.Map.{keys_of}
 use Rattle.prefix_lattice.specs.{RecordValue, index_of, AreLeadingBytes, PrefixValue, IsPrefix, node_of, key_of}
 use Rattle.space_saving.specs.declared.entry.Entry.{Entry}
 use Rattle.space_saving.specs.{TableValue, Interval}
 use Rattle.shard_state.specs.{fold_from, SnapshotValue, CutValue, total_of_cut}
 use Rattle.cut_merge.specs.Tables.{first_seen, merged_interval, table_keys, monitored_keys}
 use Rattle.cut_merge.specs.MergedInterval.{node_tables, merged_interval_in, monitored_at, IsWithinTotal}
-use Rattle.cut_merge.specs.declared.excess.Excess.{Excess}
+use Rattle.cut_merge.specs.declared.key_interval.KeyInterval.{KeyInterval}
 use Rattle.cut_merge.specs.NodeMerge.{NodeMergeValue}
 use Rattle.cut_merge.specs.Merged.{MergedValue, nothing_merged, interval_for_key, merge_at, interval_for}
 use Rattle.cut_merge.specs.Merged.{candidates_at, RepresentsCut, IsMerged}
@@ -113,16 +112,19 @@ hosts_of_both_shards = refl
 pub total_of_both_shards : total_of_cut cut ≡ 6
 total_of_both_shards = refl
 
-abbrev excess : ℕ → ℕ → Excess
-excess low high = record { low = low; high = high }
+-- a host of this number, and the least and the greatest weight that it can have
+abbrev weighing : ℕ → ℕ → ℕ → KeyInterval
+weighing host low high = record { key = host_key host 0x14000001; low = low; high = high }
 
--- the tables of whole addresses merged: what each host excesses, and the least counts 1 and 1 of both full tables
+-- the tables of whole addresses merged: a run for each shard, whose hosts are in the order of their numbers, with the
+-- least count 1 of either full table
 abbrev hosts : NodeMergeValue
 hosts = record {
-  excesses =
-      (host_key 2 0x14000001, excess 1 0) ∷ (host_key 1 0x14000001, excess 2 1) ∷ (host_key 3 0x14000001, excess 1 0)
-      ∷ (host_key 4 0x14000001, excess 1 1) ∷ [];
-  missing = 2;
+  runs =
+      record { intervals = weighing 1 2 2 ∷ weighing 2 1 1 ∷ []; missing = 1 }
+      ∷ record { intervals = weighing 3 1 1 ∷ weighing 4 1 2 ∷ []; missing = 1 } ∷ [];
+  keys =
+      host_key 2 0x14000001 ∷ host_key 1 0x14000001 ∷ host_key 3 0x14000001 ∷ host_key 4 0x14000001 ∷ [];
 }
 
 -- they stand at the last of the 25 nodes
@@ -181,7 +183,7 @@ nothing_represents_nothing_counted =
           ∙ sym (ap (λ entries. merged_interval (table entries ∷ []) (key_of prefix))
           (alike [] 25 (index_of (node_of prefix))));
       candidates = λ node is_node.
-          ap (λ (merge : NodeMergeValue). keys_of merge.excesses) (alike nothing_merged 25 (index_of node))
+          ap (λ (merge : NodeMergeValue). merge.keys) (alike nothing_merged 25 (index_of node))
           ∙ sym (ap (λ entries. monitored_keys (table entries ∷ [])) (alike [] 25 (index_of node)));
     }
 

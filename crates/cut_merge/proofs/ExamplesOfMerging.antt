@@ -1,20 +1,24 @@
 -- Worked examples of how the tables of one node are merged, most by computing.
-use Rattle.std.proofs.Common.{◌≡◌, ℕ, ◌≤◌, [], ◌∷◌, None, Some, refl, sym, ap, subst, ⊎_elim, arith}
+use Rattle.std.proofs.Common.{◌≡◌, ℕ, ◌≤◌, true, false, [], ◌∷◌, length, None, Some, Contains, refl, sym, ap, ◌∙◌, subst}
+use Rattle.std.proofs.Common.{⊎_elim, arith}
+use Rattle.std.specs.Option.{option_map}
 use Rattle.std.proofs.lemmas.Bool.{cases_eq, ne_eqb}
+use Rattle.prefix_lattice.proofs.ListLemmas.{Contains-cons, Contains-nil}
 use Rattle.space_saving.specs.declared.entry.Entry.{Entry}
-use Rattle.space_saving.specs.{TableValue, Interval, entry_of}
-use Rattle.cut_merge.specs.declared.excess.Excess.{Excess}
-use Rattle.cut_merge.specs.NodeMerge.{NodeMergeValue, no_excess, noted, excess_of}
-use Rattle.cut_merge.specs.Tables.{merged_interval}
-use Rattle.cut_merge.specs.Merged.{nothing_merged, interval_for_key, seen, missing_high, IsBounded, plus, excess_from}
-use Rattle.cut_merge.specs.Merged.{AddsTable, RepresentsTables}
+use Rattle.space_saving.specs.{TableValue, entry_of}
+use Rattle.cut_merge.specs.declared.key_interval.KeyInterval.{KeyInterval}
+use Rattle.cut_merge.specs.Run.{RunValue, interval_of_entry, missing_high, IsRun, run_entry, interval_or, run_interval}
+use Rattle.cut_merge.specs.Run.{is_monitored_in, IsRunOf}
+use Rattle.cut_merge.specs.NodeMerge.{NodeMergeValue, is_monitored}
+use Rattle.cut_merge.specs.Merged.{nothing_merged, interval_for_key, seen, IsBounded, AddsTable, RepresentsTables}
 
 -- an entry of a key, with a count and an error
 abbrev entry : ℕ → ℕ → ℕ → Entry
 entry key count error = record { key = key; count = count; error = error }
 
-abbrev excess : ℕ → ℕ → Excess
-excess low high = record { low = low; high = high }
+-- a key, and the least and the greatest weight that it can have
+abbrev weighing : ℕ → ℕ → ℕ → KeyInterval
+weighing key low high = record { key = key; low = low; high = high }
 
 -- a full table of two entries, and one with room
 abbrev full : TableValue
@@ -23,51 +27,81 @@ full = record { capacity = 2; entries = entry 8 3 1 ∷ entry 5 7 0 ∷ [] }
 abbrev roomy : TableValue
 roomy = record { capacity = 2; entries = entry 5 4 2 ∷ [] }
 
--- both tables merged: key 8 excesses 2 to 3 of the full table, whose missing keys have up to 3; key 5 excesses of both
+-- their runs: the lower key is first
+abbrev run_of_full : RunValue
+run_of_full = record { intervals = weighing 5 7 7 ∷ weighing 8 2 3 ∷ []; missing = 3 }
+
+abbrev run_of_roomy : RunValue
+run_of_roomy = record { intervals = weighing 5 2 4 ∷ []; missing = 0 }
+
+-- both tables merged
 abbrev both : NodeMergeValue
-both = record { excesses = (8, excess 2 0) ∷ (5, excess 9 8) ∷ []; missing = 3 }
+both = record { runs = run_of_full ∷ run_of_roomy ∷ []; keys = 8 ∷ 5 ∷ [] }
 
-pub a_key_of_two_tables_gains_of_both : plus (excess 7 4) (excess 2 4) ≡ excess 9 8
-a_key_of_two_tables_gains_of_both = refl
+-- the error may be another key's weight
+pub interval_of_an_entry_with_an_error : interval_of_entry (entry 8 3 1) ≡ weighing 8 2 3
+interval_of_an_entry_with_an_error = refl
 
-pub what_is_noted_is_the_excess : noted (Some (excess 2 0)) ≡ excess 2 0
-what_is_noted_is_the_excess = refl
-
-pub where_nothing_is_noted_there_is_no_excess : noted None ≡ no_excess
-where_nothing_is_noted_there_is_no_excess = refl
-
-pub excess_of_a_monitored_key : excess_of 5 both.excesses ≡ excess 9 8
-excess_of_a_monitored_key = refl
-
-pub excess_of_another_key : excess_of 6 both.excesses ≡ excess 0 0
-excess_of_another_key = refl
-
--- 9, and 3 that each missing key has, with 8 beyond
-pub interval_of_a_monitored_key : interval_for_key both 5 ≡ record { low = 9; high = 11 }
-interval_of_a_monitored_key = refl
-
-pub interval_of_another_key : interval_for_key both 6 ≡ record { low = 0; high = 3 }
-interval_of_another_key = refl
-
-pub a_new_key_goes_behind : seen (8 ∷ 5 ∷ []) 6 ≡ 8 ∷ 5 ∷ 6 ∷ []
-a_new_key_goes_behind = refl
-
-pub a_seen_key_stays : seen (8 ∷ 5 ∷ []) 8 ≡ 8 ∷ 5 ∷ []
-a_seen_key_stays = refl
-
--- a key that is missing may have stood in the head's place
+-- a key that is missing may have been at the head
 pub missing_in_a_full_table : missing_high full ≡ 3
 missing_in_a_full_table = refl
 
 pub missing_where_room_is_left : missing_high roomy ≡ 0
 missing_where_room_is_left = refl
 
--- its low is 7, and its high 4 above that of a missing key
-pub excess_from_an_entry : excess_from full (Some (entry 5 7 0)) ≡ excess 7 4
-excess_from_an_entry = refl
+-- what is in a list of one key
+only : (interval : KeyInterval) → Contains (weighing 5 2 4 ∷ []) interval → weighing 5 2 4 ≡ interval
+only interval there =
+    ⊎_elim (λ is. is) (λ later. absurd (Contains-nil interval later))
+    (Contains-cons (weighing 5 2 4) [] interval there)
 
-pub excess_from_no_entry : excess_from full None ≡ no_excess
-excess_from_no_entry = refl
+pub one_key_is_a_run : IsRun run_of_roomy.intervals
+one_key_is_a_run = record {
+  rising = λ i j d before within.
+      let first : i ≡ 0 = omega arith in
+      let second : j ≡ 0 = omega arith in
+      rw (first, second) (omega arith);
+  single = λ interval other there among same. sym (only interval there) ∙ only other among;
+}
+
+-- sorted by weight, key 8 would come first, and a search for key 5 would miss it
+pub sorted_by_weight_is_no_run : ¬ IsRun (weighing 8 2 3 ∷ weighing 5 7 7 ∷ [])
+sorted_by_weight_is_no_run is =
+    let rises : 8 ≤ 5 = is.rising 0 1 (weighing 0 0 0) (omega arith) (omega arith) in omega (arith, rises)
+
+pub the_run_has_key_8 : run_entry 8 run_of_full ≡ Some (weighing 8 2 3)
+the_run_has_key_8 = refl
+
+pub and_not_key_6 : run_entry 6 run_of_full ≡ None
+and_not_key_6 = refl
+
+pub key_8_is_monitored : is_monitored_in 8 run_of_full ≡ true
+key_8_is_monitored = refl
+
+pub a_missing_key_weighs_at_least_nothing : interval_or 3 None ≡ record { low = 0; high = 3 }
+a_missing_key_weighs_at_least_nothing = refl
+
+pub interval_in_one_run : run_interval run_of_full 8 ≡ record { low = 2; high = 3 }
+interval_in_one_run = refl
+
+-- 7 and 2, and 7 and 4
+pub interval_of_a_monitored_key : interval_for_key both 5 ≡ record { low = 9; high = 11 }
+interval_of_a_monitored_key = refl
+
+pub interval_of_another_key : interval_for_key both 6 ≡ record { low = 0; high = 3 }
+interval_of_another_key = refl
+
+pub key_8_is_in_the_first_run : is_monitored 8 both.runs ≡ true
+key_8_is_in_the_first_run = refl
+
+pub key_6_is_in_none : is_monitored 6 both.runs ≡ false
+key_6_is_in_none = refl
+
+pub a_new_key_is_appended : seen (8 ∷ 5 ∷ []) 6 ≡ 8 ∷ 5 ∷ 6 ∷ []
+a_new_key_is_appended = refl
+
+pub a_seen_key_stays : seen (8 ∷ 5 ∷ []) 8 ≡ 8 ∷ 5 ∷ []
+a_seen_key_stays = refl
 
 pub bounded_in_the_full_table : IsBounded 8 full
 bounded_in_the_full_table = record { ordered = omega arith; within_total = omega arith; above_missing = omega arith }
@@ -76,35 +110,37 @@ bounded_in_the_full_table = record { ordered = omega arith; within_total = omega
 pub unbounded_where_counts_fall : ¬ IsBounded 8 (record { capacity = 2; entries = entry 5 7 0 ∷ entry 8 3 1 ∷ [] })
 unbounded_where_counts_fall bounded = let above : 7 ≤ 3 = bounded.above_missing in omega (arith, above)
 
+-- the run of the table with room
+pub run_of_the_table_with_room : IsRunOf run_of_roomy roomy
+run_of_the_table_with_room = record {
+  entries = λ key. ⊎_elim
+      (λ (is : key ≡ 5).
+      subst (λ k. run_entry k run_of_roomy ≡ option_map interval_of_entry (entry_of k roomy.entries)) (sym is) refl)
+      (λ other. rw (ne_eqb 5 key (λ is. other (sym is))) refl)
+      (cases_eq key 5);
+  missing = refl;
+}
+
+pub no_run_of_a_full_table : ¬ IsRunOf run_of_roomy full
+no_run_of_a_full_table is = let high : 0 ≡ 3 = is.missing in omega (arith, high)
+
 -- the table with room, merged
 abbrev first : NodeMergeValue
-first = record { excesses = (5, excess 2 4) ∷ []; missing = 0 }
+first = record { runs = run_of_roomy ∷ []; keys = 5 ∷ [] }
 
 pub adds_the_table_with_room : AddsTable nothing_merged roomy first
 adds_the_table_with_room = record {
-  excesses = λ key. ⊎_elim
-      (λ (is : key ≡ 5).
-      subst (λ k.
-      excess_of k first.excesses
-      ≡ plus (excess_of k nothing_merged.excesses) (excess_from roomy (entry_of k roomy.entries))) (sym is) refl)
-      (λ other. rw (ne_eqb key 5 other, ne_eqb 5 key (λ is. other (sym is))) refl)
-      (cases_eq key 5);
-  missing = refl;
+  run = run_of_roomy;
+  is_run = run_of_the_table_with_room;
+  runs = refl;
   keys = refl;
 }
 
 pub adds_no_table_twice : ¬ AddsTable first roomy first
-adds_no_table_twice adds = let low : 2 ≡ 4 = ap (λ (g : Excess). g.low) (adds.excesses 5) in omega (arith, low)
+adds_no_table_twice adds = let same : 1 ≡ 2 = ap length adds.runs in omega (arith, same)
 
 pub represents_the_table_with_room : RepresentsTables first (roomy ∷ [])
-represents_the_table_with_room = record {
-  intervals = λ key. ⊎_elim
-      (λ (is : key ≡ 5). subst (λ k. interval_for_key first k ≡ merged_interval (roomy ∷ []) k) (sym is) refl)
-      (λ other. rw (ne_eqb key 5 other, ne_eqb 5 key (λ is. other (sym is))) refl)
-      (cases_eq key 5);
-  keys = refl;
-}
+represents_the_table_with_room = record { runs = (run_of_the_table_with_room, tt); keys = refl }
 
 pub represents_no_more_than_was_merged : ¬ RepresentsTables first (roomy ∷ full ∷ [])
-represents_no_more_than_was_merged stands =
-    let high : 4 ≡ 11 = ap (λ (i : Interval). i.high) (stands.intervals 5) in omega (arith, high)
+represents_no_more_than_was_merged stands = stands.runs.1

@@ -2,11 +2,12 @@
 use Rattle.std.proofs.Common.{◌≡◌, ◌≢◌, ℕ, ◌≤◌, ◌⊎◌, inl, inr, length, All, AllPairs, Contains, arith, eqb, not}
 use Rattle.std.proofs.Common.{cond, ◌||◌, Bool, true, false, List, [], ◌∷◌, ◌++◌, filter, fold, refl, sym, ap, ◌∙◌}
 use Rattle.std.proofs.Common.{subst, if◌then◌else◌}
-use Rattle.std.proofs.lemmas.Bool.{eqb-true, eq-eqb, false≢true}
+use Rattle.std.proofs.lemmas.Bool.{eqb-true, eq-eqb, false≢true, or_parts}
 use Rattle.std.proofs.lemmas.List.{append_assoc, append-nil}
 use Rattle.std.proofs.lemmas.List.Elements.{filter-append, All-cons, All-head, All-tail, All-filter, All-weaker}
 use Rattle.std.proofs.lemmas.List.Elements.{filter_passes}
 use Rattle.std.proofs.lemmas.List.Kept.{AllPairs-cons, AllPairs-filter}
+use Rattle.std.proofs.lemmas.List.Folds.{list_any-append}
 use Rattle.std.proofs.lemmas.List.Sums.{length-filter, count_by-le-length}
 use Rattle.std.proofs.lemmas.Map.Views.{any-filter_same}
 use Rattle.std.specs.List.{list_any}
@@ -116,6 +117,59 @@ first_seen-contains (first ∷ keys) key there =
     by false differs rest (inr later) =
         Contains-tail first (others first (first_seen keys)) key
         (others-contains first key (first_seen keys) differs (rest later))
+
+-- two keys differ whichever comes first
+differs-flip : (first key : ℕ) → eqb key first ≡ false → eqb first key ≡ false
+differs-flip first key differs =
+    by (eqb first key) refl
+  where
+    by : (b : Bool) → eqb first key ≡ b → eqb first key ≡ false
+    by true same = absurd (false≢true (sym differs ∙ eq-eqb key first (sym (eqb-true first key same))))
+    by false is = is
+
+-- a key is seen where it is in the list
+pub first_seen-any : (key : ℕ) (keys : List ℕ)
+    → list_any (λ other. eqb key other) (first_seen keys) ≡ list_any (λ other. eqb key other) keys
+first_seen-any key [] = refl
+first_seen-any key (first ∷ keys) =
+    by (eqb key first) refl (first_seen-any key keys)
+  where
+    by : (b : Bool) → eqb key first ≡ b
+        → list_any (λ other. eqb key other) (first_seen keys) ≡ list_any (λ other. eqb key other) keys
+        → (b || list_any (λ other. eqb key other) (others first (first_seen keys)))
+        ≡ (b || list_any (λ other. eqb key other) keys)
+    by true same rest = refl
+    by false differs rest =
+        any-filter_same (λ other. eqb key other) (λ other. not (eqb first other)) true
+        (λ other is. subst (λ o. not (eqb first o) ≡ true) (eqb-true key other is)
+        (ap not (differs-flip first key differs))) (first_seen keys)
+        ∙ rest
+
+-- one more key leaves whether another is seen
+seen-any : (key other : ℕ) (keys : List ℕ) → eqb key other ≡ false
+    → list_any (λ k. eqb key k) (seen keys other) ≡ list_any (λ k. eqb key k) keys
+seen-any key other keys differs =
+    by (list_any (λ k. eqb other k) keys)
+  where
+    last : (b : Bool) → (b || (false || false)) ≡ b
+    last true = refl
+    last false = refl
+
+    by : (b : Bool) → list_any (λ k. eqb key k) (if b then keys else keys ++ other ∷ []) ≡ list_any (λ k. eqb key k) keys
+    by true = refl
+    by false =
+        list_any-append (λ k. eqb key k) keys (other ∷ [])
+        ∙ ap (λ b. list_any (λ k. eqb key k) keys || (b || false)) differs
+        ∙ last (list_any (λ k. eqb key k) keys)
+
+-- and so do many that are not the key
+pub seen-any_others : (key : ℕ) (keys more : List ℕ) → list_any (λ k. eqb key k) more ≡ false
+    → list_any (λ k. eqb key k) (fold seen keys more) ≡ list_any (λ k. eqb key k) keys
+seen-any_others key keys [] none = refl
+seen-any_others key keys (other ∷ more) none =
+    let parts : (eqb key other ≡ false) × (list_any (λ k. eqb key k) more ≡ false) =
+    or_parts (eqb key other) (list_any (λ k. eqb key k) more) none in
+    seen-any_others key (seen keys other) more parts.1 ∙ seen-any key other keys parts.0
 
 -- what holds of each key of a list holds of each that is seen
 pub first_seen-all : (P : ℕ → Type 0) (keys : List ℕ) → All P keys → All P (first_seen keys)

@@ -1,9 +1,10 @@
 pub mod Examples
 pub mod ExamplesOfMerging
-pub mod ExcessLemmas
-pub mod EntryExcessLemmas
+pub mod RunLemmas
 pub mod FirstSeenLemmas
 pub mod TableMergeLemmas
+pub mod KeyLemmas
+pub mod HighBoundLemmas
 pub mod CutTableLemmas
 pub mod CutMergeLemmas
 pub mod MergedIntervalLemmas

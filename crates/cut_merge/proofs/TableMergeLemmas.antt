@@ -1,75 +1,140 @@
--- What is merged stands for the tables that were merged in.
-use Rattle.std.proofs.Common.{◌≡◌, ℕ, ◌+◌, ◌-◌, ◌≤◌, List, [], ◌∷◌, ◌++◌, sum_by, fold, Option, None, Some, refl}
-use Rattle.std.proofs.Common.{sym, ap, ◌∙◌, arith, All}
+-- What is merged represents the tables that were merged in.
+use Rattle.std.proofs.Common.{◌≡◌, ℕ, ◌≤◌, eqb, cond, ◌||◌, Bool, true, false, List, [], ◌∷◌, ◌++◌, map, sum_by, fold}
+use Rattle.std.proofs.Common.{Option, None, Some, is_some, refl, sym, ap, ◌∙◌, subst, arith, All}
+use Rattle.std.specs.List.{flat_map, list_any, AllZip}
+use Rattle.std.specs.Option.{option_map}
+use Rattle.std.proofs.lemmas.Bool.Decides.{nat_tests}
 use Rattle.std.proofs.lemmas.List.{append-nil}
-use Rattle.std.proofs.lemmas.List.Sums.{sum_by_push, sum_by-cons}
+use Rattle.std.proofs.lemmas.List.Sums.{sum_by-cons}
 use Rattle.std.proofs.lemmas.List.Elements.{All-head, All-tail}
+use Rattle.std.proofs.lemmas.List.Folds.{list_any-append}
 use Rattle.std.proofs.lemmas.Grind.{flat_map-append}
-use Rattle.std.specs.List.{flat_map}
 use Rattle.space_saving.specs.declared.entry.Entry.{Entry}
 use Rattle.space_saving.specs.{TableValue, Interval, entry_of, interval_in, interval_from, total_count}
-use Rattle.cut_merge.specs.declared.excess.Excess.{Excess}
 use Rattle.cut_merge.specs.Tables.{first_seen, merged_interval, table_keys}
-use Rattle.cut_merge.specs.Merged.{IsBounded, seen, missing_high, excess_from, AddsTable, RepresentsTables}
-use Rattle.cut_merge.specs.NodeMerge.{excess_of, NodeMergeValue}
-use Rattle.cut_merge.proofs.FirstSeenLemmas.{first_seen-append}
+use Rattle.cut_merge.specs.Run.{RunValue, IsRunOf, interval_of_entry, interval_or, run_interval, is_monitored_in}
+use Rattle.cut_merge.specs.Run.{missing_high}
+use Rattle.cut_merge.specs.NodeMerge.{NodeMergeValue, is_monitored}
+use Rattle.cut_merge.specs.Merged.{IsBounded, seen, AddsTable, RepresentsTables, interval_for_key}
+use Rattle.cut_merge.proofs.FirstSeenLemmas.{first_seen-append, first_seen-any}
 
--- what a table adds to the low of a key is its low there
-low-excess : (table : TableValue) (found : Option Entry)
-    → (excess_from table found).low ≡ (interval_from found table).low
-low-excess table None = refl
-low-excess table (Some entry) = refl
+-- a run gives each key the interval of its table
+pub interval-of_run : (run : RunValue) (table : TableValue) (key : ℕ) → IsRunOf run table
+    → run_interval run key ≡ interval_in table key
+interval-of_run run table key is =
+    ap (λ found. interval_or run.missing found) (is.entries key)
+    ∙ ap (λ missing. interval_or missing (option_map interval_of_entry (entry_of key table.entries))) is.missing
+    ∙ by (entry_of key table.entries)
+  where
+    by : (found : Option Entry)
+        → interval_or (missing_high table) (option_map interval_of_entry found) ≡ interval_from found table
+    by None = refl
+    by (Some entry) = refl
 
--- and to the high, what its high there is above that of a missing key
-high-excess : (table : TableValue) (found : Option Entry)
-    → (excess_from table found).high ≡ (interval_from found table).high - missing_high table
-high-excess table None = omega arith
-high-excess table (Some entry) = refl
+-- the runs of tables give each key the merged interval of these
+intervals-of_runs : (runs : List RunValue) (tables : List TableValue) (key : ℕ) → AllZip IsRunOf runs tables
+    → (sum_by (λ (run : RunValue). (run_interval run key).low) runs ≡ sum_by (λ t. (interval_in t key).low) tables)
+    × (sum_by (λ (run : RunValue). (run_interval run key).high) runs ≡ sum_by (λ t. (interval_in t key).high) tables)
+intervals-of_runs [] [] key are = (refl, refl)
+intervals-of_runs [] (table ∷ tables) key are = absurd are
+intervals-of_runs (run ∷ runs) [] key are = absurd are
+intervals-of_runs (run ∷ runs) (table ∷ tables) key are =
+    let first = interval-of_run run table key are.0 in
+    let rest = intervals-of_runs runs tables key are.1 in
+    let low : (run_interval run key).low ≡ (interval_in table key).low = ap (λ (i : Interval). i.low) first in
+    let high : (run_interval run key).high ≡ (interval_in table key).high = ap (λ (i : Interval). i.high) first in (
+      omega (
+        arith,
+        low,
+        rest.0,
+        sum_by-cons (λ (r : RunValue). (run_interval r key).low) run runs,
+        sum_by-cons (λ (t : TableValue). (interval_in t key).low) table tables,
+      ),
+      omega (
+        arith,
+        high,
+        rest.1,
+        sum_by-cons (λ (r : RunValue). (run_interval r key).high) run runs,
+        sum_by-cons (λ (t : TableValue). (interval_in t key).high) table tables,
+      ),
+    )
 
--- nothing merged stands for no tables
-pub represents_none : RepresentsTables (record { excesses = []; missing = 0 }) []
-represents_none = record { intervals = λ key. refl; keys = refl }
+-- so does the merge that represents them
+pub interval-of_merge : (merge : NodeMergeValue) (tables : List TableValue) (key : ℕ) → RepresentsTables merge tables
+    → interval_for_key merge key ≡ merged_interval tables key
+interval-of_merge merge tables key stands =
+    let make : ℕ → ℕ → Interval = λ low high. record { low = low; high = high } in
+    let same = intervals-of_runs merge.runs tables key stands.runs in
+    ap (λ low. make low (interval_for_key merge key).high) same.0
+    ∙ ap (λ high. make (merged_interval tables key).low high) same.1
+
+-- a key has an entry where it is among the keys of the entries
+pub entry-any : (key : ℕ) (entries : List Entry)
+    → is_some (entry_of key entries) ≡ list_any (λ other. eqb key other) (map (λ (e : Entry). e.key) entries)
+entry-any key [] = refl
+entry-any key (f ∷ fs) =
+    first (eqb f.key key) (entry-any key fs)
+    ∙ ap (λ b. b || list_any (λ other. eqb key other) (map (λ (e : Entry). e.key) fs)) (flip f.key key)
+  where
+    first : (b : Bool)
+        → is_some (entry_of key fs) ≡ list_any (λ other. eqb key other) (map (λ (e : Entry). e.key) fs)
+        → is_some (cond b (Some f) (entry_of key fs))
+        ≡ (b || list_any (λ other. eqb key other) (map (λ (e : Entry). e.key) fs))
+    first true rest = refl
+    first false rest = rest
+
+    flip : (a b : ℕ) → eqb a b ≡ eqb b a
+    flip a b = grind (arith, nat_tests)
+
+-- a run has the keys of its table
+monitored-of_run : (run : RunValue) (table : TableValue) (key : ℕ) → IsRunOf run table
+    → is_monitored_in key run ≡ list_any (λ other. eqb key other) (table_keys table)
+monitored-of_run run table key is =
+    ap is_some (is.entries key) ∙ by (entry_of key table.entries) ∙ entry-any key table.entries
+  where
+    by : (found : Option Entry) → is_some (option_map interval_of_entry found) ≡ is_some found
+    by None = refl
+    by (Some entry) = refl
+
+-- the runs of tables have their keys
+monitored-of_runs : (runs : List RunValue) (tables : List TableValue) (key : ℕ) → AllZip IsRunOf runs tables
+    → is_monitored key runs ≡ list_any (λ other. eqb key other) (flat_map table_keys tables)
+monitored-of_runs [] [] key are = refl
+monitored-of_runs [] (table ∷ tables) key are = absurd are
+monitored-of_runs (run ∷ runs) [] key are = absurd are
+monitored-of_runs (run ∷ runs) (table ∷ tables) key are =
+    ap (λ b. b || is_monitored key runs) (monitored-of_run run table key are.0)
+    ∙ ap (λ b. list_any (λ other. eqb key other) (table_keys table) || b) (monitored-of_runs runs tables key are.1)
+    ∙ sym (list_any-append (λ other. eqb key other) (table_keys table) (flat_map table_keys tables))
+
+-- so a key is among those that a merge has where one of its runs has it
+pub monitored-of_merge : (merge : NodeMergeValue) (tables : List TableValue) (key : ℕ)
+    → RepresentsTables merge tables
+    → list_any (λ other. eqb key other) merge.keys ≡ is_monitored key merge.runs
+monitored-of_merge merge tables key stands =
+    ap (list_any (λ other. eqb key other)) stands.keys
+    ∙ first_seen-any key (flat_map table_keys tables)
+    ∙ sym (monitored-of_runs merge.runs tables key stands.runs)
+
+-- nothing merged represents no tables
+pub represents_none : RepresentsTables (record { runs = []; keys = [] }) []
+represents_none = record { runs = tt; keys = refl }
+
+-- one more run of one more table
+runs_more : (runs : List RunValue) (tables : List TableValue) (run : RunValue) (table : TableValue)
+    → AllZip IsRunOf runs tables → IsRunOf run table → AllZip IsRunOf (runs ++ run ∷ []) (tables ++ table ∷ [])
+runs_more [] [] run table are is = (is, tt)
+runs_more [] (other ∷ tables) run table are is = absurd are
+runs_more (other ∷ runs) [] run table are is = absurd are
+runs_more (first ∷ runs) (other ∷ tables) run table are is = (are.0, runs_more runs tables run table are.1 is)
 
 -- one more table
 pub represents_more : (old new : NodeMergeValue) (tables : List TableValue) (table : TableValue)
-    → ((key : ℕ) → IsBounded key table)
     → RepresentsTables old tables → AddsTable old table new → RepresentsTables new (tables ++ table ∷ [])
-represents_more old new tables table bounded stands adds = record {
-  intervals = λ key.
-      let make : ℕ → ℕ → Interval = λ low high. record { low = low; high = high } in
-      let found = entry_of key table.entries in
-      let old_low : (excess_of key old.excesses).low ≡ sum_by (λ t. (interval_in t key).low) tables =
-      ap (λ (i : Interval). i.low) (stands.intervals key) in
-      let old_high : old.missing + (excess_of key old.excesses).high ≡ sum_by (λ t. (interval_in t key).high) tables =
-      ap (λ (i : Interval). i.high) (stands.intervals key) in
-      let new_low : (excess_of key new.excesses).low
-      ≡ (excess_of key old.excesses).low + (excess_from table found).low =
-      ap (λ (g : Excess). g.low) (adds.excesses key) in
-      let new_high : (excess_of key new.excesses).high
-      ≡ (excess_of key old.excesses).high + (excess_from table found).high =
-      ap (λ (g : Excess). g.high) (adds.excesses key) in
-      let above : missing_high table ≤ (interval_in table key).high = (bounded key).above_missing in
-      let low : (excess_of key new.excesses).low ≡ sum_by (λ t. (interval_in t key).low) (tables ++ table ∷ []) =
-      omega (
-        arith,
-        new_low,
-        old_low,
-        low-excess table found,
-        sum_by_push (λ (t : TableValue). (interval_in t key).low) tables table,
-      ) in
-      let high : new.missing + (excess_of key new.excesses).high
-      ≡ sum_by (λ t. (interval_in t key).high) (tables ++ table ∷ []) =
-      omega (
-        arith,
-        new_high,
-        old_high,
-        adds.missing,
-        above,
-        high-excess table found,
-        sum_by_push (λ (t : TableValue). (interval_in t key).high) tables table,
-      ) in
-      ap (λ l. make l (new.missing + (excess_of key new.excesses).high)) low
-      ∙ ap (λ h. make (sum_by (λ t. (interval_in t key).low) (tables ++ table ∷ [])) h) high;
+represents_more old new tables table stands adds = record {
+  runs =
+      subst (λ (runs : List RunValue). AllZip IsRunOf runs (tables ++ table ∷ [])) (sym adds.runs)
+      (runs_more old.runs tables adds.run table stands.runs adds.is_run);
   keys =
       adds.keys ∙ ap (λ keys. fold seen keys (table_keys table)) stands.keys
       ∙ sym (first_seen-append (flat_map table_keys tables) (table_keys table))

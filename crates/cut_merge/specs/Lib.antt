@@ -1,6 +1,8 @@
 pub mod Tables
 pub mod MergedInterval
+pub mod Run
 pub mod NodeMerge
+pub mod HighBounds
 pub mod Merged
 -- the face: what contracts of other crates cite
 pub use Rattle.cut_merge.specs.Merged.{MergedValue, RepresentsCut, candidates_at, interval_for, nothing_merged}

@@ -1,22 +1,13 @@
--- The merged tables of one node: the excess of each monitored key, and the high of a missing one.
-use Rattle.std.specs.Prelude.{ℕ, List, ◌==◌, Option, None, Some}
-use Rattle.cut_merge.specs.declared.excess.Excess.{Excess}
-use Rattle.std.specs.Map.{lookup}
+-- The merged tables of one node: the run of each table, and the keys that some table monitors.
+use Rattle.std.specs.Prelude.{ℕ, Bool, List}
+use Rattle.std.specs.List.{list_any}
+use Rattle.cut_merge.specs.Run.{RunValue, is_monitored_in}
 
--- the excess of each key that some table monitors, and the high of a key that none monitors
+-- the run of each shard's table, and the keys that they monitor, in the order in which they were first seen
 pub record NodeMergeValue : Type 0 where
-  pub excesses : List (ℕ × Excess)
-  pub missing : ℕ
+  pub runs : List RunValue
+  pub keys : List ℕ
 
--- no excess
-abbrev pub no_excess : Excess
-no_excess = record { low = 0; high = 0 }
-
--- the excess that is noted, or none
-abbrev pub noted : Option Excess → Excess
-noted None = no_excess
-noted (Some excess) = excess
-
--- the excess that is noted for a key
-abbrev pub excess_of : ℕ → List (ℕ × Excess) → Excess
-excess_of key excesses = noted (lookup (λ other. key == other) excesses)
+-- whether one of the runs has the key
+abbrev pub is_monitored : ℕ → List RunValue → Bool
+is_monitored key runs = list_any (λ run. is_monitored_in key run) runs

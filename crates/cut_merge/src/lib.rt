@@ -2,10 +2,12 @@
 //! monitors.
 #![tactic(auto)]
 
-mod excess;
+mod high_bounds;
+mod key_interval;
 mod laws;
 mod merged;
 mod node_merge;
+mod run;
 
 pub use laws::{
     merged_intervals_are_narrow, merged_intervals_hold_weights, monitored_keys_are_few,

@@ -79,6 +79,15 @@ impl Merged {
         self.merge_of(prefix.node()).interval(prefix.key())
     }
 
+    /// A bound on the greatest weight that the prefix can have had over all shards, in bytes or packets: at least the
+    /// high of its interval. It takes no search, so a caller that asks for heavy prefixes can pass over most of the
+    /// others by it.
+    pub fn at_most(&self, prefix: &Prefix) -> u64
+        ensures { (interval_for self.now prefix.now).high ≤ result }
+    {
+        self.merge_of(prefix.node()).at_most(prefix.key())
+    }
+
     /// The keys that some shard monitors at the node, each once, in the order in which they are first seen: shard
     /// by shard, in the order of each table's entries.
     pub fn candidates(&self, node: Node) -> &[u64]
@@ -98,7 +107,9 @@ impl Merged {
     }
 }
 
-// The tables of a node, merged over the shards of a cut.
+// The tables of a node, merged over the shards of a cut. It stays a function of its own in the binary, so that
+// measurements can tell where merging begins.
+#[inline(never)]
 fn merge_node(alloc: Global, cut: &Cut, node: Node) -> Result<NodeMerge, AllocError>
     requires is_node { IsNode node }
     requires bounded { total_of_cut cut.now < total_limit }
@@ -106,9 +117,9 @@ fn merge_node(alloc: Global, cut: &Cut, node: Node) -> Result<NodeMerge, AllocEr
     ensures within { IfOk result (λ merge. (key : ℕ) → IsWithinTotal (total_of_cut cut.now) (interval_for_key merge key)) }
 {
     tables_are_bounded();
-    let mut merge = NodeMerge::new(alloc);
+    let mut merge = NodeMerge::new(alloc)?;
     for shard in 0..cut.shards() {
-        merge.add(cut.shard(shard).table(node))?;
+        merge.add(alloc, cut.shard(shard).table(node))?;
     }
     Ok(merge)
 }

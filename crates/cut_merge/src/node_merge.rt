@@ -1,130 +1,131 @@
 //! The tables of one node, merged.
 
-ghost use Rattle.std.specs.Prelude.{◌≡◌, ◌==◌, ◌+◌, ◌^◌, ◌<◌, ◌≤◌, ℕ, [], OnOk, fold, if◌then◌else◌};
-ghost use Rattle.std.specs.Map.{keys_of};
-ghost use Rattle.space_saving.specs.{entry_of, total_count};
-ghost use Rattle.cut_merge.specs.Merged.{seen, missing_high, excess_from, AddsTable, plus, interval_for_key};
+ghost use Rattle.std.specs.Prelude.{◌≡◌, ◌==◌, ◌^◌, ◌<◌, ◌≤◌, ℕ, true, [], IfOk, OnOk, fold, length};
+ghost use Rattle.std.specs.List.{list_any};
+ghost use Rattle.space_saving.specs.{AreApart};
+ghost use Rattle.cut_merge.specs.Merged.{seen, AddsTable, IsBounded, interval_for_key};
+ghost use Rattle.cut_merge.specs.NodeMerge.{is_monitored};
+ghost use Rattle.cut_merge.specs.Run.{IsRunOf, missing_high};
+ghost use Rattle.cut_merge.specs.HighBounds.{cell_of, NotesEntries};
 ghost use Rattle.cut_merge.specs.Tables.{table_keys};
-ghost use Rattle.cut_merge.specs.NodeMerge.{excess_of};
 
-use crate::excess::Excess;
-use indexmap::IndexMap;
+use crate::high_bounds::HighBounds;
+use crate::run::Run;
 use space_saving::Flat;
 use std::alloc::{AllocError, Global};
 use std::marker::Model;
 
-/// The tables of one node, merged: the excess of each monitored key, and the high of a key that no table monitors.
-/// The high of a key is the second number plus its excess, so tables that lack the key count by the second number.
+/// The tables of one node, merged: the run of each shard's table, the keys that some table monitors, and upper bounds on
+/// the highs of keys.
 #[derive(Debug, Drop)]
 pub(crate) struct NodeMerge {
-    excesses: IndexMap<u64, Excess>,
-    missing: u64,
+    runs: Vec<Run>,
+    keys: Vec<u64>,
+    bounds: HighBounds,
 }
 
 impl Model for NodeMerge {
     ghost use Rattle.cut_merge.specs.NodeMerge.{NodeMergeValue};
+    ghost use Rattle.cut_merge.specs.HighBounds.{BoundRuns};
 
     ghost Value = { NodeMergeValue };
 
-    ghost view = { λ m. record { excesses = m.excesses.entries; missing = m.missing } };
+    ghost view = { λ m. record { runs = m.runs.items; keys = m.keys.items } };
+
+    ghost invariant = { λ m. BoundRuns m.runs.items m.bounds };
 }
 
 impl NodeMerge {
-    /// No table is merged yet. It allocates no memory.
-    pub(crate) fn new(alloc: Global) -> NodeMerge
-        ensures { result ≡ record { excesses = []; missing = 0 } }
+    /// No table is merged yet. The only error is that memory runs out.
+    pub(crate) fn new(alloc: Global) -> Result<NodeMerge, AllocError>
+        ensures { IfOk result (λ merge. merge ≡ record { runs = []; keys = [] }) }
     {
-        NodeMerge {
-            excesses: IndexMap::new(alloc),
-            missing: 0,
-        }
+        Ok(NodeMerge {
+            runs: Vec::new(alloc),
+            keys: Vec::new(alloc),
+            bounds: HighBounds::new(alloc)?,
+        })
     }
 
     /// Merges one more table in. After an `Err` the table may be merged in part.
-    pub(crate) fn add(&mut self, table: &Flat) -> Result<(), AllocError>
-        requires low { (key : ℕ) → (interval_for_key self.old key).low + total_count table.now.entries < 2 ^ 64 }
-        requires high { (key : ℕ) → (interval_for_key self.old key).high + total_count table.now.entries < 2 ^ 64 }
+    pub(crate) fn add(&mut self, alloc: Global, table: &Flat) -> Result<(), AllocError>
+        requires known { (key : ℕ) → list_any (λ other. key == other) self.old.keys ≡ is_monitored key self.old.runs }
+        requires apart { AreApart table.now.entries }
+        requires bounded { (key : ℕ) → IsBounded key table.now }
         ensures { OnOk result (AddsTable self.old table.now self.new) }
     {
-        let missing = missing_in(table);
-        self.missing += missing;
-        note_entries(&mut self.excesses, table, missing)
+        let run = Run::of(alloc, table)?;
+        self.bounds.add_missing(run.missing());
+        note_keys(&mut self.keys, &mut self.bounds, &self.runs, table, run.missing())?;
+        Ok(self.runs.push(run)?)
+    }
+
+    /// A bound on the greatest weight that the key can have had, found without a search.
+    pub(crate) fn at_most(&self, key: u64) -> u64
+        requires { (interval_for_key self.now key).high < 2 ^ 64 }
+        ensures { (interval_for_key self.now key).high ≤ result }
+    {
+        self.bounds.at_most(key)
     }
 
     /// The least and the greatest weight that the key can have had.
     pub(crate) fn interval(&self, key: u64) -> (u64, u64)
-        requires { (interval_for_key self.now key).high < 2 ^ 64 }
+        requires low { (interval_for_key self.now key).low < 2 ^ 64 }
+        requires high { (interval_for_key self.now key).high < 2 ^ 64 }
         ensures low { result.0 ≡ (interval_for_key self.now key).low }
         ensures high { result.1 ≡ (interval_for_key self.now key).high }
     {
-        let excess = excess_in(&self.excesses, key);
-        (excess.low, self.missing + excess.high)
+        let mut low = 0;
+        let mut high = 0;
+        for run in &self.runs {
+            let (least, most) = run.interval(key);
+            low += least;
+            high += most;
+        }
+        (low, high)
     }
 
     /// The keys that some table monitors, in the order in which they were first seen.
     pub(crate) fn keys(&self) -> &[u64]
-        ensures { result.now ≡ keys_of self.now.excesses }
+        ensures { result.now ≡ self.now.keys }
     {
-        self.excesses.keys().as_slice()
+        self.keys.as_slice()
     }
 }
 
-// The excess noted for a key.
-fn excess_in(excesses: &IndexMap<u64, Excess>, key: u64) -> Excess
-    ensures { result ≡ excess_of key excesses.now.entries }
-{
-    match excesses.get(&key) {
-        Some(excess) => *excess,
-        None => Excess::NONE,
-    }
-}
-
-// The high of a key that is missing in a table.
-fn missing_in(table: &Flat) -> u64
-    ensures value { result ≡ missing_high table.now }
-    ensures within_total { result ≤ total_count table.now.entries }
-{
-    if table.len() < table.capacity() as usize {
-        0
-    } else {
-        table.entry(0).count
-    }
-}
-
-// Notes the excess of each entry of a table over a key that is missing there.
-fn note_entries(
-    excesses: &mut IndexMap<u64, Excess>,
+// Appends the keys of a table that none of these runs has, and counts all its entries.
+fn note_keys(
+    keys: &mut Vec<u64>,
+    bounds: &mut HighBounds,
+    runs: &[Run],
     table: &Flat,
     missing: u64,
 ) -> Result<(), AllocError>
+    requires known { (key : ℕ) → list_any (λ other. key == other) keys.old.items ≡ is_monitored key runs.now }
+    requires bounded { (key : ℕ) → is_monitored key runs.now ≡ true → 0 < cell_of bounds.old key }
     requires missing { missing ≡ missing_high table.now }
-    requires low { (key : ℕ) → (excess_of key excesses.old.entries).low + total_count table.now.entries < 2 ^ 64 }
-    requires high { (key : ℕ) → (excess_of key excesses.old.entries).high + total_count table.now.entries < 2 ^ 64 }
-    ensures excesses { OnOk result ((key : ℕ) → excess_of key excesses.new.entries
-        ≡ plus (excess_of key excesses.old.entries) (excess_from table.now (entry_of key table.now.entries))) }
-    ensures keys { OnOk result (keys_of excesses.new.entries ≡ fold seen (keys_of excesses.old.entries) (table_keys table.now)) }
+    ensures keys { OnOk result (keys.new.items ≡ fold seen keys.old.items (table_keys table.now)) }
+    ensures bounds { OnOk result (NotesEntries table.now bounds.old bounds.new (length table.now.entries)) }
+    ensures raises { (key : ℕ) → cell_of bounds.old key ≤ cell_of bounds.new key }
+    ensures same { bounds.new.missing ≡ bounds.old.missing }
 {
     for place in 0..table.len() {
         let entry = table.entry(place);
-        let excess = Excess {
-            low: entry.count - entry.error,
-            high: entry.count - missing,
-        };
-        note(excesses, entry.key, excess)?;
+        if !is_known(bounds, runs, entry.key) {
+            keys.push(entry.key)?;
+        }
+        bounds.note(entry.key, entry.count - missing);
     }
     Ok(())
 }
 
-// Adds to the excess of a key. A new key is appended.
-fn note(excesses: &mut IndexMap<u64, Excess>, key: u64, more: Excess) -> Result<(), AllocError>
-    requires low { (excess_of key excesses.old.entries).low + more.low < 2 ^ 64 }
-    requires high { (excess_of key excesses.old.entries).high + more.high < 2 ^ 64 }
-    ensures excess { OnOk result ((other : ℕ) → excess_of other excesses.new.entries
-        ≡ (if key == other then plus (excess_of other excesses.old.entries) more else excess_of other excesses.old.entries)) }
-    ensures keys { OnOk result (keys_of excesses.new.entries ≡ seen (keys_of excesses.old.entries) key) }
+// Whether one of these runs has the key. Where its home is empty, none has.
+fn is_known(bounds: &HighBounds, runs: &[Run], key: u64) -> bool
+    requires { is_monitored key runs.now ≡ true → 0 < cell_of bounds.now key }
+    ensures { result ≡ is_monitored key runs.now }
 {
-    if let Some(before) = excesses.insert(key, more)? {
-        excesses.insert(key, before.plus(more))?;
+    if bounds.is_empty_at(key) {
+        return false;
     }
-    Ok(())
+    runs.iter().any(|run| run.monitors(key))
 }

@@ -5,14 +5,13 @@ use Rattle.std.proofs.Math.ListN.{replicate}
 use Rattle.std.proofs.lemmas.Int.{ints}
 use Rattle.std.proofs.lemmas.List.Elements.{All-nil, All-cons}
 use Rattle.std.proofs.lemmas.List.Kept.{AllPairs-cons}
-use Rattle.std.specs.Map.{keys_of}
 use Rattle.prefix_lattice.specs.{NodeValue, index_of, PrefixValue, node_of, key_of, IsKeyOf, node_count}
 use Rattle.cut_merge.specs.{NodeMergeValue, MergedValue, nothing_merged, candidates_at}
 use Rattle.hhh_output.specs.declared.line.Line.{Line}
 use Rattle.hhh_output.specs.Selecting.{merged_low, merged_high, IsMergedLine, IsSelected, most_candidates}
 use Rattle.hhh_output.specs.Selecting.{AreCandidates, nodes_before, nodes_down, AreDistinct, AreOfLevel, AreDownTo}
 use Rattle.hhh_output.proofs.Examples.{root, whole, whole_is_prefix, own, of_all, alike}
-use Rattle.hhh_output.specs.Lines.{line_limit}
+use Rattle.conditioned_bounds.specs.{line_limit}
 
 -- of the nodes one has level 8, and two have level 7
 pub nodes_of_the_first_levels : nodes_down 2 ≡ 3
@@ -47,7 +46,10 @@ merged = record {
   total = 100;
   nodes =
       replicate 24 nothing_merged
-      ++ record { excesses = (key_of whole, record { low = 100; high = 100 }) ∷ []; missing = 0 } ∷ [];
+      ++ record {
+        runs = record { intervals = record { key = key_of whole; low = 100; high = 100 } ∷ []; missing = 0 } ∷ [];
+        keys = key_of whole ∷ [];
+      } ∷ [];
 }
 
 -- those that know nothing at all
@@ -79,7 +81,7 @@ selected_line = record {
 }
 
 no_candidates : (node : NodeValue) → candidates_at nothing node ≡ []
-no_candidates node = ap (λ (merge : NodeMergeValue). keys_of merge.excesses) (alike nothing_merged 25 (index_of node))
+no_candidates node = ap (λ (merge : NodeMergeValue). merge.keys) (alike nothing_merged 25 (index_of node))
 
 pub nothing_has_no_candidates : AreCandidates nothing
 nothing_has_no_candidates = record {
@@ -93,7 +95,7 @@ nothing_has_no_candidates = record {
 
 -- the root keeps no bit, so it has the one key 0
 pub root_has_no_key_1 : ¬ AreCandidates
-    (record nothing { nodes = record { excesses = (1, record { low = 1; high = 1 }) ∷ []; missing = 0 } ∷ [] })
+    (record nothing { nodes = record { runs = []; keys = 1 ∷ [] } ∷ [] })
 root_has_no_key_1 candidates =
     let loose : 1 ≡ 0 =
     (candidates.keyed (node_of root) (record { source = omega arith; dest = omega arith }) 0 1

@@ -5,6 +5,7 @@ pub mod SoundReportLemmas
 pub mod NodeLineLemmas
 pub mod LevelLemmas
 pub mod LevelsLemmas
+pub mod AppendLemmas
 pub mod SelectionLemmas
 pub mod WeightsRiseLemmas
 pub mod Examples

@@ -62,7 +62,7 @@ within_lists (shard ∷ shards) [] stand = stand
 within_lists (shard ∷ shards) (list ∷ lists) stand = (stand.0.within, within_lists shards lists stand.1)
 
 -- no two lines of a report have one prefix
-distinct_prefixes : IsTotalOrder report_order → (lines : List Line) → AllPairs Before lines
+pub distinct_prefixes : IsTotalOrder report_order → (lines : List Line) → AllPairs Before lines
     → AllPairs (λ prefix other. prefix ≢ other) (prefixes_of lines)
 distinct_prefixes order [] rising = λ i j d before below. absurd (omega arith)
 distinct_prefixes order (line ∷ lines) rising =

@@ -2,18 +2,15 @@
 use Rattle.std.specs.Prelude.{ℕ, ◌≡◌, ◌<◌, ◌≤◌, List, length, map, All, AllPairs}
 use Rattle.std.specs.declared.cmp.Ordering.TheVariants.{Less}
 use Rattle.prefix_lattice.specs.{PrefixValue, report_order}
+use Rattle.conditioned_bounds.specs.{line_limit}
 use Rattle.hhh_output.specs.declared.line.Line.{Line}
 
 -- the prefixes of some lines
 abbrev pub prefixes_of : List Line → List PrefixValue
 prefixes_of lines = map (λ line. line.prefix) lines
 
--- a report has fewer lines than this, 2^24: each of 25 nodes has at most 128 * 4096 candidates
-abbrev pub line_limit : ℕ
-line_limit = 16777216
-
--- what holds of the lines of every report: fewer than 2^24, each with its low at most its high, in the strict order
--- of a report, so no two have the same prefix
+-- what holds of the lines of every report: fewer than 2^24, since each of 25 nodes has at most 128 * 4096 candidates,
+-- each with its low at most its high, in the strict order of a report, so no two have the same prefix
 pub record AreLines (lines : List Line) : Type 0 where
   pub few : length lines < line_limit
   pub ordered : All (λ line. line.lo ≤ line.hi) lines

@@ -5,18 +5,21 @@ ghost use Rattle.std.specs.Prelude.{◌≡◌, ◌≢◌, ◌+◌, ◌≤◌, �
 ghost use Rattle.std.specs.Option.{option_to_list};
 ghost use Rattle.prefix_lattice.specs.{IsNode, level_of, node_of};
 ghost use Rattle.cut_merge.specs.{candidates_at};
+ghost use Rattle.conditioned_bounds.specs.{line_limit};
 ghost use Rattle.hhh_output.specs.declared.line.Line.{Line as LineValue};
 ghost use Rattle.hhh_output.specs.Lines.{prefixes_of};
 ghost use Rattle.hhh_output.specs.Selecting.{IsMergedLine, IsSelected, AreCandidates, AreDistinct, AreOfLevel, AreDownTo};
 
 use crate::merged_intervals::MergedIntervals;
 use crate::{Line, Lines};
-use conditioned_bounds::bound;
+use conditioned_bounds::LineIndex;
 use cut_merge::Merged;
-use prefix_lattice::{Node, Prefix, Prefixes, prefixes_are_ordered, report_order_is_total};
+use prefix_lattice::{Node, Prefix, prefixes_are_ordered, report_order_is_total};
 use std::alloc::{AllocError, Global};
 
-/// The lines that merged tables give, in the order of a report.
+/// The lines that merged tables give, in the order of a report. It stays a function of its own in the binary, so that
+/// measurements can tell where it begins.
+#[inline(never)]
 pub(crate) fn select_lines(
     alloc: Global,
     merged: &Merged,
@@ -26,8 +29,9 @@ pub(crate) fn select_lines(
     ensures { IfOk result (λ lines. AreDownTo merged.now threshold 9 lines) }
 {
     prefixes_are_ordered();
+    report_order_is_total();
     let mut lines = Lines::new(alloc);
-    let mut reported = Prefixes::new(alloc);
+    let mut reported = LineIndex::new(alloc);
     for levels in 0..9 {
         let found = select_level(alloc, merged, threshold, &reported, 8 - levels)?;
         append(&mut lines, &mut reported, &found)?;
@@ -36,13 +40,15 @@ pub(crate) fn select_lines(
 }
 
 // Appends lines, and their prefixes.
-fn append(lines: &mut Lines, reported: &mut Prefixes, found: &[Line]) -> Result<(), AllocError>
+fn append(lines: &mut Lines, reported: &mut LineIndex, found: &[Line]) -> Result<(), AllocError>
+    requires distinct { AllPairs (λ prefix other. prefix ≢ other) (reported.old ++ prefixes_of found.now) }
+    requires few { length reported.old + length found.now < line_limit }
     ensures lines { OnOk result (lines.new ≡ lines.old ++ found.now) }
     ensures prefixes { OnOk result (reported.new ≡ reported.old ++ prefixes_of found.now) }
 {
     for line in found {
         lines.push(*line)?;
-        reported.push(line.prefix)?;
+        reported.push(&line.prefix)?;
     }
     Ok(())
 }
@@ -52,7 +58,7 @@ fn select_level(
     alloc: Global,
     merged: &Merged,
     threshold: u64,
-    reported: &Prefixes,
+    reported: &LineIndex,
     level: u8,
 ) -> Result<Vec<Line>, AllocError>
     requires { AreCandidates merged.now }
@@ -66,7 +72,7 @@ fn select_level(
         if node.level() != level {
             continue;
         }
-        select_at(alloc, merged, threshold, reported, node, &mut found)?;
+        select_at(merged, threshold, reported, node, &mut found)?;
     }
     found.sort_by(|line, other| line.prefix.order(&other.prefix))?;
     Ok(found)
@@ -74,10 +80,9 @@ fn select_level(
 
 // Adds the lines of a node that merged tables give over these lines.
 fn select_at(
-    alloc: Global,
     merged: &Merged,
     threshold: u64,
-    reported: &Prefixes,
+    reported: &LineIndex,
     node: Node,
     found: &mut Vec<Line>,
 ) -> Result<(), AllocError>
@@ -92,7 +97,7 @@ fn select_at(
 {
     for key in merged.candidates(node) {
         let prefix = Prefix::from_key(*key, node).unwrap();
-        let line = line_for(alloc, merged, threshold, reported, prefix)?;
+        let line = line_for(merged, threshold, reported, prefix)?;
         push_found(found, line)?;
     }
     Ok(())
@@ -110,21 +115,23 @@ fn push_found(found: &mut Vec<Line>, line: Option<Line>) -> Result<(), AllocErro
 
 // The line of a prefix, if merged tables give it a line over these lines.
 fn line_for(
-    alloc: Global,
     merged: &Merged,
     threshold: u64,
-    reported: &Prefixes,
+    reported: &LineIndex,
     prefix: Prefix,
 ) -> Result<Option<Line>, AllocError>
     ensures asked { IfOk result (λ found. (line : LineValue) → line.prefix ≡ prefix
         → (found ≡ Some line) ↔ IsMergedLine merged.now threshold reported.now line) }
     ensures prefix { IfOk result (λ found. (line : LineValue) → found ≡ Some line → line.prefix ≡ prefix) }
 {
+    if merged.at_most(&prefix) < threshold {
+        return Ok(None);
+    }
     let (lo, hi) = merged.interval(&prefix);
     if hi < threshold {
         return Ok(None);
     }
-    let parts = bound(alloc, &prefix, reported, &MergedIntervals { merged })?;
+    let parts = reported.bound(&prefix, &MergedIntervals { merged })?;
     if parts.value < i128::from(threshold) {
         return Ok(None);
     }

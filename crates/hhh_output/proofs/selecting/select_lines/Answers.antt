@@ -1,10 +1,58 @@
-use Rattle.std.proofs.Common.{◌≡◌, ◌+◌, ◌-◌, List, ◌++◌, sym, subst, ap, ◌∙◌}
-use Rattle.std.proofs.lemmas.List.{map-append}
+use Rattle.std.proofs.Common.{◌≡◌, ◌≢◌, ℕ, ◌+◌, ◌-◌, ◌<◌, List, ◌++◌, length, AllPairs, sym, subst, ap, ◌∙◌, arith}
+use Rattle.std.proofs.lemmas.List.{map-append, length-map, length-append}
+use Rattle.prefix_lattice.specs.{PrefixValue}
+use Rattle.cut_merge.specs.{MergedValue}
+use Rattle.conditioned_bounds.specs.{line_limit}
 use Rattle.hhh_output.specs.declared.line.Line.{Line}
 use Rattle.hhh_output.specs.Lines.{prefixes_of}
 use Rattle.hhh_output.specs.Selecting.{AreOfLevel, AreDownTo}
+use Rattle.hhh_output.proofs.NearLineLemmas.{LevelsFall}
 use Rattle.hhh_output.proofs.LevelsLemmas.{down_more}
+use Rattle.hhh_output.proofs.SoundReportLemmas.{distinct_prefixes}
+use Rattle.hhh_output.proofs.AppendLemmas.{lines_down-few}
 use Rattle.hhh_output.proofs.selecting.select_lines.Goals as goal
+
+-- the lines with those of one more level
+further : (merged : MergedValue) (threshold levels : ℕ) (lines found : List Line) (reported : List PrefixValue)
+    (items : List Line) → LevelsFall → levels < 9 → reported ≡ prefixes_of lines → items ≡ found
+    → AreDownTo merged threshold levels lines → AreOfLevel merged threshold reported (8 - levels) found
+    → (reported ++ prefixes_of items ≡ prefixes_of (lines ++ found))
+    × AreDownTo merged threshold (levels + 1) (lines ++ found)
+further merged threshold levels lines found reported items law some same same_items down of_level = (
+  ap (λ before. before ++ prefixes_of items) same
+      ∙ ap (λ (more : List Line). prefixes_of lines ++ prefixes_of more) same_items
+      ∙ sym (map-append (λ (l : Line). l.prefix) lines found),
+  down_more merged threshold levels lines found law some down
+      (subst (λ before. AreOfLevel merged threshold before (8 - levels) found) same of_level),
+)
+
+pub append-requires-clause-distinct : goal.append-requires-clause-distinct
+append-requires-clause-distinct c =
+    let more =
+    further c.args.merged.now c.args.threshold c.loop-levels.levels c.loop-levels.lines c.in_ok-found.found.items
+    c.loop-levels.reported c.deref.result.now (record { falls = c.prefixes_are_ordered.ensures.level })
+    c.loop-levels-test.true c.loop-levels.invariant.0 c.deref.ensures.value c.loop-levels.invariant.1
+    c.in_ok-found.ensures in
+    subst (AllPairs (λ prefix other. prefix ≢ other)) (sym more.0)
+    (distinct_prefixes c.report_order_is_total.ensures.total (c.loop-levels.lines ++ c.in_ok-found.found.items)
+    more.1.rising)
+
+pub append-requires-clause-few : goal.append-requires-clause-few
+append-requires-clause-few c =
+    let levels = c.loop-levels.levels in
+    let lines = c.loop-levels.lines in
+    let found = c.in_ok-found.found.items in
+    let more =
+    further c.args.merged.now c.args.threshold levels lines found
+    c.loop-levels.reported c.deref.result.now (record { falls = c.prefixes_are_ordered.ensures.level })
+    c.loop-levels-test.true c.loop-levels.invariant.0 c.deref.ensures.value c.loop-levels.invariant.1
+    c.in_ok-found.ensures in
+    let few : length (lines ++ found) < line_limit =
+    lines_down-few (levels + 1) (length (lines ++ found)) (omega (arith, c.loop-levels-test.true)) more.1.few in
+    let reported : length c.loop-levels.reported ≡ length lines =
+    ap length c.loop-levels.invariant.0 ∙ length-map lines (λ (l : Line). l.prefix) in
+    let items : length c.deref.result.now ≡ length found = ap length c.deref.ensures.value in
+    omega (arith, few, reported, items, length-append lines found)
 
 pub loop-levels-preserved : goal.loop-levels-preserved
 loop-levels-preserved c =

@@ -1,26 +1,39 @@
-use Rattle.std.proofs.Common.{ℕ, ◌+◌, ◌<◌, ◌^◌, sym, subst, arith}
-use Rattle.space_saving.specs.{total_count}
-use Rattle.cut_merge.specs.Merged.{interval_for_key}
-use Rattle.cut_merge.specs.NodeMerge.{NodeMergeValue}
+use Rattle.std.proofs.Common.{◌≡◌, ℕ, ◌+◌, ◌≤◌, min, eqb, List, length, slice_index, sym, ap, ◌∙◌, subst, take_all, arith}
+use Rattle.std.specs.List.{list_any}
+use Rattle.space_saving.specs.{entry_of}
+use Rattle.space_saving.specs.declared.entry.Entry.{Entry}
+use Rattle.cut_merge.specs.Run.{RunValue, missing_high}
+use Rattle.cut_merge.specs.NodeMerge.{NodeMergeValue, is_monitored}
+use Rattle.cut_merge.specs.HighBounds.{home_of, cell_of, greatest_bound, counted_by, BoundRuns}
+use Rattle.cut_merge.proofs.HighBoundLemmas.{bounds_more}
 use Rattle.cut_merge.proofs.node_merge.NodeMerge.add.Goals as goal
 
-pub overflow_add-self : goal.overflow_add-self
-overflow_add-self c =
-    let room =
-    subst (λ (v : NodeMergeValue). (interval_for_key v 0).high + total_count c.args.table.now.entries < 2 ^ 64)
-    (sym c.self.view_is) (c.requires.high 0) in
-    omega (arith, room, c.missing_in-missing.ensures.within_total)
+pub note_keys-requires-clause-known : goal.note_keys-requires-clause-known
+note_keys-requires-clause-known c = λ key.
+    subst (λ (v : NodeMergeValue). list_any (λ other. eqb key other) v.keys ≡ is_monitored key v.runs)
+    (sym c.self.view_is) (c.requires.known key)
+    ∙ ap (is_monitored key) (sym c.deref.ensures.value)
 
-pub note_entries-requires-clause-low : goal.note_entries-requires-clause-low
-note_entries-requires-clause-low c =
-    subst (λ (v : NodeMergeValue).
-    (key : ℕ) → (interval_for_key v key).low + total_count c.args.table.now.entries < 2 ^ 64) (sym c.self.view_is)
-    c.requires.low
-
-pub note_entries-requires-clause-high : goal.note_entries-requires-clause-high
-note_entries-requires-clause-high c = λ key.
-    let room =
-    subst
-    (λ (v : NodeMergeValue). (interval_for_key v key).high + total_count c.args.table.now.entries < 2 ^ 64)
-    (sym c.self.view_is) (c.requires.high key) in
-    omega (arith, room)
+pub invariant_of-self-2 : goal.invariant_of-self-2
+invariant_of-self-2 c =
+    let table = c.args.table.now in
+    let old = c.self.inside.bounds in
+    let new = c.note_keys.new.bounds in
+    let runs = c.self.inside.runs.items in
+    let run = c.in_ok-run.run' in
+    let missing : new.missing ≡ min greatest_bound (old.missing + missing_high table) =
+    c.note_keys.ensures.same ∙ c.add_missing.ensures.missing
+    ∙ ap (λ (high : ℕ). min greatest_bound (old.missing + high)) (c.missing.ensures ∙ c.in_ok-run.ensures.missing) in
+    let noted : (key : ℕ) → min greatest_bound (cell_of old key + counted_by table (entry_of key table.entries))
+    ≤ cell_of new key =
+    λ key.
+    subst (λ (cells : List ℕ).
+    min greatest_bound (slice_index cells (home_of key) + counted_by table (entry_of key table.entries)) ≤ cell_of new key)
+    c.add_missing.ensures.cells
+    (subst (λ (entries : List Entry).
+    min greatest_bound (cell_of c.add_missing.new.self key + counted_by table (entry_of key entries)) ≤ cell_of new key)
+    (take_all (length table.entries) table.entries (omega arith))
+    (c.in_ok-note_keys.ensures.bounds.noted key)) in
+    subst (λ (rs : List RunValue). BoundRuns rs new) (sym c.in_ok-push.ensures.items)
+    (bounds_more runs run table old new c.self.invariant c.in_ok-run.ensures
+    (λ key. (c.requires.bounded key).above_missing) missing noted)

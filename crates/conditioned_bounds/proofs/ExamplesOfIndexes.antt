@@ -1,0 +1,135 @@
+-- Worked examples of how lines are indexed, most by computing.
+use Rattle.std.proofs.Common.{◌≡◌, ◌≢◌, ℕ, ◌+◌, ◌*◌, ◌^◌, true, false, List, [], ◌∷◌, length, None, Some, refl, sym, ap}
+use Rattle.std.proofs.Common.{◌<◌, ◌∙◌, map, All, Vec, subst, arith}
+use Rattle.std.specs.Map.{lookup}
+use Rattle.std.specs.Ordering.{nat_cmp}
+use Rattle.std.specs.Prelude.{vec_len, vec_capacity}
+use Rattle.std.specs.BTreeMap.{BTreeMap, is_at}
+use Rattle.std.specs.declared.alloc.Global.{Global}
+use Rattle.std.proofs.lemmas.Bool.{false≢true}
+use Rattle.prefix_lattice.proofs.ListLemmas.{Contains-head}
+use Rattle.prefix_lattice.specs.{NodeValue, PrefixValue, AreLeadingBytes, IsPrefix, node_of, strictly_under}
+use Rattle.conditioned_bounds.specs.Uppers.{keeps_no_more, shortened, upper_at, code_of, AreCodesAbove}
+use Rattle.conditioned_bounds.specs.Members.{line_limit, AreMembers}
+use Rattle.conditioned_bounds.specs.Numbers.{kept_numbers, numbers_at, IsRoomy, HasRoom}
+use Rattle.conditioned_bounds.specs.LineIndex.{root, line_of, AreIndexed}
+
+-- 10.1.0.0/16 20.0.0.0/8
+abbrev net : PrefixValue
+net = record { source = 10 ∷ 1 ∷ []; dest = 20 ∷ [] }
+
+-- a node that keeps so many bytes of each address
+abbrev node : ℕ → ℕ → NodeValue
+node sources dests = record { source_bytes = sources; dest_bytes = dests }
+
+pub a_node_of_fewer_source_bytes : keeps_no_more (node 1 1) net ≡ true
+a_node_of_fewer_source_bytes = refl
+
+pub a_node_of_more_destination_bytes : keeps_no_more (node 1 2) net ≡ false
+a_node_of_more_destination_bytes = refl
+
+-- 10.0.0.0/8 0.0.0.0/0
+pub net_cut_down : shortened net (node 1 0) ≡ record { source = 10 ∷ []; dest = [] }
+net_cut_down = refl
+
+pub net_is_under_one_prefix_of_a_node : upper_at net (node 1 1) ≡ Some (record { source = 10 ∷ []; dest = 20 ∷ [] })
+net_is_under_one_prefix_of_a_node = refl
+
+pub net_is_under_none_of_a_node_that_keeps_more : upper_at net (node 3 0) ≡ None
+net_is_under_none_of_a_node_that_keeps_more = refl
+
+-- node 11 of the 25, and 10.1.0.0 and 20.0.0.0
+pub code_of_the_net : code_of net ≡ 11 * 2 ^ 64 + 0x0a01000014000000
+code_of_the_net = refl
+
+-- 10.0.0.0/8 and 10.0.0.0/16 have one address, and differ in their nodes
+pub nets_of_one_address_have_two_codes : code_of (record { source = 10 ∷ []; dest = [] })
+    ≢ code_of (record { source = 10 ∷ 0 ∷ []; dest = [] })
+nets_of_one_address_have_two_codes same = omega (arith, same)
+
+no_upper : (source dest : List ℕ) → false ≡ strictly_under root (record { source = source; dest = dest })
+no_upper [] [] = refl
+no_upper [] (byte ∷ dest) = refl
+no_upper (byte ∷ source) dest = refl
+
+root_is_prefix : IsPrefix root
+root_is_prefix =
+    let none : AreLeadingBytes [] = record { few = omega arith; bytes = λ place. omega arith } in
+    record { source = none; dest = none }
+
+-- nothing is above the root
+pub the_root_has_no_codes_above : AreCodesAbove root []
+the_root_has_no_codes_above = record {
+  distinct = λ i j d before within. absurd (omega arith);
+  members = λ upper is. no_upper upper.source upper.dest;
+}
+
+pub the_root_is_not_above_itself : ¬ AreCodesAbove root (code_of root ∷ [])
+the_root_is_not_above_itself above = false≢true (sym (above.members root root_is_prefix))
+
+pub limit_of_an_index : line_limit ≡ 2 ^ 24
+limit_of_an_index = refl
+
+-- no prefixes, no codes, no nodes
+pub no_members : AreMembers [] (record { keys = [] }) []
+no_members = record {
+  few = omega arith;
+  prefixes = λ k d within. absurd (omega arith);
+  coded = λ prefix there. absurd (omega (arith, there.1));
+  found = λ prefix is there. absurd (false≢true there);
+  nodes = λ k d within. absurd (omega arith);
+}
+
+-- a member whose code is missing wouldn't be found
+pub a_member_has_its_code : ¬ AreMembers (root ∷ []) (record { keys = [] }) (node_of root ∷ [])
+a_member_has_its_code are = false≢true (are.coded root (Contains-head root []))
+
+-- a map of one code, with the numbers that are kept under it
+pub numbers_of_a_code : (kept : BTreeMap ℕ (Vec ℕ Global)) (numbers : Vec ℕ Global)
+    → kept.entries ≡ (5, numbers) ∷ [] → numbers_at kept 5 ≡ numbers.items
+numbers_of_a_code kept numbers is =
+    ap (λ (entries : List (ℕ × Vec ℕ Global)). kept_numbers (lookup (is_at (nat_cmp 5)) entries)) is
+
+pub no_numbers_of_another_code : (kept : BTreeMap ℕ (Vec ℕ Global)) (numbers : Vec ℕ Global)
+    → kept.entries ≡ (5, numbers) ∷ [] → numbers_at kept 6 ≡ []
+no_numbers_of_another_code kept numbers is =
+    ap (λ (entries : List (ℕ × Vec ℕ Global)). kept_numbers (lookup (is_at (nat_cmp 6)) entries)) is
+
+pub nothing_kept_is_no_number : kept_numbers None ≡ []
+nothing_kept_is_no_number = refl
+
+pub another_code_has_no_room : (kept : BTreeMap ℕ (Vec ℕ Global)) (numbers : Vec ℕ Global)
+    → kept.entries ≡ (5, numbers) ∷ [] → ¬ HasRoom kept 6
+another_code_has_no_room kept numbers is room =
+    subst (λ (entries : List (ℕ × Vec ℕ Global)). IsRoomy (lookup (is_at (nat_cmp 6)) entries)) is room
+
+pub no_room_where_the_capacity_is_used_up : (numbers : Vec ℕ Global) → vec_len numbers ≡ vec_capacity numbers
+    → ¬ IsRoomy (Some numbers)
+no_room_where_the_capacity_is_used_up numbers full room = omega (arith, full, room)
+
+pub first_line : line_of (net ∷ root ∷ []) 0 ≡ net
+first_line = refl
+
+pub no_line_of_a_number_past_the_last : line_of (net ∷ []) 1 ≡ root
+no_line_of_a_number_past_the_last = refl
+
+nothing_at : (kept : BTreeMap ℕ (Vec ℕ Global)) (code : ℕ) → kept.entries ≡ [] → numbers_at kept code ≡ []
+nothing_at kept code is =
+    ap (λ (entries : List (ℕ × Vec ℕ Global)). kept_numbers (lookup (is_at (nat_cmp code)) entries)) is
+
+pub no_lines_are_indexed_by_nothing : (kept : BTreeMap ℕ (Vec ℕ Global)) → kept.entries ≡ [] → AreIndexed [] kept
+no_lines_are_indexed_by_nothing kept is = record {
+  few = omega arith;
+  distinct = λ i j d before within. absurd (omega arith);
+  numbers = λ code.
+      subst (All (λ number. number < 0)) (sym (nothing_at kept code is)) (λ k d within. absurd (omega arith));
+  under = λ prefix is_prefix. ap (map (line_of [])) (nothing_at kept (code_of prefix) is);
+}
+
+-- the root would miss the net under it
+pub a_line_is_not_indexed_by_nothing : (kept : BTreeMap ℕ (Vec ℕ Global)) → kept.entries ≡ []
+    → ¬ AreIndexed (net ∷ []) kept
+a_line_is_not_indexed_by_nothing kept is are =
+    let missed : 0 ≡ 1 =
+    ap length (sym (ap (map (line_of (net ∷ []))) (nothing_at kept (code_of root) is)) ∙ are.under root root_is_prefix) in
+    omega (arith, missed)

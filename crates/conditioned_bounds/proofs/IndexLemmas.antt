@@ -1,0 +1,135 @@
+-- Lines and the numbers of those that are strictly under each prefix.
+use Rattle.std.proofs.Common.{◌≡◌, ◌≢◌, ℕ, ◌+◌, ◌<◌, ◌≤◌, eqb, cond, Bool, true, false, not, List, [], ◌∷◌, ◌++◌, length, map}
+use Rattle.std.proofs.Common.{filter, get_or, take, All, Contains, Vec, refl, sym, ap, ◌∙◌, subst, arith}
+use Rattle.std.proofs.Common.{if◌then◌else◌, append-nil}
+use Rattle.std.specs.List.{list_any}
+use Rattle.std.specs.BTreeMap.{BTreeMap}
+use Rattle.std.specs.declared.alloc.Global.{Global}
+use Rattle.std.proofs.lemmas.List.{length_push, get_or_append_left, get_or_push, map-append, length-map, get_or_default}
+use Rattle.std.proofs.lemmas.List.{take_more, get_or-map}
+use Rattle.std.proofs.lemmas.List.Elements.{All-push, All-weaker, All-head, All-tail, All-get_or, filter-append}
+use Rattle.std.proofs.lemmas.List.Elements.{filter_passes}
+use Rattle.std.proofs.lemmas.List.Sums.{length-filter, count_by-le-length}
+use Rattle.prefix_lattice.specs.{PrefixValue, IsPrefix, strictly_under, lines_under, closest}
+use Rattle.conditioned_bounds.specs.Uppers.{code_of, AreCodesAbove}
+use Rattle.conditioned_bounds.specs.Numbers.{numbers_at}
+use Rattle.conditioned_bounds.specs.LineIndex.{AreIndexed, line_of, root}
+use Rattle.conditioned_bounds.specs.Members.{line_limit}
+use Rattle.conditioned_bounds.proofs.CodeLemmas.{AllPairs-push}
+
+-- lines are indexed by whatever keeps the same numbers
+pub indexed_same : (lines : List PrefixValue) (kept others : BTreeMap ℕ (Vec ℕ Global))
+    → ((code : ℕ) → numbers_at others code ≡ numbers_at kept code) → AreIndexed lines kept → AreIndexed lines others
+indexed_same lines kept others same are = record {
+  few = are.few;
+  distinct = are.distinct;
+  numbers = λ code. subst (All (λ number. number < length lines)) (sym (same code)) (are.numbers code);
+  under = λ prefix is. ap (map (line_of lines)) (same (code_of prefix)) ∙ are.under prefix is;
+}
+
+-- the lines of numbers stay where one is appended
+lines-stay : (lines : List PrefixValue) (line : PrefixValue) (numbers : List ℕ)
+    → All (λ number. number < length lines) numbers
+    → map (line_of (lines ++ line ∷ [])) numbers ≡ map (line_of lines) numbers
+lines-stay lines line [] few = refl
+lines-stay lines line (number ∷ numbers) few =
+    ap (λ l. l ∷ map (line_of (lines ++ line ∷ [])) numbers)
+    (get_or_append_left lines (line ∷ []) root number (All-head (λ n. n < length lines) number numbers few))
+    ∙ ap (λ ls. line_of lines number ∷ ls)
+    (lines-stay lines line numbers (All-tail (λ n. n < length lines) number numbers few))
+
+-- one more line, whose number is noted under the codes of all prefixes above it
+pub indexed_push : (lines : List PrefixValue) (line : PrefixValue) (kept noted : BTreeMap ℕ (Vec ℕ Global))
+    (codes : List ℕ) (number : ℕ) → AreIndexed lines kept → ¬ Contains lines line → AreCodesAbove line codes
+    → number ≡ length lines → length lines + 1 < line_limit
+    → ((code : ℕ) → numbers_at noted code
+    ≡ (if list_any (λ other. eqb other code) codes
+    then numbers_at kept code ++ number ∷ [] else numbers_at kept code))
+    → AreIndexed (lines ++ line ∷ []) noted
+indexed_push lines line kept noted codes number are new above is_number less notes = record {
+  few = omega (arith, less, length_push lines line);
+  distinct =
+      AllPairs-push (λ one other. one ≢ other) lines line are.distinct
+      (λ k d within same. new (k, within, same-at k d within ∙ same));
+  numbers = λ code.
+      subst (All (λ n. n < length (lines ++ line ∷ []))) (sym (notes code))
+      (few code (list_any (λ other. eqb other code) codes));
+  under = λ prefix is.
+      ap (map (line_of (lines ++ line ∷ []))) (notes (code_of prefix))
+      ∙ ap (λ b. map (line_of (lines ++ line ∷ []))
+      (if b then numbers_at kept (code_of prefix) ++ number ∷ [] else numbers_at kept (code_of prefix)))
+      (above.members prefix is)
+      ∙ by prefix is (strictly_under line prefix) refl
+      ∙ sym (filter-append (λ l. strictly_under l prefix) lines (line ∷ []));
+}
+  where
+    same-at : (k : ℕ) (d : PrefixValue) → k < length lines → get_or lines k line ≡ get_or lines k d
+    same-at k d within = get_or_default lines k line d within
+
+    few : (code : ℕ) (b : Bool) → All (λ n. n < length (lines ++ line ∷ []))
+        (if b then numbers_at kept code ++ number ∷ [] else numbers_at kept code)
+    few code true =
+        All-push (λ n. n < length (lines ++ line ∷ [])) (numbers_at kept code) number
+        (All-weaker (λ n. n < length lines) (λ n. n < length (lines ++ line ∷ []))
+        (λ n less. omega (arith, less, length_push lines line)) (numbers_at kept code) (are.numbers code))
+        (omega (arith, is_number, length_push lines line))
+    few code false =
+        All-weaker (λ n. n < length lines) (λ n. n < length (lines ++ line ∷ []))
+        (λ n less. omega (arith, less, length_push lines line)) (numbers_at kept code) (are.numbers code)
+
+    stays : (prefix : PrefixValue) → IsPrefix prefix
+        → map (line_of (lines ++ line ∷ [])) (numbers_at kept (code_of prefix)) ≡ lines_under prefix lines
+    stays prefix is =
+        lines-stay lines line (numbers_at kept (code_of prefix)) (are.numbers (code_of prefix)) ∙ are.under prefix is
+
+    by : (prefix : PrefixValue) → IsPrefix prefix → (b : Bool) → strictly_under line prefix ≡ b
+        → map (line_of (lines ++ line ∷ []))
+        (if b then numbers_at kept (code_of prefix) ++ number ∷ [] else numbers_at kept (code_of prefix))
+        ≡ lines_under prefix lines ++ cond (strictly_under line prefix) (line ∷ []) []
+    by prefix is true strictly =
+        map-append (line_of (lines ++ line ∷ [])) (numbers_at kept (code_of prefix)) (number ∷ [])
+        ∙ ap (λ ls. ls ++ line_of (lines ++ line ∷ []) number ∷ []) (stays prefix is)
+        ∙ ap (λ l. lines_under prefix lines ++ l ∷ [])
+        (get_or_push lines line root number (sym is_number))
+        ∙ ap (λ b. lines_under prefix lines ++ cond b (line ∷ []) []) (sym strictly)
+    by prefix is false strictly =
+        stays prefix is ∙ sym (append-nil (lines_under prefix lines))
+        ∙ ap (λ b. lines_under prefix lines ++ cond b (line ∷ []) []) (sym strictly)
+
+-- the line of a number under a prefix's code is strictly under the prefix
+pub number_strictly : (lines : List PrefixValue) (numbers : List ℕ) (prefix : PrefixValue) (at : ℕ)
+    → map (line_of lines) numbers ≡ lines_under prefix lines → at < length numbers
+    → strictly_under (line_of lines (get_or numbers at 0)) prefix ≡ true
+number_strictly lines numbers prefix at same within =
+    let inside : at < length (lines_under prefix lines) =
+    subst (λ (ls : List PrefixValue). at < length ls) same (omega (arith, within, length-map numbers (line_of lines))) in
+    let passes : strictly_under (get_or (lines_under prefix lines) at root) prefix ≡ true =
+    All-get_or (λ line. strictly_under line prefix ≡ true) (lines_under prefix lines) at root inside
+    (filter_passes (λ line. strictly_under line prefix) lines) in
+    let here : get_or (map (line_of lines) numbers) at root ≡ line_of lines (get_or numbers at 0) =
+    get_or-map (line_of lines) numbers at 0 root within in
+    subst (λ line. strictly_under line prefix ≡ true)
+    (ap (λ (ls : List PrefixValue). get_or ls at root) (sym same) ∙ here) passes
+
+-- one more number, whose line passes a test or fails it
+pub filter_line : (test : PrefixValue → Bool) (lines : List PrefixValue) (numbers : List ℕ) (at : ℕ)
+    (line : PrefixValue) (passes : Bool) → at < length numbers → line ≡ line_of lines (get_or numbers at 0)
+    → test line ≡ passes
+    → filter test (map (line_of lines) (take (at + 1) numbers))
+    ≡ filter test (map (line_of lines) (take at numbers)) ++ cond passes (line ∷ []) []
+filter_line test lines numbers at line passes within is tested =
+    ap (λ ns. filter test (map (line_of lines) ns)) (take_more numbers at 0 within)
+    ∙ ap (filter test) (map-append (line_of lines) (take at numbers) (get_or numbers at 0 ∷ []))
+    ∙ filter-append test (map (line_of lines) (take at numbers)) (line_of lines (get_or numbers at 0) ∷ [])
+    ∙ ap (λ l. filter test (map (line_of lines) (take at numbers)) ++ cond (test l) (l ∷ []) []) (sym is)
+    ∙ ap (λ b. filter test (map (line_of lines) (take at numbers)) ++ cond b (line ∷ []) []) tested
+
+-- the closest lines are at most as many as the lines
+pub closest_few : (prefix : PrefixValue) (lines : List PrefixValue) → length (closest prefix lines) ≤ length lines
+closest_few prefix lines =
+    let tops = filter-few (λ member. not (list_any (λ other. strictly_under member other) (lines_under prefix lines)))
+    (lines_under prefix lines) in
+    omega (arith, tops, filter-few (λ line. strictly_under line prefix) lines)
+  where
+    filter-few : (test : PrefixValue → Bool) (xs : List PrefixValue) → length (filter test xs) ≤ length xs
+    filter-few test xs = omega (arith, length-filter test xs, count_by-le-length test xs)

@@ -1,0 +1,68 @@
+use Rattle.std.proofs.Common.{◌≡◌, ◌+◌, ◌<◌, ℕ, eqb, cond, true, Bool, ◌&&◌, List, [], ◌∷◌, ◌++◌, length, Contains}
+use Rattle.std.proofs.Common.{subst, sym, ap, ◌∙◌}
+use Rattle.std.specs.List.{list_any}
+use Rattle.std.proofs.lemmas.List.Elements.{Contains-push, Contains-append_left}
+use Rattle.std.specs.Ordering.{nat_cmp, eq_by_cmp}
+use Rattle.std.specs.BTreeSet.{contains}
+use Rattle.prefix_lattice.specs.{NodeValue, PrefixValue, node_of}
+use Rattle.conditioned_bounds.specs.Uppers.{code_of}
+use Rattle.conditioned_bounds.specs.Members.{AreMembers, line_limit}
+use Rattle.conditioned_bounds.proofs.MemberLemmas.{members_same, members_push, node_there}
+use Rattle.conditioned_bounds.proofs.members.Members.push.Goals as goal
+use Rattle.conditioned_bounds.proofs.members.Members.push.Goals.{then-not-contains+in_ok-push, else-not-contains}
+
+pub invariant_of-self-in_err-insert : goal.invariant_of-self-in_err-insert
+invariant_of-self-in_err-insert c =
+    members_same c.self.inside.prefixes.items c.reserve.new.self.items c.self.inside.codes c.insert.new.self
+    c.self.inside.nodes.items c.reserve-2.new.self.items c.reserve.ensures.items c.in_err-insert.ensures.err
+    c.reserve-2.ensures.items c.self.invariant
+
+pub invariant_of-self-2 : goal.invariant_of-self-2
+invariant_of-self-2 c =
+    let inside = c.self.inside in
+    let prefix = c.args.prefix.now in
+    let old = inside.nodes.items in
+    let node : c.node-node.result ≡ node_of prefix = c.node-node.ensures in
+    let few : length inside.prefixes.items + 1 < line_limit =
+    subst (λ (ms : List PrefixValue). length ms + 1 < line_limit) (sym c.self.view_is) c.requires in
+    let adds : (q : ℕ) → contains nat_cmp c.insert.new.self q
+    ≡ cond (eq_by_cmp nat_cmp (code_of prefix) q) true (contains nat_cmp inside.codes q) =
+    subst (λ (code : ℕ). (q : ℕ) → contains nat_cmp c.insert.new.self q
+    ≡ cond (eq_by_cmp nat_cmp code q) true (contains nat_cmp inside.codes q))
+    c.code_of.ensures.value c.in_ok-insert.ensures.updates.0 in
+    let pushed : (at : List NodeValue) → ((n : NodeValue) → Contains old n → Contains at n)
+    → Contains at (node_of prefix) → AreMembers (inside.prefixes.items ++ prefix ∷ []) c.insert.new.self at =
+    λ at kept there.
+    members_push c.keys_are_of_their_node.ensures.apart inside.prefixes.items prefix inside.codes c.insert.new.self
+    old at c.self.invariant c.code_of.ensures.prefix few adds kept there in
+    let joined = c.if-not-contains.self-inside in
+    let Test : List NodeValue → Bool =
+    list_any (λ (n : NodeValue). eqb n.source_bytes c.node-node.result.source_bytes
+    && eqb n.dest_bytes c.node-node.result.dest_bytes) in
+    elim c.if-not-contains.branch [
+      | then-not-contains+in_ok-push w ↦
+          let at = old ++ c.node-node.result ∷ [] in
+          members_same (inside.prefixes.items ++ prefix ∷ []) c.push-2.new.self.items c.insert.new.self joined.codes at
+          joined.nodes.items
+          (c.in_ok-push-2.ensures.items
+          ∙ ap (λ i. i.prefixes.items ++ prefix ∷ []) w.self-inside-is
+          ∙ ap (λ (ms : List PrefixValue). ms ++ prefix ∷ []) c.reserve.ensures.items)
+          (ap (λ i. i.codes.keys) w.self-inside-is)
+          (ap (λ i. i.nodes.items) w.self-inside-is ∙ w.in_ok-push.ensures.items
+          ∙ ap (λ (ns : List NodeValue). ns ++ c.node-node.result ∷ []) c.reserve-2.ensures.items)
+          (pushed at (λ n there. Contains-append_left old (c.node-node.result ∷ []) n there)
+          (subst (Contains at) node (Contains-push old c.node-node.result)))
+      | else-not-contains w ↦
+          members_same (inside.prefixes.items ++ prefix ∷ []) c.push-2.new.self.items c.insert.new.self joined.codes old
+          joined.nodes.items
+          (c.in_ok-push-2.ensures.items
+          ∙ ap (λ i. i.prefixes.items ++ prefix ∷ []) w.self-inside-is
+          ∙ ap (λ (ms : List PrefixValue). ms ++ prefix ∷ []) c.reserve.ensures.items)
+          (ap (λ i. i.codes.keys) w.self-inside-is)
+          (ap (λ i. i.nodes.items) w.self-inside-is ∙ c.reserve-2.ensures.items)
+          (pushed old (λ n there. there)
+          (subst (Contains old) node
+          (node_there old c.node-node.result
+          (ap Test (sym (c.deref.ensures.value ∙ c.reserve-2.ensures.items)) ∙ sym c.contains.ensures.value
+          ∙ w.if-not-contains.false))))
+    ]

@@ -1,0 +1,25 @@
+-- Lines and the numbers of those that are strictly under each prefix.
+use Rattle.std.specs.Prelude.{ℕ, ◌≡◌, ◌≢◌, ◌<◌, List, length, map, All, AllPairs, slice_index_or, [], Vec}
+use Rattle.std.specs.BTreeMap.{BTreeMap}
+use Rattle.std.specs.declared.alloc.Global.{Global}
+use Rattle.prefix_lattice.specs.{PrefixValue, IsPrefix, lines_under}
+use Rattle.conditioned_bounds.specs.Uppers.{code_of}
+use Rattle.conditioned_bounds.specs.Members.{line_limit}
+use Rattle.conditioned_bounds.specs.Numbers.{numbers_at}
+
+-- the prefix that keeps no byte
+abbrev pub root : PrefixValue
+root = record { source = []; dest = [] }
+
+-- the line of a number
+abbrev pub line_of : List PrefixValue → ℕ → PrefixValue
+line_of lines number = slice_index_or lines number root
+
+-- there are fewer than 2^24 lines, all distinct, each number that is kept is that of a line, and those kept under a prefix's code are
+-- the numbers of the lines that are strictly under it, in the order of the lines
+pub record AreIndexed (lines : List PrefixValue) (kept : BTreeMap ℕ (Vec ℕ Global)) : Type 0 where
+  pub few : length lines < line_limit
+  pub distinct : AllPairs (λ line other. line ≢ other) lines
+  pub numbers : (code : ℕ) → All (λ number. number < length lines) (numbers_at kept code)
+  pub under : (prefix : PrefixValue) → IsPrefix prefix
+      → map (line_of lines) (numbers_at kept (code_of prefix)) ≡ lines_under prefix lines

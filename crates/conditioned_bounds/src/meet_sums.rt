@@ -1,0 +1,98 @@
+//! The sum over the meets of kept pairs, without a list of these.
+
+ghost use Rattle.std.specs.Prelude.{◌≡◌, ◌*◌, ◌<◌, ◌≤◌, true, length, sum_by};
+ghost use Rattle.std.specs.List.{filter_map};
+ghost use Rattle.prefix_lattice.specs.{under, under_third, kept_meet, kept_pairs, total_limit};
+ghost use Rattle.conditioned_bounds.specs.Members.{line_limit};
+
+use crate::Intervals;
+use crate::members::Members;
+use crate::uppers::upper;
+use prefix_lattice::{Prefix, prefixes_are_ordered};
+
+/// The sum of the highs of some meets, and how many there are.
+#[derive(Clone, Copy, Debug, PartialEq, Eq)]
+pub(crate) struct MeetSum {
+    pub(crate) highs: u128,
+    pub(crate) pairs: u64,
+}
+
+/// The sum over the meets of the kept pairs of some members. Each pair costs one look-up for each node that has a
+/// member, and no memory.
+pub(crate) fn sum_of_meets<I: Intervals>(members: &Members, intervals: &I) -> MeetSum
+    ensures highs { result.highs ≡ sum_by (I.high intervals.now) (kept_pairs members.now) }
+    ensures pairs { result.pairs ≡ length (kept_pairs members.now) }
+    ensures bounded { result.highs ≤ result.pairs * total_limit }
+    ensures few { result.pairs ≤ line_limit * line_limit }
+{
+    let mut sum = MeetSum { highs: 0, pairs: 0 };
+    let prefixes = members.as_slice();
+    for (place, first) in prefixes.iter().enumerate() {
+        let more = sum_of_meets_with(members, first, &prefixes[place + 1..], intervals);
+        sum.highs += more.highs;
+        sum.pairs += more.pairs;
+    }
+    sum
+}
+
+/// The sum over the meets of the kept pairs of one member with each of these others.
+fn sum_of_meets_with<I: Intervals>(
+    members: &Members,
+    first: &Prefix,
+    seconds: &[Prefix],
+    intervals: &I,
+) -> MeetSum
+    requires { length seconds.now < line_limit }
+    ensures highs { result.highs ≡ sum_by (I.high intervals.now) (filter_map (kept_meet members.now first.now) seconds.now) }
+    ensures pairs { result.pairs ≡ length (filter_map (kept_meet members.now first.now) seconds.now) }
+    ensures bounded { result.highs ≤ result.pairs * total_limit }
+    ensures few { result.pairs ≤ length seconds.now }
+{
+    let mut sum = MeetSum { highs: 0, pairs: 0 };
+    for second in seconds {
+        if let Some(meet) = kept_meet(members, first, second) {
+            let (_, high) = intervals.interval(&meet);
+            sum.highs += u128::from(high);
+            sum.pairs += 1;
+        }
+    }
+    sum
+}
+
+/// The meet of a pair, if the pair is kept.
+fn kept_meet(members: &Members, first: &Prefix, second: &Prefix) -> Option<Prefix>
+    ensures { result ≡ kept_meet members.now first.now second.now }
+{
+    let meet = first.meet(second)?;
+    if is_under_third(members, first, second, &meet) {
+        None
+    } else {
+        Some(meet)
+    }
+}
+
+/// Whether the meet of a pair is under a third member: one of another node than either, which is looked up there.
+fn is_under_third(members: &Members, first: &Prefix, second: &Prefix, meet: &Prefix) -> bool
+    requires first { under meet.now first.now ≡ true }
+    requires second { under meet.now second.now ≡ true }
+    ensures { result ≡ under_third members.now first.now second.now meet.now }
+{
+    prefixes_are_ordered();
+    let first = first.node();
+    let second = second.node();
+    for node in members.nodes() {
+        if *node == first {
+            continue;
+        }
+        if *node == second {
+            continue;
+        }
+        let Some(third) = upper(meet, *node) else {
+            continue;
+        };
+        if members.has(&third) {
+            return true;
+        }
+    }
+    false
+}

@@ -1,0 +1,55 @@
+//! The prefixes that a prefix is under, one at each node that keeps no more than it.
+
+ghost use Rattle.std.specs.Prelude.{◌≡◌, IfOk};
+ghost use Rattle.prefix_lattice.specs.{IsPrefix, IsNode};
+ghost use Rattle.conditioned_bounds.specs.Uppers.{upper_at, code_of, AreCodesAbove};
+
+use prefix_lattice::{Node, Prefix, Record, keys_are_of_their_node, prefixes_are_ordered};
+use std::alloc::{AllocError, Global};
+
+/// The prefix of a node that this prefix is under. There is none where the node keeps more bytes of an address.
+pub(crate) fn upper(prefix: &Prefix, node: Node) -> Option<Prefix>
+    ensures value { result ≡ upper_at prefix.now node }
+    ensures prefix { IsPrefix prefix.now }
+    ensures node { IsNode node }
+{
+    prefix.keeps_leading_bytes();
+    let own = prefix.node();
+    if node.source_bytes() > own.source_bytes() || node.dest_bytes() > own.dest_bytes() {
+        return None;
+    }
+    let pair = Record {
+        src: prefix.source(),
+        dst: prefix.dest(),
+        weight: 1,
+    };
+    Some(Prefix::of(&pair, node))
+}
+
+/// The number of a prefix, by its node and then by its key. No two prefixes share one.
+pub(crate) fn code_of(prefix: &Prefix) -> u128
+    ensures value { result ≡ code_of prefix.now }
+    ensures prefix { IsPrefix prefix.now }
+{
+    u128::from(prefix.node().index()) << 64 | u128::from(prefix.key())
+}
+
+/// The numbers of all prefixes that this prefix is strictly under, each once.
+pub(crate) fn codes_above(alloc: Global, prefix: &Prefix) -> Result<Vec<u128>, AllocError>
+    ensures { IfOk result (λ codes. AreCodesAbove prefix.now codes.items) }
+{
+    prefixes_are_ordered();
+    keys_are_of_their_node();
+    prefix.keeps_leading_bytes();
+    let mut codes = Vec::with_capacity(alloc, 24)?;
+    for place in 0..25 {
+        let node = Node::from_index(place).unwrap();
+        if node == prefix.node() {
+            continue;
+        }
+        if let Some(above) = upper(prefix, node) {
+            codes.push(code_of(&above))?;
+        }
+    }
+    Ok(codes)
+}

@@ -1,0 +1,44 @@
+use Rattle.std.proofs.Common.{◌≡◌, ℕ, ◌+◌, ◌-◌, ◌∷◌, [], ◌++◌, map, take, fold, ap, ◌∙◌, sym, subst, if◌then◌else◌, arith}
+use Rattle.space_saving.specs.declared.entry.Entry.{Entry}
+use Rattle.cut_merge.specs.Merged.{seen}
+use Rattle.cut_merge.specs.HighBounds.{NotesKey}
+use Rattle.cut_merge.proofs.KeyLemmas.{keys_more}
+use Rattle.cut_merge.proofs.HighBoundLemmas.{notes_more}
+use Rattle.cut_merge.proofs.node_merge.note_keys.Goals as goal
+use Rattle.cut_merge.proofs.node_merge.note_keys.Goals.{then-not-is_known+in_ok-push, else-not-is_known}
+
+pub is_known-requires : goal.is_known-requires
+is_known-requires c = λ is.
+    omega (
+      arith,
+      c.requires.bounded c.entry-entry.result.key is,
+      c.loop-place.invariant.bounds.raises c.entry-entry.result.key,
+    )
+
+pub loop-place-preserved : goal.loop-place-preserved
+loop-place-preserved c =
+    let entry = c.entry-entry.result in
+    let now = c.loop-place.keys.items in
+    let more =
+    keys_more c.args.table.now.entries c.args.keys.now.items now c.loop-place.place entry c.is_known.result
+    c.loop-place.invariant.keys c.entry-entry.ensures.entry c.entry-entry.ensures.apart
+    (c.requires.known entry.key ∙ sym c.is_known.ensures) in
+    let keys : c.if-not-is_known.keys.items
+    ≡ fold seen c.args.keys.now.items
+    (map (λ (e : Entry). e.key) (take (c.loop-place.place + 1) c.args.table.now.entries)) =
+    elim c.if-not-is_known.branch [
+      | then-not-is_known+in_ok-push w ↦
+          ap (λ keys. keys.items) w.keys-is ∙ w.in_ok-push.ensures.items
+          ∙ ap (λ b. if b then now else now ++ entry.key ∷ []) (sym w.if-not-is_known.true) ∙ more
+      | else-not-is_known w ↦
+          ap (λ keys. keys.items) w.keys-is
+          ∙ ap (λ b. if b then now else now ++ entry.key ∷ []) (sym w.if-not-is_known.false) ∙ more
+    ] in
+    record {
+      keys = keys;
+      bounds =
+          notes_more c.args.table.now c.args.bounds.now c.loop-place.bounds c.note.new.self c.loop-place.place entry
+          c.loop-place.invariant.bounds c.entry-entry.ensures.entry c.entry-entry.ensures.apart
+          (subst (λ (missing : ℕ). NotesKey c.loop-place.bounds c.note.new.self entry.key (entry.count - missing))
+          c.requires.missing c.note.ensures);
+    }
