@@ -1,6 +1,6 @@
 -- Worked examples of what feeding and reporting leave.
-use Rattle.std.proofs.Common.{◌≡◌, ℕ, ◌≤◌, List, [], ◌∷◌, map, length}
-use Rattle.std.proofs.Common.{refl, ap, arith, subst}
+use Rattle.std.proofs.Common.{◌≡◌, ℕ, ◌≤◌, List, [], ◌∷◌, ◌++◌, map, length}
+use Rattle.std.proofs.Common.{refl, ap, arith, subst, All, slice_index_or}
 use Rattle.std.proofs.lemmas.List.Elements.{All-nil, All-from_recursion}
 use Rattle.std.proofs.lemmas.Option.{same_Some}
 use Rattle.prefix_lattice.specs.{RecordValue}
@@ -8,7 +8,7 @@ use Rattle.shard_state.specs.{IsShard, ShardValue, empty_snapshot, snapshot_of, 
 use Rattle.shard_state.specs.declared.shard_state.Folded.{Folded}
 use Rattle.position_words.specs.declared.view.Trail.{Trail}
 use Rattle.position_words.specs.declared.view.View.{View}
-use Rattle.pass_tokens.specs.{IsFoldOf, IsOdd, ShardRead, first_view, folded_once}
+use Rattle.pass_tokens.specs.{IsFoldOf, IsOdd, ShardRead, after_reads, first_view, folded_once, lost_all}
 use Rattle.gate_workers.specs.Feed.{IsFed, Feeds, HasSeenEnd, HasSeenEnds}
 use Rattle.gate_workers.specs.Call.{Calls, IsCutAt, ReadsOnce, after_rounds, cut_at, positions_of_shard}
 use Rattle.gate_workers.specs.Call.{positions_read, states_at}
@@ -119,3 +119,33 @@ round_without_a_report calls = no_round calls.reads calls.as_many calls.position
     no_round : (reads : List (List ShardRead)) → length reads ≡ 1 → [] ≡ map positions_read reads → ⊥
     no_round [] many positions = cc many
     no_round (round ∷ rounds) many positions = cc positions
+
+-- each of the two shards was read once
+pub two_shards_were_read : ReadsOnce shards first (record first { trails = after_reads first.trails reads })
+two_shards_were_read = record {
+  reads = reads;
+  as_many = refl;
+  odd =
+      All-from_recursion (λ (read : ShardRead). All IsOdd read.losses) reads
+      (All-nil IsOdd, (All-from_recursion IsOdd (1 ∷ []) (refl, tt), tt));
+  view = refl;
+}
+
+-- the first shard alone was read
+abbrev half_read : View
+half_read = record first { trails = after_reads first.trails (record { losses = []; position = 2 } ∷ []) }
+
+pub second_shard_was_left_out : ReadsOnce shards first half_read → ⊥
+second_shard_was_left_out once = left_out once.reads once.as_many once.view
+  where
+    not_empty : (positions : List ℕ) (position : ℕ) → [] ≡ positions ++ position ∷ [] → ⊥
+    not_empty [] position same = cc same
+    not_empty (first ∷ positions) position same = cc same
+
+    left_out : (reads : List ShardRead) → length reads ≡ 2
+        → half_read ≡ record first { trails = after_reads first.trails reads } → ⊥
+    left_out [] many same = cc many
+    left_out (one ∷ []) many same = omega (arith, many)
+    left_out (one ∷ two ∷ more) many same =
+        not_empty (lost_all two.losses (trail 0)).reads two.position
+        (ap (λ (v : View). (slice_index_or v.trails 1 (trail 0)).reads) same)

@@ -24,8 +24,11 @@ abbrev other_source : PrefixValue
 other_source = record { source = 11 ∷ []; dest = 20 ∷ [] }
 
 -- a shard with the packet, and one without records
+abbrev pub two_lists : List (List RecordValue)
+two_lists = (packet ∷ []) ∷ [] ∷ []
+
 abbrev pub two_shards : List ShardValue
-two_shards = opening_of 512 ((packet ∷ []) ∷ [] ∷ [])
+two_shards = opening_of 512 two_lists
 
 pub start_of_two_shards : start_of two_shards ≡ 0 ∷ 0 ∷ []
 start_of_two_shards = refl

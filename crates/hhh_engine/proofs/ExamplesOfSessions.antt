@@ -68,7 +68,7 @@ lists = [] ∷ [] ∷ [] ∷ [] ∷ []
 abbrev pub opening : List ShardValue
 opening = opening_of 512 lists
 
-abbrev shard : ShardValue
+abbrev pub shard : ShardValue
 shard = record { list = []; base = empty_snapshot 512; position = 0 }
 
 -- no table has an entry
@@ -156,7 +156,7 @@ report_of_nothing = record {
   lines = λ line. (λ h. absurd (omega (arith, h.1)), λ is_line. absurd (nothing_is_heavy line is_line));
 }
 
-nothing_is_sound : IsSound report lists 512 10000
+pub nothing_is_sound : IsSound report lists 512 10000
 nothing_is_sound = record {
   positions = (omega arith, (omega arith, (omega arith, (omega arith, tt))));
   total = refl;
@@ -226,13 +226,13 @@ text_behind_the_rounds = refl
 -- ---- the reports
 
 -- a number before numbers that never fall, the first of which it is
-once_more : (x : ℕ) (xs : List ℕ) → IsNonDecreasing (x ∷ xs) → IsNonDecreasing (x ∷ x ∷ xs)
+pub once_more : (x : ℕ) (xs : List ℕ) → IsNonDecreasing (x ∷ xs) → IsNonDecreasing (x ∷ x ∷ xs)
 once_more x xs up zero zero d le inside = omega arith
 once_more x xs up zero (suc j) d le inside = up 0 j d (omega arith) (omega (arith, inside))
 once_more x xs up (suc i) zero d le inside = absurd (omega (arith, le))
 once_more x xs up (suc i) (suc j) d le inside = up i j d (omega (arith, le)) (omega (arith, inside))
 
-one_number : (x : ℕ) → IsNonDecreasing (x ∷ [])
+pub one_number : (x : ℕ) → IsNonDecreasing (x ∷ [])
 one_number x = IsNonDecreasingBy-short (λ x. x) (x ∷ []) (omega arith)
 
 pub one_report_does_not_fall : NeverFall (start_of opening) (last ∷ [])
@@ -248,7 +248,7 @@ pub report_before_the_start : NeverFall (1 ∷ 0 ∷ 0 ∷ 0 ∷ []) (last ∷ [
 report_before_the_start never =
     let later : 1 ≤ 0 = never 0 (omega arith) 0 1 0 (omega arith) (omega arith) in omega (arith, later)
 
-one_report_with : (rounds callers : ℕ) → AreReportsOf opening (with_rounds rounds callers) 1 (last ∷ [])
+pub one_report_with : (rounds callers : ℕ) → AreReportsOf opening (with_rounds rounds callers) 1 (last ∷ [])
 one_report_with rounds callers = record {
   as_many = refl;
   shown =
@@ -258,6 +258,9 @@ one_report_with rounds callers = record {
 
 pub one_report : AreReportsOf opening settings 1 (last ∷ [])
 one_report = one_report_with 0 0
+
+pub no_reports : AreReportsOf opening settings 0 []
+no_reports = record { as_many = refl; shown = All-nil _; never_fall = λ place inside. one_number _ }
 
 pub no_report_is_not_one : AreReportsOf opening settings 1 [] → ⊥
 no_report_is_not_one are = cc are.as_many
@@ -274,7 +277,7 @@ pub last_report_before_an_end : AreSessionReports two_shards settings reports �
 last_report_before_an_end are = cc are.at_ends
 
 -- with a round and another caller
-abbrev running : Settings
+abbrev pub running : Settings
 running = with_rounds 1 1
 
 abbrev running_reports : SessionReports
@@ -300,7 +303,7 @@ session_without_its_caller are = cc are.as_many
 
 -- ---- the session
 
-abbrev records : Records
+abbrev pub records : Records
 records = record { list = []; frames = 0; not_ipv4 = 0; short = 0; bad_header = 0 }
 
 abbrev pub text : List ℕ
@@ -353,11 +356,7 @@ unfolding digits
 broken_off_in_the_first_line = record {
   rounds = [];
   few = omega arith;
-  are_reports = record {
-    as_many = refl;
-    shown = All-nil _;
-    never_fall = λ place inside. one_number _;
-  };
+  are_reports = no_reports;
   begins = (codes " 0\n", refl);
 }
 

@@ -11,3 +11,4 @@ pub mod Examples
 pub mod ExamplesOfStatuses
 pub mod ExamplesOfSessions
 pub mod ExamplesOfAnswers
+pub mod ExamplesOfRounds
