@@ -1,5 +1,5 @@
 #!/usr/bin/env python3
-"""Writes a capture of random IPv4 traffic: make_capture.py SEED FRAMES short|whole|skewed|met|crossed > FILE
+"""Writes a capture of random IPv4 traffic: make_capture.py SEED FRAMES short|whole|skewed|met|crossed|nested > FILE
 
 Addresses come from a linear congruential generator; of each side a quarter is one host, a
 quarter falls into a /22, and the rest spreads over a /8. Lengths on the wire go 100, 200, 300, 400 in turn.
@@ -16,6 +16,10 @@ each side. There are 1,048,576 such pairs.
 `crossed` frames are as short, and made against the query. Of each side there are a tenth as many /16 networks as
 frames. Each has ten frames, from ten /24 networks, and the order is random. So at a threshold of ten packets each
 network has a line, none of its parts has one, and nearly each pair of a source and a destination network is kept.
+
+`nested` frames are as short, and made against the query too. Of each side there are a tenth as many hosts as frames, all
+of one /16. Each has five frames with each of two hosts of the other side, and the order is random. So at a threshold of
+ten packets each host has a line, neither the /16 nor a prefix above it has one, and all nine of these keep each pair.
 """
 
 import bisect
@@ -94,11 +98,27 @@ def crossed_pairs(seed, count):
     return zip(crossed_addresses(source, count), crossed_addresses(source, count))
 
 
+def nested_pairs(seed, count):
+    """Pairs of addresses of two /16 networks: of each host five with one host of the other side, and five with the next."""
+    hosts = count // 10
+    low = [1 << 16 | host % 250 << 8 | host // 250 + 1 for host in range(hosts)]
+    pairs = [
+        (10 << 24 | low[host], 20 << 24 | low[(host + step) % hosts])
+        for host in range(hosts)
+        for step in range(2)
+        for _ in range(5)
+    ]
+    random.Random(seed).shuffle(pairs)
+    return pairs
+
+
 def frames(seed, count, kind):
     if kind == "met":
         pairs = met_pairs()
     elif kind == "crossed":
         pairs = crossed_pairs(seed, count)
+    elif kind == "nested":
+        pairs = nested_pairs(seed, count)
     else:
         pairs = random_pairs(seed, skewed_address if kind == "skewed" else address)
     for place, (source, destination) in zip(range(count), pairs):

@@ -1,8 +1,9 @@
 #!/bin/sh
 # Measures the query of `report` over captures that are made against it: K source networks that cross K destination
-# networks, each with ten frames and a line of its own, so that about K * K pairs of closest lines are kept at the root. For
-# K of 500, 1,000 and 2,000 it prints the processor time of the query, how often that of half the K goes into it, that of
-# the feeding, and peak memory. Then the share of the query in the feeding at the defaults over 1,000,000 frames.
+# networks, each with ten frames and a line of its own, so that about K * K pairs of closest lines are kept at the root
+# (`crossed`), or at nine nodes (`nested`). For K of 500, 1,000 and 2,000 it prints the processor time of the query, how
+# often that of half the K goes into it, that of the feeding, and peak memory. Then the share of the query in the feeding
+# at the defaults over 1,000,000 frames.
 # Needs python3, and gdb with Python.
 set -eu
 here=$(dirname "$(readlink -f "$0")")
@@ -27,16 +28,18 @@ query_times() {
         END { print query, feeding, peak }'
 }
 
-last=
-for nets in 500 1000 2000; do
-    python3 "$here/make_capture.py" 7 $((10 * nets)) crossed >"$work/crossed"
-    set -- $(query_times "$work/crossed" --shards 1 --weigh packets --capacity 4096 --phi $((1000000 / nets)))
-    awk -v nets=$nets -v query="$1" -v feeding="$2" -v peak="$3" -v last="$last" 'BEGIN {
-        printf "%d networks a side: query %.1f ms, feeding %.1f ms, peak memory %d kB", nets, query, feeding, peak
-        if (last != "") printf "; query %.2f times that of half as many", query / last
-        print ""
-    }'
-    last=$1
+for kind in crossed nested; do
+    last=
+    for nets in 500 1000 2000; do
+        python3 "$here/make_capture.py" 7 $((10 * nets)) $kind >"$work/against"
+        set -- $(query_times "$work/against" --shards 1 --weigh packets --capacity 4096 --phi $((1000000 / nets)))
+        awk -v kind=$kind -v nets=$nets -v query="$1" -v feeding="$2" -v peak="$3" -v last="$last" 'BEGIN {
+            printf "%s, %d a side: query %.1f ms, feeding %.1f ms, peak memory %d kB", kind, nets, query, feeding, peak
+            if (last != "") printf "; query %.2f times that of half as many", query / last
+            print ""
+        }'
+        last=$1
+    done
 done
 
 for kind in short skewed; do

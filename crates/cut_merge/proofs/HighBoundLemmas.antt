@@ -1,7 +1,7 @@
 -- Upper bounds on the highs of keys, one entry and one table after another.
-use Rattle.std.proofs.Common.{◌≡◌, ◌≢◌, ℕ, ◌+◌, ◌-◌, ◌<◌, ◌≤◌, min, eqb, cond, Bool, true, false, ◌||◌, List, [], ◌∷◌, ◌++◌}
+use Rattle.std.proofs.Common.{◌≡◌, ℕ, ◌+◌, ◌-◌, ◌<◌, ◌≤◌, min, eqb, cond, Bool, true, false, ◌||◌, List, [], ◌∷◌, ◌++◌}
 use Rattle.std.proofs.Common.{length, get_or, set, take, sum_by, slice_get, Option, None, Some, is_some, refl, sym, ap, ◌∙◌}
-use Rattle.std.proofs.Common.{subst, arith, take_all, ⊎_elim}
+use Rattle.std.proofs.Common.{subst, arith, ⊎_elim}
 use Rattle.std.specs.List.{list_any}
 use Rattle.std.specs.Option.{option_map}
 use Rattle.std.proofs.lemmas.Bool.{false≢true, eqb-true, cases_eq, or_cases}
@@ -13,7 +13,7 @@ use Rattle.space_saving.specs.{TableValue, Interval, entry_of, interval_in, inte
 use Rattle.space_saving.specs.declared.entry.Entry.{Entry}
 use Rattle.cut_merge.specs.Run.{RunValue, IsRunOf, interval_of_entry, run_interval, is_monitored_in, missing_high}
 use Rattle.cut_merge.specs.NodeMerge.{is_monitored}
-use Rattle.cut_merge.specs.HighBounds.{HighBoundsValue, home_of, cell_of, greatest_bound, NotesKey, AddsMissing}
+use Rattle.cut_merge.specs.HighBounds.{HighBoundsValue, home_of, cell_of, greatest_bound, NotesKey}
 use Rattle.cut_merge.specs.HighBounds.{counted_by, NotesEntries, BoundRuns}
 use Rattle.cut_merge.proofs.TableMergeLemmas.{interval-of_run}
 
@@ -122,9 +122,11 @@ bounds_more runs run table old new fit is above missing noted = record {
         omega (arith, counted, bound, is_after, missing)
     high_more key (Some entry) before after above_missing counted bound is_after =
         omega (arith, above_missing, counted, bound, is_after, missing)
+
     or_last : (b : Bool) → (b || false) ≡ true → b ≡ true
     or_last true is_true = refl
     or_last false is_true = is_true
+
     some_counted : (key : ℕ) (found : Option Entry) → is_some (option_map interval_of_entry found) ≡ true
         → min greatest_bound (cell_of old key + counted_by table found) ≤ cell_of new key → 0 < cell_of new key
     some_counted key None none counted = absurd (false≢true none)
@@ -143,7 +145,7 @@ cell_raised cells key excess raised missing within bounded is = record {
       (λ (same : home_of other ≡ home_of key).
       let now : get_or (set cells (home_of key) raised) (home_of other) 0 ≡ raised =
       ap (λ h. get_or (set cells (home_of key) raised) h 0) same
-    ∙ get_or-set_same cells (home_of key) raised 0 within in
+      ∙ get_or-set_same cells (home_of key) raised 0 within in
       let here : get_or cells (home_of other) 0 ≡ get_or cells (home_of key) 0 = ap (λ h. get_or cells h 0) same in
       omega (arith, now, is, here, bounded other))
       (λ differs.

@@ -1,5 +1,6 @@
 pub mod Examples
 pub mod ExamplesOfMerging
+pub mod ExamplesOfHighBounds
 pub mod RunLemmas
 pub mod FirstSeenLemmas
 pub mod TableMergeLemmas

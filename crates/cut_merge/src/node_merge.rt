@@ -56,7 +56,13 @@ impl NodeMerge {
     {
         let run = Run::of(alloc, table)?;
         self.bounds.add_missing(run.missing());
-        note_keys(&mut self.keys, &mut self.bounds, &self.runs, table, run.missing())?;
+        note_keys(
+            &mut self.keys,
+            &mut self.bounds,
+            &self.runs,
+            table,
+            run.missing(),
+        )?;
         Ok(self.runs.push(run)?)
     }
 
