@@ -101,9 +101,25 @@ each_known Weigh =
     All-from_recursion (Knows (shape Weigh)) (form_of Weigh).options (k _ _ refl refl, (k _ _ refl refl, tt))
 each_known Report =
     let k = known_by (shape Report) in
-    All-from_recursion (Knows (shape Report)) (form_of Report).options
-    (k _ _ refl refl, (k _ _ refl refl, (k _ _ refl refl, (k _ _ refl refl, (k _ _ refl refl, (k _ _ refl refl,
-    (k _ _ refl refl, (k _ _ refl refl, (k _ _ refl refl, (k _ _ refl refl, tt))))))))))
+    All-from_recursion (Knows (shape Report)) (form_of Report).options (
+      k _ _ refl refl,
+      (
+        k _ _ refl refl,
+        (
+          k _ _ refl refl,
+          (
+            k _ _ refl refl,
+            (
+              k _ _ refl refl,
+              (
+                k _ _ refl refl,
+                (k _ _ refl refl, (k _ _ refl refl, (k _ _ refl refl, (k _ _ refl refl, tt)))),
+              ),
+            ),
+          ),
+        ),
+      ),
+    )
 
 places : (command : CommandWord) → Places (shape command) 1 (form_of command).positionals
 places Weigh = (record { placed = refl; known = refl }, (record { placed = refl; known = refl }, tt))

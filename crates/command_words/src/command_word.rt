@@ -18,7 +18,8 @@ static WEIGH_OPTIONS: [&str; 2] = ["capture", "weigh"];
 static REPORT_POSITIONALS: [&str; 0] = [];
 
 static REPORT_OPTIONS: [&str; 10] = [
-    "capture", "weigh", "shards", "capacity", "phi", "deal", "block", "workers", "callers", "rounds",
+    "capture", "weigh", "shards", "capacity", "phi", "deal", "block", "workers", "callers",
+    "rounds",
 ];
 
 impl CommandWord {

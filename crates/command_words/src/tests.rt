@@ -18,7 +18,7 @@ const DEFAULTS: Settings = Settings {
 };
 
 // Arguments joined by single spaces, and what is wrong with them.
-const BAD_WORDS: [(&str, WordsKind); 38] = [
+const BAD_WORDS: [(&str, WordsKind); 45] = [
     ("", WordsKind::NoCommand),
     ("way", WordsKind::UnknownCommand),
     ("Report", WordsKind::UnknownCommand),
@@ -79,6 +79,12 @@ const BAD_WORDS: [(&str, WordsKind); 38] = [
     ("report --shards 17", WordsKind::OutOfLimits(Opt::Shards)),
     ("report --capacity 1", WordsKind::OutOfLimits(Opt::Capacity)),
     ("report --deal hash", WordsKind::BadChoice(Opt::Deal)),
+    ("report --block 0", WordsKind::OutOfLimits(Opt::Block)),
+    ("report --block 65537", WordsKind::OutOfLimits(Opt::Block)),
+    ("report --workers 0", WordsKind::OutOfLimits(Opt::Workers)),
+    ("report --workers 17", WordsKind::OutOfLimits(Opt::Workers)),
+    ("report --callers 9", WordsKind::OutOfLimits(Opt::Callers)),
+    ("report --rounds 33", WordsKind::OutOfLimits(Opt::Rounds)),
     // the first of several faults
     (
         "report --deal hash --shards 0",
@@ -95,6 +101,10 @@ const BAD_WORDS: [(&str, WordsKind); 38] = [
     (
         "report --phi 1 --deal hash",
         WordsKind::BadChoice(Opt::Deal),
+    ),
+    (
+        "report --rounds x --workers 0",
+        WordsKind::OutOfLimits(Opt::Workers),
     ),
     // the bound
     ("report --capacity 17 --phi 117647", WordsKind::Bound),
@@ -130,6 +140,10 @@ fn reads_words(rt: HostRuntime) -> Result<(), Fail> {
         phi: 117_648,
         weigh: Weigh::Packets,
         deal: DealKind::Free,
+        block: 1,
+        workers: 16,
+        callers: 8,
+        rounds: 32,
         ..DEFAULTS
     };
     // The arguments, what they set, and the capture that they name.
@@ -138,7 +152,7 @@ fn reads_words(rt: HostRuntime) -> Result<(), Fail> {
         ("report --capture=a=b", DEFAULTS, "a=b"),
         ("report --capacity 16 --phi 125000", least, "-"),
         (
-            "report --phi=117648 --deal free --capacity 17 --shards=16 --weigh packets --capture c",
+            "report --phi=117648 --rounds 32 --deal free --capacity 17 --block 1 --shards=16 --workers=16 --weigh packets --callers 8 --capture c",
             all,
             "c",
         ),
@@ -193,6 +207,13 @@ fn writes_refusals(rt: HostRuntime) -> Result<(), Fail> {
         ),
         (WordsKind::OutOfLimits(Opt::Phi), "phi: outside its limits"),
         (WordsKind::BadChoice(Opt::Deal), "deal: no such choice"),
+        (
+            WordsKind::OutOfLimits(Opt::Block),
+            "block: outside its limits",
+        ),
+        (WordsKind::BadNumber(Opt::Workers), "workers: no number"),
+        (WordsKind::BadNumber(Opt::Callers), "callers: no number"),
+        (WordsKind::BadNumber(Opt::Rounds), "rounds: no number"),
         (WordsKind::Bound, "phi times capacity is below 2000000"),
     ];
     for (kind, text) in cases {

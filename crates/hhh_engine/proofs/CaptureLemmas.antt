@@ -80,16 +80,16 @@ pub broke_off : {K : Type 0} (settings : Settings) (rules : Rules) (left : Optio
     → (written ≡ sink) ⊎ Writes (BeginsSession (opening_of settings.capacity lists) settings tail) old new
     → IsFault write_before write_now status
     → Ends (λ text. IfSome left (λ file. IsSession settings rules file text))
-      (λ front. IfSome left (λ file. IsSessionInPart settings rules file front))
-      ReadToEnd left read_before read_now sink written old new write_before write_now status
+    (λ front. IfSome left (λ file. IsSessionInPart settings rules file front))
+    ReadToEnd left read_before read_now sink written old new write_before write_now status
 broke_off settings rules left lists tail ReadToEnd read_before read_now sink written old new write_before write_now
     WriteFault taken dealt read same part fault = (
-  read,
-  writes_in_part settings rules left lists tail old new dealt
-      (part_or_nothing settings lists tail sink written old new taken part),
-  fault,
-  same,
-)
+      read,
+      writes_in_part settings rules left lists tail old new dealt
+          (part_or_nothing settings lists tail sink written old new taken part),
+      fault,
+      same,
+    )
 broke_off settings rules left lists tail ReadToEnd read_before read_now sink written old new write_before write_now
     OutOfMemory taken dealt read same (inl unwritten) fault = (inl unwritten, same, fault)
 broke_off settings rules left lists tail ReadToEnd read_before read_now sink written old new write_before write_now

@@ -254,7 +254,7 @@ gathered_without_a_caller seat gathered nobody is = omega (arith, is.as_many, ap
 
 pub fed_without_a_round : (seat : SeatValue) (fed : Fed) → fed.gathered.called.items ≡ []
     → IsFed (board_of seat) settings (Some []) (Some [])
-      (record { gathered = record fed.gathered { pass = pass_of seat }; cut = (opened seat).cut })
+    (record { gathered = record fed.gathered { pass = pass_of seat }; cut = (opened seat).cut })
 fed_without_a_round seat fed nobody = record {
   gathered = gathered_without_a_round seat fed.gathered nobody;
   shape = record { as_many = refl; alike = refl };

@@ -109,9 +109,11 @@ pub all_made : (opening shards : List ShardValue) (phi made rounds : ℕ) (befor
     → faults_now ≡ faults_before → WritesRounds opening phi made before now old new
     → EndRounds shards phi rounds before now old new faults_before faults_now stop
 all_made opening shards phi made rounds before now old new faults_before faults_now stop same none all faults written =
-    subst (λ s. EndRounds shards phi rounds before now old new faults_before faults_now s) (sym none)
-    (subst (λ ss. WritesRounds ss phi rounds before now old new) (sym same)
-    (subst (λ n. WritesRounds opening phi n before now old new) all written), faults)
+    subst (λ s. EndRounds shards phi rounds before now old new faults_before faults_now s) (sym none) (
+      subst (λ ss. WritesRounds ss phi rounds before now old new) (sym same)
+          (subst (λ n. WritesRounds opening phi n before now old new) all written),
+      faults,
+    )
 
 -- a round broke off
 pub one_broke_off : (opening shards : List ShardValue) (phi share made rounds : ℕ) (before middle now : View)

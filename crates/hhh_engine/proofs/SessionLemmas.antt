@@ -79,8 +79,10 @@ begun_behind : (old between new : Option (List ℕ)) (first second : List ℕ) �
     → (front : List ℕ) × IsBeginning front (first ++ second) × Appends old new front
 begun_behind old between new first second one two = (
   first ++ two.front,
-  (two.is_beginning.0,
-   ap (λ rest. first ++ rest) two.is_beginning.1 ∙ sym (append_assoc first two.front two.is_beginning.0)),
+  (
+    two.is_beginning.0,
+    ap (λ rest. first ++ rest) two.is_beginning.1 ∙ sym (append_assoc first two.front two.is_beginning.0),
+  ),
   Appends-trans old between new first two.front one two.appended,
 )
 
@@ -258,8 +260,7 @@ gathered_whole relates opening settings plan view gathered old new first alike b
     ap (λ (v : View). map (λ trail. trail.seen) v.trails) first ∙ first_has_seen_starts opening in
     let whole : WritesRounds opening settings.phi settings.rounds before gathers.rounds.now old new =
     subst (λ shards. WritesRounds shards settings.phi settings.rounds before gathers.rounds.now old new)
-    (ap (λ (v : View). v.opening) first) (ends before gathers.rounds.now gathers.rounds.does) in
-    (
+    (ap (λ (v : View). v.opening) first) (ends before gathers.rounds.now gathers.rounds.does) in (
       whole.reports,
       reports_of_calls opening settings settings.rounds before gathers.rounds.now whole.reports alike seen whole.calls
           (whole.sound bases),

@@ -181,8 +181,14 @@ session_in_part opening settings tail line rounds rest old first second new spel
               ∙ ap (λ r. line ++ r) (sym (append_assoc rounds three.front three.is_beginning.0))
               ∙ sym (append_assoc line (rounds ++ three.front) three.is_beginning.0),
         );
-        cut = omega (arith, shorter, length-append line (rounds ++ three.front), length-append rounds three.front,
-            length-append line (rounds ++ rest), length-append rounds rest);
+        cut = omega (
+          arith,
+          shorter,
+          length-append line (rounds ++ three.front),
+          length-append rounds three.front,
+          length-append line (rounds ++ rest),
+          length-append rounds rest,
+        );
       };
       written =
           Appends-trans old first new line (rounds ++ three.front) one

@@ -60,7 +60,7 @@ pub refused_for : {K : Type 0} → NeverBoth → OneFault
     (sink written : K) (old new : Option (List ℕ)) (write_before write_now : ℕ) (status : Status) (file : List ℕ)
     (fault : CaptureFault) → left ≡ Some file → IsRefusedFor file fault
     → Ends (IsAnswer rules command (inputs left rest)) (IsAnswerInPart rules command (inputs left rest)) ReadToEnd left
-      read_before read_now sink written old new write_before write_now status
+    read_before read_now sink written old new write_before write_now status
     → (status ≡ BadCapture fault) ⊎ ((status ≡ ReadFault) ⊎ (status ≡ OutOfMemory))
 refused_for never_both one_fault rules command left rest ReadToEnd read_before read_now sink written old new
     write_before write_now Done file fault known has ends =

@@ -43,7 +43,7 @@ pub record Answers (rules : Rules) (words : List (List ℕ)) (read : InputBytes)
   pub read_to_end : WasRead command read
   pub answer : Writes (IsAnswer rules command read) old new
 
--- a strict prefix of that text was written, after the inputs were read to their ends
+-- bytes with which such a text begins, but not all of it, were written, after the inputs were read to their ends
 pub record AnswersInPart (rules : Rules) (words : List (List ℕ)) (read : InputBytes) (old new : Option (List ℕ))
     : Type 0 where
   pub command : Command

@@ -29,14 +29,14 @@ pub record FailedToRead {K : Type 0} (before now : ℕ) (sink written : K) : Typ
   pub rose : Rose before now
   pub unwritten : written ≡ sink
 
--- WriteFault: the sink's count of faults rose, and a strict prefix of the text of the command was written
+-- WriteFault: the sink's count of faults rose, and bytes with which the text of the command begins were written
 pub record FailedToWrite (rules : Rules) (words : List (List ℕ)) (read : InputBytes) (old new : Option (List ℕ))
     (before now : ℕ) : Type 0 where
   pub rose : Rose before now
   pub in_part : AnswersInPart rules words read old new
 
--- within the crate: how a command that reads a capture ended. IsText says what is its text, IsPart what is a strict
--- prefix of it, and ReadToEnd that its inputs were read to their ends
+-- within the crate: how a command that reads a capture ended. IsText says what is its text, IsPart which bytes
+-- begin it, and ReadToEnd that its inputs were read to their ends
 abbrev pub Ends : {K : Type 0} → (IsText IsPart : List ℕ → Type 0) → (ReadToEnd : Type 0) → (capture : Option (List ℕ))
     → (read_before read_now : ℕ) → (sink written : K) → (old new : Option (List ℕ)) → (write_before write_now : ℕ)
     → Status → Type 0

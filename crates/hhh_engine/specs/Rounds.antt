@@ -12,7 +12,7 @@ use Rattle.hhh_engine.specs.Session.{parts_text}
 use Rattle.hhh_engine.specs.declared.status.Status.{Status}
 use Rattle.hhh_engine.specs.declared.status.Status.TheVariants.{WriteFault, OutOfMemory}
 
--- so many rounds were made whole: in each the calling thread read each shard once, and wrote the report of what it read
+-- this many rounds were made whole: in each the calling thread read each shard once, and wrote the report on what it read
 pub record WritesRounds (opening : List ShardValue) (phi rounds : ℕ) (before now : View) (old new : Option (List ℕ))
     : Type 0 where
   pub reports : List Reported

@@ -57,9 +57,9 @@ pub record IsShown (opening : List ShardValue) (settings : Settings) (reported :
 abbrev pub NeverFall : List ℕ → List Reported → Type 0
 NeverFall opened reports = (shard : ℕ) → shard < length opened
     → IsNonDecreasing
-      (slice_index opened shard ∷ map (λ reported. slice_index reported.report.positions shard) reports)
+    (slice_index opened shard ∷ map (λ reported. slice_index reported.report.positions shard) reports)
 
--- so many reports of one caller
+-- this many reports of one caller: each is shown, and their positions never fall
 pub record AreReportsOf (opening : List ShardValue) (settings : Settings) (count : ℕ) (reports : List Reported)
     : Type 0 where
   pub as_many : length reports ≡ count
@@ -94,7 +94,7 @@ part_text reported = report_text reported.report ++ saved_text reported.saved
 abbrev pub parts_text : List Reported → List ℕ
 parts_text reports = flat_map part_text reports
 
--- the text of a session behind its first line and its rounds: the reports of the other callers, one caller after the
+-- the text of a session after its first line and its rounds: the reports of the other callers, one caller after the
 -- other, the last report, and the last lines
 abbrev pub rest_text : List (List Reported) → Reported → List ℕ → List ℕ
 rest_text callers last tail = flat_map parts_text callers ++ (part_text last ++ tail)

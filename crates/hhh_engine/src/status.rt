@@ -21,9 +21,9 @@ pub enum Status {
     BadCapture(CaptureFault),
     /// The source failed. Nothing was written.
     ReadFault,
-    /// The sink failed. A strict prefix of the text was written.
+    /// The sink failed. Nothing was written, or the text was written in part.
     WriteFault,
-    /// Memory ran out. Nothing was written.
+    /// Memory ran out. Nothing was written, or the text was written in part.
     OutOfMemory,
 }
 

@@ -64,15 +64,7 @@ pub(crate) fn run_gated<R: Threads + Wait + Sync, G: Gate + Sync>(
     let mut source = MemorySource::new(bytes, Vec::from_slice(alloc, outside.source_fails)?, 7);
     let fails = Vec::from_slice(alloc, outside.sink_fails)?;
     let mut sink = MemorySink::with_room(alloc, outside.room, fails)?;
-    let status = run(
-        rt,
-        alloc,
-        words,
-        &mut source,
-        &mut sink,
-        gate,
-        dealers,
-    );
+    let status = run(rt, alloc, words, &mut source, &mut sink, gate, dealers);
     let text = Vec::from_slice(alloc, sink.taken())?;
     Ok(Ended { status, text })
 }

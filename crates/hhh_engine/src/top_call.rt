@@ -71,7 +71,7 @@ pub fn run<R: Threads + Wait + Sync, S: Source, K: Sink, G: Gate + Sync>(
     // Memory may run out at any time: nothing was written then, or a part of the text.
     ensures out_of_memory { result ≡ OutOfMemory → (sink.new ≡ sink.old)
         ⊎ AnswersInPart (λ kind. ⟦<Dealer as Deals>⟧.may_answer (dealer_of kind dealers.now)) (texts words.now)
-          (inputs (S.left capture.old) (S.left capture.new)) (K.taken sink.old) (K.taken sink.new) }
+        (inputs (S.left capture.old) (S.left capture.new)) (K.taken sink.old) (K.taken sink.new) }
 
     // With arguments that ask for a command, inputs in their formats and no fault of source or sink, the run ends in
     // Done unless memory runs out.

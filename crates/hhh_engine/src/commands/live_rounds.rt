@@ -52,7 +52,7 @@ impl<K: Sink, G: Gate> Rounds for LiveRounds<'_, K, G> {
         × (after.cut.ghost_name ≡ before.cut.ghost_name)
         × HasShape (length view.opening) (capacity_of view.opening) after.cut.now
         × EndRounds view.opening before.phi before.rounds view later (K.taken before.sink.now) (K.taken after.sink.now)
-          (K.faults before.sink.now) (K.faults after.sink.now) after.stop };
+        (K.faults before.sink.now) (K.faults after.sink.now) after.stop };
 
     fn go<R: Wait>(&mut self, rt: &R, alloc: Global, board: &Board, pass: &mut Pass) {
         calls_follow_calls();

@@ -44,9 +44,9 @@ pub(crate) fn report<R: Threads + Wait + Sync, S: Source, K: Sink, G: Gate + Syn
     requires limited { AreLimited settings.now }
     requires wide { IsWide settings.now }
     ensures { Ends (λ text. IfSome (S.left capture.old)
-          (λ file. IsSession settings.now (λ kind. ⟦<Dealer as Deals>⟧.may_answer (dealer_of kind dealers.now)) file text))
+        (λ file. IsSession settings.now (λ kind. ⟦<Dealer as Deals>⟧.may_answer (dealer_of kind dealers.now)) file text))
         (λ front. IfSome (S.left capture.old)
-          (λ file. IsSessionInPart settings.now (λ kind. ⟦<Dealer as Deals>⟧.may_answer (dealer_of kind dealers.now)) file front))
+        (λ file. IsSessionInPart settings.now (λ kind. ⟦<Dealer as Deals>⟧.may_answer (dealer_of kind dealers.now)) file front))
         (IsAtEnd (S.left capture.new)) (S.left capture.old) (S.faults capture.old) (S.faults capture.new)
         sink.old sink.new (K.taken sink.old) (K.taken sink.new) (K.faults sink.old) (K.faults sink.new) result }
 {

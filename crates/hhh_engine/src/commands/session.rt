@@ -251,8 +251,14 @@ fn run_feed<R: Threads + Wait + Sync, K: Sink, G: Gate + Sync>(
 
 // The threads that the settings ask for.
 fn plan_of(settings: &Settings) -> ThreadPlan
-    ensures { result ≡ record { workers = settings.now.workers; callers = settings.now.callers; rounds = settings.now.rounds;
-        block = settings.now.block; phi = settings.now.phi; capacity = settings.now.capacity } }
+    ensures { result ≡ record {
+      workers = settings.now.workers;
+      callers = settings.now.callers;
+      rounds = settings.now.rounds;
+      block = settings.now.block;
+      phi = settings.now.phi;
+      capacity = settings.now.capacity;
+    } }
 {
     ThreadPlan {
         workers: settings.workers,
@@ -290,7 +296,15 @@ fn rest_of_session<R: Wait>(
     let Gathered { mut pass, called } = gathered;
     let _shards = board.shards();
     let last = report_once(
-        rt, alloc, board, &mut pass, 0, 0, settings.phi, &mut cut, &OpenGate,
+        rt,
+        alloc,
+        board,
+        &mut pass,
+        0,
+        0,
+        settings.phi,
+        &mut cut,
+        &OpenGate,
     )?;
     let mut rest = reports_text(alloc, board, settings, &called)?;
     print(&last, &mut rest)?;

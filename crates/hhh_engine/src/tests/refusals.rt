@@ -137,7 +137,14 @@ pub(crate) fn tells_the_faults_of_source_and_sink<R: Abort + Threads + Wait + Sy
             source_fails: call,
             ..SOUND
         };
-        let ended = run_over(rt, alloc, dealers, &words, capture_of(alloc, &[ONE])?, outside)?;
+        let ended = run_over(
+            rt,
+            alloc,
+            dealers,
+            &words,
+            capture_of(alloc, &[ONE])?,
+            outside,
+        )?;
         assert_eq!(rt; ended.status, Status::ReadFault);
         assert_eq!(rt; ended.text.as_slice(), b"".as_slice());
     }
@@ -145,11 +152,25 @@ pub(crate) fn tells_the_faults_of_source_and_sink<R: Abort + Threads + Wait + Sy
         sink_fails: &[0],
         ..SOUND
     };
-    let ended = run_over(rt, alloc, dealers, &words, capture_of(alloc, &[ONE])?, outside)?;
+    let ended = run_over(
+        rt,
+        alloc,
+        dealers,
+        &words,
+        capture_of(alloc, &[ONE])?,
+        outside,
+    )?;
     assert_eq!(rt; ended.status, Status::WriteFault);
     assert_eq!(rt; ended.text.as_slice(), b"".as_slice());
     let outside = Outside { room: 12, ..SOUND };
-    let ended = run_over(rt, alloc, dealers, &words, capture_of(alloc, &[ONE])?, outside)?;
+    let ended = run_over(
+        rt,
+        alloc,
+        dealers,
+        &words,
+        capture_of(alloc, &[ONE])?,
+        outside,
+    )?;
     assert_eq!(rt; ended.status, Status::WriteFault);
     assert_eq!(rt; ended.text.as_slice(), b"opened 0\nrep".as_slice());
     Ok(())

@@ -130,7 +130,14 @@ pub(crate) fn reports<R: Abort + Threads + Wait + Sync>(
     dealers: &Dealers,
 ) -> Result<(), Fail> {
     for (words, packets, want) in CASES {
-        let ended = run_over(rt, alloc, dealers, words, capture_of(alloc, packets)?, SOUND)?;
+        let ended = run_over(
+            rt,
+            alloc,
+            dealers,
+            words,
+            capture_of(alloc, packets)?,
+            SOUND,
+        )?;
         assert_eq!(rt; ended.status, Status::Done, "{want}");
         assert_eq!(rt; ended.text.as_slice(), want.as_bytes(), "{want}");
     }
@@ -146,7 +153,14 @@ pub(crate) fn deals_to_the_first<R: Abort + Threads + Wait + Sync>(
     let words = ["report", "--shards", "2", "--deal", "free"];
     let want =
         "opened 0 0\nreport\nat 1 0\ntotal 100\nthreshold 1\nline 10.1.2.3/32 20.1.2.3/32 100 100\ndone\nframes 1\nskipped 0 0 0\nend\n";
-    let ended = run_over(rt, alloc, dealers, &words, capture_of(alloc, &[ONE])?, SOUND)?;
+    let ended = run_over(
+        rt,
+        alloc,
+        dealers,
+        &words,
+        capture_of(alloc, &[ONE])?,
+        SOUND,
+    )?;
     assert_eq!(rt; ended.status, Status::Done);
     assert_eq!(rt; ended.text.as_slice(), want.as_bytes());
     Ok(())

@@ -38,7 +38,14 @@ pub(crate) fn reports_in_rounds<R: Abort + Threads + Wait + Sync>(
         "--callers=2",
         "--rounds=3",
     ];
-    let ended = run_over(rt, alloc, dealers, &words, capture_of(alloc, &[ONE])?, SOUND)?;
+    let ended = run_over(
+        rt,
+        alloc,
+        dealers,
+        &words,
+        capture_of(alloc, &[ONE])?,
+        SOUND,
+    )?;
     assert_eq!(rt; ended.status, Status::Done);
     let positions = positions_in(alloc, &ended.text)?;
     assert_eq!(rt; positions.len(), 10);
@@ -78,7 +85,14 @@ pub(crate) fn ends_at_the_first_fault<R: Abort + Threads + Wait + Sync>(
             sink_fails: fails,
             ..SOUND
         };
-        let ended = run_over(rt, alloc, dealers, &words, capture_of(alloc, &[ONE])?, outside)?;
+        let ended = run_over(
+            rt,
+            alloc,
+            dealers,
+            &words,
+            capture_of(alloc, &[ONE])?,
+            outside,
+        )?;
         assert_eq!(rt; ended.status, Status::WriteFault);
         assert_eq!(rt; ended.text.as_slice(), text);
     }

@@ -56,7 +56,14 @@ pub(crate) fn weighs_prefixes<R: Abort + Threads + Wait + Sync>(
     dealers: &Dealers,
 ) -> Result<(), Fail> {
     for (words, packets, want) in CASES {
-        let ended = run_over(rt, alloc, dealers, words, capture_of(alloc, packets)?, SOUND)?;
+        let ended = run_over(
+            rt,
+            alloc,
+            dealers,
+            words,
+            capture_of(alloc, packets)?,
+            SOUND,
+        )?;
         assert_eq!(rt; ended.status, Status::Done, "{want}");
         assert_eq!(rt; ended.text.as_slice(), want.as_bytes(), "{want}");
     }
@@ -83,7 +90,15 @@ pub(crate) fn weighs_the_longest_frame<R: Abort + Threads + Wait + Sync>(
     let mut source = MemorySource::new(long_capture(alloc, 262_144)?, Vec::new(alloc), 4096);
     let mut sink = MemorySink::with_room(alloc, 4096, Vec::new(alloc))?;
     assert_eq!(rt;
-        run(rt, alloc, &words, &mut source, &mut sink, &OpenGate, dealers),
+        run(
+            rt,
+            alloc,
+            &words,
+            &mut source,
+            &mut sink,
+            &OpenGate,
+            dealers
+        ),
         Status::Done
     );
     assert_eq!(rt;
@@ -94,7 +109,14 @@ pub(crate) fn weighs_the_longest_frame<R: Abort + Threads + Wait + Sync>(
         kind: FaultKind::LongFrame,
         place: 24,
     };
-    let ended = run_over(rt, alloc, dealers, &words, long_capture(alloc, 262_145)?, SOUND)?;
+    let ended = run_over(
+        rt,
+        alloc,
+        dealers,
+        &words,
+        long_capture(alloc, 262_145)?,
+        SOUND,
+    )?;
     assert_eq!(rt; ended.status, Status::BadCapture(fault));
     Ok(())
 }

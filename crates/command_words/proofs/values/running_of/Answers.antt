@@ -51,4 +51,3 @@ returns-in_err-rounds-clause-err c =
     let p = err_from_is_err_and c.from_residual-in_err-rounds.result c.from_residual-in_err-rounds.ensures.1 in
     rw (p.1, p.2)
     (number_is_first values Rounds _ _ (sym c.text_of-4.ensures) before_rounds c.in_err-rounds.ensures.err)
-

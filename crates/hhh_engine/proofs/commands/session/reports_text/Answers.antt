@@ -36,5 +36,9 @@ returns c =
     c.loop-caller.invariant
     ∙ ap (flat_map parts_text)
     (take_all c.loop-caller.caller-index (reports_of called)
-    (omega (arith, c.loop-caller.auto.caller-index-end, c.loop-caller-test.false,
-    length-map called (λ (caller : Called). caller.reports))))
+    (omega (
+      arith,
+      c.loop-caller.auto.caller-index-end,
+      c.loop-caller-test.false,
+      length-map called (λ (caller : Called). caller.reports),
+    )))

@@ -18,8 +18,7 @@ returns g c =
     let last = c.in_ok-last.last in
     let callers = flat_map parts_text (reports_of c.args.fed.gathered.called.items) in
     let shown = last_report c.args.board.now.opening c.args.settings.now (view c.args.fed.gathered.pass) _ last
-    c.requires.alike c.requires.ends c.in_ok-last.ensures.calls (c.in_ok-last.ensures.sound c.requires.bases) in
-    (
+    c.requires.alike c.requires.ends c.in_ok-last.ensures.calls (c.in_ok-last.ensures.sound c.requires.bases) in (
       record { report = last; saved = None },
       shown.0,
       shown.1,
