@@ -1,17 +1,15 @@
 -- Worked examples of the rounds of the calling thread, and of the feed around them, over four shards without records.
 use Rattle.std.proofs.Common.{◌≡◌, ◌≤◌, ℕ, zero, suc, List, [], ◌∷◌, ◌++◌, Some, None, length, refl, sym, ap, subst}
-use Rattle.std.proofs.Common.{codes, arith, inl}
+use Rattle.std.proofs.Common.{codes, arith}
 use Rattle.std.specs.Fmt.{digits}
 use Rattle.std.proofs.lemmas.List.Elements.{All-nil, All-cons, All-from_recursion}
 use Rattle.std.proofs.lemmas.Option.{same_Some}
-use Rattle.std.specs.Prelude.{All, slice_get, slice_index}
-use Rattle.shard_state.specs.{BasesRepresent, ShardValue, empty_snapshot}
+use Rattle.std.specs.Prelude.{All}
+use Rattle.shard_state.specs.{ShardValue}
 use Rattle.hhh_output.specs.{IsSound}
-use Rattle.hhh_output.specs.declared.report.Report.{Report}
 use Rattle.hhh_output.specs.declared.reports.Reported.{Reported}
 use Rattle.pass_tokens.specs.{IsOdd, SeatValue, ShardRead, WordsValue, after_reads, first_view}
-use Rattle.gate_workers.specs.{AreSound, Calls, HasSeenEnds, IsReportAt, ReadsOnce, View, cut_at}
-use Rattle.gate_workers.specs.declared.gathered.Called.{Called}
+use Rattle.gate_workers.specs.{Calls, HasSeenEnds, IsReportAt, ReadsOnce, View, cut_at}
 use Rattle.gate_workers.specs.declared.gathered.Gathered.{Gathered}
 use Rattle.report_text.specs.{tail_text}
 use Rattle.hhh_engine.specs.Session.{AreReportsOf, part_text, parts_text}
@@ -24,8 +22,8 @@ use Rattle.hhh_engine.specs.declared.status.Status.TheVariants.{Done, BadWords, 
 use Rattle.command_words.specs.declared.words_kind.WordsKind.TheVariants.{NoCommand}
 use Rattle.hhh_engine.proofs.OpeningLemmas.{starts_before_ends}
 use Rattle.hhh_engine.proofs.Examples.{header, two_lists, two_shards}
-use Rattle.hhh_engine.proofs.ExamplesOfSessions.{dealt_from_the_header, in_turn, last, lists, nothing_is_sound, once_more}
-use Rattle.hhh_engine.proofs.ExamplesOfSessions.{no_reports, one_number, one_report, one_report_with, opening, records}
+use Rattle.hhh_engine.proofs.ExamplesOfSessions.{dealt_from_the_header, in_turn, last, lists, nothing_is_sound}
+use Rattle.hhh_engine.proofs.ExamplesOfSessions.{no_reports, once_more, one_number, one_report_with, opening, records}
 use Rattle.hhh_engine.proofs.ExamplesOfSessions.{report, report_at_the_ends, running, settings, shard}
 
 -- what the calling thread knows before its first round
@@ -278,7 +276,8 @@ rounds_in_part = record {
 
 -- without rounds nothing of them is written
 pub no_rounds_in_part : WritesRoundsInPart opening settings (Some []) (Some (codes "report\n")) → ⊥
-no_rounds_in_part in_part = none in_part.rounds in_part.few in_part.front in_part.begins.0 in_part.begins.1 in_part.written
+no_rounds_in_part in_part =
+    none in_part.rounds in_part.few in_part.front in_part.begins.0 in_part.begins.1 in_part.written
   where
     none : (rounds : List Reported) → length rounds ≤ 0 → (front rest : List ℕ) → parts_text rounds ≡ front ++ rest
         → codes "report\n" ≡ front → ⊥

@@ -6,11 +6,12 @@ use Rattle.std.specs.Fmt.{digits}
 use Rattle.std.proofs.lemmas.List.{get_or-replicate}
 use Rattle.std.specs.List.Sorted.{IsNonDecreasing}
 use Rattle.std.proofs.lemmas.List.Sorted.{IsNonDecreasingBy-short}
-use Rattle.std.proofs.lemmas.List.Elements.{All-nil, All-cons, All-head, All-replicate}
+use Rattle.std.proofs.lemmas.List.Elements.{All-nil, All-cons, All-replicate}
 use Rattle.prefix_lattice.specs.{RecordValue, NodeValue, IsKeyOf, IsNode, index_of, node_of, key_of}
 use Rattle.deal_rules.specs.declared.deal_kind.DealKind.TheVariants.{RoundRobin}
 use Rattle.deal_rules.specs.{IsDealing}
-use Rattle.shard_state.specs.{CutValue, IsShard, IsSnapshot, ShardValue, no_entries, empty_snapshot, entries_at, table_at}
+use Rattle.shard_state.specs.{CutValue, IsShard, IsSnapshot, ShardValue, empty_snapshot, entries_at, no_entries}
+use Rattle.shard_state.specs.{table_at}
 use Rattle.space_saving.specs.declared.entry.Entry.{Entry}
 use Rattle.space_saving.specs.{AreEntries, interval_in, total_count}
 use Rattle.hhh_output.specs.{AreLines, IsLineOf, IsReportOf, IsSound, IsThreshold}
@@ -27,7 +28,7 @@ use Rattle.report_text.specs.{tail_text}
 use Rattle.command_words.specs.declared.settings.Settings.{Settings}
 use Rattle.hhh_engine.specs.Session.{AreDealtFrom, AreReportsOf, AreSessionReports, BeginsSession, BreaksOffInRounds}
 use Rattle.hhh_engine.specs.Session.{BreaksOffLater, IsSession, IsSessionInPart, IsShown, NeverFall, Rules}
-use Rattle.hhh_engine.specs.Session.{SessionReports, SpellsSession, ends_of, opening_of, part_text, parts_text}
+use Rattle.hhh_engine.specs.Session.{SessionReports, SpellsSession, opening_of, part_text, parts_text}
 use Rattle.hhh_engine.specs.Session.{rest_text, saved_text, session_text, start_of}
 use Rattle.hhh_engine.proofs.Examples.{header, two_shards}
 
