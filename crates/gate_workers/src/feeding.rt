@@ -8,6 +8,7 @@ use crate::Gate;
 use pass_tokens::{Board, Pass, TryFold};
 use std::sync::Wait;
 use std::sync::atomic::AtomicU64;
+use std::thread;
 use std::time::Duration;
 
 // How long a worker sleeps that met no free shard with records left, in microseconds: less than a fold of 1,024 records
@@ -116,6 +117,8 @@ fn feed_shard<R: Wait, G: Gate>(
                 if done.from == done.to {
                     return true;
                 }
+                // The shard is free for a moment, in which a caller that waits for it can read.
+                thread::yield_now();
             }
         }
     }
