@@ -139,6 +139,7 @@ arguments_of_weigh = record {
       All-cons (λ name. Contains form.options name) (codes "weigh") (codes "capture" ∷ [])
       ((among form.options (codes "weigh")).0 refl) capture_known;
   once = names_are_apart;
+  complete = All-nil (λ name. Contains (names_in arguments) name);
 }
 
 pub words_of_weigh : AreWellFormed form words arguments

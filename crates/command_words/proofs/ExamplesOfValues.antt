@@ -1,5 +1,5 @@
 -- Worked examples of the values of options, and of what they set.
-use Rattle.std.proofs.Common.{◌≡◌, ◌<◌, ℕ, zero, suc, [], ◌∷◌, get_or, Some, None, inr, refl, sym, subst, codes}
+use Rattle.std.proofs.Common.{◌≡◌, ◌<◌, ℕ, zero, suc, [], ◌∷◌, get_or, true, false, Some, None, inr, refl, sym, subst, codes}
 use Rattle.std.proofs.Common.{false, arith}
 use Rattle.std.specs.Fmt.{digits}
 use Rattle.std.proofs.lemmas.Fmt.{first_decimal, decimal_injective}
@@ -9,7 +9,8 @@ use Rattle.command_words.specs.Arguments.{option}
 use Rattle.command_words.specs.Options.{name_of, place_of, Kind, number, choice, kind_of, IsNumber, IsAllowed}
 use Rattle.command_words.specs.Options.{IsGoodText, IsGood, IsNoNumber, IsOutside, IsNoChoice}
 use Rattle.command_words.specs.Options.{greatest_capacity, greatest_phi}
-use Rattle.command_words.specs.Settings.{Values, values_in, SetsNumber, SetsWeigh, SetsDeal, weigh_word, deal_word}
+use Rattle.command_words.specs.Settings.{Values, values_in, store_in, SetsNumber, SetsWeigh, SetsDeal, SetsStore}
+use Rattle.command_words.specs.Settings.{weigh_word, deal_word}
 use Rattle.command_words.specs.Settings.{SetsSettings, IsWide, AreLimited}
 use Rattle.command_words.specs.Options.{greatest_block, greatest_workers, greatest_callers, greatest_rounds}
 use Rattle.command_words.specs.Words.{IsFirstBad, HasValueFault}
@@ -136,7 +137,7 @@ defaults = record {
   store = false;
 }
 
-pub nothing_sets_the_defaults : SetsSettings (values_in []) defaults
+pub nothing_sets_the_defaults : SetsSettings (values_in []) (store_in []) defaults
 nothing_sets_the_defaults = record {
   weigh = refl;
   shards = refl;
@@ -188,6 +189,12 @@ packets_by_their_word = refl
 
 pub in_turn_by_default : SetsDeal (values_in arguments Deal) RoundRobin
 in_turn_by_default = refl
+
+pub no_store_by_default : SetsStore (store_in arguments) false
+no_store_by_default = refl
+
+pub store_by_its_path : SetsStore (Some (codes "S")) true
+store_by_its_path = refl
 
 pub capacity_by_default : SetsNumber Capacity 512 (values_in arguments Capacity) 512
 capacity_by_default = refl

@@ -1,30 +1,32 @@
 -- Worked examples of whole command lines: what they ask, or what is wrong with them.
-use Rattle.std.proofs.Common.{◌≡◌, ◌≢◌, ◌<◌, ℕ, zero, suc, List, [], ◌∷◌, inl, inr, refl, subst, codes, arith}
+use Rattle.std.proofs.Common.{◌≡◌, ◌≢◌, ◌<◌, ℕ, zero, suc, List, [], ◌∷◌, inl, inr, refl, subst, codes, true, arith}
 use Rattle.std.specs.Prelude.{slice_index}
 use Rattle.std.specs.Fmt.{digits}
-use Rattle.std.specs.List.{Contains}
-use Rattle.std.proofs.lemmas.List.Elements.{All-cons, All-nil}
+use Rattle.std.specs.List.{Contains, list_any}
+use Rattle.std.specs.Str.{bytes_eq}
+use Rattle.std.proofs.lemmas.List.Elements.{All-cons, All-head, All-nil}
 use Rattle.std.proofs.lemmas.List.Kept.{AllPairs-cons}
 use Rattle.prefix_lattice.specs.{AreLeadingBytes, PrefixValue, SpellsPrefix}
 use Rattle.prefix_lattice.specs.declared.prefix_fault.Side.TheVariants.{Source}
 use Rattle.prefix_lattice.specs.declared.prefix_fault.PrefixFault.TheVariants.{LooseBits}
 use Rattle.frame_records.specs.declared.weigh.Weigh.TheVariants.{Packets}
-use Rattle.command_words.specs.Arguments.{Text, Argument, positional, option, SpellsAll, AreWellFormed}
+use Rattle.command_words.specs.Arguments.{Text, Argument, positional, option, SpellsAll, names_in, AreWellFormed}
 use Rattle.command_words.specs.Forms.{word_of, form_of, AreWordsOf}
 use Rattle.command_words.specs.Paths.{NamesPaths}
 use Rattle.command_words.specs.Settings.{values_in}
-use Rattle.command_words.specs.Words.{HasSides, AskToWeigh, AskToReport, AskFor, IsLimited, HasGoodPositionals}
+use Rattle.command_words.specs.Words.{HasSides, AskToWeigh, AskToReport, AskToFormat, AskFor, IsLimited}
+use Rattle.command_words.specs.Words.{HasGoodPositionals, IsBounded}
 use Rattle.command_words.specs.Words.{HasBadPrefix, HasBadValue, IsTooNarrow, HasWordsFault}
 use Rattle.command_words.specs.Options.{place_of, IsGood}
 use Rattle.command_words.specs.declared.command.Command.TheVariants as command
 use Rattle.command_words.specs.declared.command_word.CommandWord.{CommandWord}
-use Rattle.command_words.specs.declared.command_word.CommandWord.TheVariants.{Weigh, Report}
+use Rattle.command_words.specs.declared.command_word.CommandWord.TheVariants.{Weigh, Report, Format}
 use Rattle.command_words.specs.declared.opt.Opt.{Opt}
 use Rattle.command_words.specs.declared.opt.Opt.TheVariants as opt
 use Rattle.command_words.specs.declared.settings.Settings.{Settings}
 use Rattle.command_words.specs.declared.words_kind.WordsKind.TheVariants.{NoCommand, UnknownCommand, Refused}
 use Rattle.command_words.specs.declared.words_kind.WordsKind.TheVariants.{BadPrefix, OutOfLimits, Bound}
-use Rattle.command_words.proofs.ElementLemmas.{among, apart, no_equals_sign_in}
+use Rattle.command_words.proofs.ElementLemmas.{among, not_among, apart, no_equals_sign_in}
 use Rattle.command_words.proofs.OneReadingLemmas.{one_reading}
 use Rattle.command_words.proofs.Examples.{words, arguments, words_of_weigh}
 use Rattle.command_words.proofs.ExamplesOfValues.{defaults, nothing_sets_the_defaults}
@@ -33,6 +35,10 @@ use Rattle.command_words.proofs.ExamplesOfValues.{seventeen_shards, tables_too_s
 
 pub word_of_a_command : word_of Report ≡ codes "report"
 word_of_a_command = refl
+
+option_of : (command : CommandWord) (name : Text) → list_any (λ other. bytes_eq other name) (form_of command).options ≡ true
+    → Contains (form_of command).options name
+option_of command name found = (among (form_of command).options name).0 found
 
 -- `weigh --weigh=packets 10.0.0.0/8 --capture a.pcap 20.0.0.0/8`
 abbrev pub weigh_line : List Text
@@ -96,12 +102,15 @@ good_positionals = (codes "10.0.0.0/8", codes "20.0.0.0/8", sides_of_the_prefix,
 pub report_has_no_positionals : HasGoodPositionals Report []
 report_has_no_positionals = tt
 
-pub capture_that_is_named : NamesPaths weigh_line (record { capture = codes "a.pcap" })
+-- `weigh` has a capture, and no store
+pub capture_that_is_named : NamesPaths weigh_line (record { capture = codes "a.pcap"; report = []; store = [] })
 capture_that_is_named = record {
   command = Weigh;
   arguments = arguments;
   are_words = words_of_a_command;
-  capture = refl;
+  capture = record { given = λ has. refl; absent = λ lacks. absurd (lacks (option_of Weigh (codes "capture") refl)) };
+  report = record { given = λ has. refl; absent = λ lacks. refl };
+  store = record { given = λ has. refl; absent = λ lacks. refl };
 }
 
 -- `report`
@@ -118,6 +127,7 @@ no_words_of_report = record {
       as_many = refl;
       known = All-nil _;
       once = λ i j d before within. absurd (omega (arith, before, within));
+      complete = All-nil _;
     };
   };
 }
@@ -133,13 +143,122 @@ asks_for_a_report = record {
 pub settings_of_the_report_are_limited : IsLimited (command.Report defaults)
 settings_of_the_report_are_limited = (defaults_are_within_their_limits, defaults_are_wide)
 
-pub standard_input_is_named_by_default : NamesPaths report_line (record { capture = codes "-" })
+pub standard_input_is_named_by_default : NamesPaths report_line
+    (record { capture = codes "-"; report = []; store = [] })
 standard_input_is_named_by_default = record {
   command = Report;
   arguments = [];
   are_words = no_words_of_report;
-  capture = refl;
+  capture = record { given = λ has. refl; absent = λ lacks. absurd (lacks (option_of Report (codes "capture") refl)) };
+  report = record { given = λ has. refl; absent = λ lacks. refl };
+  store = record { given = λ has. refl; absent = λ lacks. refl };
 }
+
+-- `format --capacity 2 --store=S`
+abbrev store_words : List Text
+store_words = codes "--capacity" ∷ codes "2" ∷ codes "--store=S" ∷ []
+
+abbrev store_arguments : List Argument
+store_arguments = option (codes "capacity") (codes "2") ∷ option (codes "store") (codes "S") ∷ []
+
+store_words_are_spelled : SpellsAll store_words store_arguments
+store_words_are_spelled = (
+  codes "--store=S" ∷ [],
+  record {
+    front = codes "--capacity" ∷ codes "2" ∷ [];
+    parted = refl;
+    spelled = (no_equals_sign_in (codes "capacity") refl, λ same. omega (arith, same), inl refl);
+  },
+  (
+    [],
+    record {
+      front = codes "--store=S" ∷ [];
+      parted = refl;
+      spelled = (no_equals_sign_in (codes "store") refl, λ same. omega (arith, same), inr refl);
+    },
+    refl,
+  ),
+)
+
+words_of_format : AreWordsOf (codes "format" ∷ store_words) Format store_arguments
+words_of_format = record {
+  behind = store_words;
+  begun = refl;
+  well_formed = record {
+    spelled = store_words_are_spelled;
+    of_form = record {
+      as_many = refl;
+      known =
+          All-cons (λ name. Contains (form_of Format).options name) (codes "capacity") (codes "store" ∷ [])
+          (option_of Format (codes "capacity") refl)
+          (All-cons (λ name. Contains (form_of Format).options name) (codes "store") []
+          (option_of Format (codes "store") refl) (All-nil (λ name. Contains (form_of Format).options name)));
+      once = AllPairs-cons (λ name other. name ≢ other) (codes "capacity") (codes "store" ∷ [])
+          (All-cons (λ other. codes "capacity" ≢ other) (codes "store") []
+          (apart (codes "capacity") (codes "store") refl) (All-nil (λ other. codes "capacity" ≢ other)))
+          (λ i j d before within. absurd (omega (arith, before, within)));
+      complete =
+          All-cons (λ name. Contains (names_in store_arguments) name) (codes "store") []
+          ((among (names_in store_arguments) (codes "store")).0 refl)
+          (All-nil (λ name. Contains (names_in store_arguments) name));
+    };
+  };
+}
+
+abbrev small_store : Settings
+small_store = record defaults { capacity = 2; store = true }
+
+-- tables of 2 are too small for the default share, which matters to no store
+pub asks_for_a_store : AskToFormat (codes "format" ∷ store_words) small_store
+unfolding digits
+asks_for_a_store = record {
+  arguments = store_arguments;
+  are_words = words_of_format;
+  set = record {
+    weigh = refl;
+    shards = refl;
+    capacity = (record { spelled = refl; bounded = omega arith }, (omega arith, omega arith));
+    phi = refl;
+    deal = refl;
+    block = refl;
+    workers = refl;
+    callers = refl;
+    rounds = refl;
+    store = refl;
+  };
+}
+
+pub asks_for_the_store_by_its_command : AskFor (codes "format" ∷ store_words) (command.Format small_store)
+asks_for_the_store_by_its_command = asks_for_a_store
+
+pub shares_of_reports_alone_are_bounded : IsBounded Format → ⊥
+shares_of_reports_alone_are_bounded bounded = bounded
+
+-- `format` has no capture, so it names none, not even the standard input
+pub store_that_is_named : NamesPaths (codes "format" ∷ store_words)
+    (record { capture = []; report = []; store = codes "S" })
+store_that_is_named = record {
+  command = Format;
+  arguments = store_arguments;
+  are_words = words_of_format;
+  capture = record {
+    given = λ has. absurd (not_among (form_of Format).options (codes "capture") refl has);
+    absent = λ lacks. refl;
+  };
+  report = record { given = λ has. refl; absent = λ lacks. refl };
+  store = record { given = λ has. refl; absent = λ lacks. absurd (lacks (option_of Format (codes "store") refl)) };
+}
+
+-- `format` alone lacks the store that it requires
+lacks_a_store : (given : List Argument) → AreWellFormed (form_of Format) [] given → ⊥
+lacks_a_store given well_formed =
+    let none : given ≡ [] = one_reading [] given [] well_formed.spelled refl in
+    let same = subst (λ list. AreWellFormed (form_of Format) [] list) none well_formed in
+    let within = All-head (Contains []) (codes "store") [] same.of_form.complete in
+    omega (arith, within.1)
+
+pub store_is_lacking : HasWordsFault (codes "format" ∷ []) Refused
+store_is_lacking = (Format, [], refl, lacks_a_store)
 
 -- an empty command line
 pub no_command : HasWordsFault [] NoCommand
@@ -149,6 +268,7 @@ no_command = refl
 way_is_no_command : (command : CommandWord) → codes "way" ≢ word_of command
 way_is_no_command Weigh = apart (codes "way") (codes "weigh") refl
 way_is_no_command Report = apart (codes "way") (codes "report") refl
+way_is_no_command Format = apart (codes "way") (codes "format") refl
 
 pub unknown_command : HasWordsFault (codes "way" ∷ []) UnknownCommand
 unknown_command = (codes "way", [], refl, way_is_no_command)
@@ -190,6 +310,7 @@ bits_past_the_length = record {
         as_many = refl;
         known = All-nil _;
         once = λ i j d before within. absurd (omega (arith, before, within));
+        complete = All-nil _;
       };
     };
   };
@@ -241,6 +362,7 @@ words_for_many_shards = record {
           All-cons IsOption (codes "shards") [] ((among (form_of Report).options (codes "shards")).0 refl)
           (All-nil IsOption);
       once = λ i j d before within. absurd (omega (arith, before, within));
+      complete = All-nil _;
     };
   };
 }
@@ -305,12 +427,15 @@ narrow_words_are_of_report = record {
         (All-cons (λ other. codes "phi" ≢ other) (codes "capacity") []
         (apart (codes "phi") (codes "capacity") refl) (All-nil (λ other. codes "phi" ≢ other)))
         (λ i j d before within. absurd (omega (arith, before, within)));
+    complete = All-nil _;
   };
 }
 
 pub tables_are_too_narrow : IsTooNarrow (codes "report" ∷ narrow_words)
 unfolding digits
 tables_are_too_narrow = record {
+  command = Report;
+  bounded = tt;
   arguments = narrow_arguments;
   are_words = record { behind = narrow_words; begun = refl; well_formed = narrow_words_are_of_report };
   settings = record defaults { phi = 117647; capacity = 17 };

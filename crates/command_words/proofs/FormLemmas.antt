@@ -1,5 +1,5 @@
 -- Which words fit a form, by the argument at their front.
-use Rattle.std.proofs.Common.{◌≡◌, ◌≢◌, ◌-◌, ◌<◌, ◌↔◌, sym, ap, ◌∙◌, subst, List, [], ◌∷◌, length, ℕ, Some, None, arith}
+use Rattle.std.proofs.Common.{◌≡◌, ◌≢◌, ◌-◌, ◌<◌, sym, ap, ◌∙◌, subst, List, [], ◌∷◌, length, ℕ, Some, None, arith}
 use Rattle.std.specs.List.{All, AllPairs, Contains}
 use Rattle.std.proofs.lemmas.List.Elements.{All-nil, All-cons, All-head, All-tail, All-contains, Contains-get_or}
 use Rattle.std.proofs.lemmas.List.Kept.{AllPairs-cons}
@@ -127,24 +127,36 @@ fit_option form positionals words others (option first value) name begins is (ar
           (AllPairs-head (λ n other. n ≢ other) first (names_in behind.rest) once) stands same;
     }
 
--- words that fit with as many positionals as the form has are well formed
-pub well_formed_fit : (form : Form) (positionals : ℕ) (words : List Text) → positionals ≡ length form.positionals
-    → Fit form positionals words ↔ ((arguments : List Argument) × AreWellFormed form words arguments)
-well_formed_fit form positionals words count = (
-  λ (arguments, fits). (
-    arguments,
-    record {
-      spelled = fits.spelled;
-      of_form = record { as_many = fits.as_many ∙ count; known = fits.known; once = fits.once };
-    },
-  ),
-  λ (arguments, formed). (
-    arguments,
-    record {
-      spelled = formed.spelled;
-      as_many = formed.of_form.as_many ∙ sym count;
-      known = formed.of_form.known;
-      once = formed.of_form.once;
-    },
-  ),
+-- each required option of a form is present among arguments
+abbrev pub AreComplete : Form → List Argument → Type 0
+AreComplete form arguments = All (λ name. Contains (names_in arguments) name) form.required
+
+-- words that fit with as many positionals as the form has, and that spell its required options, are well formed
+pub fit_well_formed : (form : Form) (positionals : ℕ) (words : List Text) → positionals ≡ length form.positionals
+    → Fit form positionals words → ((arguments : List Argument) → SpellsAll words arguments → AreComplete form arguments)
+    → (arguments : List Argument) × AreWellFormed form words arguments
+fit_well_formed form positionals words count (arguments, fits) complete = (
+  arguments,
+  record {
+    spelled = fits.spelled;
+    of_form = record {
+      as_many = fits.as_many ∙ count;
+      known = fits.known;
+      once = fits.once;
+      complete = complete arguments fits.spelled;
+    };
+  },
+)
+
+-- and well-formed words fit
+pub well_formed_fit : (form : Form) (positionals : ℕ) (words : List Text) (arguments : List Argument)
+    → positionals ≡ length form.positionals → AreWellFormed form words arguments → Fit form positionals words
+well_formed_fit form positionals words arguments count formed = (
+  arguments,
+  record {
+    spelled = formed.spelled;
+    as_many = formed.of_form.as_many ∙ sym count;
+    known = formed.of_form.known;
+    once = formed.of_form.once;
+  },
 )

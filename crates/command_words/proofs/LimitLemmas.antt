@@ -5,7 +5,7 @@ use Rattle.command_words.specs.Options.{Kind, number, kind_of, IsAllowed}
 use Rattle.command_words.specs.Settings.{Values, SetsNumber, SetsSettings, AreLimited}
 use Rattle.command_words.specs.Words.{AskFor, IsLimited}
 use Rattle.command_words.specs.declared.command.Command.{Command}
-use Rattle.command_words.specs.declared.command.Command.TheVariants.{Weigh, Report}
+use Rattle.command_words.specs.declared.command.Command.TheVariants.{Weigh, Report, Format}
 use Rattle.command_words.specs.declared.opt.Opt.{Opt}
 use Rattle.command_words.specs.declared.opt.Opt.TheVariants.{Shards, Capacity, Phi, Block, Workers, Callers, Rounds}
 use Rattle.command_words.specs.declared.settings.Settings.{Settings}
@@ -20,8 +20,9 @@ set_within opt default least greatest (Some text) value kind low high set =
     subst (λ (k : Kind). IsAllowed k value) kind set.1
 
 -- settings that values set are within their limits
-set_is_limited : (values : Values) (settings : Settings) → SetsSettings values settings → AreLimited settings
-set_is_limited values settings set =
+set_is_limited : (values : Values) (path : Option Text) (settings : Settings) → SetsSettings values path settings
+    → AreLimited settings
+set_is_limited values path settings set =
     let shards = set_within Shards 4 1 16 (values Shards) settings.shards refl (omega arith) (omega arith) set.shards in
     let capacity =
     set_within Capacity 512 2 4096 (values Capacity) settings.capacity refl (omega arith) (omega arith)
@@ -52,5 +53,6 @@ set_is_limited values settings set =
 
 -- so the settings of what is asked for are
 pub asked_is_limited : (words : List Text) (command : Command) → AskFor words command → IsLimited command
-asked_is_limited words (Weigh prefix settings) asked = set_is_limited _ settings asked.set
-asked_is_limited words (Report settings) asked = (set_is_limited _ settings asked.set, asked.wide)
+asked_is_limited words (Weigh prefix settings) asked = set_is_limited _ _ settings asked.set
+asked_is_limited words (Report settings) asked = (set_is_limited _ _ settings asked.set, asked.wide)
+asked_is_limited words (Format settings) asked = set_is_limited _ _ settings asked.set

@@ -2,25 +2,27 @@
 use Rattle.std.proofs.Common.{◌≡◌, ◌<◌, ℕ, zero, suc, List, [], ◌∷◌, length, Option, Some, None, Bor, refl, sym, ap}
 use Rattle.std.proofs.Common.{ap₂, ◌∙◌, subst, arith, codes, slice_index_or}
 use Rattle.std.proofs.Math.Path.{fun_ext}
-use Rattle.std.specs.Prelude.{slice_get, Contains, IsSome}
+use Rattle.std.specs.Prelude.{slice_get, Contains, IsSome, unwrap_or}
 use Rattle.clap.specs.Words.{found_of, first_value}
 use Rattle.clap.specs.declared.parser.matches.ArgMatches.{ArgMatches}
-use Rattle.command_words.specs.Arguments.{Text, Argument, positionals_in}
+use Rattle.command_words.specs.Arguments.{Text, Argument, positionals_in, value_of}
 use Rattle.command_words.specs.Scanning.{text_at}
 use Rattle.command_words.specs.Forms.{form_of}
 use Rattle.command_words.specs.Options.{name_of}
-use Rattle.command_words.specs.Settings.{values_in}
-use Rattle.command_words.specs.Matches.{AreMatchesOf, AreMatchesOfWords, values_in_matches}
+use Rattle.command_words.specs.Settings.{values_in, store_in, SetsSettings}
+use Rattle.command_words.specs.Matches.{AreMatchesOf, AreMatchesOfWords, values_in_matches, store_in_matches}
+use Rattle.command_words.specs.Paths.{NamesPath}
 use Rattle.command_words.specs.Words.{HasSides, HasGoodPositionals, HasValueFault, HasWordsFault}
 use Rattle.command_words.specs.declared.command_word.CommandWord.{CommandWord}
-use Rattle.command_words.specs.declared.command_word.CommandWord.TheVariants.{Weigh, Report}
+use Rattle.command_words.specs.declared.command_word.CommandWord.TheVariants.{Weigh, Report, Format}
 use Rattle.command_words.specs.declared.opt.Opt.{Opt}
+use Rattle.command_words.specs.declared.settings.Settings.{Settings}
 use Rattle.command_words.specs.declared.words_kind.WordsKind.{WordsKind}
 use Rattle.command_words.specs.declared.words_kind.WordsKind.TheVariants.{BadNumber, OutOfLimits, BadChoice}
 use Rattle.command_words.specs.declared.opt.Opt.TheVariants as opt
 
 -- the byte that a name begins with: what a positional is for begins with a capital letter, which is at most 90
-abbrev first_byte : Text → ℕ
+abbrev pub first_byte : Text → ℕ
 first_byte [] = 0
 first_byte (first ∷ rest) = first
 
@@ -33,6 +35,7 @@ no_positional Weigh name small has = go has.0 has.1 has.2
     go (suc zero) below same = omega (arith, ap first_byte same)
     go (suc (suc place)) below same = omega arith
 no_positional Report name small has = omega (arith, has.1)
+no_positional Format name small has = omega (arith, has.1)
 
 -- the name of an option begins with a small letter
 small_name : (at : Opt) → 90 < first_byte (name_of at)
@@ -51,6 +54,34 @@ pub told_values : (word : CommandWord) (arguments : List Argument) (matches : Ar
     → AreMatchesOf (form_of word) arguments matches → values_in_matches matches ≡ values_in arguments
 told_values word arguments matches told =
     fun_ext (λ at. told.options (name_of at) (no_positional word (name_of at) (small_name at)))
+
+-- what is told of a path is what the arguments give
+pub told_path : (word : CommandWord) (arguments : List Argument) (matches : ArgMatches) (name : Text)
+    → AreMatchesOf (form_of word) arguments matches → 90 < first_byte name
+    → first_value (found_of matches) name ≡ value_of name arguments
+told_path word arguments matches name told small = told.options name (no_positional word name small)
+
+-- the text that is told of a path is the one that the arguments name
+pub told_names_path : (word : CommandWord) (arguments : List Argument) (matches : ArgMatches)
+    (name default text : Text) → AreMatchesOf (form_of word) arguments matches → 90 < first_byte name
+    → (Contains (form_of word).options name → text ≡ unwrap_or (first_value (found_of matches) name) default)
+    → ((Contains (form_of word).options name → ⊥) → text ≡ [])
+    → NamesPath (form_of word) arguments name default text
+told_names_path word arguments matches name default text told small given absent = record {
+  given = λ has. given has ∙ ap (λ value. unwrap_or value default) (told_path word arguments matches name told small);
+  absent = absent;
+}
+
+-- settings that are told are those of the arguments
+pub told_settings : (word : CommandWord) (arguments : List Argument) (matches : ArgMatches) (settings : Settings)
+    → AreMatchesOf (form_of word) arguments matches
+    → SetsSettings (values_in_matches matches) (store_in_matches matches) settings
+    → SetsSettings (values_in arguments) (store_in arguments) settings
+told_settings word arguments matches settings told set =
+    subst (λ path. SetsSettings (values_in arguments) path settings)
+    (told_path word arguments matches (codes "store") told (omega arith))
+    (subst (λ values. SetsSettings values (store_in_matches matches) settings)
+    (told_values word arguments matches told) set)
 
 -- a value that is bad among those that are told is what is wrong with the words
 pub told_fault : (words : List Text) (word : CommandWord) (matches : ArgMatches)

@@ -1,16 +1,17 @@
 -- Words ask for one command at most, or have one fault at most, and never both.
-use Rattle.std.proofs.Common.{◌≡◌, ◌≢◌, ◌⊎◌, inl, inr, ◌==◌, cond, List, [], ◌∷◌, Ok, Err, Result, refl, sym, ap}
+use Rattle.std.proofs.Common.{◌≡◌, ◌≢◌, ◌⊎◌, inl, inr, ◌==◌, cond, Option, List, [], ◌∷◌, Ok, Err, Result, refl, sym, ap}
 use Rattle.std.proofs.Common.{ap₂, ◌∙◌, subst}
 use Rattle.std.specs.Result.{IfOk, IsOk}
 use Rattle.prefix_lattice.specs.{PrefixValue, SpellsPrefix, HasPrefixFault}
 use Rattle.prefix_lattice.specs.declared.prefix_fault.PrefixFault.{PrefixFault}
 use Rattle.command_words.specs.Arguments.{Text, Argument, SpellsAll, AreWellFormed}
 use Rattle.command_words.specs.Forms.{word_of, form_of, AreWordsOf}
-use Rattle.command_words.specs.Settings.{Values, SetsSettings, values_in, IsWide}
+use Rattle.command_words.specs.Settings.{Values, SetsSettings, values_in, store_in, IsWide}
 use Rattle.command_words.specs.Words.{AskFor, HasSides, HasGoodPositionals, HasValueFault, HasBadValue, HasWordsFault}
+use Rattle.command_words.specs.Words.{IsBounded}
 use Rattle.command_words.specs.declared.command.Command.{Command}
 use Rattle.command_words.specs.declared.command_word.CommandWord.{CommandWord}
-use Rattle.command_words.specs.declared.command_word.CommandWord.TheVariants.{Weigh, Report}
+use Rattle.command_words.specs.declared.command_word.CommandWord.TheVariants.{Weigh, Report, Format}
 use Rattle.command_words.specs.declared.settings.Settings.{Settings}
 use Rattle.command_words.specs.declared.words_kind.WordsKind.{WordsKind}
 use Rattle.command_words.specs.declared.words_kind.WordsKind.TheVariants.{NoCommand, UnknownCommand, Refused}
@@ -38,11 +39,12 @@ Outcome = Result Command WordsKind
 -- the command whose word begins with a byte
 abbrev command_at : Text → CommandWord
 command_at [] = Report
-command_at (first ∷ rest) = cond (first == 119) Weigh Report
+command_at (first ∷ rest) = cond (first == 119) Weigh (cond (first == 102) Format Report)
 
 at_word : (word : CommandWord) → command_at (word_of word) ≡ word
 at_word Weigh = refl
 at_word Report = refl
+at_word Format = refl
 
 -- commands of one word are one command
 same_command : (word other : CommandWord) → word_of word ≡ word_of other → word ≡ other
@@ -59,18 +61,29 @@ one_words words word other arguments more one two =
           (subst (λ behind. SpellsAll behind more) (sym (same_rest _ _ _ _ same)) two.well_formed.spelled),
     )
 
--- what values come to: what they set, or their first fault
-abbrev ValuesTell : Values → Result Settings WordsKind → Type 0
-ValuesTell values (Ok settings) = SetsSettings values settings
-ValuesTell values (Err kind) = HasValueFault values kind
+-- what values and the path of a store come to: what they set, or the first fault of the values
+abbrev ValuesTell : Values → Option Text → Result Settings WordsKind → Type 0
+ValuesTell values path (Ok settings) = SetsSettings values path settings
+ValuesTell values path (Err kind) = HasValueFault values kind
 
 -- values come to one thing
-values_tell_once : (values : Values) (read other : Result Settings WordsKind) → ValuesTell values read
-    → ValuesTell values other → read ≡ other
-values_tell_once values (Ok settings) (Ok other) one two = ap Ok (one_set values settings other one two)
-values_tell_once values (Ok settings) (Err kind) one two = absurd (no_value_fault values settings kind one two)
-values_tell_once values (Err kind) (Ok settings) one two = absurd (no_value_fault values settings kind two one)
-values_tell_once values (Err kind) (Err other) one two = ap Err (one_value_fault values kind other one two)
+values_tell_once : (values : Values) (path : Option Text) (read other : Result Settings WordsKind)
+    → ValuesTell values path read → ValuesTell values path other → read ≡ other
+values_tell_once values path (Ok settings) (Ok other) one two = ap Ok (one_set values path settings other one two)
+values_tell_once values path (Ok settings) (Err kind) one two =
+    absurd (no_value_fault values path settings kind one two)
+values_tell_once values path (Err kind) (Ok settings) one two =
+    absurd (no_value_fault values path settings kind two one)
+values_tell_once values path (Err kind) (Err other) one two = ap Err (one_value_fault values kind other one two)
+
+-- what the options of arguments come to
+abbrev OptionsTell : List Argument → Result Settings WordsKind → Type 0
+OptionsTell arguments read = ValuesTell (values_in arguments) (store_in arguments) read
+
+options_tell_once : (arguments : List Argument) (read other : Result Settings WordsKind)
+    → OptionsTell arguments read → OptionsTell arguments other → read ≡ other
+options_tell_once arguments read other one two =
+    values_tell_once (values_in arguments) (store_in arguments) read other one two
 
 -- what `weigh` comes to, once its prefix is read
 abbrev weighing : PrefixValue → Result Settings WordsKind → Outcome
@@ -84,7 +97,7 @@ data WeighTells (arguments : List Argument) (outcome : Outcome) : Type 0 where
       → WeighTells arguments outcome
   well : (source dest : Text) (prefix : PrefixValue) (read : Result Settings WordsKind)
       → HasSides arguments source dest → SpellsPrefix source dest prefix
-      → ValuesTell (values_in arguments) read → outcome ≡ weighing prefix read → WeighTells arguments outcome
+      → OptionsTell arguments read → outcome ≡ weighing prefix read → WeighTells arguments outcome
 
 -- what is said of the two sides is said of the same two texts
 at_sides : (P : Text → Text → Type 0) (arguments : List Argument) (source dest other more : Text)
@@ -117,7 +130,7 @@ weigh_tells_once reading arguments outcome other (well source dest prefix read s
     let same =
     reading.one_prefix source dest prefix prefix' spelled
     (at_sides (λ s d. SpellsPrefix s d prefix') arguments source dest source' dest' sides sides' spelled') in
-    is ∙ ap₂ weighing same (values_tell_once (values_in arguments) read read' told told') ∙ sym is'
+    is ∙ ap₂ weighing same (options_tell_once arguments read read' told told') ∙ sym is'
 
 -- what `report` comes to, once its values are read
 abbrev ReportComesTo : Result Settings WordsKind → Outcome → Type 0
@@ -136,7 +149,7 @@ report_comes_to_one (Err kind) outcome other one two = one ∙ sym two
 -- what the arguments of `report` come to
 record ReportTells (arguments : List Argument) (outcome : Outcome) : Type 0 where
   read : Result Settings WordsKind
-  told : ValuesTell (values_in arguments) read
+  told : OptionsTell arguments read
   comes_to : ReportComesTo read outcome
 
 -- the arguments of `report` come to one thing
@@ -145,12 +158,30 @@ report_tells_once : (arguments : List Argument) (outcome other : Outcome) → Re
 report_tells_once arguments outcome other one two =
     report_comes_to_one one.read outcome other one.comes_to
     (subst (λ read. ReportComesTo read other)
-    (sym (values_tell_once (values_in arguments) one.read two.read one.told two.told)) two.comes_to)
+    (sym (options_tell_once arguments one.read two.read one.told two.told)) two.comes_to)
+
+-- what `format` comes to, once its values are read
+abbrev formatting : Result Settings WordsKind → Outcome
+formatting (Ok settings) = Ok (command.Format settings)
+formatting (Err kind) = Err kind
+
+-- what the arguments of `format` come to
+record FormatTells (arguments : List Argument) (outcome : Outcome) : Type 0 where
+  read : Result Settings WordsKind
+  told : OptionsTell arguments read
+  comes_to : outcome ≡ formatting read
+
+-- the arguments of `format` come to one thing
+format_tells_once : (arguments : List Argument) (outcome other : Outcome) → FormatTells arguments outcome
+    → FormatTells arguments other → outcome ≡ other
+format_tells_once arguments outcome other one two =
+    one.comes_to ∙ ap formatting (options_tell_once arguments one.read two.read one.told two.told) ∙ sym two.comes_to
 
 -- what the arguments of a command come to
 abbrev ArgumentsTell : CommandWord → List Argument → Outcome → Type 0
 ArgumentsTell Weigh arguments outcome = WeighTells arguments outcome
 ArgumentsTell Report arguments outcome = ReportTells arguments outcome
+ArgumentsTell Format arguments outcome = FormatTells arguments outcome
 
 arguments_tell_once : HasOneReading → (word : CommandWord) (arguments : List Argument) (outcome other : Outcome)
     → ArgumentsTell word arguments outcome → ArgumentsTell word arguments other
@@ -158,6 +189,7 @@ arguments_tell_once : HasOneReading → (word : CommandWord) (arguments : List A
 arguments_tell_once reading Weigh arguments outcome other one two =
     weigh_tells_once reading arguments outcome other one two
 arguments_tell_once reading Report arguments outcome other one two = report_tells_once arguments outcome other one two
+arguments_tell_once reading Format arguments outcome other one two = format_tells_once arguments outcome other one two
 
 -- what words come to, by the first thing that settles it
 data Story (words : List Text) (outcome : Outcome) : Type 0 where
@@ -241,6 +273,8 @@ asked_story words (command.Weigh prefix settings) asks =
 asked_story words (command.Report settings) asks =
     told Report asks.arguments asks.are_words record
     { read = Ok settings; told = asks.set; comes_to = inl (asks.wide, refl) }
+asked_story words (command.Format settings) asks =
+    told Format asks.arguments asks.are_words record { read = Ok settings; told = asks.set; comes_to = refl }
 
 -- a bad value is what arguments come to
 bad_value_tells : (word : CommandWord) (arguments : List Argument) (kind : WordsKind)
@@ -248,11 +282,21 @@ bad_value_tells : (word : CommandWord) (arguments : List Argument) (kind : Words
     → ArgumentsTell word arguments (Err kind)
 bad_value_tells Weigh arguments kind good has = well good.0 good.1 good.3.0 (Err kind) good.2 good.3.1 has refl
 bad_value_tells Report arguments kind good has = record { read = Err kind; told = has; comes_to = refl }
+bad_value_tells Format arguments kind good has = record { read = Err kind; told = has; comes_to = refl }
 
 bad_value_story : (words : List Text) (kind : WordsKind) → HasBadValue words kind → Story words (Err kind)
 bad_value_story words kind has =
     told has.command has.arguments has.are_words
     (bad_value_tells has.command has.arguments kind has.positionals has.has_fault)
+
+-- tables that are too small for the share are what the arguments of a bounded command come to
+narrow_tells : (word : CommandWord) (arguments : List Argument) (settings : Settings) → IsBounded word
+    → SetsSettings (values_in arguments) (store_in arguments) settings → (IsWide settings → ⊥)
+    → ArgumentsTell word arguments (Err Bound)
+narrow_tells Weigh arguments settings bounded set narrow = absurd bounded
+narrow_tells Report arguments settings bounded set narrow =
+    record { read = Ok settings; told = set; comes_to = inr (narrow, refl) }
+narrow_tells Format arguments settings bounded set narrow = absurd bounded
 
 -- the fault of words is what they come to
 fault_story : (words : List Text) (kind : WordsKind) → HasWordsFault words kind → Story words (Err kind)
@@ -265,8 +309,8 @@ fault_story words (BadNumber opt) has = bad_value_story words (BadNumber opt) ha
 fault_story words (OutOfLimits opt) has = bad_value_story words (OutOfLimits opt) has
 fault_story words (BadChoice opt) has = bad_value_story words (BadChoice opt) has
 fault_story words Bound has =
-    told Report has.arguments has.are_words record
-    { read = Ok has.settings; told = has.set; comes_to = inr (has.narrow, refl) }
+    told has.command has.arguments has.are_words
+    (narrow_tells has.command has.arguments has.settings has.bounded has.set has.narrow)
 
 -- words ask for one command at most
 pub one_command : HasOneReading → (words : List Text) (asked other : Command) → AskFor words asked

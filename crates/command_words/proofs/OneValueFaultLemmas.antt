@@ -1,5 +1,5 @@
 -- Values set one thing at most, or have one first fault at most, and never both.
-use Rattle.std.proofs.Common.{◌≡◌, ◌<◌, ◌≤◌, ◌⊎◌, inl, inr, ℕ, Option, Some, None, refl, sym, ap, ◌∙◌, subst, arith}
+use Rattle.std.proofs.Common.{◌≡◌, ◌<◌, ◌≤◌, ◌⊎◌, inl, inr, ℕ, Bool, Option, Some, None, refl, sym, ap, ◌∙◌, subst, arith}
 use Rattle.std.proofs.lemmas.Bool.{cases_lt}
 use Rattle.std.proofs.lemmas.Fmt.{decimal_injective}
 use Rattle.frame_records.specs.declared.weigh.Weigh.{Weigh}
@@ -7,7 +7,8 @@ use Rattle.deal_rules.specs.declared.deal_kind.DealKind.{DealKind}
 use Rattle.command_words.specs.Arguments.{Text}
 use Rattle.command_words.specs.Options.{Kind, number, choice, kind_of, place_of, IsNumber, IsGoodText, IsGood}
 use Rattle.command_words.specs.Options.{IsNoNumber, IsNoChoice, IsOutside}
-use Rattle.command_words.specs.Settings.{Values, SetsNumber, SetsWeigh, SetsDeal, SetsSettings, weigh_word, deal_word}
+use Rattle.command_words.specs.Settings.{Values, SetsNumber, SetsWeigh, SetsDeal, SetsStore, SetsSettings}
+use Rattle.command_words.specs.Settings.{weigh_word, deal_word}
 use Rattle.command_words.specs.Words.{IsFirstBad, HasValueFault}
 use Rattle.command_words.specs.declared.opt.Opt.{Opt}
 use Rattle.command_words.specs.declared.settings.Settings.{Settings}
@@ -137,33 +138,34 @@ one_value_fault values (BadChoice at) _ one two = absurd two
 one_value_fault values _ other one two = absurd one
 
 -- values that set something are all good
-set_is_good : (values : Values) (settings : Settings) → SetsSettings values settings → (at : Opt)
+set_is_good : (values : Values) (path : Option Text) (settings : Settings) → SetsSettings values path settings → (at : Opt)
     → IsGood at (values at)
-set_is_good values settings set opt.Weigh = weigh_is_good (values opt.Weigh) settings.weigh set.weigh
-set_is_good values settings set opt.Shards = number_is_good opt.Shards 4 (values opt.Shards) settings.shards set.shards
-set_is_good values settings set opt.Capacity =
+set_is_good values path settings set opt.Weigh = weigh_is_good (values opt.Weigh) settings.weigh set.weigh
+set_is_good values path settings set opt.Shards = number_is_good opt.Shards 4 (values opt.Shards) settings.shards set.shards
+set_is_good values path settings set opt.Capacity =
     number_is_good opt.Capacity 512 (values opt.Capacity) settings.capacity set.capacity
-set_is_good values settings set opt.Phi = number_is_good opt.Phi 10000 (values opt.Phi) settings.phi set.phi
-set_is_good values settings set opt.Deal = deal_is_good (values opt.Deal) settings.deal set.deal
-set_is_good values settings set opt.Block =
+set_is_good values path settings set opt.Phi = number_is_good opt.Phi 10000 (values opt.Phi) settings.phi set.phi
+set_is_good values path settings set opt.Deal = deal_is_good (values opt.Deal) settings.deal set.deal
+set_is_good values path settings set opt.Block =
     number_is_good opt.Block 1024 (values opt.Block) settings.block set.block
-set_is_good values settings set opt.Workers =
+set_is_good values path settings set opt.Workers =
     number_is_good opt.Workers 4 (values opt.Workers) settings.workers set.workers
-set_is_good values settings set opt.Callers =
+set_is_good values path settings set opt.Callers =
     number_is_good opt.Callers 0 (values opt.Callers) settings.callers set.callers
-set_is_good values settings set opt.Rounds =
+set_is_good values path settings set opt.Rounds =
     number_is_good opt.Rounds 0 (values opt.Rounds) settings.rounds set.rounds
 
 -- values that set something have no fault
-pub no_value_fault : (values : Values) (settings : Settings) (kind : WordsKind) → SetsSettings values settings
+pub no_value_fault : (values : Values) (path : Option Text) (settings : Settings) (kind : WordsKind)
+    → SetsSettings values path settings
     → HasValueFault values kind → ⊥
-no_value_fault values settings (BadNumber at) set has =
-    bad_is_no_good IsNoNumber values at no_number_is_bad has (set_is_good values settings set at)
-no_value_fault values settings (OutOfLimits at) set has =
-    bad_is_no_good IsOutside values at outside_is_bad has (set_is_good values settings set at)
-no_value_fault values settings (BadChoice at) set has =
-    bad_is_no_good IsNoChoice values at no_choice_is_bad has (set_is_good values settings set at)
-no_value_fault values settings _ set has = has
+no_value_fault values path settings (BadNumber at) set has =
+    bad_is_no_good IsNoNumber values at no_number_is_bad has (set_is_good values path settings set at)
+no_value_fault values path settings (OutOfLimits at) set has =
+    bad_is_no_good IsOutside values at outside_is_bad has (set_is_good values path settings set at)
+no_value_fault values path settings (BadChoice at) set has =
+    bad_is_no_good IsNoChoice values at no_choice_is_bad has (set_is_good values path settings set at)
+no_value_fault values path settings _ set has = has
 
 -- a value sets one number at most
 one_set_number : (at : Opt) (default : ℕ) (told : Option Text) (value other : ℕ) → SetsNumber at default told value
@@ -191,10 +193,14 @@ one_set_deal : (told : Option Text) (deal other : DealKind) → SetsDeal told de
 one_set_deal None deal other one two = one ∙ sym two
 one_set_deal (Some text) deal other one two = deal_text_is_apart deal other (sym one ∙ two)
 
+one_set_store : (path : Option Text) (store other : Bool) → SetsStore path store → SetsStore path other → store ≡ other
+one_set_store None store other one two = one ∙ sym two
+one_set_store (Some path) store other one two = one ∙ sym two
+
 -- values set one thing at most
-pub one_set : (values : Values) (settings other : Settings) → SetsSettings values settings
-    → SetsSettings values other → settings ≡ other
-one_set values settings other one two =
+pub one_set : (values : Values) (path : Option Text) (settings other : Settings) → SetsSettings values path settings
+    → SetsSettings values path other → settings ≡ other
+one_set values path settings other one two =
     λ i. record {
       shards = one_set_number opt.Shards 4 (values opt.Shards) settings.shards other.shards one.shards two.shards i;
       capacity =
@@ -209,5 +215,5 @@ one_set values settings other one two =
       rounds = one_set_number opt.Rounds 0 (values opt.Rounds) settings.rounds other.rounds one.rounds two.rounds i;
       weigh = one_set_weigh (values opt.Weigh) settings.weigh other.weigh one.weigh two.weigh i;
       deal = one_set_deal (values opt.Deal) settings.deal other.deal one.deal two.deal i;
-      store = (one.store ∙ sym two.store) i;
+      store = one_set_store path settings.store other.store one.store two.store i;
     }

@@ -21,7 +21,7 @@ use Rattle.command_words.specs.Forms.{form_of, word_of}
 use Rattle.command_words.specs.Matches.{AreMatchesOf}
 use Rattle.command_words.specs.Parser.{parser_for}
 use Rattle.command_words.specs.declared.command_word.CommandWord.{CommandWord}
-use Rattle.command_words.specs.declared.command_word.CommandWord.TheVariants.{Weigh, Report}
+use Rattle.command_words.specs.declared.command_word.CommandWord.TheVariants.{Weigh, Report, Format}
 use Rattle.command_words.proofs.ParserNameLemmas.{AreNoOptions, IsNoOption, Places, fit}
 use Rattle.command_words.proofs.OneReadingLemmas.{no_list}
 use Rattle.command_words.proofs.MatchRowLemmas.{at_place, same_text, told, told_option, told_positional}
@@ -67,7 +67,7 @@ module _ (s : Shape) (optional : IsOptional s) (words : List Text) (position : �
       rw (reached.passes, reached.ends, reached.holds.passes, optional.passes)
       (optional.valid (finished s.rules reached.held))
 
--- ---- the two commands
+-- ---- the commands
 
 -- the parser of a command
 abbrev pub parser : CommandWord → App
@@ -80,6 +80,7 @@ shape command = (built (parser command)).top
 optional : (command : CommandWord) → IsOptional (shape command)
 optional Weigh = record { empty = refl; passes = refl; valid = λ rows. refl }
 optional Report = record { empty = refl; passes = refl; valid = λ rows. refl }
+optional Format = record { empty = refl; passes = refl; valid = λ rows. refl }
 
 -- two texts that differ in a byte
 apart_by : (text other : Text) → bytes_eq text other ≡ false → text ≢ other
@@ -113,17 +114,22 @@ each_known Report =
               k _ _ refl refl,
               (
                 k _ _ refl refl,
-                (k _ _ refl refl, (k _ _ refl refl, (k _ _ refl refl, (k _ _ refl refl, tt)))),
+                (k _ _ refl refl, (k _ _ refl refl, (k _ _ refl refl, (k _ _ refl refl, (k _ _ refl refl, tt))))),
               ),
             ),
           ),
         ),
       ),
     )
+each_known Format =
+    let k = known_by (shape Format) in
+    All-from_recursion (Knows (shape Format)) (form_of Format).options
+    (k _ _ refl refl, (k _ _ refl refl, (k _ _ refl refl, (k _ _ refl refl, (k _ _ refl refl, tt)))))
 
 places : (command : CommandWord) → Places (shape command) 1 (form_of command).positionals
 places Weigh = (record { placed = refl; known = refl }, (record { placed = refl; known = refl }, tt))
 places Report = tt
+places Format = tt
 
 -- a positional of `weigh` is none of its options
 no_option : (id : Text) → bytes_eq id (codes "capture") ≡ false → bytes_eq id (codes "weigh") ≡ false
@@ -138,6 +144,7 @@ no_options Weigh =
     All-from_recursion (IsNoOption (form_of Weigh).options) (form_of Weigh).positionals
     (no_option _ refl refl, (no_option _ refl refl, tt))
 no_options Report = All-nil (IsNoOption (form_of Report).options)
+no_options Format = All-nil (IsNoOption (form_of Format).options)
 
 none_apart : AllPairs {X = Text} (λ a b. a ≢ b) []
 none_apart = λ earlier later default before within. absurd (omega arith)
@@ -148,6 +155,7 @@ are_apart Weigh = AllPairs-cons (λ a b. a ≢ b) (codes "SRC") (codes "DST" ∷
     (All-from_recursion (λ b. codes "SRC" ≢ b) (codes "DST" ∷ []) (apart_by _ _ refl, tt))
     (AllPairs-cons (λ a b. a ≢ b) (codes "DST") [] (All-nil (λ b. codes "DST" ≢ b)) none_apart)
 are_apart Report = none_apart
+are_apart Format = none_apart
 
 -- well-formed words bring the walk to the rows of their arguments
 module _ (command : CommandWord) (words : List Text) (arguments : List Argument)
@@ -176,6 +184,10 @@ well_formed_taken Report words arguments well_formed =
     let reached = form_reached Report words arguments well_formed in
     rw (never_stopped (shape Report) (optional Report) words _ _ reached)
     (level_reached (shape Report) (optional Report) words _ _ reached)
+well_formed_taken Format words arguments well_formed =
+    let reached = form_reached Format words arguments well_formed in
+    rw (never_stopped (shape Format) (optional Format) words _ _ reached)
+    (level_reached (shape Format) (optional Format) words _ _ reached)
 
 -- and finds the rows of their arguments
 pub well_formed_found : (command : CommandWord) (words : List Text) (arguments : List Argument)
@@ -185,11 +197,14 @@ well_formed_found Weigh words arguments well_formed =
     rows_reached (shape Weigh) (optional Weigh) words _ _ (form_reached Weigh words arguments well_formed)
 well_formed_found Report words arguments well_formed =
     rows_reached (shape Report) (optional Report) words _ _ (form_reached Report words arguments well_formed)
+well_formed_found Format words arguments well_formed =
+    rows_reached (shape Format) (optional Format) words _ _ (form_reached Format words arguments well_formed)
 
 -- the parser is one of which `clap` says what it finds
 pub simple_parser : (command : CommandWord) → is_simple (parser command) ≡ true
 simple_parser Weigh = refl
 simple_parser Report = refl
+simple_parser Format = refl
 
 -- ---- what the matches tell
 

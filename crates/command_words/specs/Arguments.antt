@@ -71,16 +71,19 @@ value_of name [] = None
 value_of name (positional text ∷ arguments) = value_of name arguments
 value_of name (option other value ∷ arguments) = if bytes_eq other name then Some value else value_of name arguments
 
--- what a command takes: the names of its positionals and the names of its options
+-- what a command takes: the names of its positionals, the names of its options, and which options are required
 pub record Form : Type 0 where
   pub positionals : List Text
   pub options : List Text
+  pub required : List Text
 
--- the arguments are those of a form: each positional once, and options of the form, each at most once
+-- the arguments are those of a form: each positional once, and options of the form, each at most once and each
+-- required one among them
 pub record AreOfForm (form : Form) (arguments : List Argument) : Type 0 where
   pub as_many : length (positionals_in arguments) ≡ length form.positionals
   pub known : All (λ name. Contains form.options name) (names_in arguments)
   pub once : AllPairs (λ name other. name ≢ other) (names_in arguments)
+  pub complete : All (λ name. Contains (names_in arguments) name) form.required
 
 -- the words are well formed: they spell these arguments, which are of the form
 pub record AreWellFormed (form : Form) (words : List Text) (arguments : List Argument) : Type 0 where

@@ -2,24 +2,32 @@
 use Rattle.std.specs.Prelude.{◌≡◌, List, [], ◌∷◌, codes}
 use Rattle.command_words.specs.Arguments.{Text, Argument, Form, AreWellFormed}
 use Rattle.command_words.specs.declared.command_word.CommandWord.{CommandWord}
-use Rattle.command_words.specs.declared.command_word.CommandWord.TheVariants.{Weigh, Report}
+use Rattle.command_words.specs.declared.command_word.CommandWord.TheVariants.{Weigh, Report, Format}
 
 -- the name of a command, which is the first word of the command line
 abbrev pub word_of : CommandWord → Text
 word_of Weigh = codes "weigh"
 word_of Report = codes "report"
+word_of Format = codes "format"
 
 -- the positionals and options that each command takes
 abbrev pub form_of : CommandWord → Form
 form_of Weigh = record {
   positionals = codes "SRC" ∷ codes "DST" ∷ [];
   options = codes "capture" ∷ codes "weigh" ∷ [];
+  required = [];
 }
 form_of Report = record {
   positionals = [];
   options =
       codes "capture" ∷ codes "weigh" ∷ codes "shards" ∷ codes "capacity" ∷ codes "phi" ∷ codes "deal" ∷ codes "block"
-      ∷ codes "workers" ∷ codes "callers" ∷ codes "rounds" ∷ [];
+      ∷ codes "workers" ∷ codes "callers" ∷ codes "rounds" ∷ codes "store" ∷ [];
+  required = [];
+}
+form_of Format = record {
+  positionals = [];
+  options = codes "weigh" ∷ codes "shards" ∷ codes "capacity" ∷ codes "deal" ∷ codes "store" ∷ [];
+  required = codes "store" ∷ [];
 }
 
 -- the words are a command's name followed by well-formed words that spell these arguments

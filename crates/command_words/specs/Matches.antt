@@ -1,5 +1,5 @@
 -- What `clap` found among words, which no public contract cites.
-use Rattle.std.specs.Prelude.{ℕ, ◌≡◌, List, Contains, slice_get, Some}
+use Rattle.std.specs.Prelude.{ℕ, ◌≡◌, List, codes, Contains, Option, slice_get, Some}
 use Rattle.clap.specs.Words.{found_of, first_value}
 use Rattle.clap.specs.declared.parser.matches.ArgMatches.{ArgMatches}
 use Rattle.command_words.specs.Arguments.{Text, Argument, Form, positionals_in, value_of}
@@ -24,3 +24,7 @@ pub record AreMatchesOfWords (words : List Text) (command : CommandWord) (matche
 -- the value that matches hold for each option
 abbrev pub values_in_matches : ArgMatches → Values
 values_in_matches matches = λ opt. first_value (found_of matches) (name_of opt)
+
+-- the path that matches hold for a store
+abbrev pub store_in_matches : ArgMatches → Option Text
+store_in_matches matches = first_value (found_of matches) (codes "store")

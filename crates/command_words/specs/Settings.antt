@@ -1,5 +1,5 @@
 -- The settings that the options of a command line give.
-use Rattle.std.specs.Prelude.{ℕ, ◌≡◌, ◌*◌, ◌≤◌, false, List, codes, Option, Some, None}
+use Rattle.std.specs.Prelude.{ℕ, ◌≡◌, ◌*◌, ◌≤◌, Bool, true, false, List, codes, Option, Some, None}
 use Rattle.frame_records.specs.declared.weigh.Weigh.{Weigh}
 use Rattle.frame_records.specs.declared.weigh.Weigh.TheVariants as weighing
 use Rattle.deal_rules.specs.declared.deal_kind.DealKind.{DealKind}
@@ -20,6 +20,10 @@ Values = Opt → Option Text
 -- the value that arguments give each option
 abbrev pub values_in : List Argument → Values
 values_in arguments = λ opt. value_of (name_of opt) arguments
+
+-- the path that arguments give for a store
+abbrev pub store_in : List Argument → Option Text
+store_in arguments = value_of (codes "store") arguments
 
 -- the number that an option sets: the default if the option is missing, else its value, within its limits
 abbrev pub SetsNumber : Opt → ℕ → Option Text → ℕ → Type 0
@@ -47,8 +51,13 @@ abbrev pub SetsDeal : Option Text → DealKind → Type 0
 SetsDeal None deal = deal ≡ dealing.RoundRobin
 SetsDeal (Some text) deal = text ≡ deal_word deal
 
--- the settings that the values of options give, with defaults filled in
-pub record SetsSettings (values : Values) (settings : Settings) : Type 0 where
+-- whether cuts are saved: exactly if a store is named
+abbrev pub SetsStore : Option Text → Bool → Type 0
+SetsStore None store = store ≡ false
+SetsStore (Some path) store = store ≡ true
+
+-- the settings that the values of options and the path of a store give, with defaults filled in
+pub record SetsSettings (values : Values) (path : Option Text) (settings : Settings) : Type 0 where
   pub weigh : SetsWeigh (values ByWeigh) settings.weigh
   pub shards : SetsNumber Shards 4 (values Shards) settings.shards
   pub capacity : SetsNumber Capacity 512 (values Capacity) settings.capacity
@@ -58,7 +67,7 @@ pub record SetsSettings (values : Values) (settings : Settings) : Type 0 where
   pub workers : SetsNumber Workers 4 (values Workers) settings.workers
   pub callers : SetsNumber Callers 0 (values Callers) settings.callers
   pub rounds : SetsNumber Rounds 0 (values Rounds) settings.rounds
-  pub store : settings.store ≡ false
+  pub store : SetsStore path settings.store
 
 -- tables of this capacity can't hide a prefix of this share: phi times capacity is at least 2,000,000
 abbrev pub IsWide : Settings → Type 0

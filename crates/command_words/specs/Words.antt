@@ -6,11 +6,11 @@ use Rattle.prefix_lattice.specs.declared.prefix_fault.PrefixFault.{PrefixFault}
 use Rattle.command_words.specs.Arguments.{Text, Argument, positionals_in, AreWellFormed}
 use Rattle.command_words.specs.Forms.{word_of, form_of, AreWordsOf}
 use Rattle.command_words.specs.Options.{Kind, kind_of, place_of, IsGood, IsNoNumber, IsOutside, IsNoChoice}
-use Rattle.command_words.specs.Settings.{Values, values_in, SetsSettings, IsWide, AreLimited}
+use Rattle.command_words.specs.Settings.{Values, values_in, store_in, SetsSettings, IsWide, AreLimited}
 use Rattle.command_words.specs.declared.command.Command.{Command}
 use Rattle.command_words.specs.declared.command.Command.TheVariants as command
 use Rattle.command_words.specs.declared.command_word.CommandWord.{CommandWord}
-use Rattle.command_words.specs.declared.command_word.CommandWord.TheVariants.{Weigh, Report}
+use Rattle.command_words.specs.declared.command_word.CommandWord.TheVariants.{Weigh, Report, Format}
 use Rattle.command_words.specs.declared.opt.Opt.{Opt}
 use Rattle.command_words.specs.declared.settings.Settings.{Settings}
 use Rattle.command_words.specs.declared.words_kind.WordsKind.{WordsKind}
@@ -34,24 +34,32 @@ pub record AskToWeigh (words : List Text) (prefix : PrefixValue) (settings : Set
   pub dest : Text
   pub sides : HasSides arguments source dest
   pub spelled : SpellsPrefix source dest prefix
-  pub set : SetsSettings (values_in arguments) settings
+  pub set : SetsSettings (values_in arguments) (store_in arguments) settings
 
 -- the command line asks for a report
 pub record AskToReport (words : List Text) (settings : Settings) : Type 0 where
   pub arguments : List Argument
   pub are_words : AreWordsOf words Report arguments
-  pub set : SetsSettings (values_in arguments) settings
+  pub set : SetsSettings (values_in arguments) (store_in arguments) settings
   pub wide : IsWide settings
+
+-- the command line asks for an empty store
+pub record AskToFormat (words : List Text) (settings : Settings) : Type 0 where
+  pub arguments : List Argument
+  pub are_words : AreWordsOf words Format arguments
+  pub set : SetsSettings (values_in arguments) (store_in arguments) settings
 
 -- which command the arguments of a command line ask for
 abbrev pub AskFor : List Text → Command → Type 0
 AskFor words (command.Weigh prefix settings) = AskToWeigh words prefix settings
 AskFor words (command.Report settings) = AskToReport words settings
+AskFor words (command.Format settings) = AskToFormat words settings
 
 -- the settings of the command are within their limits, and the tables of a report are large enough for its share
 abbrev pub IsLimited : Command → Type 0
 IsLimited (command.Weigh prefix settings) = AreLimited settings
 IsLimited (command.Report settings) = AreLimited settings × IsWide settings
+IsLimited (command.Format settings) = AreLimited settings
 
 -- the positionals of the command are good: those of `weigh` spell a prefix
 abbrev pub HasGoodPositionals : CommandWord → List Argument → Type 0
@@ -59,6 +67,13 @@ HasGoodPositionals Weigh arguments =
     (source : Text) × (dest : Text) × HasSides arguments source dest
     × ((prefix : PrefixValue) × SpellsPrefix source dest prefix)
 HasGoodPositionals Report arguments = ⊤
+HasGoodPositionals Format arguments = ⊤
+
+-- the tables of the command must be large enough for its share
+abbrev pub IsBounded : CommandWord → Type 0
+IsBounded Weigh = ⊥
+IsBounded Report = ⊤
+IsBounded Format = ⊥
 
 -- the positionals of `weigh` have this fault
 pub record HasBadPrefix (words : List Text) (fault : PrefixFault) : Type 0 where
@@ -91,12 +106,14 @@ pub record HasBadValue (words : List Text) (kind : WordsKind) : Type 0 where
   pub positionals : HasGoodPositionals command arguments
   pub has_fault : HasValueFault (values_in arguments) kind
 
--- each value of a report is good, and its tables are too small for its share
+-- each value is good, and the tables are too small for the share, though the command needs them to be large enough
 pub record IsTooNarrow (words : List Text) : Type 0 where
+  pub command : CommandWord
+  pub bounded : IsBounded command
   pub arguments : List Argument
-  pub are_words : AreWordsOf words Report arguments
+  pub are_words : AreWordsOf words command arguments
   pub settings : Settings
-  pub set : SetsSettings (values_in arguments) settings
+  pub set : SetsSettings (values_in arguments) (store_in arguments) settings
   pub narrow : IsWide settings → ⊥
 
 -- the first fault of the arguments: the command, then their form, then the prefix, then the values in the order

@@ -10,4 +10,6 @@ pub enum Command {
     Weigh { prefix: Prefix, settings: Settings },
     /// `report`: the prefixes that carry heavy load which no more specific reported prefix explains.
     Report(Settings),
+    /// `format`: an empty store for reports with these settings.
+    Format(Settings),
 }

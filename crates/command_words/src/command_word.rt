@@ -9,18 +9,23 @@ ghost use Rattle.command_words.specs.declared.command_word.CommandWord.{CommandW
 pub enum CommandWord {
     Weigh,
     Report,
+    Format,
 }
+
+static NONE: [&str; 0] = [];
 
 static WEIGH_POSITIONALS: [&str; 2] = ["SRC", "DST"];
 
 static WEIGH_OPTIONS: [&str; 2] = ["capture", "weigh"];
 
-static REPORT_POSITIONALS: [&str; 0] = [];
-
-static REPORT_OPTIONS: [&str; 10] = [
+static REPORT_OPTIONS: [&str; 11] = [
     "capture", "weigh", "shards", "capacity", "phi", "deal", "block", "workers", "callers",
-    "rounds",
+    "rounds", "store",
 ];
+
+static FORMAT_OPTIONS: [&str; 5] = ["weigh", "shards", "capacity", "deal", "store"];
+
+static FORMAT_REQUIRED: [&str; 1] = ["store"];
 
 impl CommandWord {
     /// The command of this name, if there is one.
@@ -31,6 +36,7 @@ impl CommandWord {
         match word {
             "weigh" => Some(CommandWord::Weigh),
             "report" => Some(CommandWord::Report),
+            "format" => Some(CommandWord::Format),
             _ => None,
         }
     }
@@ -42,6 +48,7 @@ impl CommandWord {
         match self {
             CommandWord::Weigh => "weigh",
             CommandWord::Report => "report",
+            CommandWord::Format => "format",
         }
     }
 
@@ -51,7 +58,7 @@ impl CommandWord {
     {
         match self {
             CommandWord::Weigh => WEIGH_POSITIONALS.as_slice(),
-            CommandWord::Report => REPORT_POSITIONALS.as_slice(),
+            CommandWord::Report | CommandWord::Format => NONE.as_slice(),
         }
     }
 
@@ -62,6 +69,17 @@ impl CommandWord {
         match self {
             CommandWord::Weigh => WEIGH_OPTIONS.as_slice(),
             CommandWord::Report => REPORT_OPTIONS.as_slice(),
+            CommandWord::Format => FORMAT_OPTIONS.as_slice(),
+        }
+    }
+
+    /// The names of the options that the command can't do without.
+    pub fn required<'a>(self) -> &'a [&'a str]
+        ensures { map (λ name. name.now) result.now ≡ (form_of self).required }
+    {
+        match self {
+            CommandWord::Weigh | CommandWord::Report => NONE.as_slice(),
+            CommandWord::Format => FORMAT_REQUIRED.as_slice(),
         }
     }
 

@@ -6,7 +6,7 @@ ghost use Rattle.command_words.specs.Matches.{AreMatchesOfWords};
 ghost use Rattle.command_words.specs.Words.{texts, AskFor, HasWordsFault, IsLimited};
 ghost use Rattle.command_words.specs.declared.command.Command.{Command};
 ghost use Rattle.command_words.specs.declared.command_word.CommandWord.{CommandWord};
-ghost use Rattle.command_words.specs.declared.command_word.CommandWord.TheVariants.{Weigh, Report};
+ghost use Rattle.command_words.specs.declared.command_word.CommandWord.TheVariants.{Weigh, Report, Format};
 ghost use Rattle.command_words.specs.declared.words_kind.WordsKind.{WordsKind};
 ghost use Rattle.command_words.specs.declared.words_kind.WordsRefusal.TheVariants.{Bad, OutOfMemory};
 
@@ -19,20 +19,21 @@ use clap::ArgMatches;
 use prefix_lattice::{Prefix, prefix_texts_have_one_reading};
 use std::alloc::Global;
 
-/// A command line: the command that it asks for, and what `clap` found in it.
+/// A command line: its first word, the command that it asks for, and what `clap` found in it.
 #[derive(Drop)]
 pub(crate) struct CommandLine<'a> {
+    pub(crate) word: CommandWord,
     pub(crate) command: Command,
     pub(crate) matches: ArgMatches<'a>,
 }
 
 /// The command that the arguments `words` ask for. They are the name of a command, followed by its positionals
 /// and options in any order. An option is `--name` and its value, or `--name=value`. Missing options have their
-/// defaults.
+/// defaults, except those that the command requires.
 ///
 /// Arguments that ask for no command are refused for their first fault: the command, then the form of the
 /// arguments, then the prefix, then the values in the order of `Opt`, each as a number before its limits, then
-/// the bound on `phi` times the capacity.
+/// for `report` the bound on `phi` times the capacity.
 pub fn read_words(alloc: Global, words: &[&str]) -> Result<Command, WordsRefusal>
     ensures ok { IfOk result (AskFor (texts words.now)) }
     ensures limited { IfOk result IsLimited }
@@ -58,21 +59,22 @@ pub(crate) fn read_line<'a>(
     words: &'a [&'a str],
 ) -> Result<CommandLine<'a>, WordsRefusal>
     ensures ok { IfOk result (λ line. AskFor (texts words.entry.now) line.command) }
-    ensures told { IfOk result (λ line. (command : CommandWord) × AreMatchesOfWords (texts words.entry.now) command line.matches) }
+    ensures told { IfOk result (λ line. AreMatchesOfWords (texts words.entry.now) line.word line.matches) }
     ensures bad { (kind : WordsKind) → result ≡ Err (Bad kind) → HasWordsFault (texts words.entry.now) kind }
 {
     let Some((first, behind)) = words.split_first() else {
         return Err(WordsRefusal::Bad(WordsKind::NoCommand));
     };
-    let Some(command) = CommandWord::of(first) else {
+    let Some(word) = CommandWord::of(first) else {
         return Err(WordsRefusal::Bad(WordsKind::UnknownCommand));
     };
-    if !are_well_formed(command, behind) {
+    if !are_well_formed(word, behind) {
         return Err(WordsRefusal::Bad(WordsKind::Refused));
     }
-    let matches = parse(alloc, command, behind)?;
+    let matches = parse(alloc, word, behind)?;
     Ok(CommandLine {
-        command: command_of(command, &matches)?,
+        word,
+        command: command_of(word, &matches)?,
         matches,
     })
 }
@@ -86,6 +88,7 @@ fn command_of(word: CommandWord, matches: &ArgMatches<'_>) -> Result<Command, Wo
     match word {
         CommandWord::Weigh => weigh_command(matches),
         CommandWord::Report => report_command(matches),
+        CommandWord::Format => format_command(matches),
     }
 }
 
@@ -115,4 +118,12 @@ fn report_command(matches: &ArgMatches<'_>) -> Result<Command, WordsKind>
         return Err(WordsKind::Bound);
     }
     Ok(Command::Report(settings))
+}
+
+// The command asked for by arguments that begin with `format`. Its tables may be too small for the default share.
+fn format_command(matches: &ArgMatches<'_>) -> Result<Command, WordsKind>
+    ensures ok { (words : List Text) → AreMatchesOfWords words Format matches.now → IfOk result (AskFor words) }
+    ensures err { (words : List Text) → AreMatchesOfWords words Format matches.now → IfErr result (HasWordsFault words) }
+{
+    Ok(Command::Format(settings_of(matches)?))
 }

@@ -1,6 +1,6 @@
 //! The scan that decides whether words are well formed.
 
-ghost use Rattle.std.specs.Prelude.{◌≡◌, ◌↔◌, ◌<◌, ◌≤◌, List, drop, length, Contains, Some, IfSome, IfNone, IsTrue};
+ghost use Rattle.std.specs.Prelude.{◌≡◌, ◌↔◌, ◌<◌, ◌≤◌, List, drop, length, All, Contains, Some, IfSome, IfNone, IsTrue};
 ghost use Rattle.command_words.specs.Arguments.{Argument, AreWellFormed, Begins, IsValue, SpellsAll, Text, names_in};
 ghost use Rattle.command_words.specs.Scanning.{text_at, option_name, FitsRest};
 ghost use Rattle.command_words.specs.Forms.{form_of};
@@ -9,11 +9,24 @@ ghost use Rattle.command_words.specs.Words.{texts};
 use crate::command_word::CommandWord;
 
 /// Whether the words after the command's name are well formed: they are its positionals, each once, and options
-/// of its own, each at most once, in any order.
+/// of its own, each at most once and the required ones among them, in any order.
 pub(crate) fn are_well_formed(command: CommandWord, behind: &[&str]) -> bool
     ensures { IsTrue result ↔ ((arguments : List Argument) × AreWellFormed (form_of command) (texts behind.now) arguments) }
 {
-    fit(command, behind, command.positionals().len())
+    fit(command, behind, command.positionals().len()) && are_present(command.required(), behind)
+}
+
+// Whether options of all these names are present among the arguments that the words spell.
+fn are_present(names: &[&str], words: &[&str]) -> bool
+    ensures { (arguments : List Argument) → SpellsAll (texts words.now) arguments
+        → IsTrue result ↔ All (λ name. Contains (names_in arguments) name) (texts names.now) }
+{
+    for name in names {
+        if !stands(words, name) {
+            return false;
+        }
+    }
+    true
 }
 
 // Whether the words spell exactly this many positionals, and options of the command, none of them twice. An

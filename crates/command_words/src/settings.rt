@@ -24,6 +24,6 @@ pub struct Settings {
     pub weigh: Weigh,
     /// How records are dealt to shards.
     pub deal: DealKind,
-    /// Whether cuts are saved.
+    /// Whether cuts are saved in a store.
     pub store: bool,
 }

@@ -18,7 +18,7 @@ const DEFAULTS: Settings = Settings {
 };
 
 // Arguments joined by single spaces, and what is wrong with them.
-const BAD_WORDS: [(&str, WordsKind); 45] = [
+const BAD_WORDS: [(&str, WordsKind); 51] = [
     ("", WordsKind::NoCommand),
     ("way", WordsKind::UnknownCommand),
     ("Report", WordsKind::UnknownCommand),
@@ -33,7 +33,12 @@ const BAD_WORDS: [(&str, WordsKind); 45] = [
     ("report --help", WordsKind::Refused),
     ("report --", WordsKind::Refused),
     ("report --shard 1", WordsKind::Refused),
-    ("report --store S", WordsKind::Refused),
+    ("report --report R", WordsKind::Refused),
+    ("report --store S --store=S", WordsKind::Refused),
+    ("format", WordsKind::Refused),
+    ("format --capacity 2", WordsKind::Refused),
+    ("format --store S --capture C", WordsKind::Refused),
+    ("format --store S --phi 1", WordsKind::Refused),
     ("report --shards", WordsKind::Refused),
     ("report --shards --phi", WordsKind::Refused),
     ("report --shards=", WordsKind::Refused),
@@ -106,6 +111,10 @@ const BAD_WORDS: [(&str, WordsKind); 45] = [
         "report --rounds x --workers 0",
         WordsKind::OutOfLimits(Opt::Workers),
     ),
+    (
+        "format --capacity 1 --store S",
+        WordsKind::OutOfLimits(Opt::Capacity),
+    ),
     // the bound
     ("report --capacity 17 --phi 117647", WordsKind::Bound),
 ];
@@ -144,31 +153,43 @@ fn reads_words(rt: HostRuntime) -> Result<(), Fail> {
         workers: 16,
         callers: 8,
         rounds: 32,
+        store: true,
+    };
+    let small = Settings {
+        capacity: 2,
+        store: true,
         ..DEFAULTS
     };
-    // The arguments, what they set, and the capture that they name.
+    // The arguments, what they ask for, and the capture and the store that they name.
     let cases = [
-        ("report", DEFAULTS, "-"),
-        ("report --capture=a=b", DEFAULTS, "a=b"),
-        ("report --capacity 16 --phi 125000", least, "-"),
+        ("report", Command::Report(DEFAULTS), "-", ""),
+        ("report --capture=a=b", Command::Report(DEFAULTS), "a=b", ""),
         (
-            "report --phi=117648 --rounds 32 --deal free --capacity 17 --block 1 --shards=16 --workers=16 --weigh packets --callers 8 --capture c",
-            all,
+            "report --capacity 16 --phi 125000",
+            Command::Report(least),
+            "-",
+            "",
+        ),
+        (
+            "report --phi=117648 --rounds 32 --deal free --capacity 17 --block 1 --shards=16 --store s --workers=16 --weigh packets --callers 8 --capture c",
+            Command::Report(all),
             "c",
+            "s",
+        ),
+        (
+            "format --store=s --capacity 2",
+            Command::Format(small),
+            "",
+            "s",
         ),
     ];
-    for (line, settings, capture) in cases {
+    for (line, command, capture, store) in cases {
         let words: Vec<&str> = line.split_whitespace().collect(alloc)?;
-        assert_eq!(rt;
-            read_words(alloc, words.as_slice()),
-            Ok(Command::Report(settings)),
-            "{line}"
-        );
-        assert_eq!(rt;
-            paths(alloc, words.as_slice())?.capture.as_str(),
-            capture,
-            "{line}"
-        );
+        assert_eq!(rt; read_words(alloc, words.as_slice()), Ok(command), "{line}");
+        let named = paths(alloc, words.as_slice())?;
+        assert_eq!(rt; named.capture.as_str(), capture, "{line}");
+        assert_eq!(rt; named.report.as_str(), "", "{line}");
+        assert_eq!(rt; named.store.as_str(), store, "{line}");
     }
     Ok(())
 }

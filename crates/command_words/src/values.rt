@@ -3,8 +3,8 @@
 ghost use Rattle.std.specs.Prelude.{◌≡◌, ◌↔◌, IfOk, IfErr, IsTrue};
 ghost use Rattle.command_words.specs.Scanning.{text_at};
 ghost use Rattle.command_words.specs.Options.{kind_of, number, place_of};
-ghost use Rattle.command_words.specs.Settings.{SetsDeal, SetsNumber, SetsSettings, SetsWeigh, IsWide};
-ghost use Rattle.command_words.specs.Matches.{values_in_matches};
+ghost use Rattle.command_words.specs.Settings.{SetsDeal, SetsNumber, SetsSettings, SetsStore, SetsWeigh, IsWide};
+ghost use Rattle.command_words.specs.Matches.{store_in_matches, values_in_matches};
 ghost use Rattle.command_words.specs.Words.{HasValueFault};
 ghost use Rattle.command_words.specs.OneValue.{AreGoodBefore, IsBadChoice, IsBadNumber, SetsRunning};
 ghost use Rattle.command_words.specs.declared.words_kind.WordsKind.TheVariants.{BadChoice};
@@ -87,7 +87,7 @@ const LEAST_WIDTH: u64 = 2_000_000;
 
 /// The settings that the options give, or the fault of the first wrong value.
 pub(crate) fn settings_of(matches: &ArgMatches<'_>) -> Result<Settings, WordsKind>
-    ensures ok { IfOk result (SetsSettings (values_in_matches matches.now)) }
+    ensures ok { IfOk result (SetsSettings (values_in_matches matches.now) (store_in_matches matches.now)) }
     ensures err { IfErr result (HasValueFault (values_in_matches matches.now)) }
 {
     let weigh = weigh_of(text_of(matches, Opt::Weigh))?;
@@ -106,7 +106,7 @@ pub(crate) fn settings_of(matches: &ArgMatches<'_>) -> Result<Settings, WordsKin
         rounds: running.rounds,
         weigh,
         deal,
-        store: false,
+        store: names_store(matches),
     })
 }
 
@@ -133,6 +133,13 @@ pub(crate) fn is_wide(settings: &Settings) -> bool
     ensures { IsTrue result ↔ IsWide settings.now }
 {
     u64::from(settings.phi) * u64::from(settings.capacity) >= LEAST_WIDTH
+}
+
+// Whether the arguments name a store.
+fn names_store(matches: &ArgMatches<'_>) -> bool
+    ensures { SetsStore (store_in_matches matches.now) result }
+{
+    matches.get_str("store").is_some()
 }
 
 // The value of an option, if it is present.

@@ -14,7 +14,7 @@ returns-in_default-of-clause-bad c = λ kind same.
 pub returns-then-not-are_well_formed-clause-bad : goal.returns-then-not-are_well_formed-clause-bad
 returns-then-not-are_well_formed-clause-bad c = λ kind same.
     told_as_bad _ _ kind
-    (refused_behind c.args.words.now c.in-Some.first.now c.in-Some.behind.now c.in-Some-of.command
+    (refused_behind c.args.words.now c.in-Some.first.now c.in-Some.behind.now c.in-Some-of.word
     c.in-Some.ensures.cases.0 c.in-Some-of.ensures.some
     (λ arguments well. false≢true (sym c.if-not-are_well_formed.true ∙ c.are_well_formed.ensures.1 (arguments, well))))
     same
@@ -22,7 +22,7 @@ returns-then-not-are_well_formed-clause-bad c = λ kind same.
 pub command_of-requires : goal.command_of-requires
 command_of-requires c = (
   texts c.args.words.now,
-  tells_behind c.args.words.now c.in-Some.first.now c.in-Some.behind.now c.in-Some-of.command
+  tells_behind c.args.words.now c.in-Some.first.now c.in-Some.behind.now c.in-Some-of.word
       c.in_ok-matches.matches c.in-Some.ensures.cases.0 c.in-Some-of.ensures.some
       (c.are_well_formed.ensures.0 c.if-not-are_well_formed.false) c.in_ok-matches.ensures,
 )
@@ -30,6 +30,6 @@ command_of-requires c = (
 pub returns-clause-ok : goal.returns-clause-ok
 returns-clause-ok c =
     c.in_ok-command_of.ensures.ok (texts c.args.words.now)
-    (tells_behind c.args.words.now c.in-Some.first.now c.in-Some.behind.now c.in-Some-of.command
+    (tells_behind c.args.words.now c.in-Some.first.now c.in-Some.behind.now c.in-Some-of.word
     c.in_ok-matches.matches c.in-Some.ensures.cases.0 c.in-Some-of.ensures.some
     (c.are_well_formed.ensures.0 c.if-not-are_well_formed.false) c.in_ok-matches.ensures)

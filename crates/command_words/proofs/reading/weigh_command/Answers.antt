@@ -1,10 +1,9 @@
 -- What `clap` found for SRC and DST are the two sides of the words.
-use Rattle.std.proofs.Common.{refl, subst}
+use Rattle.std.proofs.Common.{refl}
 use Rattle.std.proofs.lemmas.Result.{err_from_is_err_and}
-use Rattle.command_words.specs.Settings.{SetsSettings}
 use Rattle.command_words.specs.Words.{HasSides}
 use Rattle.command_words.specs.declared.command_word.CommandWord.TheVariants.{Weigh}
-use Rattle.command_words.proofs.MatchLemmas.{told_sides, told_is_found, told_values, told_fault, found_sides}
+use Rattle.command_words.proofs.MatchLemmas.{told_sides, told_is_found, told_settings, told_fault, found_sides}
 use Rattle.command_words.proofs.reading.weigh_command.Goals as goal
 
 pub unwrap-source-requires : goal.unwrap-source-requires
@@ -60,6 +59,6 @@ returns-clause-ok c = λ words tells. record {
       c.unwrap-dest.ensures _ _ c.as_bytes.ensures.value c.as_bytes-2.ensures.value;
   spelled = (c.in-Ok.ensures.ok c.in-Ok.prefix).0 refl;
   set =
-      subst (λ values. SetsSettings values c.in_ok-settings.settings)
-      (told_values Weigh tells.arguments c.args.matches.now tells.told) c.in_ok-settings.ensures.ok;
+      told_settings Weigh tells.arguments c.args.matches.now c.in_ok-settings.settings tells.told
+      c.in_ok-settings.ensures.ok;
 }
