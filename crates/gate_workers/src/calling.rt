@@ -4,7 +4,7 @@ ghost use Rattle.std.specs.Prelude.{◌≡◌, ◌≤◌, ◌<◌, ◌++◌, [],
 ghost use Rattle.shard_state.specs.{BasesRepresent, HasShape, capacity_of, lists_of, positions_of};
 ghost use Rattle.hhh_output.specs.{IsSound, IsWideShare, million};
 ghost use Rattle.pass_tokens.specs.{IsPassOf, view};
-ghost use Rattle.gate_workers.specs.Call.{Calls, IsCutAt, IsReportAt, ReadsOnce};
+ghost use Rattle.gate_workers.specs.Call.{Calls, IsCutAt, IsReportAt, ReadsOnce, cut_at};
 
 use crate::Gate;
 use hhh_output::{Report, Reported, Reports, report_of};
@@ -99,6 +99,7 @@ pub fn report_once<R: Wait, G: Gate>(
         (record { report = report; saved = None } ∷ [])) }
     ensures sound { IfOk result (λ report. BasesRepresent board.now.opening
         → IsSound report (lists_of board.now.opening) (capacity_of board.now.opening) phi) }
+    ensures cut { IfOk result (λ report. cut.new ≡ cut_at board.now.opening report.positions) }
     ensures shape { HasShape (length board.now.opening) (capacity_of board.now.opening) cut.new }
     ensures pass { IsPassOf board.now pass.new }
 {

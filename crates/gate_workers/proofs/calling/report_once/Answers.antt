@@ -1,4 +1,6 @@
+use Rattle.std.proofs.Common.{◌∙◌, ap, sym}
 use Rattle.pass_tokens.specs.{view}
+use Rattle.gate_workers.specs.Call.{cut_at}
 use Rattle.gate_workers.proofs.CallLemmas.{cut_at_its_positions, one_call}
 use Rattle.gate_workers.proofs.calling.report_once.Goals as goal
 
@@ -12,3 +14,9 @@ returns-clause-calls g c =
     one_call c.args.board.now.opening c.args.phi (view c.args.pass.now) (view c.read_cut.new.pass) c.args.cut.now
     c.read_cut.new.cut c.in_ok-report.report c.read_cut.ensures.read c.requires.shape
     c.in_ok-report.ensures.positions c.in_ok-report.ensures.report
+
+pub returns-clause-cut : goal.returns-clause-cut
+returns-clause-cut g c =
+    (cut_at_its_positions c.args.board.now.opening (view c.args.pass.now) (view c.read_cut.new.pass) c.args.cut.now
+    c.read_cut.new.cut c.read_cut.ensures.read c.requires.shape).is
+    ∙ ap (cut_at c.args.board.now.opening) (sym c.in_ok-report.ensures.positions)

@@ -1,0 +1,92 @@
+-- The saves of a run into its store, and what a stop may leave of the store.
+use Rattle.std.specs.Prelude.{ℕ, ◌≡◌, ◌+◌, ◌≤◌, ◌⊎◌, ⊤, List, [], ◌∷◌, fold, length, map, Option, None, Some, option_map, is_some}
+use Rattle.shard_state.specs.{AreNotPast, CutValue, HasShape, ShardValue, capacity_of}
+use Rattle.gate_workers.specs.{View}
+use Rattle.slot_disk.specs.{IfKnown, Leaves}
+use Rattle.checkpoint.specs.{AreSettings, Opens, SavedValue, SaverState, StandsFor, after_save, last_sequence, opened_sequence}
+use Rattle.checkpoint.specs.declared.settings.StoreSettings.{StoreSettings}
+use Rattle.command_words.specs.declared.settings.Settings.{Settings}
+
+-- the settings of the store that a command uses
+abbrev pub store_settings : Settings → StoreSettings
+store_settings settings = record {
+  shards = settings.shards;
+  capacity = settings.capacity;
+  weigh = settings.weigh;
+  deal = settings.deal;
+}
+
+-- what these cuts are saved as, one after the other: under the sequences after this one, and with this digest
+abbrev pub saved_after : ℕ → List ℕ → List CutValue → List SavedValue
+saved_after sequence digest [] = []
+saved_after sequence digest (cut ∷ later) =
+    record { sequence = sequence + 1; digest = digest; cut = cut } ∷ saved_after (sequence + 1) digest later
+
+-- what a store opens to after these saves, if it opened to `opened` before
+abbrev pub last_saved : Option SavedValue → List SavedValue → Option SavedValue
+last_saved opened [] = opened
+last_saved opened (saved ∷ later) = last_saved (Some saved) later
+
+-- the image is a sound store that opens to what the store opened to before these saves, or to one of them
+abbrev pub OpensAmong : StoreSettings → Option SavedValue → List SavedValue → List ℕ → Type 0
+OpensAmong settings opened [] image = Opens settings image opened
+OpensAmong settings opened (saved ∷ later) image =
+    Opens settings image opened ⊎ OpensAmong settings (Some saved) later image
+
+-- saves of these cuts into a store with these bytes, one after the other: a crash at any moment leaves what it could have
+-- left before (Earlier), or a sound store that opens as the store did, or to one of the cuts
+pub record LeavesSaves {D : Type 0} (moment : D → ℕ) (image_since : D → ℕ → List ℕ → Type 0) (settings : StoreSettings)
+    (digest : List ℕ) (Earlier : List ℕ → Type 0) (cuts : List CutValue) (old new : D) (store : List ℕ) : Type 0 where
+  pub opened : Option SavedValue
+  pub opens : Opens settings store opened
+  pub any_moment : Leaves moment image_since old new
+      (λ image. Earlier image ⊎ OpensAmong settings opened (saved_after (opened_sequence opened) digest cuts) image)
+
+-- and a crash after them leaves a sound store that opens to the last of the cuts, or as before where there was none
+pub record KeepsSaves {D : Type 0} (image_now : D → List ℕ → Type 0) (moment : D → ℕ)
+    (image_since : D → ℕ → List ℕ → Type 0) (settings : StoreSettings) (digest : List ℕ) (Earlier : List ℕ → Type 0)
+    (cuts : List CutValue) (old new : D) (store : List ℕ) : Type 0 where
+  pub leaves : LeavesSaves moment image_since settings digest Earlier cuts old new store
+  pub at_last : (image : List ℕ) → image_now new image
+      → Opens settings image (last_saved leaves.opened (saved_after (opened_sequence leaves.opened) digest cuts))
+
+-- a saver after saves of these cuts
+abbrev pub after_saves : SaverState → List CutValue → SaverState
+after_saves saver cuts = fold after_save saver cuts
+
+-- a saver saved these cuts, one after the other, and the disk stands as the saver then knows it
+pub record SavesCuts {D : Type 0} (reads : D → Option (List ℕ)) (image_now : D → List ℕ → Type 0) (moment : D → ℕ)
+    (image_since : D → ℕ → List ℕ → Type 0) (saver : SaverState) (cuts : List CutValue) (old new : D) : Type 0 where
+  pub known : is_some (reads new) ≡ is_some (reads old)
+  pub stands : StandsFor (reads new) (image_now new) (after_saves saver cuts)
+  pub kept : IfKnown (reads old)
+      (KeepsSaves image_now moment image_since saver.settings saver.digest (λ image. ⊥) cuts old new)
+
+-- what a run with or without a saver did to the disk: the saver saved these cuts, or nothing was done
+abbrev pub Saves : {D : Type 0} → (D → Option (List ℕ)) → (D → List ℕ → Type 0) → (D → ℕ)
+    → (D → ℕ → List ℕ → Type 0) → Option SaverState → List CutValue → D → D → Type 0
+Saves reads image_now moment image_since None cuts old new = new ≡ old
+Saves reads image_now moment image_since (Some saver) cuts old new =
+    SavesCuts reads image_now moment image_since saver cuts old new
+
+-- such saves, and this is the saver after them
+pub record SavesInTurn {D : Type 0} (reads : D → Option (List ℕ)) (image_now : D → List ℕ → Type 0) (moment : D → ℕ)
+    (image_since : D → ℕ → List ℕ → Type 0) (before after : Option SaverState) (old new : D) (cuts : List CutValue)
+    : Type 0 where
+  pub saver : after ≡ option_map (λ saver. after_saves saver cuts) before
+  pub saves : Saves reads image_now moment image_since before cuts old new
+
+-- a saver for a board that may save what a pass with this view reads: no position that it saved is past what the view
+-- has seen
+pub record FitsBoard (opening : List ShardValue) (view : View) (saver : SaverState) : Type 0 where
+  pub settings : AreSettings saver.settings
+  pub shards : saver.settings.shards ≡ length opening
+  pub capacity : saver.settings.capacity ≡ capacity_of opening
+  pub seen : AreNotPast saver.positions (map (λ trail. trail.seen) view.trails)
+
+-- a saver that may make this many saves of such reads, into the disk as it stands
+pub record CanSave (reads : Option (List ℕ)) (possible : List ℕ → Type 0) (opening : List ShardValue) (view : View)
+    (count : ℕ) (saver : SaverState) : Type 0 where
+  pub fits : FitsBoard opening view saver
+  pub stands : StandsFor reads possible saver
+  pub early : saver.sequence + count ≤ last_sequence

@@ -1,0 +1,38 @@
+//! The making of a store.
+
+ghost use Rattle.std.specs.Prelude.{◌≡◌};
+ghost use Rattle.std.specs.Prelude.{⊤};
+ghost use Rattle.outside_io.specs.{Rose};
+ghost use Rattle.command_words.specs.{AreLimited};
+ghost use Rattle.hhh_engine.specs.Answer.{IsCutShort, formatted_text};
+ghost use Rattle.hhh_engine.specs.Ending.{Ends, FormatEnds};
+ghost use Rattle.hhh_engine.specs.Saves.{store_settings};
+ghost use Rattle.hhh_engine.specs.declared.status.Status.TheVariants.{DiskFault};
+
+use crate::commands::base::store_settings;
+use crate::{Settings, Status};
+use checkpoint::{formatted_stores_are_empty, header_of};
+use outside_io::{Sink, write_all};
+use slot_disk::Disk;
+
+/// Formats the store of these settings, and writes that it is formatted. What the disk held is lost. After `DiskFault`
+/// nothing was written, and the store is formatted again before it is used.
+pub(crate) fn format<K: Sink, D: Disk>(settings: &Settings, sink: &mut K, disk: &mut D) -> Status
+    requires { AreLimited settings.now }
+    ensures ends { (faults : _) → Ends (λ text. text ≡ formatted_text) (IsCutShort (λ text. text ≡ formatted_text)) ⊤
+        (Rose (D.faults disk.old) (D.faults disk.new)) (λ fault. ⊥) None faults faults
+        sink.old sink.new (K.taken sink.old) (K.taken sink.new) (K.faults sink.old) (K.faults sink.new) result }
+    ensures store { FormatEnds (store_settings settings.now) (D.reads disk.new) (D.image_now disk.new)
+        sink.old sink.new disk.old disk.new result }
+    ensures told { (result ≡ DiskFault → ⊥) → D.faults disk.new ≡ D.faults disk.old }
+{
+    formatted_stores_are_empty();
+    let header = header_of(&store_settings(settings));
+    if slot_disk::format(disk, &header).is_err() {
+        return Status::DiskFault;
+    }
+    match write_all(sink, b"formatted\n") {
+        Ok(()) => Status::Done,
+        Err(_) => Status::WriteFault,
+    }
+}

@@ -1,0 +1,63 @@
+//! Saving the cuts of the calling thread.
+
+ghost use Rattle.std.specs.Prelude.{◌≡◌, ◌++◌, [], ◌∷◌, IfErr, IfOk, IfSome, None, OnErr, OnOk, is_some, true};
+ghost use Rattle.outside_io.specs.{Rose};
+ghost use Rattle.report_text.specs.{ArePositions};
+ghost use Rattle.hhh_engine.specs.Feed.{CanSaveCut, IsSaveFault};
+ghost use Rattle.hhh_engine.specs.Saves.{SavesInTurn};
+ghost use Rattle.hhh_engine.specs.Session.{saved_text};
+ghost use Rattle.hhh_engine.specs.declared.status.Status.TheVariants.{DiskFault};
+
+use crate::Status;
+use checkpoint::{SaveFault, Saver, stores_open_to_one};
+use report_text::{Mark, print_positions};
+use shard_state::{Cut, Positions};
+use slot_disk::Disk;
+use std::alloc::{AllocError, Global};
+
+/// Saves a cut, if there is a saver. Where memory runs out the saver stays; after a fault of the disk there is none.
+pub(crate) fn save_cut<D: Disk>(
+    alloc: Global,
+    saver: &mut Option<Saver>,
+    disk: &mut D,
+    cut: &Cut,
+) -> Result<(), Status>
+    requires { IfSome saver.old (CanSaveCut (D.reads disk.old) (D.image_now disk.old) cut.now) }
+    ensures saved { OnOk result (SavesInTurn D.reads D.image_now D.moment D.image_since saver.old saver.new disk.old disk.new (cut.now ∷ [])) }
+    ensures used { OnErr result (is_some saver.old ≡ true) }
+    ensures fault { IfErr result (IsSaveFault (D.faults disk.old) (D.faults disk.new)) }
+    ensures no_fault { OnOk result (D.faults disk.new ≡ D.faults disk.old) }
+    ensures unused { saver.old ≡ None → (saver.new ≡ None) × (disk.new ≡ disk.old) }
+{
+    match saver.take() {
+        None => Ok(()),
+        Some(open) => match open.save(alloc, disk, cut) {
+            Ok(next) => {
+                *saver = Some(next);
+                Ok(())
+            }
+            Err(SaveFault::DiskFault) => Err(Status::DiskFault),
+            Err(SaveFault::OutOfMemory(open)) => {
+                *saver = Some(open);
+                Err(Status::OutOfMemory)
+            }
+        },
+    }
+}
+
+/// The line of the positions that a save puts into the store; no line without a store. It is made before the save, so that
+/// memory can't run out between the two.
+pub(crate) fn saved_line(
+    alloc: Global,
+    store: bool,
+    positions: &Positions,
+) -> Result<Vec<u8>, AllocError>
+    requires { ArePositions positions.now }
+    ensures { IfOk result (λ line. line.items ≡ saved_text store positions.now) }
+{
+    let mut line = Vec::new(alloc);
+    if store {
+        print_positions(Mark::Saved, positions, &mut line)?;
+    }
+    Ok(line)
+}
