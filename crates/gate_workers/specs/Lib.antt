@@ -4,6 +4,7 @@ pub mod Plan
 pub mod Rounds
 pub mod Gather
 -- passed on: what a pass knows
+pub use Rattle.position_words.specs.declared.view.Trail.{Trail}
 pub use Rattle.position_words.specs.declared.view.View.{View}
 -- the face: what contracts of other crates cite
 pub use Rattle.gate_workers.specs.Call.{Calls, IsReportAt, ReadsOnce, cut_at, states_at}

@@ -1,6 +1,8 @@
 pub mod WeightTextLemmas
 pub mod StatusLemmas
+pub mod SavesLemmas
 pub mod RoundLemmas
+pub mod SeenLemmas
 pub mod OpeningLemmas
 pub mod SessionLemmas
 pub mod SessionTextLemmas

@@ -1,20 +1,29 @@
 -- The rounds of the calling thread, and the texts of their reports.
 use Rattle.std.proofs.Common.{◌≡◌, ◌∙◌, ◌≤◌, ◌<◌, ◌+◌, ℕ, List, [], ◌∷◌, ◌++◌, Option, None, Some, All, refl, sym, ap, subst, arith}
+use Rattle.std.proofs.Common.{Bool, true, false, ◌⊎◌, inl, inr, ap₂}
+use Rattle.std.specs.Prelude.{⊤, is_some, option_map}
+use Rattle.std.proofs.lemmas.List.{length-append}
+use Rattle.outside_io.specs.{AppendsBeginning, Rose}
 use Rattle.std.proofs.Common.{length, append-nil, append_assoc}
 use Rattle.std.specs.List.{flat_map}
 use Rattle.std.specs.Io.KnownBytes.{Appends}
 use Rattle.std.proofs.KnownBytes.{Appends-trans, Appends-nil}
 use Rattle.std.proofs.lemmas.List.Elements.{All-nil, All-cons, All-head, All-tail, All-append}
-use Rattle.shard_state.specs.{AreShards, BasesRepresent, IsShard, ShardValue, capacity_of, lists_of, state_at}
+use Rattle.shard_state.specs.{AreShards, BasesRepresent, CutValue, IsShard, ShardValue, capacity_of, lists_of, state_at}
 use Rattle.prefix_lattice.specs.{most_records}
 use Rattle.hhh_output.specs.{IsSound}
 use Rattle.hhh_output.specs.declared.report.Report.{Report}
 use Rattle.hhh_output.specs.declared.reports.Reported.{Reported}
 use Rattle.gate_workers.specs.{AreSound, Calls, IsReportAt, View, states_at}
 use Rattle.report_text.specs.{ArePositions, report_text}
-use Rattle.hhh_engine.specs.Rounds.{BreakOff, BreaksRound, EndRounds, WritesRounds}
-use Rattle.hhh_engine.specs.Session.{part_text, parts_text}
+use Rattle.hhh_engine.specs.Feed.{IsSaveFault}
+use Rattle.hhh_engine.specs.Rounds.{BreakOff, BreaksRound, EndRounds, Faults, WritesRoundInPart, WritesRounds, WritesUnsaved}
+use Rattle.hhh_engine.specs.Session.{part_text, parts_text, saved_cuts}
 use Rattle.hhh_engine.specs.declared.status.Status.{Status}
+use Rattle.hhh_engine.specs.declared.status.Status.TheVariants.{Done, BadWords, BadCapture, ReadFault, WriteFault}
+use Rattle.hhh_engine.specs.declared.status.Status.TheVariants.{DiskFault, NotFormatted, Damaged, OtherSettings}
+use Rattle.hhh_engine.specs.declared.status.Status.TheVariants.{OtherCapture, OutOfMemory}
+use Rattle.hhh_engine.proofs.SavesLemmas.{saved_cuts-append}
 
 -- positions within the lists of shards are positions that a text can show
 within_lists : (opening : List ShardValue) (positions : List ℕ) → length positions ≡ length opening
@@ -45,9 +54,9 @@ report_of_call opening phi before now report calls =
     All-head (λ (reported : Reported). IsReportAt opening phi reported.report)
     (record { report = report; saved = None }) [] calls.each
 
--- the text of a list of one report, which is not followed by saved positions
-pub one_part : (report : Report) → parts_text (record { report = report; saved = None } ∷ []) ≡ report_text report
-one_part report = append-nil (report_text report ++ []) ∙ append-nil (report_text report)
+-- the text of a list of one report
+pub one_part : (store : Bool) (reported : Reported) → parts_text store (reported ∷ []) ≡ part_text store reported
+one_part store reported = append-nil (part_text store reported)
 
 pub flat_map-append : {A B : Type 0} (f : A → List B) (xs ys : List A)
     → flat_map f (xs ++ ys) ≡ flat_map f xs ++ flat_map f ys
@@ -55,30 +64,41 @@ flat_map-append f [] ys = refl
 flat_map-append f (x ∷ xs) ys =
     ap (λ rest. f x ++ rest) (flat_map-append f xs ys) ∙ sym (append_assoc (f x) (flat_map f xs) (flat_map f ys))
 
+-- no report, no saved cut
+pub saved_cuts-none : (store : Bool) (opening : List ShardValue) → saved_cuts store opening [] ≡ []
+saved_cuts-none false opening = refl
+saved_cuts-none true opening = refl
+
 -- one round that was written whole
-pub writes_one : (opening : List ShardValue) (phi : ℕ) (before now : View) (old new : Option (List ℕ)) (report : Report)
-    (text : List ℕ) → Calls opening phi 1 before now (record { report = report; saved = None } ∷ [])
+pub writes_one : (opening : List ShardValue) (phi : ℕ) (before now : View) (store : Bool)
+    (Kept : List CutValue → Type 0) (old new : Option (List ℕ)) (report : Report)
+    → Calls opening phi 1 before now (record { report = report; saved = None } ∷ [])
     → (BasesRepresent opening → IsSound report (lists_of opening) (capacity_of opening) phi)
-    → Appends old new text → text ≡ report_text report → WritesRounds opening phi 1 before now old new
-writes_one opening phi before now old new report text calls sound written is = record {
+    → Appends old new (part_text store (record { report = report; saved = None }))
+    → Kept (saved_cuts store opening (record { report = report; saved = None } ∷ []))
+    → WritesRounds opening phi 1 before now store Kept old new
+writes_one opening phi before now store Kept old new report calls sound written kept = record {
   reports = record { report = report; saved = None } ∷ [];
   calls = calls;
   sound = λ bases.
       All-cons (λ (reported : Reported). IsSound reported.report (lists_of opening) (capacity_of opening) phi)
       (record { report = report; saved = None }) [] (sound bases)
       (All-nil (λ (reported : Reported). IsSound reported.report (lists_of opening) (capacity_of opening) phi));
-  written = subst (Appends old new) (is ∙ sym (one_part report)) written;
+  written = subst (Appends old new) (sym (one_part store (record { report = report; saved = None }))) written;
+  kept = kept;
 }
 
 -- at first no round was made
-pub writes_none : (opening : List ShardValue) (phi : ℕ) (now : View) (old : Option (List ℕ))
-    → Calls opening phi 0 now now [] → WritesRounds opening phi 0 now now old old
-writes_none opening phi now old calls = record {
+pub writes_none : (opening : List ShardValue) (phi : ℕ) (now : View) (store : Bool) (Kept : List CutValue → Type 0)
+    (old : Option (List ℕ)) → Calls opening phi 0 now now [] → Kept []
+    → WritesRounds opening phi 0 now now store Kept old old
+writes_none opening phi now store Kept old calls kept = record {
   reports = [];
   calls = calls;
   sound = λ bases.
       All-nil (λ (reported : Reported). IsSound reported.report (lists_of opening) (capacity_of opening) phi);
   written = Appends-nil old;
+  kept = subst Kept (sym (saved_cuts-none store opening)) kept;
 }
 
 -- rounds that follow rounds of the same pass are rounds
@@ -88,50 +108,154 @@ CallsFollow opening before = (phi rounds more : ℕ) (middle now : View) (report
     → Calls opening phi (rounds + more) before now (reports ++ later)
 
 -- rounds, and more of them
-pub writes_more : (opening : List ShardValue) (phi rounds more : ℕ) (before middle now : View)
-    (old between new : Option (List ℕ)) → CallsFollow opening before
-    → WritesRounds opening phi rounds before middle old between → WritesRounds opening phi more middle now between new
-    → WritesRounds opening phi (rounds + more) before now old new
-writes_more opening phi rounds more before middle now old between new follow one two = record {
+pub writes_more : (opening : List ShardValue) (phi rounds more : ℕ) (before middle now : View) (store : Bool)
+    (First Second Both : List CutValue → Type 0) (old between new : Option (List ℕ)) → CallsFollow opening before
+    → ((cuts later : List CutValue) → First cuts → Second later → Both (cuts ++ later))
+    → WritesRounds opening phi rounds before middle store First old between
+    → WritesRounds opening phi more middle now store Second between new
+    → WritesRounds opening phi (rounds + more) before now store Both old new
+writes_more opening phi rounds more before middle now store First Second Both old between new follow both one two = record {
   reports = one.reports ++ two.reports;
   calls = follow phi rounds more middle now one.reports two.reports one.calls two.calls;
   sound = λ bases.
       All-append (λ (reported : Reported). IsSound reported.report (lists_of opening) (capacity_of opening) phi)
       one.reports two.reports (one.sound bases) (two.sound bases);
   written =
-      subst (Appends old new) (sym (flat_map-append part_text one.reports two.reports))
-      (Appends-trans old between new (parts_text one.reports) (parts_text two.reports) one.written two.written);
+      subst (Appends old new) (sym (flat_map-append (part_text store) one.reports two.reports))
+      (Appends-trans old between new (parts_text store one.reports) (parts_text store two.reports) one.written
+      two.written);
+  kept =
+      subst Both (sym (saved_cuts-append store opening one.reports two.reports))
+      (both (saved_cuts store opening one.reports) (saved_cuts store opening two.reports) one.kept two.kept);
+}
+
+-- rounds of which less is said
+writes_weaker : (opening : List ShardValue) (phi rounds : ℕ) (before now : View) (store : Bool)
+    (Kept : List CutValue → Type 0) (old new : Option (List ℕ))
+    → WritesRounds opening phi rounds before now store Kept old new
+    → WritesRounds opening phi rounds before now store (λ cuts. ⊤) old new
+writes_weaker opening phi rounds before now store Kept old new written = record {
+  reports = written.reports;
+  calls = written.calls;
+  sound = written.sound;
+  written = written.written;
+  kept = tt;
 }
 
 -- all rounds were made, as the shards that a view names tell
-pub all_made : (opening shards : List ShardValue) (phi made rounds : ℕ) (before now : View) (old new : Option (List ℕ))
-    (faults_before faults_now : ℕ) (stop : Option Status) → shards ≡ opening → stop ≡ None → made ≡ rounds
-    → faults_now ≡ faults_before → WritesRounds opening phi made before now old new
-    → EndRounds shards phi rounds before now old new faults_before faults_now stop
-all_made opening shards phi made rounds before now old new faults_before faults_now stop same none all faults written =
-    subst (λ s. EndRounds shards phi rounds before now old new faults_before faults_now s) (sym none) (
-      subst (λ ss. WritesRounds ss phi rounds before now old new) (sym same)
-          (subst (λ n. WritesRounds opening phi n before now old new) all written),
+pub all_made : (opening shards : List ShardValue) (phi made rounds : ℕ) (before now : View) (store : Bool)
+    (Kept : List CutValue → Type 0) (old new : Option (List ℕ)) (faults_before faults_now : Faults)
+    (stop : Option Status) → shards ≡ opening → stop ≡ None → made ≡ rounds
+    → faults_now ≡ faults_before → WritesRounds opening phi made before now store Kept old new
+    → EndRounds shards phi rounds before now store Kept old new faults_before faults_now stop
+all_made opening shards phi made rounds before now store Kept old new faults_before faults_now stop same none all faults
+    written =
+    subst (λ s. EndRounds shards phi rounds before now store Kept old new faults_before faults_now s) (sym none) (
+      subst (λ ss. WritesRounds ss phi rounds before now store Kept old new) (sym same)
+          (subst (λ n. WritesRounds opening phi n before now store Kept old new) all written),
       faults,
     )
 
 -- a round broke off
 pub one_broke_off : (opening shards : List ShardValue) (phi share made rounds : ℕ) (before middle now : View)
-    (old between new : Option (List ℕ)) (faults_before faults_between faults_now : ℕ) (status : Status)
-    → shards ≡ opening → share ≡ phi → faults_between ≡ faults_before → made < rounds
-    → WritesRounds opening phi made before middle old between
-    → BreaksRound opening share middle now between new faults_between faults_now status
-    → BreakOff shards phi rounds before now old new faults_before faults_now status
-one_broke_off opening shards phi share made rounds before middle now old between new faults_before faults_between
-    faults_now status same same_share same_faults few written broken =
-    subst (λ ss. BreakOff ss phi rounds before now old new faults_before faults_now status) (sym same)
+    (store stored : Bool) (Kept : List CutValue → Type 0) (old between new : Option (List ℕ))
+    (faults_before faults_between faults_now : Faults) (status : Status)
+    → shards ≡ opening → share ≡ phi → stored ≡ store → faults_between ≡ faults_before → made < rounds
+    → WritesRounds opening phi made before middle store Kept old between
+    → BreaksRound opening share middle now stored between new faults_between faults_now status
+    → BreakOff shards phi rounds before now store old new faults_before faults_now status
+one_broke_off opening shards phi share made rounds before middle now store stored Kept old between new faults_before
+    faults_between faults_now status same same_share same_store same_faults few written broken =
+    subst (λ ss. BreakOff ss phi rounds before now store old new faults_before faults_now status) (sym same)
     (record {
       whole = made;
       few = few;
       middle = middle;
       between = between;
-      written = written;
+      written = writes_weaker opening phi made before middle store Kept old between written;
       broken =
-          subst (λ n. BreaksRound opening n middle now between new faults_before faults_now status) same_share
-          (subst (λ n. BreaksRound opening share middle now between new n faults_now status) same_faults broken);
+          subst (λ b. BreaksRound opening phi middle now b between new faults_before faults_now status) same_store
+          (subst (λ n. BreaksRound opening n middle now stored between new faults_before faults_now status) same_share
+          (subst (λ f. BreaksRound opening share middle now stored between new f faults_now status) same_faults broken));
     })
+
+-- a strict prefix of a report's text is one of the text and the line after it
+pub begins_part : (old new : Option (List ℕ)) (text line : List ℕ) → AppendsBeginning old new text
+    → AppendsBeginning old new (text ++ line)
+begins_part old new text line begun =
+    let short : length begun.front < length text = begun.cut in
+    record {
+      front = begun.front;
+      is_beginning = (
+        begun.is_beginning.0 ++ line,
+        ap (λ t. t ++ line) begun.is_beginning.1 ∙ append_assoc begun.front begun.is_beginning.0 line,
+      );
+      cut = omega (arith, short, length-append text line);
+      appended = begun.appended;
+    }
+
+-- a whole text, and a strict prefix of the line after it
+pub begins_line : (old between new : Option (List ℕ)) (text line : List ℕ) → Appends old between text
+    → AppendsBeginning between new line → AppendsBeginning old new (text ++ line)
+begins_line old between new text line first begun =
+    let short : length begun.front < length line = begun.cut in
+    record {
+      front = text ++ begun.front;
+      is_beginning = (
+        begun.is_beginning.0,
+        ap (λ t. text ++ t) begun.is_beginning.1 ∙ sym (append_assoc text begun.front begun.is_beginning.0),
+      );
+      cut = omega (arith, short, length-append text begun.front, length-append text line);
+      appended = Appends-trans old between new text begun.front first begun.appended;
+    }
+
+-- the sink failed in a round
+pub sink_broke : (opening : List ShardValue) (phi : ℕ) (before now : View) (store : Bool) (old new : Option (List ℕ))
+    (sink_before sink_between sink_now disk_before disk_now : ℕ) (status : Status)
+    → (status ≡ WriteFault) × Rose sink_between sink_now → sink_between ≡ sink_before → disk_now ≡ disk_before
+    → WritesRoundInPart opening phi before now store old new
+    → BreaksRound opening phi before now store old new (record { sink = sink_before; disk = disk_before })
+    (record { sink = sink_now; disk = disk_now }) status
+sink_broke opening phi before now store old new sink_before sink_between sink_now disk_before disk_now status failed
+    earlier same part =
+    subst (BreaksRound opening phi before now store old new (record { sink = sink_before; disk = disk_before })
+    (record { sink = sink_now; disk = disk_now })) (sym failed.0)
+    (part, record { rose = subst (λ n. Rose n sink_now) earlier failed.1; disk = same })
+
+-- the cut of a round wasn't saved
+pub save_broke : (opening : List ShardValue) (phi : ℕ) (before now : View) (store : Bool) (old new : Option (List ℕ))
+    (sink_before sink_now disk_before disk_now : ℕ) (status : Status)
+    → store ≡ true → IsSaveFault disk_before disk_now status → sink_now ≡ sink_before
+    → WritesUnsaved opening phi before now old new
+    → BreaksRound opening phi before now store old new (record { sink = sink_before; disk = disk_before })
+    (record { sink = sink_now; disk = disk_now }) status
+save_broke opening phi before now store old new sink_before sink_now disk_before disk_now DiskFault used fault same
+    unsaved =
+    (used, unsaved, record { rose = fault; sink = same })
+save_broke opening phi before now store old new sink_before sink_now disk_before disk_now OutOfMemory used fault same
+    unsaved =
+    (inr (used, unsaved), ap₂ (λ s d. record { sink = s; disk = d }) same fault)
+save_broke opening phi before now store old new sink_before sink_now disk_before disk_now Done used fault same unsaved =
+    absurd fault
+save_broke opening phi before now store old new sink_before sink_now disk_before disk_now (BadWords kind) used fault same
+    unsaved = absurd fault
+save_broke opening phi before now store old new sink_before sink_now disk_before disk_now (BadCapture wrong) used fault
+    same unsaved = absurd fault
+save_broke opening phi before now store old new sink_before sink_now disk_before disk_now ReadFault used fault same
+    unsaved = absurd fault
+save_broke opening phi before now store old new sink_before sink_now disk_before disk_now WriteFault used fault same
+    unsaved = absurd fault
+save_broke opening phi before now store old new sink_before sink_now disk_before disk_now NotFormatted used fault same
+    unsaved = absurd fault
+save_broke opening phi before now store old new sink_before sink_now disk_before disk_now (Damaged slot) used fault same
+    unsaved = absurd fault
+save_broke opening phi before now store old new sink_before sink_now disk_before disk_now (OtherSettings stored asked)
+    used fault same unsaved = absurd fault
+save_broke opening phi before now store old new sink_before sink_now disk_before disk_now (OtherCapture stored asked)
+    used fault same unsaved = absurd fault
+
+-- a saver stays, or none does
+pub same_store : {A : Type 0} (before after : Option A) (f : A → A) → after ≡ option_map f before
+    → is_some after ≡ is_some before
+same_store None after f is = ap is_some is
+same_store (Some x) after f is = ap is_some is

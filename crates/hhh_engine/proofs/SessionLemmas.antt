@@ -1,4 +1,5 @@
 -- The reports of a session, by what threads did.
+use Rattle.std.proofs.Common.{Bool, false, ⊎_elim}
 use Rattle.std.proofs.Common.{◌≡◌, ◌∙◌, ◌≤◌, ◌<◌, ◌+◌, ◌⊎◌, inl, inr, ℕ, List, [], ◌∷◌, ◌++◌, Option, None, Some}
 use Rattle.std.proofs.Common.{Ok, Err, All, refl, sym, ap, ap₂, subst, arith, length, map, append_assoc, append-nil, get_or, take, zero, suc, slice_get}
 use Rattle.std.specs.Prelude.{slice_index}
@@ -12,7 +13,7 @@ use Rattle.std.proofs.lemmas.List.{length-map, length-append, take_more}
 use Rattle.std.proofs.lemmas.List.Elements.{All-map, All-append, All-cons, All-head, All-nil, All-tail}
 use Rattle.std.proofs.lemmas.List.Sorted.{IsNonDecreasingBy-short}
 use Rattle.outside_io.specs.{AppendsBeginning, IsBeginning, Rose}
-use Rattle.shard_state.specs.{BasesRepresent, IsShard, ShardValue, capacity_of, lists_of, state_at}
+use Rattle.shard_state.specs.{BasesRepresent, CutValue, IsShard, ShardValue, capacity_of, lists_of, state_at}
 use Rattle.hhh_output.specs.{IsSound}
 use Rattle.hhh_output.specs.declared.report.Report.{Report}
 use Rattle.hhh_output.specs.declared.reports.Reported.{Reported}
@@ -23,13 +24,16 @@ use Rattle.gate_workers.specs.declared.gathered.Gathered.{Gathered}
 use Rattle.gate_workers.specs.declared.plan.ThreadPlan.{ThreadPlan}
 use Rattle.command_words.specs.declared.settings.Settings.{Settings}
 use Rattle.report_text.specs.{report_text}
-use Rattle.hhh_engine.specs.Feed.{IsFault, WritesRoundsInPart, reports_of}
-use Rattle.hhh_engine.specs.Rounds.{BreakOff, EndRounds, WritesRounds}
-use Rattle.hhh_engine.specs.Session.{AreReportsOf, IsShown, ends_of, part_text, parts_text, saved_text, start_of}
+use Rattle.hhh_engine.specs.Feed.{WritesRoundsInPart, reports_of}
+use Rattle.hhh_engine.specs.Rounds.{BreakOff, EndRounds, Faults, ReadsInVain, ReportsOnce, WritesRounds, WritesUnsaved}
+use Rattle.hhh_engine.specs.Session.{AreReportsOf, IsShown, callers_text, ends_of, part_text, parts_text, saved_cuts}
+use Rattle.hhh_engine.specs.Session.{saved_text, start_of}
 use Rattle.hhh_engine.specs.declared.status.Status.{Status}
 use Rattle.hhh_engine.specs.declared.status.Status.TheVariants.{Done, BadWords, BadCapture, ReadFault, WriteFault}
-use Rattle.hhh_engine.specs.declared.status.Status.TheVariants.{OutOfMemory}
+use Rattle.hhh_engine.specs.declared.status.Status.TheVariants.{DiskFault, NotFormatted, Damaged, OtherSettings}
+use Rattle.hhh_engine.specs.declared.status.Status.TheVariants.{OtherCapture, OutOfMemory}
 use Rattle.hhh_engine.proofs.RoundLemmas.{CallsFollow, flat_map-append, one_part, report_of_call}
+use Rattle.hhh_engine.proofs.SeenLemmas.{calls_many, one_read}
 
 -- a view has seen the positions at which shards start, and no others
 abbrev pub HasSeenStarts : List ShardValue → View → Type 0
@@ -51,16 +55,15 @@ newcomer_has_seen_starts opening view seen = map-map _ (λ trail. trail.seen) vi
 -- what a caller with such a view reports in its rounds
 pub reports_of_calls : (opening : List ShardValue) (settings : Settings) (rounds : ℕ) (before now : View)
     (reports : List Reported) → capacity_of opening ≡ settings.capacity → HasSeenStarts opening before
-    → Calls opening settings.phi rounds before now reports → AreSound opening settings.phi reports
+    → Calls opening settings.phi rounds before now reports → (BasesRepresent opening → AreSound opening settings.phi reports)
     → AreReportsOf opening settings rounds reports
 reports_of_calls opening settings rounds before now reports alike seen calls sound = record {
-  as_many =
-      sym (length-map reports _) ∙ ap length calls.positions ∙ length-map calls.reads _ ∙ calls.as_many;
+  as_many = calls_many opening settings.phi rounds before now reports calls;
   shown = λ k d lt. record {
     is_report = calls.each k d lt;
-    is_sound = subst (λ capacity. IsSound (get_or reports k d).report (lists_of opening) capacity settings.phi) alike
-        (sound k d lt);
-    unsaved = calls.unsaved k d lt;
+    is_sound = λ bases.
+        subst (λ capacity. IsSound (get_or reports k d).report (lists_of opening) capacity settings.phi) alike
+        (sound bases k d lt);
   };
   never_fall = λ shard inside.
       let many : length (start_of opening) ≡ length opening = length-map opening _ in
@@ -73,99 +76,136 @@ reports_of_calls opening settings rounds before now reports alike seen calls sou
       (calls.never_fall shard (omega (arith, inside, many))));
 }
 
--- appended bytes of which a beginning was written
-begun_behind : (old between new : Option (List ℕ)) (first second : List ℕ) → Appends old between first
-    → AppendsBeginning between new second
-    → (front : List ℕ) × IsBeginning front (first ++ second) × Appends old new front
-begun_behind old between new first second one two = (
-  first ++ two.front,
-  (
-    two.is_beginning.0,
-    ap (λ rest. first ++ rest) two.is_beginning.1 ∙ sym (append_assoc first two.front two.is_beginning.0),
-  ),
-  Appends-trans old between new first two.front one two.appended,
-)
+-- whole rounds, and one more that was begun
+begun_more : (opening : List ShardValue) (settings : Settings) (whole rounds : ℕ) (before middle now : View)
+    (old between new : Option (List ℕ)) (reports : List Reported) (report : Report) (front : List ℕ)
+    → capacity_of opening ≡ settings.capacity → HasSeenStarts opening before → CallsFollow opening before
+    → whole < settings.rounds → Calls opening settings.phi whole before middle reports
+    → (BasesRepresent opening → AreSound opening settings.phi reports)
+    → Appends old between (parts_text settings.store reports)
+    → ReportsOnce opening settings.phi middle now report
+    → IsBeginning front (part_text settings.store (record { report = report; saved = None }))
+    → Appends between new front → WritesRoundsInPart opening settings old new
+begun_more opening settings whole rounds before middle now old between new reports report front alike seen follow few made
+    sound written once begins more =
+    let next : Reported = record { report = report; saved = None } in
+    let all : List Reported = reports ++ next ∷ [] in
+    let store : Bool = settings.store in
+    let calls : Calls opening settings.phi (whole + 1) before now all =
+    follow settings.phi whole 1 middle now reports (next ∷ []) made once.calls in
+    let are_sound : BasesRepresent opening → AreSound opening settings.phi all =
+    λ bases.
+    All-append (λ (reported : Reported). IsSound reported.report (lists_of opening) (capacity_of opening) settings.phi)
+    reports (next ∷ []) (sound bases)
+    (All-cons (λ (reported : Reported). IsSound reported.report (lists_of opening) (capacity_of opening) settings.phi)
+    next [] (once.sound bases)
+    (All-nil (λ (reported : Reported). IsSound reported.report (lists_of opening) (capacity_of opening) settings.phi))) in
+    let are : AreReportsOf opening settings (whole + 1) all =
+    reports_of_calls opening settings (whole + 1) before now all alike seen calls are_sound in
+    record {
+      rounds = all;
+      few = omega (arith, few, are.as_many);
+      are_rounds = subst (λ n. AreReportsOf opening settings n all) (sym are.as_many) are;
+      front = parts_text store reports ++ front;
+      begins = (
+        begins.0,
+        flat_map-append (part_text store) reports (next ∷ [])
+            ∙ ap (λ text. parts_text store reports ++ text) (one_part store next ∙ begins.1)
+            ∙ sym (append_assoc (parts_text store reports) front begins.0),
+      );
+      written = Appends-trans old between new (parts_text store reports) front written more;
+    }
+
+-- whole rounds, and a text without the line after it
+begun_unsaved : (opening : List ShardValue) (settings : Settings) (whole rounds : ℕ) (before middle now : View)
+    (old between new : Option (List ℕ)) (reports : List Reported)
+    → capacity_of opening ≡ settings.capacity → HasSeenStarts opening before → CallsFollow opening before
+    → whole < settings.rounds → Calls opening settings.phi whole before middle reports
+    → (BasesRepresent opening → AreSound opening settings.phi reports)
+    → Appends old between (parts_text settings.store reports)
+    → WritesUnsaved opening settings.phi middle now between new → WritesRoundsInPart opening settings old new
+begun_unsaved opening settings whole rounds before middle now old between new reports alike seen follow few made sound
+    written last =
+    begun_more opening settings whole rounds before middle now old between new reports last.report
+    (report_text last.report) alike seen follow few made sound written last.reports
+    (saved_text settings.store last.report.positions, refl) last.written
+
+-- whole rounds, and nothing more
+begun_none : (opening : List ShardValue) (settings : Settings) (whole : ℕ) (before middle : View)
+    (old between new : Option (List ℕ)) (reports : List Reported)
+    → capacity_of opening ≡ settings.capacity → HasSeenStarts opening before
+    → whole ≤ settings.rounds → Calls opening settings.phi whole before middle reports
+    → (BasesRepresent opening → AreSound opening settings.phi reports)
+    → Appends old between (parts_text settings.store reports) → new ≡ between
+    → WritesRoundsInPart opening settings old new
+begun_none opening settings whole before middle old between new reports alike seen few made sound written same =
+    let are : AreReportsOf opening settings whole reports =
+    reports_of_calls opening settings whole before middle reports alike seen made sound in
+    record {
+      rounds = reports;
+      few = omega (arith, few, are.as_many);
+      are_rounds = subst (λ n. AreReportsOf opening settings n reports) (sym are.as_many) are;
+      front = parts_text settings.store reports;
+      begins = ([], sym (append-nil (parts_text settings.store reports)));
+      written = subst (λ o. Appends old o (parts_text settings.store reports)) (sym same) written;
+    }
 
 -- rounds that broke off: whole reports, and a beginning of one more
 broken_in_part : (opening : List ShardValue) (settings : Settings) (before now : View) (old new : Option (List ℕ))
-    (faults_before faults_now : ℕ) (status : Status) → capacity_of opening ≡ settings.capacity
-    → HasSeenStarts opening before → BasesRepresent opening → CallsFollow opening before
-    → BreakOff opening settings.phi settings.rounds before now old new faults_before faults_now status
+    (faults_before faults_now : Faults) (status : Status) → capacity_of opening ≡ settings.capacity
+    → HasSeenStarts opening before → CallsFollow opening before
+    → BreakOff opening settings.phi settings.rounds before now settings.store old new faults_before faults_now status
     → WritesRoundsInPart opening settings old new
-broken_in_part opening settings before now old new faults_before faults_now WriteFault alike seen bases follow off =
+broken_in_part opening settings before now old new faults_before faults_now WriteFault alike seen follow off =
     let whole = off.written in
     let last = off.broken.0 in
-    let next : Reported = record { report = last.report; saved = None } in
-    let calls : Calls opening settings.phi (off.whole + 1) before now (whole.reports ++ next ∷ []) =
-    follow settings.phi off.whole 1 off.middle now whole.reports (next ∷ []) whole.calls last.calls in
-    let sound : AreSound opening settings.phi (whole.reports ++ next ∷ []) =
-    All-append (λ (reported : Reported). IsSound reported.report (lists_of opening) (capacity_of opening) settings.phi)
-    whole.reports (next ∷ []) (whole.sound bases)
-    (All-cons (λ (reported : Reported). IsSound reported.report (lists_of opening) (capacity_of opening) settings.phi)
-    next [] (last.sound bases)
-    (All-nil (λ (reported : Reported). IsSound reported.report (lists_of opening) (capacity_of opening) settings.phi))) in
-    let are : AreReportsOf opening settings (off.whole + 1) (whole.reports ++ next ∷ []) =
-    reports_of_calls opening settings (off.whole + 1) before now (whole.reports ++ next ∷ []) alike seen calls sound in
-    let begun = begun_behind old off.between new (parts_text whole.reports) (report_text last.report) whole.written
-    last.written in
-    let few : off.whole < settings.rounds = off.few in
-    record {
-      rounds = whole.reports ++ next ∷ [];
-      few = omega (arith, few, are.as_many);
-      are_rounds =
-          subst (λ n. AreReportsOf opening settings n (whole.reports ++ next ∷ [])) (sym are.as_many) are;
-      front = begun.0;
-      begins =
-          subst (IsBeginning begun.0)
-          (ap (λ text. parts_text whole.reports ++ text) (sym (one_part last.report))
-          ∙ sym (flat_map-append part_text whole.reports (next ∷ []))) begun.1;
-      written = begun.2;
-    }
-broken_in_part opening settings before now old new faults_before faults_now OutOfMemory alike seen bases follow off =
+    begun_more opening settings off.whole settings.rounds before off.middle now old off.between new whole.reports
+    last.report last.written.front alike seen follow off.few whole.calls whole.sound whole.written last.reports
+    last.written.is_beginning last.written.appended
+broken_in_part opening settings before now old new faults_before faults_now DiskFault alike seen follow off =
     let whole = off.written in
-    let are : AreReportsOf opening settings off.whole whole.reports =
-    reports_of_calls opening settings off.whole before off.middle whole.reports alike seen whole.calls
-    (whole.sound bases) in
+    begun_unsaved opening settings off.whole settings.rounds before off.middle now old off.between new whole.reports
+    alike seen follow off.few whole.calls whole.sound whole.written off.broken.1
+broken_in_part opening settings before now old new faults_before faults_now OutOfMemory alike seen follow off =
+    let whole = off.written in
     let few : off.whole < settings.rounds = off.few in
-    record {
-      rounds = whole.reports;
-      few = omega (arith, few, are.as_many);
-      are_rounds = subst (λ n. AreReportsOf opening settings n whole.reports) (sym are.as_many) are;
-      front = parts_text whole.reports;
-      begins = ([], sym (append-nil (parts_text whole.reports)));
-      written = subst (λ o. Appends old o (parts_text whole.reports)) (sym off.broken.0.unwritten) whole.written;
-    }
-broken_in_part opening settings before now old new faults_before faults_now Done alike seen bases follow off =
+    ⊎_elim
+    (λ (vain : ReadsInVain opening off.middle now off.between new).
+    begun_none opening settings off.whole before off.middle old off.between new whole.reports alike seen
+    (omega (arith, few)) whole.calls whole.sound whole.written vain.unwritten)
+    (λ unsaved.
+    begun_unsaved opening settings off.whole settings.rounds before off.middle now old off.between new whole.reports
+    alike seen follow off.few whole.calls whole.sound whole.written unsaved.1) off.broken.0
+broken_in_part opening settings before now old new faults_before faults_now Done alike seen follow off =
     absurd off.broken
-broken_in_part opening settings before now old new faults_before faults_now (BadWords kind) alike seen bases follow
-    off = absurd off.broken
-broken_in_part opening settings before now old new faults_before faults_now (BadCapture fault) alike seen bases follow
-    off = absurd off.broken
-broken_in_part opening settings before now old new faults_before faults_now ReadFault alike seen bases follow off =
+broken_in_part opening settings before now old new faults_before faults_now (BadWords kind) alike seen follow off =
     absurd off.broken
+broken_in_part opening settings before now old new faults_before faults_now (BadCapture fault) alike seen follow off =
+    absurd off.broken
+broken_in_part opening settings before now old new faults_before faults_now ReadFault alike seen follow off =
+    absurd off.broken
+broken_in_part opening settings before now old new faults_before faults_now NotFormatted alike seen follow off =
+    absurd off.broken
+broken_in_part opening settings before now old new faults_before faults_now (Damaged slot) alike seen follow off =
+    absurd off.broken
+broken_in_part opening settings before now old new faults_before faults_now (OtherSettings stored asked) alike seen
+    follow off = absurd off.broken
+broken_in_part opening settings before now old new faults_before faults_now (OtherCapture stored asked) alike seen
+    follow off = absurd off.broken
 
 -- rounds that ended, whole or not
-ended_in_part : (opening : List ShardValue) (settings : Settings) (before now : View) (old new : Option (List ℕ))
-    (faults_before faults_now : ℕ) (stop : Option Status) → capacity_of opening ≡ settings.capacity
-    → HasSeenStarts opening before → BasesRepresent opening → CallsFollow opening before
-    → EndRounds opening settings.phi settings.rounds before now old new faults_before faults_now stop
+ended_in_part : (opening : List ShardValue) (settings : Settings) (before now : View)
+    (Kept : List CutValue → Type 0) (old new : Option (List ℕ))
+    (faults_before faults_now : Faults) (stop : Option Status) → capacity_of opening ≡ settings.capacity
+    → HasSeenStarts opening before → CallsFollow opening before
+    → EndRounds opening settings.phi settings.rounds before now settings.store Kept old new faults_before faults_now stop
     → WritesRoundsInPart opening settings old new
-ended_in_part opening settings before now old new faults_before faults_now None alike seen bases follow ended =
+ended_in_part opening settings before now Kept old new faults_before faults_now None alike seen follow ended =
     let whole = ended.0 in
-    let are : AreReportsOf opening settings settings.rounds whole.reports =
-    reports_of_calls opening settings settings.rounds before now whole.reports alike seen whole.calls
-    (whole.sound bases) in
-    record {
-      rounds = whole.reports;
-      few = omega (arith, are.as_many);
-      are_rounds = subst (λ n. AreReportsOf opening settings n whole.reports) (sym are.as_many) are;
-      front = parts_text whole.reports;
-      begins = ([], sym (append-nil (parts_text whole.reports)));
-      written = whole.written;
-    }
-ended_in_part opening settings before now old new faults_before faults_now (Some status) alike seen bases follow
-    ended =
-    broken_in_part opening settings before now old new faults_before faults_now status alike seen bases follow ended
+    begun_none opening settings settings.rounds before now old new new whole.reports alike seen (omega arith) whole.calls
+    whole.sound whole.written refl
+ended_in_part opening settings before now Kept old new faults_before faults_now (Some status) alike seen follow ended =
+    broken_in_part opening settings before now old new faults_before faults_now status alike seen follow ended
 
 -- no round was begun
 none_in_part : (opening : List ShardValue) (settings : Settings) (old new : Option (List ℕ)) → new ≡ old
@@ -186,30 +226,31 @@ none_in_part opening settings old new same = record {
 -- what the rounds of the calling thread leave, where the threads of a plan were run over a new board, or memory ran out
 -- before they were
 pub feed_in_part : (same : Type 0) (relates : View → View → Type 0) (opening : List ShardValue) (settings : Settings)
-    (passes : ℕ) (view : View) (old new : Option (List ℕ)) (faults_before faults_now : ℕ) (stop : Option Status)
-    → view ≡ first_view opening → capacity_of opening ≡ settings.capacity → BasesRepresent opening
-    → ((before now : View) → relates before now
-    → EndRounds before.opening settings.phi settings.rounds before now old new faults_before faults_now stop)
+    (passes : ℕ) (view : View) (Kept : List CutValue → Type 0) (old new : Option (List ℕ))
+    (faults_before faults_now : Faults) (stop : Option Status)
+    → view ≡ first_view opening → capacity_of opening ≡ settings.capacity
+    → ((before now : View) → relates before now → EndRounds before.opening settings.phi settings.rounds before now
+    settings.store Kept old new faults_before faults_now stop)
     → ((phi rounds more : ℕ) (before middle now : View) (reports later : List Reported)
     → length before.trails ≡ length opening → Calls opening phi rounds before middle reports
     → Calls opening phi more middle now later → Calls opening phi (rounds + more) before now (reports ++ later))
     → (same → new ≡ old) → same ⊎ GoesOnce relates passes view → WritesRoundsInPart opening settings old new
-feed_in_part same relates opening settings passes view old new faults_before faults_now stop first alike bases ends
+feed_in_part same relates opening settings passes view Kept old new faults_before faults_now stop first alike ends
     follow unmoved (inl is_same) = none_in_part opening settings old new (unmoved is_same)
-feed_in_part same relates opening settings passes view old new faults_before faults_now stop first alike bases ends
+feed_in_part same relates opening settings passes view Kept old new faults_before faults_now stop first alike ends
     follow unmoved (inr once) =
     let before : View = record view { splits = view.splits + passes } in
     let seen : HasSeenStarts opening before =
     ap (λ (v : View). map (λ trail. trail.seen) v.trails) first ∙ first_has_seen_starts opening in
     let many : length before.trails ≡ length opening =
     ap (λ (v : View). length v.trails) first ∙ length-map opening _ in
-    let ended : EndRounds before.opening settings.phi settings.rounds before once.now old new faults_before faults_now
-    stop = ends before once.now once.does in
-    ended_in_part opening settings before once.now old new faults_before faults_now stop alike seen bases
+    let ended : EndRounds before.opening settings.phi settings.rounds before once.now settings.store Kept old new
+    faults_before faults_now stop = ends before once.now once.does in
+    ended_in_part opening settings before once.now Kept old new faults_before faults_now stop alike seen
     (λ phi rounds more middle now reports later one two.
     follow phi rounds more before middle now reports later many one two)
-    (subst (λ shards. EndRounds shards settings.phi settings.rounds before once.now old new faults_before faults_now
-    stop) (ap (λ (v : View). v.opening) first) ended)
+    (subst (λ shards. EndRounds shards settings.phi settings.rounds before once.now settings.store Kept old new
+    faults_before faults_now stop) (ap (λ (v : View). v.opening) first) ended)
 
 -- either the threads were run, or memory ran out before
 pub once_or_not : {E : Type 0} (same : Type 0) (relates : View → View → Type 0) (opening : List ShardValue)
@@ -224,46 +265,51 @@ pub on_err : {T E : Type 0} (result : Result T E) (P : Type 0) → P → OnErr r
 on_err (Ok value) P holds = tt
 on_err (Err error) P holds = holds
 
--- the share and the rounds that settings ask for
-pub ended_as_set : (shards : List ShardValue) (share phi made rounds : ℕ) (before now : View) (old new : Option (List ℕ))
-    (faults_before faults_now : ℕ) (stop : Option Status) → share ≡ phi → made ≡ rounds
-    → EndRounds shards share made before now old new faults_before faults_now stop
-    → EndRounds shards phi rounds before now old new faults_before faults_now stop
-ended_as_set shards share phi made rounds before now old new faults_before faults_now stop same_share same_rounds ended =
-    subst (λ n. EndRounds shards phi n before now old new faults_before faults_now stop) same_rounds
-    (subst (λ n. EndRounds shards n made before now old new faults_before faults_now stop) same_share ended)
+-- the share, the rounds and the store that settings ask for
+pub ended_as_set : (shards : List ShardValue) (share phi made rounds : ℕ) (before now : View) (stored store : Bool)
+    (Kept : List CutValue → Type 0) (old new : Option (List ℕ)) (faults_before faults_now : Faults)
+    (stop : Option Status) → share ≡ phi → made ≡ rounds → stored ≡ store
+    → EndRounds shards share made before now stored Kept old new faults_before faults_now stop
+    → EndRounds shards phi rounds before now store Kept old new faults_before faults_now stop
+ended_as_set shards share phi made rounds before now stored store Kept old new faults_before faults_now stop same_share
+    same_rounds same_store ended =
+    subst (λ b. EndRounds shards phi rounds before now b Kept old new faults_before faults_now stop) same_store
+    (subst (λ n. EndRounds shards phi n before now stored Kept old new faults_before faults_now stop) same_rounds
+    (subst (λ n. EndRounds shards n made before now stored Kept old new faults_before faults_now stop) same_share ended))
 
 -- rounds that were not stopped were all made
-pub ended_whole : (shards : List ShardValue) (phi rounds : ℕ) (before now : View) (old new : Option (List ℕ))
-    (faults_before faults_now : ℕ) (stop : Option Status) → stop ≡ None
-    → EndRounds shards phi rounds before now old new faults_before faults_now stop
-    → WritesRounds shards phi rounds before now old new
-ended_whole shards phi rounds before now old new faults_before faults_now stop none ended =
-    (subst (λ s. EndRounds shards phi rounds before now old new faults_before faults_now s) none ended).0
+pub ended_whole : (shards : List ShardValue) (phi rounds : ℕ) (before now : View) (store : Bool)
+    (Kept : List CutValue → Type 0) (old new : Option (List ℕ)) (faults_before faults_now : Faults)
+    (stop : Option Status) → stop ≡ None
+    → EndRounds shards phi rounds before now store Kept old new faults_before faults_now stop
+    → WritesRounds shards phi rounds before now store Kept old new
+ended_whole shards phi rounds before now store Kept old new faults_before faults_now stop none ended =
+    (subst (λ s. EndRounds shards phi rounds before now store Kept old new faults_before faults_now s) none ended).0
 
 -- what the threads bring back, where the rounds of the calling thread were all made
 pub gathered_whole : (relates : View → View → Type 0) (opening : List ShardValue) (settings : Settings)
-    (plan : ThreadPlan) (view : View) (gathered : Gathered) (old new : Option (List ℕ))
-    → view ≡ first_view opening → capacity_of opening ≡ settings.capacity → BasesRepresent opening
+    (plan : ThreadPlan) (view : View) (gathered : Gathered) (Kept : List CutValue → Type 0) (old new : Option (List ℕ))
+    → view ≡ first_view opening → capacity_of opening ≡ settings.capacity
     → plan.phi ≡ settings.phi → plan.rounds ≡ settings.rounds → plan.callers ≡ settings.callers
     → ((before now : View) → relates before now
-    → WritesRounds before.opening settings.phi settings.rounds before now old new)
+    → WritesRounds before.opening settings.phi settings.rounds before now settings.store Kept old new)
     → Gathers opening plan relates view gathered
     → (BasesRepresent opening → All (λ (called : Called). AreSound opening plan.phi called.reports) gathered.called.items)
     → (rounds : List Reported) × AreReportsOf opening settings settings.rounds rounds
-    × Appends old new (parts_text rounds) × (length gathered.called.items ≡ settings.callers)
+    × Appends old new (parts_text settings.store rounds) × (length gathered.called.items ≡ settings.callers)
     × All (AreReportsOf opening settings settings.rounds) (reports_of gathered.called.items)
-gathered_whole relates opening settings plan view gathered old new first alike bases phi rounds callers ends gathers
+    × Kept (saved_cuts settings.store opening rounds)
+gathered_whole relates opening settings plan view gathered Kept old new first alike phi rounds callers ends gathers
     sound =
     let before : View = record view { splits = view.splits + (plan.workers + plan.callers) } in
     let seen : HasSeenStarts opening view =
     ap (λ (v : View). map (λ trail. trail.seen) v.trails) first ∙ first_has_seen_starts opening in
-    let whole : WritesRounds opening settings.phi settings.rounds before gathers.rounds.now old new =
-    subst (λ shards. WritesRounds shards settings.phi settings.rounds before gathers.rounds.now old new)
+    let whole : WritesRounds opening settings.phi settings.rounds before gathers.rounds.now settings.store Kept old new =
+    subst (λ shards. WritesRounds shards settings.phi settings.rounds before gathers.rounds.now settings.store Kept old new)
     (ap (λ (v : View). v.opening) first) (ends before gathers.rounds.now gathers.rounds.does) in (
       whole.reports,
       reports_of_calls opening settings settings.rounds before gathers.rounds.now whole.reports alike seen whole.calls
-          (whole.sound bases),
+          whole.sound,
       whole.written,
       gathers.as_many_callers ∙ callers,
       All-map (AreReportsOf opening settings settings.rounds) (λ (called : Called). called.reports)
@@ -275,22 +321,20 @@ gathered_whole relates opening settings plan view gathered old new first alike b
           (subst (λ n. Calls opening settings.phi n (newcomer view) (view_of called.pass) called.reports) rounds
           (subst (λ n. Calls opening n plan.rounds (newcomer view) (view_of called.pass) called.reports) phi
           (gathers.called k d lt)))
-          (subst (λ n. AreSound opening n called.reports) phi (sound bases k d lt))),
+          (λ bases. subst (λ n. AreSound opening n called.reports) phi (sound bases k d lt))),
+      whole.kept,
     )
 
--- one report more of a list whose reports are shown
-pub parts-more : (opening : List ShardValue) (settings : Settings) (reports : List Reported) (index : ℕ) (d : Reported)
-    → All (IsShown opening settings) reports → index < length reports
-    → parts_text (take (index + 1) reports) ≡ parts_text (take index reports) ++ report_text (get_or reports index d).report
-parts-more opening settings reports index d shown inside =
+-- one report more of a caller, none of whose cuts is saved
+pub parts-more : (reports : List Reported) (index : ℕ) (d : Reported) → index < length reports
+    → parts_text false (take (index + 1) reports)
+    ≡ parts_text false (take index reports) ++ report_text (get_or reports index d).report
+parts-more reports index d inside =
     let reported : Reported = get_or reports index d in
-    let is_shown : IsShown opening settings reported = shown index d inside in
-    let text : part_text reported ≡ report_text reported.report =
-    ap (λ saved. report_text reported.report ++ saved_text saved) is_shown.unsaved
-    ∙ append-nil (report_text reported.report) in
-    ap parts_text (take_more reports index d inside)
-    ∙ flat_map-append part_text (take index reports) (reported ∷ [])
-    ∙ ap (λ rest. parts_text (take index reports) ++ rest) (append-nil (part_text reported) ∙ text)
+    ap (parts_text false) (take_more reports index d inside)
+    ∙ flat_map-append (part_text false) (take index reports) (reported ∷ [])
+    ∙ ap (λ rest. parts_text false (take index reports) ++ rest)
+    (append-nil (part_text false reported) ∙ append-nil (report_text reported.report))
 
 -- the reports of one of several callers
 pub caller_at : (called : List Called) (index : ℕ) (d : Called)
@@ -301,15 +345,15 @@ caller_at (first ∷ rest) (suc index) d = caller_at rest index d
 
 -- one caller's reports more
 pub callers-more : (called : List Called) (index : ℕ) (d : Called) → index < length called
-    → flat_map parts_text (take (index + 1) (reports_of called))
-    ≡ flat_map parts_text (take index (reports_of called)) ++ parts_text (get_or called index d).reports
+    → callers_text (take (index + 1) (reports_of called))
+    ≡ callers_text (take index (reports_of called)) ++ parts_text false (get_or called index d).reports
 callers-more called index d inside =
     let callers : List (List Reported) = reports_of called in
     let within : index < length callers = omega (arith, inside, length-map called (λ (caller : Called). caller.reports)) in
-    ap (flat_map parts_text) (take_more callers index d.reports within)
-    ∙ flat_map-append parts_text (take index callers) (get_or callers index d.reports ∷ [])
-    ∙ ap (λ rest. flat_map parts_text (take index callers) ++ rest)
-    (append-nil (parts_text (get_or callers index d.reports)) ∙ ap parts_text (caller_at called index d))
+    ap callers_text (take_more callers index d.reports within)
+    ∙ flat_map-append (parts_text false) (take index callers) (get_or callers index d.reports ∷ [])
+    ∙ ap (λ rest. callers_text (take index callers) ++ rest)
+    (append-nil (parts_text false (get_or callers index d.reports)) ∙ ap (parts_text false) (caller_at called index d))
 
 inside : {A : Type 0} (xs : List A) (index : ℕ) (x : A) → slice_get xs index ≡ Some x → index < length xs
 inside [] index x is = cc is
@@ -334,28 +378,18 @@ at_ends (shard ∷ rest) (position ∷ positions) many kept behind =
     (All-tail IsShard (state_at position shard) (states_at rest positions) kept)
     (λ index state is. behind (suc index) state is))
 
--- one read of a shard is at or past what was seen
-one_read : (reads : List (List ShardRead)) (positions : List ℕ) (shard seen : ℕ)
-    → positions ∷ [] ≡ map (λ round. map (λ read. read.position) round) reads
-    → IsNonDecreasing (seen ∷ map (λ round. slice_index (map (λ read. read.position) round) shard) reads)
-    → seen ≤ slice_index positions shard
-one_read [] positions shard seen same up = cc same
-one_read (round ∷ rounds) positions shard seen same up =
-    let is : positions ≡ map (λ read. read.position) round = ap (λ all. get_or all 0 []) same in
-    subst (λ ps. seen ≤ slice_index ps shard) (sym is) (up 0 1 0 (omega arith) (omega arith))
-
 -- a report that was read after the ends of all lists were seen is that over all records
 pub last_report : (opening : List ShardValue) (settings : Settings) (before now : View) (report : Report)
     → capacity_of opening ≡ settings.capacity → HasSeenEnds opening before
     → Calls opening settings.phi 1 before now (record { report = report; saved = None } ∷ [])
-    → IsSound report (lists_of opening) (capacity_of opening) settings.phi
+    → (BasesRepresent opening → IsSound report (lists_of opening) (capacity_of opening) settings.phi)
     → IsShown opening settings (record { report = report; saved = None }) × (report.positions ≡ ends_of opening)
 last_report opening settings before now report alike ends calls sound =
     let is_report = report_of_call opening settings.phi before now report calls in (
       record {
         is_report = is_report;
-        is_sound = subst (λ capacity. IsSound report (lists_of opening) capacity settings.phi) alike sound;
-        unsaved = refl;
+        is_sound = λ bases.
+            subst (λ capacity. IsSound report (lists_of opening) capacity settings.phi) alike (sound bases);
       },
       at_ends opening report.positions is_report.as_many is_report.kept
           (λ shard state is.

@@ -9,18 +9,21 @@ use Rattle.std.proofs.lemmas.List.{length-append, length-map, map-append}
 use Rattle.std.proofs.lemmas.List.Elements.{All-append, All-cons, All-head, All-map, All-nil, All-tail}
 use Rattle.std.proofs.lemmas.List.Sorted.{IsNonDecreasingBy-push, IsNonDecreasingBy-short}
 use Rattle.outside_io.specs.{AppendsBeginning, IsBeginning}
-use Rattle.shard_state.specs.{IsShard, ShardValue, state_at}
+use Rattle.std.proofs.Common.{Bool}
+use Rattle.std.specs.Prelude.{⊤}
+use Rattle.shard_state.specs.{CutValue, IsShard, ShardValue, state_at}
 use Rattle.hhh_output.specs.declared.reports.Reported.{Reported}
 use Rattle.gate_workers.specs.{IsReportAt, states_at}
 use Rattle.pass_tokens.specs.{WordsValue}
 use Rattle.command_words.specs.declared.settings.Settings.{Settings}
-use Rattle.report_text.specs.{mark_text}
+use Rattle.report_text.specs.{mark_text, report_text}
 use Rattle.report_text.specs.declared.mark.Mark.TheVariants.{Opened}
 use Rattle.hhh_engine.specs.Answer.{Writes}
-use Rattle.hhh_engine.specs.Feed.{IsFed, StartsBeforeEnds, WritesRoundsInPart, reports_of}
-use Rattle.hhh_engine.specs.Session.{AreReportsOf, AreSessionReports, BeginsSession, IsShown, SpellsSession, ends_of}
-use Rattle.hhh_engine.specs.Session.{part_text, parts_text, rest_text, session_text, start_of}
-use Rattle.hhh_engine.specs.declared.commands.session.Fed.{Fed}
+use Rattle.hhh_engine.specs.Feed.{IsFed, IsRest, StartsBeforeEnds, WritesRoundsInPart, reports_of}
+use Rattle.hhh_engine.specs.Session.{AreReportsOf, BeginsSession, IsShown, SpellsSession, calling_reports, callers_text}
+use Rattle.hhh_engine.specs.Session.{ends_of, parts_text, saved_cuts, saved_text, start_of}
+use Rattle.hhh_engine.specs.declared.commands.feed.Fed.{Fed}
+use Rattle.hhh_engine.specs.declared.commands.session.Rest.{Rest}
 
 -- no report at all
 no_reports : (opening : List ShardValue) (settings : Settings) → AreReportsOf opening settings 0 []
@@ -67,22 +70,22 @@ rounds_in_part opening settings tail line old between new is first part = record
 }
 
 -- rounds that were made whole, as rounds in part
-pub fed_in_part : (board : WordsValue) (settings : Settings) (old new : Option (List ℕ)) (fed : Fed)
-    → IsFed board settings old new fed → WritesRoundsInPart board.opening settings old new
-fed_in_part board settings old new fed is =
+pub fed_in_part : (board : WordsValue) (settings : Settings) (Kept : List CutValue → Type 0) (old new : Option (List ℕ))
+    (fed : Fed) → IsFed board settings Kept old new fed → WritesRoundsInPart board.opening settings old new
+fed_in_part board settings Kept old new fed is =
     let gathered = is.gathered in
     let many : length gathered.rounds ≡ settings.rounds = gathered.are_rounds.as_many in
     record {
       rounds = gathered.rounds;
       few = omega (arith, many);
       are_rounds = subst (λ n. AreReportsOf board.opening settings n gathered.rounds) (sym many) gathered.are_rounds;
-      front = parts_text gathered.rounds;
-      begins = ([], sym (append-nil (parts_text gathered.rounds)));
+      front = parts_text settings.store gathered.rounds;
+      begins = ([], sym (append-nil (parts_text settings.store gathered.rounds)));
       written = gathered.written;
     }
 
 -- a report's positions are within the lists
-within_ends : (opening : List ShardValue) (positions : List ℕ) (shard : ℕ) → length positions ≡ length opening
+pub within_ends : (opening : List ShardValue) (positions : List ℕ) (shard : ℕ) → length positions ≡ length opening
     → All IsShard (states_at opening positions) → slice_index positions shard ≤ slice_index (ends_of opening) shard
 within_ends [] [] shard many kept = omega arith
 within_ends [] (position ∷ positions) shard many kept = absurd (omega (arith, many))
@@ -125,38 +128,60 @@ with_last opening settings count reports last starts are shown ends = record {
       (one_more (first ∷ map position reports) (position last) (are.never_fall shard inside) below);
 }
 
--- a whole session
-pub spells_session : (board : WordsValue) (settings : Settings) (tail line rest : List ℕ) (old new : Option (List ℕ))
-    (fed : Fed) (last : Reported) → StartsBeforeEnds board.opening → line ≡ mark_text Opened (start_of board.opening)
-    → (is : IsFed board settings old new fed) → IsShown board.opening settings last
-    → last.report.positions ≡ ends_of board.opening
-    → rest ≡ rest_text (reports_of fed.gathered.called.items) last tail
-    → SpellsSession board.opening settings tail (line ++ (parts_text is.gathered.rounds ++ rest))
-spells_session board settings tail line rest old new fed last starts is_line is shown ends is_rest = record {
-  reports = record {
-    rounds = is.gathered.rounds;
-    callers = reports_of fed.gathered.called.items;
-    last = last;
-  };
-  are_reports = record {
-    calling = with_last board.opening settings settings.rounds is.gathered.rounds last starts is.gathered.are_rounds
-        shown ends;
-    at_ends = ends;
-    as_many = length-reports fed ∙ is.gathered.as_many;
-    callers = is.gathered.callers;
-  };
-  spelled = ap₂ (λ a b. a ++ (parts_text is.gathered.rounds ++ b)) is_line is_rest;
+-- a session of which less is said
+pub spells_weaker : (opening : List ShardValue) (settings : Settings) (Kept Less : List CutValue → Type 0)
+    (tail text : List ℕ) → ((cuts : List CutValue) → Kept cuts → Less cuts)
+    → SpellsSession opening settings Kept tail text → SpellsSession opening settings Less tail text
+spells_weaker opening settings Kept Less tail text less session = record {
+  reports = session.reports;
+  are_reports = session.are_reports;
+  spelled = session.spelled;
+  kept = less (saved_cuts settings.store opening (calling_reports session.reports)) session.kept;
 }
+
+-- a whole session
+pub spells_session : (board : WordsValue) (settings : Settings) (Fed_kept Kept : List CutValue → Type 0)
+    (tail line : List ℕ) (old new : Option (List ℕ)) (fed : Fed) (rest : Rest)
+    → StartsBeforeEnds board.opening → line ≡ mark_text Opened (start_of board.opening)
+    → (is : IsFed board settings Fed_kept old new fed) → (end : IsRest board settings fed.gathered.called.items tail rest)
+    → Kept (saved_cuts settings.store board.opening (is.gathered.rounds ++ end.last ∷ []))
+    → SpellsSession board.opening settings Kept tail
+    (line ++ (parts_text settings.store is.gathered.rounds ++ (rest.front.items ++ rest.back.items)))
+spells_session board settings Fed_kept Kept tail line old new fed rest starts is_line is end kept =
+    let store : Bool = settings.store in
+    let callers : List ℕ = callers_text (reports_of fed.gathered.called.items) in
+    let report : List ℕ = report_text end.last.report in
+    let saved : List ℕ = saved_text store end.last.report.positions in
+    let texts : rest.front.items ++ rest.back.items ≡ callers ++ ((report ++ saved) ++ tail) =
+    ap₂ (λ a b. a ++ b) end.front_is end.back_is ∙ append_assoc callers report (saved ++ tail)
+    ∙ ap (λ t. callers ++ t) (sym (append_assoc report saved tail)) in
+    record {
+      reports = record {
+        rounds = is.gathered.rounds;
+        callers = reports_of fed.gathered.called.items;
+        last = end.last;
+      };
+      are_reports = record {
+        calling = with_last board.opening settings settings.rounds is.gathered.rounds end.last starts
+            is.gathered.are_rounds end.shown end.at_ends;
+        at_ends = end.at_ends;
+        as_many = length-reports fed ∙ is.gathered.as_many;
+        callers = is.gathered.callers;
+      };
+      spelled = ap₂ (λ a b. a ++ (parts_text store is.gathered.rounds ++ b)) is_line texts;
+      kept = kept;
+    }
   where
     length-reports : (fed : Fed) → length (reports_of fed.gathered.called.items) ≡ length fed.gathered.called.items
     length-reports fed = length-map fed.gathered.called.items _
 
 -- the whole session was written
-pub session_whole : (opening : List ShardValue) (settings : Settings) (tail line rounds rest : List ℕ)
-    (old first second new : Option (List ℕ)) → SpellsSession opening settings tail (line ++ (rounds ++ rest))
+pub session_whole : (opening : List ShardValue) (settings : Settings) (Kept : List CutValue → Type 0)
+    (tail line rounds rest : List ℕ) (old first second new : Option (List ℕ))
+    → SpellsSession opening settings Kept tail (line ++ (rounds ++ rest))
     → Appends old first line → Appends first second rounds → Appends second new rest
-    → Writes (SpellsSession opening settings tail) old new
-session_whole opening settings tail line rounds rest old first second new spelled one two three = record {
+    → Writes (SpellsSession opening settings Kept tail) old new
+session_whole opening settings Kept tail line rounds rest old first second new spelled one two three = record {
   text = line ++ (rounds ++ rest);
   is_text = spelled;
   written =
@@ -165,7 +190,7 @@ session_whole opening settings tail line rounds rest old first second new spelle
 
 -- the session was written but for a part of its rest
 pub session_in_part : (opening : List ShardValue) (settings : Settings) (tail line rounds rest : List ℕ)
-    (old first second new : Option (List ℕ)) → SpellsSession opening settings tail (line ++ (rounds ++ rest))
+    (old first second new : Option (List ℕ)) → SpellsSession opening settings (λ cuts. ⊤) tail (line ++ (rounds ++ rest))
     → Appends old first line → Appends first second rounds → AppendsBeginning second new rest
     → Writes (BeginsSession opening settings tail) old new
 session_in_part opening settings tail line rounds rest old first second new spelled one two three =

@@ -1,34 +1,46 @@
 -- What commands write.
-use Rattle.std.specs.Prelude.{ℕ, ◌<◌, List, length, Option, IfSome}
+use Rattle.std.specs.Prelude.{ℕ, ◌≡◌, ◌<◌, List, length, Option, IfSome, codes}
 use Rattle.command_words.specs.{AskFor}
 use Rattle.command_words.specs.declared.command.Command.{Command}
 use Rattle.std.specs.Io.KnownBytes.{Appends}
 use Rattle.outside_io.specs.{IsBeginning}
-use Rattle.command_words.specs.declared.command.Command.TheVariants.{Weigh, Report}
+use Rattle.command_words.specs.declared.command.Command.TheVariants.{Weigh, Report, Format}
 use Rattle.frame_records.specs.declared.weigh.Weigh.{Weigh as Weighing}
 use Rattle.prefix_lattice.specs.{PrefixValue}
 use Rattle.hhh_engine.specs.Inputs.{InputBytes, WasRead}
 use Rattle.hhh_engine.specs.WeightText.{IsWeightText}
-use Rattle.hhh_engine.specs.Session.{Rules, IsSession, IsSessionInPart}
+use Rattle.hhh_engine.specs.Session.{Keeping, Rules, IsSession, IsSessionInPart}
+
+-- the text of `format`: one line, which says that the store is formatted
+abbrev pub formatted_text : List ℕ
+formatted_text = codes "formatted\n"
 
 -- the text that a command writes for its inputs, where they are known
-abbrev pub IsAnswer : Rules → Command → InputBytes → List ℕ → Type 0
-IsAnswer rules (Weigh prefix settings) read text = IfSome read.capture (λ file. IsWeightText prefix settings.weigh file text)
-IsAnswer rules (Report settings) read text = IfSome read.capture (λ file. IsSession settings rules file text)
+abbrev pub IsAnswer : Rules → Keeping → Command → InputBytes → List ℕ → Type 0
+IsAnswer rules keeping (Weigh prefix settings) read text =
+    IfSome read.capture (λ file. IsWeightText prefix settings.weigh file text)
+IsAnswer rules keeping (Report settings) read text =
+    IfSome read.capture (λ file. IsSession settings rules keeping read.store file text)
+IsAnswer rules keeping (Format settings) read text = text ≡ formatted_text
 
--- bytes of the text with the weight of a prefix, not all of them
-pub record IsWeightTextInPart (prefix : PrefixValue) (weigh : Weighing) (file front : List ℕ) : Type 0 where
+-- bytes of a text, not all of them
+pub record IsCutShort (IsText : List ℕ → Type 0) (front : List ℕ) : Type 0 where
   pub text : List ℕ
-  pub is_text : IsWeightText prefix weigh file text
+  pub is_text : IsText text
   pub begins : IsBeginning front text
   pub cut : length front < length text
+
+-- bytes of the text with the weight of a prefix, not all of them
+abbrev pub IsWeightTextInPart : PrefixValue → Weighing → List ℕ → List ℕ → Type 0
+IsWeightTextInPart prefix weigh file front = IsCutShort (IsWeightText prefix weigh file) front
 
 -- bytes with which the text of a command begins, not all of it
 abbrev pub IsAnswerInPart : Rules → Command → InputBytes → List ℕ → Type 0
 IsAnswerInPart rules (Weigh prefix settings) read front =
     IfSome read.capture (λ file. IsWeightTextInPart prefix settings.weigh file front)
 IsAnswerInPart rules (Report settings) read front =
-    IfSome read.capture (λ file. IsSessionInPart settings rules file front)
+    IfSome read.capture (λ file. IsSessionInPart settings rules read.store file front)
+IsAnswerInPart rules (Format settings) read front = IsCutShort (λ text. text ≡ formatted_text) front
 
 -- bytes of this kind were appended to what the sink held
 pub record Writes (IsText : List ℕ → Type 0) (old new : Option (List ℕ)) : Type 0 where
@@ -37,11 +49,12 @@ pub record Writes (IsText : List ℕ → Type 0) (old new : Option (List ℕ)) :
   pub written : Appends old new text
 
 -- the text of the command that the arguments ask for was written, for its inputs, which were read to their ends
-pub record Answers (rules : Rules) (words : List (List ℕ)) (read : InputBytes) (old new : Option (List ℕ)) : Type 0 where
+pub record Answers (rules : Rules) (keeping : Keeping) (words : List (List ℕ)) (read : InputBytes)
+    (old new : Option (List ℕ)) : Type 0 where
   pub command : Command
   pub asked : AskFor words command
   pub read_to_end : WasRead command read
-  pub answer : Writes (IsAnswer rules command read) old new
+  pub answer : Writes (IsAnswer rules keeping command read) old new
 
 -- bytes with which such a text begins, but not all of it, were written, after the inputs were read to their ends
 pub record AnswersInPart (rules : Rules) (words : List (List ℕ)) (read : InputBytes) (old new : Option (List ℕ))

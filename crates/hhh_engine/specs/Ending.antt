@@ -1,33 +1,51 @@
--- What each status says of the arguments, of the source and of the sink.
-use Rattle.std.specs.Prelude.{ℕ, ◌≡◌, ◌⊎◌, List, Option, IfSome}
+-- What each status says of the arguments, of the source, of the sink and of the disk.
+use Rattle.std.specs.Prelude.{ℕ, ◌≡◌, ◌⊎◌, true, List, Option, IfSome}
+use Rattle.std.specs.Io.KnownBytes.{IsAtEnd}
 use Rattle.outside_io.specs.{Rose}
+use Rattle.prefix_lattice.specs.{RecordValue}
 use Rattle.frame_records.specs.{IsRefusedFor}
+use Rattle.frame_records.specs.declared.records.Records.{Records}
 use Rattle.pcap_frames.specs.declared.fault.CaptureFault.{CaptureFault}
-use Rattle.command_words.specs.{HasWordsFault}
+use Rattle.slot_disk.specs.{IfKnown}
+use Rattle.checkpoint.specs.{Opens}
+use Rattle.checkpoint.specs.declared.settings.StoreSettings.{StoreSettings}
+use Rattle.recovery.specs.{IsRefused}
+use Rattle.recovery.specs.declared.fault.OpenFault.{OpenFault}
+use Rattle.recovery.specs.declared.fault.OpenFault.TheVariants as opening
+use Rattle.command_words.specs.{AskFor, HasWordsFault}
+use Rattle.command_words.specs.declared.command.Command.{Command}
+use Rattle.command_words.specs.declared.command.Command.TheVariants as command
+use Rattle.command_words.specs.declared.settings.Settings.{Settings}
 use Rattle.command_words.specs.declared.words_kind.WordsKind.{WordsKind}
 use Rattle.hhh_engine.specs.Answer.{AnswersInPart, Writes}
 use Rattle.hhh_engine.specs.Inputs.{InputBytes}
-use Rattle.hhh_engine.specs.Session.{Rules}
+use Rattle.hhh_engine.specs.Saves.{store_settings}
+use Rattle.hhh_engine.specs.Session.{AreDealtFrom, Rules}
 use Rattle.hhh_engine.specs.declared.status.Status.{Status}
 use Rattle.hhh_engine.specs.declared.status.Status.TheVariants.{Done, BadWords, BadCapture, ReadFault, WriteFault}
-use Rattle.hhh_engine.specs.declared.status.Status.TheVariants.{OutOfMemory}
+use Rattle.hhh_engine.specs.declared.status.Status.TheVariants.{DiskFault, NotFormatted, Damaged, OtherSettings}
+use Rattle.hhh_engine.specs.declared.status.Status.TheVariants.{OtherCapture, OutOfMemory}
 
 -- BadWords: this is the first fault of the arguments, and nothing was read or written
-pub record RefusedWords {S K : Type 0} (words : List (List ℕ)) (kind : WordsKind) (source read : S)
-    (sink written : K) : Type 0 where
+pub record RefusedWords {S K D : Type 0} (words : List (List ℕ)) (kind : WordsKind) (source read : S)
+    (sink written : K) (disk left : D) : Type 0 where
   pub first_fault : HasWordsFault words kind
   pub unread : read ≡ source
   pub unwritten : written ≡ sink
+  pub untouched : left ≡ disk
 
 -- BadCapture: this is the first fault of the file, where its bytes are known, and nothing was written
-pub record RefusedCapture {K : Type 0} (left : Option (List ℕ)) (fault : CaptureFault) (sink written : K) : Type 0 where
+pub record RefusedCapture {K D : Type 0} (left : Option (List ℕ)) (fault : CaptureFault) (sink written : K)
+    (disk stands : D) : Type 0 where
   pub first_fault : IfSome left (λ file. IsRefusedFor file fault)
   pub unwritten : written ≡ sink
+  pub untouched : stands ≡ disk
 
 -- ReadFault: the source's count of faults rose, and nothing was written
-pub record FailedToRead {K : Type 0} (before now : ℕ) (sink written : K) : Type 0 where
+pub record FailedToRead {K D : Type 0} (before now : ℕ) (sink written : K) (disk stands : D) : Type 0 where
   pub rose : Rose before now
   pub unwritten : written ≡ sink
+  pub untouched : stands ≡ disk
 
 -- WriteFault: the sink's count of faults rose, and bytes with which the text of the command begins were written
 pub record FailedToWrite (rules : Rules) (words : List (List ℕ)) (read : InputBytes) (old new : Option (List ℕ))
@@ -35,22 +53,105 @@ pub record FailedToWrite (rules : Rules) (words : List (List ℕ)) (read : Input
   pub rose : Rose before now
   pub in_part : AnswersInPart rules words read old new
 
--- within the crate: how a command that reads a capture ended. IsText says what is its text, IsPart which bytes
--- begin it, and ReadToEnd that its inputs were read to their ends
-abbrev pub Ends : {K : Type 0} → (IsText IsPart : List ℕ → Type 0) → (ReadToEnd : Type 0) → (capture : Option (List ℕ))
-    → (read_before read_now : ℕ) → (sink written : K) → (old new : Option (List ℕ)) → (write_before write_now : ℕ)
-    → Status → Type 0
-Ends IsText IsPart ReadToEnd capture read_before read_now sink written old new write_before write_now Done =
+-- the first bytes of the text of the command were written, or none
+abbrev pub WroteInPart : {K : Type 0} → Rules → List (List ℕ) → InputBytes → (sink written : K)
+    → (old new : Option (List ℕ)) → Type 0
+WroteInPart rules words read sink written old new = (written ≡ sink) ⊎ AnswersInPart rules words read old new
+
+-- DiskFault: the disk's count of faults rose, and bytes with which the text begins were written, or none
+pub record FailedDisk {K : Type 0} (rules : Rules) (words : List (List ℕ)) (read : InputBytes) (sink written : K)
+    (old new : Option (List ℕ)) (before now : ℕ) : Type 0 where
+  pub rose : Rose before now
+  pub in_part : WroteInPart rules words read sink written old new
+
+-- over a capture, whose records are dealt, the store is refused for this fault, where the bytes of the disk are known
+pub record IsRefusedStore (settings : Settings) (rules : Rules) (store : Option (List ℕ)) (file : List ℕ)
+    (fault : OpenFault) : Type 0 where
+  pub records : Records
+  pub lists : List (List RecordValue)
+  pub dealt : AreDealtFrom settings rules file records lists
+  pub refused : IfKnown store (λ image. IsRefused (store_settings settings) lists image fault)
+
+-- NotFormatted, Damaged, OtherSettings, OtherCapture: a report with a store was asked for; the capture was read to its
+-- end, the store was refused for this fault, nothing was written, and the disk reads as before
+pub record RefusedStore {K : Type 0} (rules : Rules) (words : List (List ℕ)) (read : InputBytes) (fault : OpenFault)
+    (sink written : K) (store_now : Option (List ℕ)) : Type 0 where
+  pub settings : Settings
+  pub asked : AskFor words (command.Report settings)
+  pub used : settings.store ≡ true
+  pub read_to_end : IsAtEnd read.capture_left
+  pub refused : IfSome read.capture (λ file. IsRefusedStore settings rules read.store file fault)
+  pub unwritten : written ≡ sink
+  pub reads : store_now ≡ read.store
+
+-- the disk holds a store with no gate open, whatever a crash now leaves, where its bytes are known
+abbrev pub HoldsEmptyStore : Option (List ℕ) → (List ℕ → Type 0) → StoreSettings → Type 0
+HoldsEmptyStore reads possible settings =
+    IfKnown reads (λ bytes. (image : List ℕ) → possible image → Opens settings image None)
+
+-- how `format` ends: the store is formatted once its text is written, or the sink failed; nothing was written where the
+-- disk failed; the disk is as before where memory ran out
+abbrev pub FormatEnds : {K D : Type 0} → StoreSettings → Option (List ℕ) → (List ℕ → Type 0) → (sink written : K)
+    → (disk stands : D) → Status → Type 0
+FormatEnds settings reads possible sink written disk stands Done = HoldsEmptyStore reads possible settings
+FormatEnds settings reads possible sink written disk stands WriteFault = HoldsEmptyStore reads possible settings
+FormatEnds settings reads possible sink written disk stands DiskFault = written ≡ sink
+FormatEnds settings reads possible sink written disk stands OutOfMemory = (written ≡ sink) × (stands ≡ disk)
+FormatEnds settings reads possible sink written disk stands _ = ⊥
+
+-- within the crate: a report with a store was asked for, the store is refused for this fault, and the disk reads as before
+abbrev pub RefusesStore : Settings → Rules → InputBytes → (store_now : Option (List ℕ)) → OpenFault → Type 0
+RefusesStore settings rules read store_now fault =
+    (settings.store ≡ true) × (store_now ≡ read.store)
+    × IfSome read.capture (λ file. IsRefusedStore settings rules read.store file fault)
+
+-- within the crate: the same of any command: only a report opens a store
+abbrev pub RefusesFor : Command → Rules → InputBytes → (store_now : Option (List ℕ)) → OpenFault → Type 0
+RefusesFor (command.Weigh prefix settings) rules read store_now fault = ⊥
+RefusesFor (command.Report settings) rules read store_now fault = RefusesStore settings rules read store_now fault
+RefusesFor (command.Format settings) rules read store_now fault = ⊥
+
+-- within the crate: how a command ended. IsText says what is its text, IsPart which bytes begin it, ReadToEnd that its
+-- inputs were read to their ends, DiskRose that the disk's count of faults rose, DiskSame that the disk is as before, and
+-- Refused that its store is refused for a fault
+abbrev pub Ends : {K : Type 0} → (IsText IsPart : List ℕ → Type 0) → (ReadToEnd DiskRose DiskSame : Type 0)
+    → (Refused : OpenFault → Type 0) → (capture : Option (List ℕ)) → (read_before read_now : ℕ) → (sink written : K)
+    → (old new : Option (List ℕ)) → (write_before write_now : ℕ) → Status → Type 0
+Ends IsText IsPart ReadToEnd DiskRose DiskSame Refused capture read_before read_now sink written old new write_before write_now
+    Done =
     ReadToEnd × Writes IsText old new × (read_now ≡ read_before) × (write_now ≡ write_before)
-Ends IsText IsPart ReadToEnd capture read_before read_now sink written old new write_before write_now (BadWords kind) = ⊥
-Ends IsText IsPart ReadToEnd capture read_before read_now sink written old new write_before write_now
+Ends IsText IsPart ReadToEnd DiskRose DiskSame Refused capture read_before read_now sink written old new write_before write_now
+    (BadWords kind) = ⊥
+Ends IsText IsPart ReadToEnd DiskRose DiskSame Refused capture read_before read_now sink written old new write_before write_now
     (BadCapture fault) =
-    IfSome capture (λ file. IsRefusedFor file fault) × (written ≡ sink) × (read_now ≡ read_before)
+    IfSome capture (λ file. IsRefusedFor file fault) × (written ≡ sink) × DiskSame × (read_now ≡ read_before)
     × (write_now ≡ write_before)
-Ends IsText IsPart ReadToEnd capture read_before read_now sink written old new write_before write_now ReadFault =
-    Rose read_before read_now × (written ≡ sink) × (write_now ≡ write_before)
-Ends IsText IsPart ReadToEnd capture read_before read_now sink written old new write_before write_now WriteFault =
+Ends IsText IsPart ReadToEnd DiskRose DiskSame Refused capture read_before read_now sink written old new write_before write_now
+    ReadFault =
+    Rose read_before read_now × (written ≡ sink) × DiskSame × (write_now ≡ write_before)
+Ends IsText IsPart ReadToEnd DiskRose DiskSame Refused capture read_before read_now sink written old new write_before write_now
+    WriteFault =
     ReadToEnd × Writes IsPart old new × Rose write_before write_now × (read_now ≡ read_before)
-Ends IsText IsPart ReadToEnd capture read_before read_now sink written old new write_before write_now OutOfMemory =
+Ends IsText IsPart ReadToEnd DiskRose DiskSame Refused capture read_before read_now sink written old new write_before write_now
+    DiskFault =
+    ((written ≡ sink) ⊎ (ReadToEnd × Writes IsPart old new)) × DiskRose × (read_now ≡ read_before)
+    × (write_now ≡ write_before)
+Ends IsText IsPart ReadToEnd DiskRose DiskSame Refused capture read_before read_now sink written old new write_before write_now
+    NotFormatted =
+    Refused opening.NotFormatted × ReadToEnd × (written ≡ sink) × (read_now ≡ read_before) × (write_now ≡ write_before)
+Ends IsText IsPart ReadToEnd DiskRose DiskSame Refused capture read_before read_now sink written old new write_before write_now
+    (Damaged slot) =
+    Refused (opening.Damaged slot) × ReadToEnd × (written ≡ sink) × (read_now ≡ read_before)
+    × (write_now ≡ write_before)
+Ends IsText IsPart ReadToEnd DiskRose DiskSame Refused capture read_before read_now sink written old new write_before write_now
+    (OtherSettings stored asked) =
+    Refused (opening.OtherSettings stored asked) × ReadToEnd × (written ≡ sink) × (read_now ≡ read_before)
+    × (write_now ≡ write_before)
+Ends IsText IsPart ReadToEnd DiskRose DiskSame Refused capture read_before read_now sink written old new write_before write_now
+    (OtherCapture stored asked) =
+    Refused (opening.OtherCapture stored asked) × ReadToEnd × (written ≡ sink) × (read_now ≡ read_before)
+    × (write_now ≡ write_before)
+Ends IsText IsPart ReadToEnd DiskRose DiskSame Refused capture read_before read_now sink written old new write_before write_now
+    OutOfMemory =
     ((written ≡ sink) ⊎ (ReadToEnd × Writes IsPart old new)) × (read_now ≡ read_before)
     × (write_now ≡ write_before)

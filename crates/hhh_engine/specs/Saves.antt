@@ -1,9 +1,13 @@
 -- The saves of a run into its store, and what a stop may leave of the store.
-use Rattle.std.specs.Prelude.{ℕ, ◌≡◌, ◌+◌, ◌≤◌, ◌⊎◌, ⊤, List, [], ◌∷◌, fold, length, map, Option, None, Some, option_map, is_some}
+use Rattle.std.specs.Prelude.{ℕ, zero, suc, ◌≡◌, ◌+◌, ◌≤◌, ◌⊎◌, List, [], ◌∷◌, fold, length, map, slice_get}
+use Rattle.std.specs.Prelude.{Option, None, Some, IfSome, option_map, is_some, refl}
+use Rattle.std.proofs.Common.{arith}
 use Rattle.shard_state.specs.{AreNotPast, CutValue, HasShape, ShardValue, capacity_of}
-use Rattle.gate_workers.specs.{View}
+use Rattle.gate_workers.specs.{IsLaterView, View}
 use Rattle.slot_disk.specs.{IfKnown, Leaves}
-use Rattle.checkpoint.specs.{AreSettings, Opens, SavedValue, SaverState, StandsFor, after_save, last_sequence, opened_sequence}
+use Rattle.checkpoint.specs.{AreSettings, Opens, SavedValue, SaverState, StandsFor, after_save, digest_of_lists}
+use Rattle.checkpoint.specs.{last_sequence, opened_sequence}
+use Rattle.prefix_lattice.specs.{RecordValue}
 use Rattle.checkpoint.specs.declared.settings.StoreSettings.{StoreSettings}
 use Rattle.command_words.specs.declared.settings.Settings.{Settings}
 
@@ -50,6 +54,14 @@ pub record KeepsSaves {D : Type 0} (image_now : D → List ℕ → Type 0) (mome
   pub at_last : (image : List ℕ) → image_now new image
       → Opens settings image (last_saved leaves.opened (saved_after (opened_sequence leaves.opened) digest cuts))
 
+-- what a run keeps of the store on its disk, where its bytes are known, for the store's settings, the dealt lists and the
+-- cuts that were saved of them
+abbrev pub kept_in : {D : Type 0} → (D → Option (List ℕ)) → (D → List ℕ → Type 0) → (D → ℕ)
+    → (D → ℕ → List ℕ → Type 0) → (old new : D) → StoreSettings → List (List RecordValue) → List CutValue → Type 0
+kept_in reads image_now moment image_since old new settings lists cuts =
+    IfKnown (reads old)
+    (KeepsSaves image_now moment image_since settings (digest_of_lists settings lists) (image_now old) cuts old new)
+
 -- a saver after saves of these cuts
 abbrev pub after_saves : SaverState → List CutValue → SaverState
 after_saves saver cuts = fold after_save saver cuts
@@ -90,3 +102,38 @@ pub record CanSave (reads : Option (List ℕ)) (possible : List ℕ → Type 0) 
   pub fits : FitsBoard opening view saver
   pub stands : StandsFor reads possible saver
   pub early : saver.sequence + count ≤ last_sequence
+
+-- positions that aren't past what some trails have seen aren't past what later ones have
+not_past_later : {T : Type 0} (seen : T → ℕ) (positions : List ℕ) (before now : List T) → length now ≡ length before
+    → ((shard : ℕ) (trail later : T) → slice_get before shard ≡ Some trail → slice_get now shard ≡ Some later
+    → seen trail ≤ seen later)
+    → AreNotPast positions (map seen before) → AreNotPast positions (map seen now)
+not_past_later seen [] [] [] many later past = past
+not_past_later seen [] [] (trail ∷ rest) many later past = absurd (omega (arith, many))
+not_past_later seen [] (trail ∷ rest) now many later past = absurd past
+not_past_later seen (position ∷ positions) [] now many later past = absurd past
+not_past_later seen (position ∷ positions) (trail ∷ rest) [] many later past = absurd (omega (arith, many))
+not_past_later seen (position ∷ positions) (trail ∷ rest) (next ∷ others) many later past =
+    let rises : seen trail ≤ seen next = later 0 trail next refl refl in
+    let first : position ≤ seen trail = past.0 in (
+      omega (arith, first, rises),
+      not_past_later seen positions rest others (omega (arith, many))
+          (λ shard one other is is_other. later (suc shard) one other is is_other) past.1,
+    )
+
+-- a saver that may save still may with a later view of the same steps
+pub CanSave-later : (reads : Option (List ℕ)) (possible : List ℕ → Type 0) (opening : List ShardValue)
+    (before now : View) (count : ℕ) (saver : Option SaverState) → IsLaterView before now
+    → IfSome saver (CanSave reads possible opening before count) → IfSome saver (CanSave reads possible opening now count)
+CanSave-later reads possible opening before now count None later can = can
+CanSave-later reads possible opening before now count (Some saver) later can = record {
+  fits = record {
+    settings = can.fits.settings;
+    shards = can.fits.shards;
+    capacity = can.fits.capacity;
+    seen = not_past_later (λ trail. trail.seen) saver.positions before.trails now.trails later.as_many
+        (λ shard trail next is is_next. (later.trails shard trail next is is_next).later) can.fits.seen;
+  };
+  stands = can.stands;
+  early = can.early;
+}

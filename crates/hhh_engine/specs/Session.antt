@@ -1,22 +1,26 @@
 -- The session that `report` writes: reports of the running feed, and a last one over all records of a capture.
-use Rattle.std.specs.Prelude.{ℕ, ◌≡◌, ◌+◌, ◌<◌, ◌≤◌, ◌⊎◌, List, [], ◌∷◌, ◌++◌, length, map, All, Option, None, Some}
-use Rattle.std.specs.Prelude.{slice_index}
+use Rattle.std.specs.Prelude.{⊤, ℕ, ◌≡◌, ◌+◌, ◌<◌, ◌≤◌, ◌⊎◌, Bool, true, false, List, [], ◌∷◌, ◌++◌, length, map, All}
+use Rattle.std.specs.Prelude.{Option, None, Some, IfSome, if◌then◌else◌, slice_index}
 use Rattle.std.specs.List.{flat_map}
 use Rattle.std.specs.List.Sorted.{IsNonDecreasing}
 use Rattle.outside_io.specs.{IsBeginning}
 use Rattle.prefix_lattice.specs.{RecordValue}
 use Rattle.deal_rules.specs.{IsDealing}
 use Rattle.deal_rules.specs.declared.deal_kind.DealKind.{DealKind}
-use Rattle.shard_state.specs.{ShardValue, empty_snapshot, lists_of}
+use Rattle.shard_state.specs.{BasesRepresent, CutRepresents, CutValue, ShardValue, SnapshotValue, empty_snapshot, lists_of}
 use Rattle.hhh_output.specs.{IsSound}
 use Rattle.hhh_output.specs.declared.reports.Reported.{Reported}
-use Rattle.gate_workers.specs.{IsReportAt}
+use Rattle.gate_workers.specs.{IsReportAt, cut_at}
+use Rattle.slot_disk.specs.{IfKnown}
+use Rattle.checkpoint.specs.declared.settings.StoreSettings.{StoreSettings}
+use Rattle.recovery.specs.{IsBase, OpensToBase}
 use Rattle.pcap_frames.specs.{FrameValue}
 use Rattle.frame_records.specs.{HasFrames, AreRecordsOf}
 use Rattle.frame_records.specs.declared.records.Records.{Records}
 use Rattle.report_text.specs.{mark_text, report_text, tail_text}
 use Rattle.report_text.specs.declared.mark.Mark.TheVariants.{Opened, Saved}
 use Rattle.command_words.specs.declared.settings.Settings.{Settings}
+use Rattle.hhh_engine.specs.Saves.{store_settings}
 
 -- what the function of each kind of dealing may answer for the index of a record, the record and the number of shards
 abbrev pub Rules : Type 1
@@ -34,9 +38,21 @@ pub record AreDealtFrom (settings : Settings) (rules : Rules) (file : List ℕ) 
   pub are_records : AreRecordsOf settings.weigh frames records
   pub dealt : IsDealing settings.deal (rules settings.deal) settings.shards records.list lists
 
--- the shards of dealt lists before any record is counted: their tables, of this capacity, are empty
-abbrev pub opening_of : ℕ → List (List RecordValue) → List ShardValue
-opening_of capacity lists = map (λ list. record { list = list; base = empty_snapshot capacity; position = 0 }) lists
+-- new shards of dealt lists, none of whose records is counted: their tables, of this capacity, are empty
+abbrev pub new_shards : ℕ → List (List RecordValue) → List ShardValue
+new_shards capacity lists = map (λ list. record { list = list; base = empty_snapshot capacity; position = 0 }) lists
+
+-- the shards of dealt lists that go on from saved snapshots, one for each
+abbrev pub resumed_shards : List (List RecordValue) → List SnapshotValue → List ShardValue
+resumed_shards [] bases = []
+resumed_shards (list ∷ lists) [] = []
+resumed_shards (list ∷ lists) (base ∷ bases) =
+    record { list = list; base = base; position = base.position } ∷ resumed_shards lists bases
+
+-- the shards of dealt lists as a run begins: they go on from a saved cut, or are new
+abbrev pub opening_of : ℕ → List (List RecordValue) → Option CutValue → List ShardValue
+opening_of capacity lists None = new_shards capacity lists
+opening_of capacity lists (Some cut) = resumed_shards lists cut.shards
 
 -- the positions at which shards start
 abbrev pub start_of : List ShardValue → List ℕ
@@ -46,12 +62,19 @@ start_of opening = map (λ shard. shard.position) opening
 abbrev pub ends_of : List ShardValue → List ℕ
 ends_of opening = map (λ shard. length shard.list) opening
 
--- a report that a session shows: that of the tables at its own positions, and sound over the records themselves; no cut
--- was saved after it
+-- the saved cut that a run goes on from: what its store opens to over the dealt lists, where the bytes of the disk are
+-- known; none where no gate of the store is open, or without a store
+pub record GoesOnFrom (settings : Settings) (lists : List (List RecordValue)) (store : Option (List ℕ))
+    (base : Option CutValue) : Type 0 where
+  pub unused : settings.store ≡ false → base ≡ None
+  pub fits : IfSome base (IsBase (store_settings settings) lists)
+  pub opens : settings.store ≡ true → IfKnown store (λ image. OpensToBase (store_settings settings) lists image base)
+
+-- a report that a session shows: that of the tables at its own positions, and sound over the records themselves, where
+-- the tables with which the shards began are those of their records
 pub record IsShown (opening : List ShardValue) (settings : Settings) (reported : Reported) : Type 0 where
   pub is_report : IsReportAt opening settings.phi reported.report
-  pub is_sound : IsSound reported.report (lists_of opening) settings.capacity settings.phi
-  pub unsaved : reported.saved ≡ None
+  pub is_sound : BasesRepresent opening → IsSound reported.report (lists_of opening) settings.capacity settings.phi
 
 -- from these positions on, the positions of one caller's reports never fall
 abbrev pub NeverFall : List ℕ → List Reported → Type 0
@@ -72,55 +95,70 @@ pub record SessionReports : Type 0 where
   pub callers : List (List Reported)
   pub last : Reported
 
+-- those of the calling thread: its rounds, and the last one
+abbrev pub calling_reports : SessionReports → List Reported
+calling_reports reports = reports.rounds ++ reports.last ∷ []
+
 -- the reports that the settings ask for: the calling thread makes its rounds and the last report, which counts all
 -- records, and each other caller makes as many rounds
 pub record AreSessionReports (opening : List ShardValue) (settings : Settings) (reports : SessionReports)
     : Type 0 where
-  pub calling : AreReportsOf opening settings (settings.rounds + 1) (reports.rounds ++ reports.last ∷ [])
+  pub calling : AreReportsOf opening settings (settings.rounds + 1) (calling_reports reports)
   pub at_ends : reports.last.report.positions ≡ ends_of opening
   pub as_many : length reports.callers ≡ settings.callers
   pub callers : All (AreReportsOf opening settings settings.rounds) reports.callers
 
--- the line of the positions that were saved after a report, if any were
-abbrev pub saved_text : Option (List ℕ) → List ℕ
-saved_text None = []
-saved_text (Some positions) = mark_text Saved positions
+-- the cuts that are saved after these reports: with a store, the cut at the positions of each
+abbrev pub saved_cuts : Bool → List ShardValue → List Reported → List CutValue
+saved_cuts store opening reports =
+    if store then map (λ reported. cut_at opening reported.report.positions) reports else []
 
--- a report and what was saved after it
-abbrev pub part_text : Reported → List ℕ
-part_text reported = report_text reported.report ++ saved_text reported.saved
+-- the line that follows a report of the calling thread: with a store, the positions of the cut that was saved
+abbrev pub saved_text : Bool → List ℕ → List ℕ
+saved_text store positions = if store then mark_text Saved positions else []
+
+-- a report, and that line
+abbrev pub part_text : Bool → Reported → List ℕ
+part_text store reported = report_text reported.report ++ saved_text store reported.report.positions
 
 -- one report after the other
-abbrev pub parts_text : List Reported → List ℕ
-parts_text reports = flat_map part_text reports
+abbrev pub parts_text : Bool → List Reported → List ℕ
+parts_text store reports = flat_map (part_text store) reports
 
--- the text of a session after its first line and its rounds: the reports of the other callers, one caller after the
--- other, the last report, and the last lines
-abbrev pub rest_text : List (List Reported) → Reported → List ℕ → List ℕ
-rest_text callers last tail = flat_map parts_text callers ++ (part_text last ++ tail)
+-- the reports of the other callers, one caller after the other: none of their cuts is saved
+abbrev pub callers_text : List (List Reported) → List ℕ
+callers_text callers = flat_map (parts_text false) callers
+
+-- the text of a session after its first line and its rounds: the reports of the other callers, the last report, and the
+-- last lines
+abbrev pub rest_text : Bool → List (List Reported) → Reported → List ℕ → List ℕ
+rest_text store callers last tail = callers_text callers ++ (part_text store last ++ tail)
 
 -- the text of a session: the positions at the start, the reports of the calling thread's rounds, and the rest
-abbrev pub session_text : List ℕ → SessionReports → List ℕ → List ℕ
-session_text opened reports tail =
-    mark_text Opened opened ++ (parts_text reports.rounds ++ rest_text reports.callers reports.last tail)
+abbrev pub session_text : Bool → List ℕ → SessionReports → List ℕ → List ℕ
+session_text store opened reports tail =
+    mark_text Opened opened
+    ++ (parts_text store reports.rounds ++ rest_text store reports.callers reports.last tail)
 
--- the session over shards, which ends with the lines `tail`
-pub record SpellsSession (opening : List ShardValue) (settings : Settings) (tail text : List ℕ) : Type 0 where
+-- the session over shards, which ends with the lines `tail`. Kept says what became of the cuts that were saved
+pub record SpellsSession (opening : List ShardValue) (settings : Settings) (Kept : List CutValue → Type 0)
+    (tail text : List ℕ) : Type 0 where
   pub reports : SessionReports
   pub are_reports : AreSessionReports opening settings reports
-  pub spelled : text ≡ session_text (start_of opening) reports tail
+  pub spelled : text ≡ session_text settings.store (start_of opening) reports tail
+  pub kept : Kept (saved_cuts settings.store opening (calling_reports reports))
 
 -- bytes with which a session begins that broke off among its rounds: whole reports, and a beginning of one more
 pub record BreaksOffInRounds (opening : List ShardValue) (settings : Settings) (front : List ℕ) : Type 0 where
   pub rounds : List Reported
   pub few : length rounds ≤ settings.rounds
   pub are_reports : AreReportsOf opening settings (length rounds) rounds
-  pub begins : IsBeginning front (mark_text Opened (start_of opening) ++ parts_text rounds)
+  pub begins : IsBeginning front (mark_text Opened (start_of opening) ++ parts_text settings.store rounds)
 
 -- bytes with which a session begins whose reports were all made: some of its bytes, but not all
 pub record BreaksOffLater (opening : List ShardValue) (settings : Settings) (tail front : List ℕ) : Type 0 where
   pub text : List ℕ
-  pub is_session : SpellsSession opening settings tail text
+  pub is_session : SpellsSession opening settings (λ cuts. ⊤) tail text
   pub begins : IsBeginning front text
   pub cut : length front < length text
 
@@ -129,16 +167,35 @@ abbrev pub BeginsSession : List ShardValue → Settings → List ℕ → List �
 BeginsSession opening settings tail front =
     BreaksOffInRounds opening settings front ⊎ BreaksOffLater opening settings tail front
 
--- the session over a capture: its records are dealt to the shards, counted and reported
-pub record IsSession (settings : Settings) (rules : Rules) (file text : List ℕ) : Type 0 where
+-- what a run does to the disk of its store: for the store's settings, the dealt lists and the cuts that were saved
+abbrev pub Keeping : Type 1
+Keeping = StoreSettings → List (List RecordValue) → List CutValue → Type 0
+
+-- the cut that a run goes on from represents its lists, so that each report is sound: where the cut was saved of them, or
+-- where there is none
+abbrev pub RepresentsWhere : List (List RecordValue) → Option CutValue → List ShardValue → Type 0
+RepresentsWhere lists base opening = IfSome base (λ cut. CutRepresents cut lists) → BasesRepresent opening
+
+-- the session over a capture: its records are dealt to the shards, counted from the base on and reported. With a store,
+-- each cut of the calling thread is saved
+pub record IsSession (settings : Settings) (rules : Rules) (keeping : Keeping) (store : Option (List ℕ))
+    (file text : List ℕ) : Type 0 where
   pub records : Records
   pub lists : List (List RecordValue)
   pub dealt : AreDealtFrom settings rules file records lists
-  pub spelled : SpellsSession (opening_of settings.capacity lists) settings (tail_text records) text
+  pub base : Option CutValue
+  pub begins : GoesOnFrom settings lists store base
+  pub represents : RepresentsWhere lists base (opening_of settings.capacity lists base)
+  pub spelled : SpellsSession (opening_of settings.capacity lists base) settings
+      (λ cuts. settings.store ≡ true → keeping (store_settings settings) lists cuts) (tail_text records) text
 
 -- the bytes that were written of a session over a capture that broke off
-pub record IsSessionInPart (settings : Settings) (rules : Rules) (file front : List ℕ) : Type 0 where
+pub record IsSessionInPart (settings : Settings) (rules : Rules) (store : Option (List ℕ)) (file front : List ℕ)
+    : Type 0 where
   pub records : Records
   pub lists : List (List RecordValue)
   pub dealt : AreDealtFrom settings rules file records lists
-  pub begun : BeginsSession (opening_of settings.capacity lists) settings (tail_text records) front
+  pub base : Option CutValue
+  pub begins : GoesOnFrom settings lists store base
+  pub represents : RepresentsWhere lists base (opening_of settings.capacity lists base)
+  pub begun : BeginsSession (opening_of settings.capacity lists base) settings (tail_text records) front

@@ -4,7 +4,10 @@ use Rattle.pcap_frames.specs.declared.fault.ReadRefusal.{ReadRefusal}
 use Rattle.command_words.specs.declared.words_kind.WordsRefusal.{WordsRefusal}
 use Rattle.hhh_engine.specs.declared.status.Status.{Status}
 use Rattle.hhh_engine.specs.declared.status.Status.TheVariants.{Done, BadWords, BadCapture, ReadFault, WriteFault}
-use Rattle.hhh_engine.specs.declared.status.Status.TheVariants.{OutOfMemory}
+use Rattle.hhh_engine.specs.declared.status.Status.TheVariants.{DiskFault, NotFormatted, Damaged, OtherSettings}
+use Rattle.hhh_engine.specs.declared.status.Status.TheVariants.{OtherCapture, OutOfMemory}
+use Rattle.recovery.specs.declared.fault.OpenFault.{OpenFault}
+use Rattle.recovery.specs.declared.fault.OpenFault.TheVariants as opening
 use Rattle.pcap_frames.specs.declared.fault.FaultKind.{FaultKind}
 use Rattle.pcap_frames.specs.declared.fault.FaultKind.TheVariants.{ShortHeader, NotCapture, Version, Link}
 use Rattle.pcap_frames.specs.declared.fault.FaultKind.TheVariants.{LongFrame, CutFrame, TooManyFrames}
@@ -22,6 +25,11 @@ number_of (BadWords kind) = 2
 number_of (BadCapture fault) = 3
 number_of ReadFault = 4
 number_of WriteFault = 5
+number_of DiskFault = 6
+number_of NotFormatted = 7
+number_of (Damaged slot) = 8
+number_of (OtherSettings stored asked) = 9
+number_of (OtherCapture stored asked) = 10
 number_of OutOfMemory = 13
 
 -- the status of a command whose capture was refused
@@ -34,6 +42,15 @@ status_of refusals.OutOfMemory = OutOfMemory
 abbrev pub status_of_words : WordsRefusal → Status
 status_of_words (words.Bad kind) = BadWords kind
 status_of_words words.OutOfMemory = OutOfMemory
+
+-- the status of a command whose store was not opened
+abbrev pub status_of_opening : OpenFault → Status
+status_of_opening opening.DiskFault = DiskFault
+status_of_opening opening.NotFormatted = NotFormatted
+status_of_opening (opening.OtherSettings stored asked) = OtherSettings stored asked
+status_of_opening (opening.Damaged slot) = Damaged slot
+status_of_opening (opening.OtherCapture stored asked) = OtherCapture stored asked
+status_of_opening opening.OutOfMemory = OutOfMemory
 
 -- what is wrong with the arguments, in a word or two
 abbrev pub words_text : WordsKind → List ℕ
@@ -63,6 +80,11 @@ status_text (BadWords kind) = codes "bad words: " ++ words_text kind
 status_text (BadCapture fault) = codes "bad capture: " ++ fault_text fault.kind ++ codes " at " ++ decimal fault.place
 status_text ReadFault = codes "read fault"
 status_text WriteFault = codes "write fault"
+status_text DiskFault = codes "disk fault"
+status_text NotFormatted = codes "store not formatted"
+status_text (Damaged slot) = codes "store damaged: slot " ++ decimal slot
+status_text (OtherSettings stored asked) = codes "store has other settings"
+status_text (OtherCapture stored asked) = codes "store is of another capture"
 status_text OutOfMemory = codes "out of memory"
 
 -- the line that reports on standard error how a command ended

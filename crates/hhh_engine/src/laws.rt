@@ -10,19 +10,23 @@ ghost use Rattle.command_words.specs.declared.settings.Settings.{Settings};
 ghost use Rattle.report_text.specs.{mark_text, report_text};
 ghost use Rattle.report_text.specs.declared.mark.Mark.TheVariants.{Opened};
 ghost use Rattle.shard_state.specs.{ShardValue};
-ghost use Rattle.hhh_engine.specs.Session.{AreSessionReports, SessionReports, by_formula, opening_of, session_text, start_of};
+ghost use Rattle.hhh_engine.specs.Session.{AreSessionReports, SessionReports, by_formula, new_shards, part_text, session_text, start_of};
+ghost use Rattle.hhh_engine.specs.Saves.{kept_in};
 
 use deal_rules::{Dealer, Dealers, Deals};
 use hhh_output::a_cut_has_one_report;
 use report_text::same_reports_have_one_text;
+use slot_disk::Disk;
 
 /// If each dealer answers by a formula, one for each kind of dealing, then an answer under what the dealers may
 /// answer is also an answer under the formulas: the records are dealt by them.
-pub fn answers_follow_formulas(dealers: &Dealers)
-    ensures whole { (formula : DealKind → ℕ → RecordValue → ℕ → ℕ) (words : List (List ℕ)) (read : InputBytes) (old new : Option (List ℕ))
+pub fn answers_follow_formulas<D: Disk>(dealers: &Dealers)
+    ensures whole { (formula : DealKind → ℕ → RecordValue → ℕ → ℕ) (before now : D) (words : List (List ℕ)) (read : InputBytes) (old new : Option (List ℕ))
         → ((kind : DealKind) (place : ℕ) (rec : RecordValue) (shards number : ℕ)
         → ⟦<Dealer as Deals>⟧.may_answer (dealer_of kind dealers.now) place rec shards number → number ≡ formula kind place rec shards)
-        → Answers (λ kind. ⟦<Dealer as Deals>⟧.may_answer (dealer_of kind dealers.now)) words read old new → Answers (by_formula formula) words read old new }
+        → Answers (λ kind. ⟦<Dealer as Deals>⟧.may_answer (dealer_of kind dealers.now))
+        (kept_in D.reads D.image_now D.moment D.image_since before now) words read old new
+        → Answers (by_formula formula) (kept_in D.reads D.image_now D.moment D.image_since before now) words read old new }
     ensures part { (formula : DealKind → ℕ → RecordValue → ℕ → ℕ) (words : List (List ℕ)) (read : InputBytes) (old new : Option (List ℕ))
         → ((kind : DealKind) (place : ℕ) (rec : RecordValue) (shards number : ℕ)
         → ⟦<Dealer as Deals>⟧.may_answer (dealer_of kind dealers.now) place rec shards number → number ≡ formula kind place rec shards)
@@ -34,8 +38,8 @@ pub fn answers_follow_formulas(dealers: &Dealers)
 /// numbers of workers, callers and rounds, the block and the threads, its bytes are the same.
 pub fn last_reports_are_one()
     ensures { (lists : List (List RecordValue)) (settings other : Settings) (reports others : SessionReports) → settings.capacity ≡ other.capacity
-        → settings.phi ≡ other.phi → AreSessionReports (opening_of settings.capacity lists) settings reports
-        → AreSessionReports (opening_of other.capacity lists) other others
+        → settings.phi ≡ other.phi → AreSessionReports (new_shards settings.capacity lists) settings reports
+        → AreSessionReports (new_shards other.capacity lists) other others
         → report_text reports.last.report ≡ report_text others.last.report }
 {
     a_cut_has_one_report();
@@ -46,5 +50,6 @@ pub fn last_reports_are_one()
 pub fn sessions_without_rounds_have_one_report()
     ensures { (opening : List ShardValue) (settings : Settings) (reports : SessionReports) (tail : List ℕ) → settings.rounds ≡ 0
         → AreSessionReports opening settings reports
-        → session_text (start_of opening) reports tail ≡ mark_text Opened (start_of opening) ++ (report_text reports.last.report ++ tail) }
+        → session_text settings.store (start_of opening) reports tail
+        ≡ mark_text Opened (start_of opening) ++ (part_text settings.store reports.last ++ tail) }
 {}

@@ -3,11 +3,13 @@
 mod line;
 
 ghost use Rattle.std.specs.Prelude.{◌≡◌};
-ghost use Rattle.hhh_engine.specs.Status.{status_of, status_of_words, number_of};
+ghost use Rattle.hhh_engine.specs.Status.{status_of, status_of_opening, status_of_words, number_of};
 
+use checkpoint::StoreSettings;
 use command_words::{WordsKind, WordsRefusal};
 pub use line::fault_line;
 use pcap_frames::{CaptureFault, ReadRefusal};
+use recovery::OpenFault;
 use std::alloc::AllocError;
 
 /// How a command ended.
@@ -23,6 +25,26 @@ pub enum Status {
     ReadFault,
     /// The sink failed. Nothing was written, or the text was written in part.
     WriteFault,
+    /// The disk of the store failed. Nothing was written, or the text was written in part.
+    DiskFault,
+    /// The store is shorter than 64 bytes, or its header spells no settings. Nothing was written.
+    NotFormatted,
+    /// The store's body in this slot is damaged, or can't be continued from. Nothing was written.
+    Damaged(u8),
+    /// The store has other settings. Nothing was written.
+    OtherSettings {
+        /// The settings of the store.
+        stored: StoreSettings,
+        /// The settings that were asked for.
+        asked: StoreSettings,
+    },
+    /// The store is of another capture. Nothing was written.
+    OtherCapture {
+        /// The digest in the store.
+        stored: [u8; 32],
+        /// The digest of the capture's dealt records.
+        asked: [u8; 32],
+    },
     /// Memory ran out. Nothing was written, or the text was written in part.
     OutOfMemory,
 }
@@ -38,6 +60,11 @@ impl Status {
             Status::BadCapture(_) => 3,
             Status::ReadFault => 4,
             Status::WriteFault => 5,
+            Status::DiskFault => 6,
+            Status::NotFormatted => 7,
+            Status::Damaged(_) => 8,
+            Status::OtherSettings { .. } => 9,
+            Status::OtherCapture { .. } => 10,
             Status::OutOfMemory => 13,
         }
     }
@@ -62,6 +89,21 @@ impl From<WordsRefusal> for Status {
         match refusal {
             WordsRefusal::Bad(kind) => Status::BadWords(kind),
             WordsRefusal::OutOfMemory => Status::OutOfMemory,
+        }
+    }
+}
+
+impl From<OpenFault> for Status {
+    ghost from_gives = { λ fault status. status ≡ status_of_opening fault };
+
+    fn from(fault: OpenFault) -> Status {
+        match fault {
+            OpenFault::DiskFault => Status::DiskFault,
+            OpenFault::NotFormatted => Status::NotFormatted,
+            OpenFault::OtherSettings { stored, asked } => Status::OtherSettings { stored, asked },
+            OpenFault::Damaged(slot) => Status::Damaged(slot),
+            OpenFault::OtherCapture { stored, asked } => Status::OtherCapture { stored, asked },
+            OpenFault::OutOfMemory => Status::OutOfMemory,
         }
     }
 }

@@ -1,19 +1,30 @@
-//! The top call: from arguments and a capture to an output text and a status.
+//! The top call: from arguments, a capture and the disk of a store to an output text and a status.
 
 ghost use Rattle.std.specs.Prelude.{◌≡◌, ◌⊎◌, ℕ, List, Some};
 ghost use Rattle.outside_io.specs.{Rose};
-ghost use Rattle.frame_records.specs.{IsRefusedFor};
+ghost use Rattle.prefix_lattice.specs.{RecordValue};
+ghost use Rattle.pcap_frames.specs.{FrameValue};
+ghost use Rattle.frame_records.specs.{HasFrames, IsRefusedFor};
+ghost use Rattle.frame_records.specs.declared.records.Records.{Records};
 ghost use Rattle.pcap_frames.specs.declared.fault.CaptureFault.{CaptureFault};
 ghost use Rattle.deal_rules.specs.{dealer_of};
+ghost use Rattle.recovery.specs.{IsRefused, IsShown};
+ghost use Rattle.recovery.specs.declared.fault.OpenFault.{OpenFault};
 ghost use Rattle.command_words.specs.{texts, AskFor, HasWordsFault, IsLimited};
 ghost use Rattle.command_words.specs.declared.command.Command.{Command};
+ghost use Rattle.command_words.specs.declared.command.Command.TheVariants.{Report, Format};
+ghost use Rattle.command_words.specs.declared.settings.Settings.{Settings};
 ghost use Rattle.command_words.specs.declared.words_kind.WordsKind.{WordsKind};
 ghost use Rattle.hhh_engine.specs.Answer.{Answers, AnswersInPart, IsAnswer, IsAnswerInPart};
-ghost use Rattle.hhh_engine.specs.Ending.{Ends, RefusedWords, RefusedCapture, FailedToRead, FailedToWrite};
-ghost use Rattle.hhh_engine.specs.Inputs.{AskToRead, CanBeAnswered, WasRead, inputs};
-ghost use Rattle.hhh_engine.specs.declared.status.Status.TheVariants.{Done, BadWords, BadCapture, ReadFault, WriteFault, OutOfMemory};
+ghost use Rattle.hhh_engine.specs.Ending.{Ends, FailedDisk, FailedToRead, FailedToWrite, FormatEnds, RefusedCapture, RefusedStore, RefusedWords, RefusesFor, WroteInPart};
+ghost use Rattle.hhh_engine.specs.Inputs.{AskForNoStore, AskToRead, CanBeAnswered, UsesStore, WasRead, inputs};
+ghost use Rattle.hhh_engine.specs.Saves.{kept_in, store_settings};
+ghost use Rattle.hhh_engine.specs.Session.{AreDealtFrom};
+ghost use Rattle.hhh_engine.specs.Status.{status_of_opening};
+ghost use Rattle.hhh_engine.specs.declared.status.Status.TheVariants.{Done, BadWords, BadCapture, ReadFault, WriteFault, DiskFault, OutOfMemory};
 
 use crate::Status;
+use crate::commands::format::format;
 use crate::commands::report::report;
 use crate::commands::weigh::weigh;
 use command_words::{Command, read_words};
@@ -21,6 +32,8 @@ use deal_rules::{Dealer, Dealers, Deals};
 use frame_records::files_are_read_or_refused;
 use gate_workers::Gate;
 use outside_io::{Sink, Source};
+use recovery::{belonging_stores_are_opened, openings_are_decided};
+use slot_disk::Disk;
 use std::alloc::Global;
 use std::marker::Sync;
 use std::sync::Wait;
@@ -34,77 +47,119 @@ use std::thread::Threads;
 /// `report` reads a capture to its end, deals its records to shards, and writes a session. While workers count the
 /// records in the tables of the shards, the calling thread writes its reports, and the other callers make theirs, which
 /// are written after the workers have ended, before a last report over all records. A report names the prefixes that
-/// carry heavy load which no more specific reported prefix explains, over the records before its positions.
+/// carry heavy load which no more specific reported prefix explains, over the records before its positions. With a store
+/// it goes on from the newest saved cut, and saves each cut that the calling thread reports on, once the report is written.
+///
+/// `format` makes an empty store on the disk, and writes one line.
 ///
 /// `gate` is called around each fold and each read, and changes nothing of what is written.
-pub fn run<R: Threads + Wait + Sync, S: Source, K: Sink, G: Gate + Sync>(
+pub fn run<R: Threads + Wait + Sync, S: Source, K: Sink, D: Disk, G: Gate + Sync>(
     rt: &R,
     alloc: Global,
     words: &[&str],
     capture: &mut S,
     sink: &mut K,
+    disk: &mut D,
     gate: &G,
     dealers: &Dealers,
 ) -> Status
     // The text of the command was written for its inputs, which were read to their ends. What the text says of weights
-    // holds for the records themselves.
-    ensures done { result ≡ Done → Answers (λ kind. ⟦<Dealer as Deals>⟧.may_answer (dealer_of kind dealers.now)) (texts words.now)
-        (inputs (S.left capture.old) (S.left capture.new)) (K.taken sink.old) (K.taken sink.new) }
+    // holds for the records themselves. What a report saved stands in its store, whatever a crash leaves.
+    ensures done { result ≡ Done → Answers (λ kind. ⟦<Dealer as Deals>⟧.may_answer (dealer_of kind dealers.now))
+        (kept_in D.reads D.image_now D.moment D.image_since disk.old disk.new) (texts words.now)
+        (inputs (S.left capture.old) (S.left capture.new) (D.reads disk.old)) (K.taken sink.old) (K.taken sink.new) }
 
     // The arguments are checked first, before anything is read.
-    ensures bad_words { (kind : WordsKind) → result ≡ BadWords kind → RefusedWords (texts words.now) kind capture.old capture.new sink.old sink.new }
+    ensures bad_words { (kind : WordsKind) → result ≡ BadWords kind → RefusedWords (texts words.now) kind capture.old capture.new sink.old sink.new
+        disk.old disk.new }
     ensures refuses_words { (kind : WordsKind) → HasWordsFault (texts words.now) kind → (result ≡ BadWords kind) ⊎ (result ≡ OutOfMemory) }
 
     // A capture with a fault is refused for it, unless the source fails or memory runs out first.
-    ensures bad_capture { (fault : CaptureFault) → result ≡ BadCapture fault → RefusedCapture (S.left capture.old) fault sink.old sink.new }
+    ensures bad_capture { (fault : CaptureFault) → result ≡ BadCapture fault → RefusedCapture (S.left capture.old) fault sink.old sink.new disk.old disk.new }
     ensures refuses { (file : List ℕ) (fault : CaptureFault) → AskToRead (texts words.now) → S.left capture.old ≡ Some file → IsRefusedFor file fault
         → (result ≡ BadCapture fault) ⊎ ((result ≡ ReadFault) ⊎ (result ≡ OutOfMemory)) }
 
-    // A read or write fault is reported only where the source or the sink had one in this call. It is never
-    // ignored, nor reported as anything else.
-    ensures read_fault { result ≡ ReadFault → FailedToRead (S.faults capture.old) (S.faults capture.new) sink.old sink.new }
+    // A store that is refused over the dealt records is refused for its first fault, unless the source or the disk fails or
+    // memory runs out first.
+    ensures refused_store { (fault : OpenFault) → IsShown fault → result ≡ status_of_opening fault
+        → RefusedStore (λ kind. ⟦<Dealer as Deals>⟧.may_answer (dealer_of kind dealers.now)) (texts words.now) (inputs (S.left capture.old) (S.left capture.new) (D.reads disk.old))
+        fault sink.old sink.new (D.reads disk.new) }
+    ensures refuses_store { (settings : Settings) (file image : List ℕ) (frames : List FrameValue) (fault : OpenFault)
+        → AskFor (texts words.now) (Report settings) → settings.store ≡ true → S.left capture.old ≡ Some file → HasFrames file frames
+        → D.reads disk.old ≡ Some image → IsShown fault
+        → ((records : Records) (lists : List (List RecordValue))
+        → AreDealtFrom settings (λ kind. ⟦<Dealer as Deals>⟧.may_answer (dealer_of kind dealers.now)) file records lists
+        → IsRefused (store_settings settings) lists image fault)
+        → (result ≡ status_of_opening fault) ⊎ ((result ≡ ReadFault) ⊎ ((result ≡ DiskFault) ⊎ (result ≡ OutOfMemory))) }
+
+    // A fault of the source, the sink or the disk is reported only where it had one in this call. It is never ignored, nor
+    // reported as anything else.
+    ensures read_fault { result ≡ ReadFault → FailedToRead (S.faults capture.old) (S.faults capture.new) sink.old sink.new disk.old disk.new }
     ensures read_fault_told { (result ≡ ReadFault → ⊥) → S.faults capture.new ≡ S.faults capture.old }
     ensures write_fault { result ≡ WriteFault → FailedToWrite (λ kind. ⟦<Dealer as Deals>⟧.may_answer (dealer_of kind dealers.now)) (texts words.now)
-        (inputs (S.left capture.old) (S.left capture.new)) (K.taken sink.old) (K.taken sink.new) (K.faults sink.old) (K.faults sink.new) }
+        (inputs (S.left capture.old) (S.left capture.new) (D.reads disk.old)) (K.taken sink.old) (K.taken sink.new) (K.faults sink.old) (K.faults sink.new) }
     ensures write_fault_told { (result ≡ WriteFault → ⊥) → K.faults sink.new ≡ K.faults sink.old }
+    ensures disk_fault { result ≡ DiskFault → FailedDisk (λ kind. ⟦<Dealer as Deals>⟧.may_answer (dealer_of kind dealers.now)) (texts words.now)
+        (inputs (S.left capture.old) (S.left capture.new) (D.reads disk.old)) sink.old sink.new (K.taken sink.old) (K.taken sink.new)
+        (D.faults disk.old) (D.faults disk.new) }
+    ensures disk_fault_told { (result ≡ DiskFault → ⊥) → D.faults disk.new ≡ D.faults disk.old }
+
+    // A store is formatted where its line was written, or began to be. A disk that the command doesn't use is untouched.
+    ensures formats { (settings : Settings) → AskFor (texts words.now) (Format settings) → FormatEnds (store_settings settings)
+        (D.reads disk.new) (D.image_now disk.new) sink.old sink.new disk.old disk.new result }
+    ensures unused_disk { AskForNoStore (texts words.now) → disk.new ≡ disk.old }
 
     // Memory may run out at any time: nothing was written then, or a part of the text.
-    ensures out_of_memory { result ≡ OutOfMemory → (sink.new ≡ sink.old)
-        ⊎ AnswersInPart (λ kind. ⟦<Dealer as Deals>⟧.may_answer (dealer_of kind dealers.now)) (texts words.now)
-        (inputs (S.left capture.old) (S.left capture.new)) (K.taken sink.old) (K.taken sink.new) }
+    ensures out_of_memory { result ≡ OutOfMemory → WroteInPart (λ kind. ⟦<Dealer as Deals>⟧.may_answer (dealer_of kind dealers.now)) (texts words.now)
+        (inputs (S.left capture.old) (S.left capture.new) (D.reads disk.old)) sink.old sink.new (K.taken sink.old) (K.taken sink.new) }
 
-    // With arguments that ask for a command, inputs in their formats and no fault of source or sink, the run ends in
+    // With arguments that ask for a command, inputs in their formats and no fault of source, sink or disk, the run ends in
     // Done unless memory runs out.
-    ensures complete { (command : Command) → AskFor (texts words.now) command → CanBeAnswered command (inputs (S.left capture.old) (S.left capture.new))
+    ensures complete { (command : Command) → AskFor (texts words.now) command
+        → CanBeAnswered (λ kind. ⟦<Dealer as Deals>⟧.may_answer (dealer_of kind dealers.now)) command (inputs (S.left capture.old) (S.left capture.new) (D.reads disk.old))
         → (Rose (S.faults capture.old) (S.faults capture.new) → ⊥) → (Rose (K.faults sink.old) (K.faults sink.new) → ⊥)
-        → (result ≡ Done) ⊎ (result ≡ OutOfMemory) }
+        → (Rose (D.faults disk.old) (D.faults disk.new) → ⊥) → (result ≡ Done) ⊎ (result ≡ OutOfMemory) }
 {
     files_are_read_or_refused();
+    openings_are_decided();
+    belonging_stores_are_opened();
     let command = match read_words(alloc, words) {
         Ok(command) => command,
         Err(refusal) => return Status::from(refusal),
     };
-    answer(rt, alloc, &command, capture, sink, gate, dealers)
+    answer(rt, alloc, &command, capture, sink, disk, gate, dealers)
 }
 
 // Runs the command.
-fn answer<R: Threads + Wait + Sync, S: Source, K: Sink, G: Gate + Sync>(
+fn answer<R: Threads + Wait + Sync, S: Source, K: Sink, D: Disk, G: Gate + Sync>(
     rt: &R,
     alloc: Global,
     command: &Command,
     capture: &mut S,
     sink: &mut K,
+    disk: &mut D,
     gate: &G,
     dealers: &Dealers,
 ) -> Status
     requires { IsLimited command.now }
-    ensures { Ends (IsAnswer (λ kind. ⟦<Dealer as Deals>⟧.may_answer (dealer_of kind dealers.now)) command.now (inputs (S.left capture.old) (S.left capture.new)))
-        (IsAnswerInPart (λ kind. ⟦<Dealer as Deals>⟧.may_answer (dealer_of kind dealers.now)) command.now (inputs (S.left capture.old) (S.left capture.new)))
-        (WasRead command.now (inputs (S.left capture.old) (S.left capture.new))) (S.left capture.old) (S.faults capture.old) (S.faults capture.new)
+    ensures ends { Ends (IsAnswer (λ kind. ⟦<Dealer as Deals>⟧.may_answer (dealer_of kind dealers.now)) (kept_in D.reads D.image_now D.moment D.image_since disk.old disk.new)
+        command.now (inputs (S.left capture.old) (S.left capture.new) (D.reads disk.old)))
+        (IsAnswerInPart (λ kind. ⟦<Dealer as Deals>⟧.may_answer (dealer_of kind dealers.now)) command.now (inputs (S.left capture.old) (S.left capture.new) (D.reads disk.old)))
+        (WasRead command.now (inputs (S.left capture.old) (S.left capture.new) (D.reads disk.old)))
+        (Rose (D.faults disk.old) (D.faults disk.new)) (disk.new ≡ disk.old)
+        (RefusesFor command.now (λ kind. ⟦<Dealer as Deals>⟧.may_answer (dealer_of kind dealers.now)) (inputs (S.left capture.old) (S.left capture.new) (D.reads disk.old)) (D.reads disk.new))
+        (S.left capture.old) (S.faults capture.old) (S.faults capture.new)
         sink.old sink.new (K.taken sink.old) (K.taken sink.new) (K.faults sink.old) (K.faults sink.new) result }
+    ensures told { (result ≡ DiskFault → ⊥) → D.faults disk.new ≡ D.faults disk.old }
+    ensures unused { (UsesStore command.now → ⊥) → disk.new ≡ disk.old }
+    ensures formats { (settings : Settings) → command.now ≡ Format settings → FormatEnds (store_settings settings)
+        (D.reads disk.new) (D.image_now disk.new) sink.old sink.new disk.old disk.new result }
 {
     match command {
         Command::Weigh { prefix, settings } => weigh(alloc, prefix, settings, capture, sink),
-        Command::Report(settings) => report(rt, alloc, settings, capture, sink, gate, dealers),
+        Command::Report(settings) => {
+            report(rt, alloc, settings, capture, sink, disk, gate, dealers)
+        }
+        Command::Format(settings) => format(settings, sink, disk),
     }
 }

@@ -31,17 +31,17 @@ pub(crate) struct Fed {
 
 /// Feeds the board to the ends, while the calling thread and the other callers make their rounds. With a saver the calling
 /// thread saves each of its cuts.
-pub(crate) fn feed<R: Threads + Wait + Sync, K: Sink, D: Disk, G: Gate + Sync>(
+pub(crate) fn feed<'a, R: Threads + Wait + Sync, K: Sink, D: Disk, G: Gate + Sync>(
     rt: &R,
     alloc: Global,
     board: &Board,
     pass: Pass,
     cut: Cut,
     settings: &Settings,
-    sink: &mut K,
-    disk: &mut D,
-    saver: &mut Option<Saver>,
-    gate: &G,
+    sink: &'a mut K,
+    disk: &'a mut D,
+    saver: &'a mut Option<Saver>,
+    gate: &'a G,
 ) -> Result<Fed, Status>
     requires limited { AreLimited settings.now }
     requires wide { IsWide settings.now }

@@ -1,7 +1,6 @@
 //! The making of a store.
 
-ghost use Rattle.std.specs.Prelude.{◌≡◌};
-ghost use Rattle.std.specs.Prelude.{⊤};
+ghost use Rattle.std.specs.Prelude.{⊤, ℕ, ◌≡◌, List, Option};
 ghost use Rattle.outside_io.specs.{Rose};
 ghost use Rattle.command_words.specs.{AreLimited};
 ghost use Rattle.hhh_engine.specs.Answer.{IsCutShort, formatted_text};
@@ -19,8 +18,8 @@ use slot_disk::Disk;
 /// nothing was written, and the store is formatted again before it is used.
 pub(crate) fn format<K: Sink, D: Disk>(settings: &Settings, sink: &mut K, disk: &mut D) -> Status
     requires { AreLimited settings.now }
-    ensures ends { (faults : _) → Ends (λ text. text ≡ formatted_text) (IsCutShort (λ text. text ≡ formatted_text)) ⊤
-        (Rose (D.faults disk.old) (D.faults disk.new)) (λ fault. ⊥) None faults faults
+    ensures ends { (capture : Option (List ℕ)) (faults : ℕ) → Ends (λ text. text ≡ formatted_text) (IsCutShort (λ text. text ≡ formatted_text)) ⊤
+        (Rose (D.faults disk.old) (D.faults disk.new)) (disk.new ≡ disk.old) (λ fault. ⊥) capture faults faults
         sink.old sink.new (K.taken sink.old) (K.taken sink.new) (K.faults sink.old) (K.faults sink.new) result }
     ensures store { FormatEnds (store_settings settings.now) (D.reads disk.new) (D.image_now disk.new)
         sink.old sink.new disk.old disk.new result }

@@ -1,16 +1,21 @@
 //! The session that `report` writes.
 
-ghost use Rattle.std.specs.Prelude.{◌≡◌, ◌≤◌, length, IfOk, IfErr, IfSome, OnOk, IsErrOf};
+ghost use Rattle.std.specs.Prelude.{◌≡◌, ◌≤◌, ◌<◌, false, length, IfOk, IfErr, IfSome, OnOk, IsErrOf};
 ghost use Rattle.std.specs.Io.KnownBytes.{IsAtEnd};
 ghost use Rattle.deal_rules.specs.{IsDealing, dealer_of};
 ghost use Rattle.prefix_lattice.specs.{most_records};
 ghost use Rattle.command_words.specs.{AreLimited, IsWide};
-ghost use Rattle.hhh_engine.specs.Ending.{Ends};
-ghost use Rattle.hhh_engine.specs.Feed.{IsDealtCapture};
+ghost use Rattle.outside_io.specs.{Rose};
+ghost use Rattle.hhh_engine.specs.Ending.{Ends, RefusesStore};
+ghost use Rattle.hhh_engine.specs.Feed.{EndsDealt, IsDealtCapture};
+ghost use Rattle.hhh_engine.specs.Inputs.{inputs};
 ghost use Rattle.hhh_engine.specs.NoText.{HasNoText};
+ghost use Rattle.hhh_engine.specs.Saves.{kept_in};
 ghost use Rattle.hhh_engine.specs.Session.{IsSession, IsSessionInPart};
+ghost use Rattle.hhh_engine.specs.declared.status.Status.TheVariants.{DiskFault};
 
-use crate::commands::session::write_session;
+use crate::commands::base::open_base;
+use crate::commands::session::{openings_stand, write_session};
 use crate::{Settings, Status};
 use deal_rules::{Dealer, Dealers, Deals, Dealt, deal};
 use frame_records::read_records;
@@ -18,6 +23,7 @@ use gate_workers::Gate;
 use outside_io::{Sink, Source};
 use prefix_lattice::RecordList;
 use report_text::print_tail;
+use slot_disk::Disk;
 use std::alloc::{AllocError, Global};
 use std::marker::Sync;
 use std::sync::Wait;
@@ -31,30 +37,67 @@ struct DealtCapture {
     tail: Vec<u8>,
 }
 
-/// Reads a capture to its end, counts its records while reports are made, and writes the session.
-pub(crate) fn report<R: Threads + Wait + Sync, S: Source, K: Sink, G: Gate + Sync>(
+/// Reads a capture to its end, opens the store, if the settings ask for one, counts the records while reports are made, and
+/// writes the session.
+pub(crate) fn report<R: Threads + Wait + Sync, S: Source, K: Sink, D: Disk, G: Gate + Sync>(
     rt: &R,
     alloc: Global,
     settings: &Settings,
     capture: &mut S,
     sink: &mut K,
+    disk: &mut D,
     gate: &G,
     dealers: &Dealers,
 ) -> Status
     requires limited { AreLimited settings.now }
     requires wide { IsWide settings.now }
-    ensures { Ends (λ text. IfSome (S.left capture.old)
-        (λ file. IsSession settings.now (λ kind. ⟦<Dealer as Deals>⟧.may_answer (dealer_of kind dealers.now)) file text))
-        (λ front. IfSome (S.left capture.old)
-        (λ file. IsSessionInPart settings.now (λ kind. ⟦<Dealer as Deals>⟧.may_answer (dealer_of kind dealers.now)) file front))
-        (IsAtEnd (S.left capture.new)) (S.left capture.old) (S.faults capture.old) (S.faults capture.new)
+    ensures ends { Ends (λ text. IfSome (S.left capture.old) (λ file. IsSession settings.now
+        (λ kind. ⟦<Dealer as Deals>⟧.may_answer (dealer_of kind dealers.now))
+        (kept_in D.reads D.image_now D.moment D.image_since disk.old disk.new) (D.reads disk.old) file text))
+        (λ front. IfSome (S.left capture.old) (λ file. IsSessionInPart settings.now
+        (λ kind. ⟦<Dealer as Deals>⟧.may_answer (dealer_of kind dealers.now)) (D.reads disk.old) file front))
+        (IsAtEnd (S.left capture.new)) (Rose (D.faults disk.old) (D.faults disk.new)) (disk.new ≡ disk.old)
+        (RefusesStore settings.now (λ kind. ⟦<Dealer as Deals>⟧.may_answer (dealer_of kind dealers.now))
+        (inputs (S.left capture.old) (S.left capture.new) (D.reads disk.old)) (D.reads disk.new))
+        (S.left capture.old) (S.faults capture.old) (S.faults capture.new)
         sink.old sink.new (K.taken sink.old) (K.taken sink.new) (K.faults sink.old) (K.faults sink.new) result }
+    ensures told { (result ≡ DiskFault → ⊥) → D.faults disk.new ≡ D.faults disk.old }
+    ensures unused { settings.now.store ≡ false → disk.new ≡ disk.old }
 {
     let fed = match read_dealt(alloc, settings, capture, dealers) {
         Ok(fed) => fed,
         Err(status) => return status,
     };
-    match write_session(rt, alloc, fed.dealt, &fed.tail, settings, sink, gate) {
+    report_dealt(rt, alloc, fed, settings, sink, disk, gate)
+}
+
+// Opens the store, and writes the session over dealt records.
+fn report_dealt<R: Threads + Wait + Sync, K: Sink, D: Disk, G: Gate + Sync>(
+    rt: &R,
+    alloc: Global,
+    fed: DealtCapture,
+    settings: &Settings,
+    sink: &mut K,
+    disk: &mut D,
+    gate: &G,
+) -> Status
+    requires limited { AreLimited settings.now }
+    requires wide { IsWide settings.now }
+    requires shards { length fed.dealt ≡ settings.now.shards }
+    requires tail { 0 < length fed.tail.items }
+    ensures ends { EndsDealt settings.now fed.dealt fed.tail.items
+        (kept_in D.reads D.image_now D.moment D.image_since disk.old disk.new) (D.reads disk.old) (D.reads disk.new)
+        sink.old sink.new (K.taken sink.old) (K.taken sink.new) (record { sink = K.faults sink.old; disk = D.faults disk.old })
+        (record { sink = K.faults sink.new; disk = D.faults disk.new }) result }
+    ensures unused { settings.now.store ≡ false → disk.new ≡ disk.old }
+{
+    let DealtCapture { dealt, tail } = fed;
+    let base = match open_base(alloc, settings, &dealt, disk) {
+        Ok(base) => base,
+        Err(status) => return status,
+    };
+    openings_stand(&dealt, &base.cut, settings.capacity);
+    match write_session(rt, alloc, dealt, base, &tail, settings, sink, disk, gate) {
         Ok(()) => Status::Done,
         Err(status) => status,
     }
@@ -70,6 +113,8 @@ fn read_dealt<S: Source>(
     requires limited { AreLimited settings.now }
     ensures dealt { IfOk result (λ fed. IfSome (S.left capture.old) (λ file.
         IsDealtCapture settings.now (λ kind. ⟦<Dealer as Deals>⟧.may_answer (dealer_of kind dealers.now)) file fed.dealt fed.tail.items)) }
+    ensures shards { IfOk result (λ fed. length fed.dealt ≡ settings.now.shards) }
+    ensures tail { IfOk result (λ fed. 0 < length fed.tail.items) }
     ensures at_end { OnOk result (IsAtEnd (S.left capture.new)) }
     ensures refused { IfErr result (HasNoText (S.left capture.old) (S.faults capture.old) (S.faults capture.new)) }
     ensures told { (IsErrOf result Status.ReadFault → ⊥) → S.faults capture.new ≡ S.faults capture.old }

@@ -29,6 +29,7 @@ pub(crate) fn save_cut<D: Disk>(
     ensures no_fault { OnOk result (D.faults disk.new ≡ D.faults disk.old) }
     ensures unused { saver.old ≡ None → (saver.new ≡ None) × (disk.new ≡ disk.old) }
 {
+    stores_open_to_one();
     match saver.take() {
         None => Ok(()),
         Some(open) => match open.save(alloc, disk, cut) {

@@ -1,41 +1,44 @@
 //! The session of `report`: the running feed and its reports, and a last report over all records.
 
-ghost use Rattle.std.specs.Prelude.{◌≡◌, ◌≤◌, ◌⊎◌, ℕ, List, ◌++◌, length, All, None, IfOk, IfErr, OnOk, OnErr};
-ghost use Rattle.std.specs.List.{flat_map};
+ghost use Rattle.std.specs.Prelude.{◌≡◌, ◌≤◌, ◌<◌, ◌+◌, ◌⊎◌, ◌++◌, [], ◌∷◌, length, All, None, IfErr, IfOk, IfSome, OnErr, OnOk, false, is_some};
+ghost use Rattle.std.specs.List.{AllZip};
 ghost use Rattle.std.specs.Io.KnownBytes.{Appends};
 ghost use Rattle.outside_io.specs.{AppendsBeginning};
-ghost use Rattle.prefix_lattice.specs.{most_records};
 ghost use Rattle.deal_rules.specs.{AreShardLists};
 ghost use Rattle.space_saving.specs.{least_capacity, most_capacity};
-ghost use Rattle.shard_state.specs.{AreShards, BasesRepresent, HasShape, capacity_of, lists_of};
-ghost use Rattle.hhh_output.specs.declared.reports.Reported.{Reported};
+ghost use Rattle.shard_state.specs.{AreShards, HasShape, capacity_of};
 ghost use Rattle.pass_tokens.specs.{IsPassOf, first_view, view};
 ghost use Rattle.gate_workers.specs.{HasSeenEnds};
-ghost use Rattle.gate_workers.specs.declared.gathered.Called.{Called};
-ghost use Rattle.report_text.specs.{mark_text};
+ghost use Rattle.checkpoint.specs.{StandsFor};
+ghost use Rattle.recovery.specs.{ContinuesList};
+ghost use Rattle.report_text.specs.{ArePositions, mark_text};
 ghost use Rattle.report_text.specs.declared.mark.Mark.TheVariants.{Opened as OpenedMark};
 ghost use Rattle.command_words.specs.{AreLimited, IsWide};
 ghost use Rattle.hhh_engine.specs.Answer.{Writes};
-ghost use Rattle.hhh_engine.specs.Feed.{IsFault, IsFed, IsGathered, IsOpened, StartsBeforeEnds, WritesRoundsInPart, reports_of};
-ghost use Rattle.hhh_engine.specs.Session.{AreReportsOf, BeginsSession, IsShown, SpellsSession, ends_of, opening_of, parts_text, rest_text, start_of};
+ghost use Rattle.hhh_engine.specs.Feed.{CanSaveCut, GoesOn, IsBaseOf, IsFault, IsFed, IsOpened, IsRest, StartsBeforeEnds, reports_of};
+ghost use Rattle.hhh_engine.specs.Saves.{CanSave, Saves, SavesInTurn};
+ghost use Rattle.hhh_engine.specs.Session.{AreReportsOf, BeginsSession, RepresentsWhere, SpellsSession, callers_text, opening_of, parts_text, resumed_shards, new_shards, start_of};
 
-use crate::commands::LiveRounds;
+use crate::commands::base::Base;
+use crate::commands::feed::{Fed, feed};
+use crate::commands::saving::{save_cut, saved_line};
+use crate::commands::writing::write;
 use crate::{Settings, Status};
+use checkpoint::{Saver, stores_open_to_one};
 use deal_rules::Dealt;
-use gate_workers::{
-    Called, Gate, Gathered, OpenGate, ThreadPlan, calls_follow_calls, report_once, run_threads,
-};
-use hhh_output::{Report, Reports};
-use outside_io::{Sink, write_all};
+use gate_workers::{Called, Gate, Gathered, OpenGate, report_once};
+use hhh_output::Reports;
+use outside_io::Sink;
 use pass_tokens::{Board, Pass};
 use report_text::{Mark, print, print_positions};
 use shard_state::{Cut, Positions, ShardState, shards_stand};
+use slot_disk::Disk;
 use std::alloc::{AllocError, Global};
 use std::marker::Sync;
 use std::sync::Wait;
 use std::thread::Threads;
 
-/// Shards on a board whose records are not counted yet.
+/// Shards on a board whose records are not counted further yet.
 #[derive(Drop)]
 pub(crate) struct Opened {
     pub(crate) board: Board,
@@ -45,70 +48,116 @@ pub(crate) struct Opened {
     pub(crate) cut: Cut,
 }
 
-/// What is there after the threads fed the board to the ends.
+/// The rest of a session, once all records are counted.
 #[derive(Drop)]
-pub(crate) struct Fed {
-    /// What the threads bring back.
-    pub(crate) gathered: Gathered,
-    /// What the calling thread reads into.
+pub(crate) struct Rest {
+    /// The cut of the last report.
     pub(crate) cut: Cut,
+    /// The reports of the other callers, and the last report.
+    pub(crate) front: Vec<u8>,
+    /// What is written after the last cut was saved.
+    pub(crate) back: Vec<u8>,
 }
 
-/// Counts dealt records while reports are made, and writes the session, which ends with the text `tail`. On an error
-/// the sink failed or memory ran out; threads that had begun have then counted all records.
-pub(crate) fn write_session<R: Threads + Wait + Sync, K: Sink, G: Gate + Sync>(
+/// Counts dealt records from the base on while reports are made, and writes the session, which ends with the text `tail`.
+/// With a saver it saves each cut that the calling thread reports on. On an error the sink or the disk failed, or memory ran
+/// out; threads that had begun have then counted all records.
+pub(crate) fn write_session<R: Threads + Wait + Sync, K: Sink, D: Disk, G: Gate + Sync>(
     rt: &R,
     alloc: Global,
     dealt: Dealt,
+    base: Base,
     tail: &[u8],
     settings: &Settings,
     sink: &mut K,
+    disk: &mut D,
     gate: &G,
 ) -> Result<(), Status>
     requires limited { AreLimited settings.now }
     requires wide { IsWide settings.now }
-    ensures whole { OnOk result (Writes (SpellsSession (opening_of settings.now.capacity dealt) settings.now tail.now) (K.taken sink.old) (K.taken sink.new)) }
-    ensures faults { OnOk result (K.faults sink.new ≡ K.faults sink.old) }
+    requires shards { length dealt ≡ settings.now.shards }
+    requires base { IsBaseOf settings.now dealt (D.reads disk.old) base }
+    requires stands { IfSome base.saver (StandsFor (D.reads disk.old) (D.image_now disk.old)) }
+    requires tail { 0 < length tail.now }
+    ensures whole { OnOk result (Writes (SpellsSession (opening_of settings.now.capacity dealt base.cut) settings.now
+        (λ cuts. Saves D.reads D.image_now D.moment D.image_since base.saver cuts disk.old disk.new) tail.now) (K.taken sink.old) (K.taken sink.new)) }
+    ensures faults { OnOk result ((K.faults sink.new ≡ K.faults sink.old) × (D.faults disk.new ≡ D.faults disk.old)) }
     ensures part { OnErr result ((sink.new ≡ sink.old)
-        ⊎ Writes (BeginsSession (opening_of settings.now.capacity dealt) settings.now tail.now) (K.taken sink.old) (K.taken sink.new)) }
-    ensures fault { IfErr result (IsFault (K.faults sink.old) (K.faults sink.new)) }
+        ⊎ Writes (BeginsSession (opening_of settings.now.capacity dealt base.cut) settings.now tail.now) (K.taken sink.old) (K.taken sink.new)) }
+    ensures fault { IfErr result (IsFault (record { sink = K.faults sink.old; disk = D.faults disk.old })
+        (record { sink = K.faults sink.new; disk = D.faults disk.new })) }
+    ensures unused { base.saver ≡ None → disk.new ≡ disk.old }
 {
-    openings_are_empty(&dealt, settings.capacity);
-    let line = opened_line(alloc, &dealt)?;
-    let opened = open(alloc, dealt, settings.capacity)?;
-    write_feed(rt, alloc, opened, &line, tail, settings, sink, gate)
+    let Base {
+        cut,
+        positions,
+        saver,
+    } = base;
+    let line = opened_line(alloc, &positions)?;
+    let opened = open(alloc, dealt, cut, settings.capacity)?;
+    write_feed(rt, alloc, opened, saver, &line, tail, settings, sink, disk, gate)
 }
 
-// Puts the shards of dealt lists on a board, none of their records counted.
-fn open(alloc: Global, dealt: Dealt, capacity: u32) -> Result<Opened, AllocError>
+// Puts the shards of dealt lists on a board, from the base on.
+fn open(
+    alloc: Global,
+    dealt: Dealt,
+    base: Option<Cut>,
+    capacity: u32,
+) -> Result<Opened, AllocError>
     requires least { least_capacity ≤ capacity }
     requires most { capacity ≤ most_capacity }
-    ensures { IfOk result (IsOpened (opening_of capacity dealt)) }
+    requires fits { IfSome base (GoesOn capacity dealt) }
+    ensures { IfOk result (IsOpened (opening_of capacity dealt base)) }
 {
-    openings_are_empty(&dealt, capacity);
+    openings_stand(&dealt, &base, capacity);
     let shards = dealt.shards();
-    let states = states_of(alloc, dealt, capacity)?;
+    let states = states_of(alloc, dealt, base, capacity)?;
     let (board, pass) = Board::start(alloc, states)?;
     let cut = Cut::with_room(alloc, shards, capacity)?;
     Ok(Opened { board, pass, cut })
 }
 
-// Shards of dealt lists have the capacity asked for, and their empty tables represent their lists.
-fn openings_are_empty(dealt: &Dealt, capacity: u32)
-    ensures shards { AreShards (opening_of capacity dealt.now) }
-    ensures alike { capacity_of (opening_of capacity dealt.now) ≡ capacity }
-    ensures bases { BasesRepresent (opening_of capacity dealt.now) }
-    ensures starts { StartsBeforeEnds (opening_of capacity dealt.now) }
+/// Shards of dealt lists have the capacity asked for, and start before the ends of their lists. The tables of their base
+/// represent the lists, if they were saved of them or are empty.
+pub(crate) fn openings_stand(dealt: &Dealt, base: &Option<Cut>, capacity: u32)
+    requires { IfSome base.now (GoesOn capacity dealt.now) }
+    ensures shards { AreShards (opening_of capacity dealt.now base.now) }
+    ensures many { length (opening_of capacity dealt.now base.now) ≡ length dealt.now }
+    ensures alike { capacity_of (opening_of capacity dealt.now base.now) ≡ capacity }
+    ensures starts { StartsBeforeEnds (opening_of capacity dealt.now base.now) }
+    ensures represents { RepresentsWhere dealt.now base.now (opening_of capacity dealt.now base.now) }
 {
     shards_stand();
     let _shards = dealt.shards();
+    if let Some(cut) = base {
+        let _kept = cut.shards();
+    }
+}
+
+// The states of shards, from the base on.
+fn states_of(
+    alloc: Global,
+    dealt: Dealt,
+    base: Option<Cut>,
+    capacity: u32,
+) -> Result<Vec<ShardState>, AllocError>
+    requires least { least_capacity ≤ capacity }
+    requires most { capacity ≤ most_capacity }
+    requires fits { IfSome base (GoesOn capacity dealt) }
+    ensures { IfOk result (λ states. states.items ≡ opening_of capacity dealt base) }
+{
+    match base {
+        None => new_states(alloc, dealt, capacity),
+        Some(cut) => resumed_states(alloc, dealt, cut),
+    }
 }
 
 // The states of shards, none of their records counted.
-fn states_of(alloc: Global, dealt: Dealt, capacity: u32) -> Result<Vec<ShardState>, AllocError>
+fn new_states(alloc: Global, dealt: Dealt, capacity: u32) -> Result<Vec<ShardState>, AllocError>
     requires least { least_capacity ≤ capacity }
     requires most { capacity ≤ most_capacity }
-    ensures states { IfOk result (λ states. states.items ≡ opening_of capacity dealt) }
+    ensures states { IfOk result (λ states. states.items ≡ new_shards capacity dealt) }
     ensures shards { AreShardLists dealt }
 {
     let mut states = Vec::new(alloc);
@@ -118,156 +167,91 @@ fn states_of(alloc: Global, dealt: Dealt, capacity: u32) -> Result<Vec<ShardStat
     Ok(states)
 }
 
-// The first line of a session: shards with no saved state start at position 0.
-fn opened_line(alloc: Global, dealt: &Dealt) -> Result<Vec<u8>, AllocError>
-    ensures { IfOk result (λ line. (capacity : ℕ) → line.items ≡ mark_text OpenedMark (start_of (opening_of capacity dealt.now))) }
+// The states of shards that go on from the snapshots of a cut.
+fn resumed_states(alloc: Global, dealt: Dealt, cut: Cut) -> Result<Vec<ShardState>, AllocError>
+    requires { AllZip ContinuesList cut.shards dealt }
+    ensures { IfOk result (λ states. states.items ≡ resumed_shards dealt cut.shards) }
 {
-    let mut start = Positions::new(alloc);
-    for _shard in 0..dealt.shards() {
-        start.push(0)?;
+    let mut states = Vec::new(alloc);
+    for (list, base) in dealt.into_lists().into_iter().zip(cut.into_shards()) {
+        states.push(ShardState::resume(alloc, list, base)?)?;
     }
+    Ok(states)
+}
+
+// The first line of a session.
+fn opened_line(alloc: Global, positions: &Positions) -> Result<Vec<u8>, AllocError>
+    requires { ArePositions positions.now }
+    ensures { IfOk result (λ line. line.items ≡ mark_text OpenedMark positions.now) }
+{
     let mut line = Vec::new(alloc);
-    print_positions(Mark::Opened, &start, &mut line)?;
+    print_positions(Mark::Opened, positions, &mut line)?;
     Ok(line)
 }
 
 // Writes the session of shards on a board: its first line, the calling thread's rounds while workers feed, and the rest.
-fn write_feed<R: Threads + Wait + Sync, K: Sink, G: Gate + Sync>(
+fn write_feed<R: Threads + Wait + Sync, K: Sink, D: Disk, G: Gate + Sync>(
     rt: &R,
     alloc: Global,
     opened: Opened,
+    saver: Option<Saver>,
     line: &[u8],
     tail: &[u8],
     settings: &Settings,
     sink: &mut K,
+    disk: &mut D,
     gate: &G,
 ) -> Result<(), Status>
     requires limited { AreLimited settings.now }
     requires wide { IsWide settings.now }
     requires opened { IsOpened opened.board.opening opened }
     requires alike { capacity_of opened.board.opening ≡ settings.now.capacity }
-    requires bases { BasesRepresent opened.board.opening }
     requires starts { StartsBeforeEnds opened.board.opening }
     requires line { line.now ≡ mark_text OpenedMark (start_of opened.board.opening) }
-    ensures whole { OnOk result (Writes (SpellsSession opened.board.opening settings.now tail.now) (K.taken sink.old) (K.taken sink.new)) }
-    ensures faults { OnOk result (K.faults sink.new ≡ K.faults sink.old) }
+    requires tail { 0 < length tail.now }
+    requires used { is_some saver ≡ settings.now.store }
+    requires can_save { IfSome saver (CanSave (D.reads disk.old) (D.image_now disk.old) opened.board.opening
+        (first_view opened.board.opening) (settings.now.rounds + 1)) }
+    ensures whole { OnOk result (Writes (SpellsSession opened.board.opening settings.now
+        (λ cuts. Saves D.reads D.image_now D.moment D.image_since saver cuts disk.old disk.new) tail.now) (K.taken sink.old) (K.taken sink.new)) }
+    ensures faults { OnOk result ((K.faults sink.new ≡ K.faults sink.old) × (D.faults disk.new ≡ D.faults disk.old)) }
     ensures part { OnErr result (Writes (BeginsSession opened.board.opening settings.now tail.now) (K.taken sink.old) (K.taken sink.new)) }
-    ensures fault { IfErr result (IsFault (K.faults sink.old) (K.faults sink.new)) }
+    ensures fault { IfErr result (IsFault (record { sink = K.faults sink.old; disk = D.faults disk.old })
+        (record { sink = K.faults sink.new; disk = D.faults disk.new })) }
+    ensures unused { saver ≡ None → disk.new ≡ disk.old }
 {
     let Opened { board, pass, cut } = opened;
+    let mut saver = saver;
+    stores_open_to_one();
     write(sink, line)?;
-    let fed = feed(rt, alloc, &board, pass, cut, settings, sink, gate)?;
+    let fed = feed(
+        rt, alloc, &board, pass, cut, settings, sink, disk, &mut saver, gate,
+    )?;
     let rest = rest_of_session(rt, alloc, &board, fed, tail, settings)?;
-    write(sink, &rest)
+    write_rest(alloc, &rest, &mut saver, sink, disk)
 }
 
-// Writes a text.
-fn write<K: Sink>(sink: &mut K, text: &[u8]) -> Result<(), Status>
-    ensures whole { OnOk result (Appends (K.taken sink.old) (K.taken sink.new) text.now) }
-    ensures faults { OnOk result (K.faults sink.new ≡ K.faults sink.old) }
-    ensures beginning { OnErr result (AppendsBeginning (K.taken sink.old) (K.taken sink.new) text.now) }
-    ensures fault { IfErr result (IsFault (K.faults sink.old) (K.faults sink.new)) }
-{
-    match write_all(sink, text) {
-        Ok(()) => Ok(()),
-        Err(_) => Err(Status::WriteFault),
-    }
-}
-
-// Feeds the board to the ends, while the calling thread and the other callers make their rounds.
-fn feed<R: Threads + Wait + Sync, K: Sink, G: Gate + Sync>(
-    rt: &R,
+// Writes the rest of a session, and saves its cut, if there is a saver, once the last report was written.
+fn write_rest<K: Sink, D: Disk>(
     alloc: Global,
-    board: &Board,
-    pass: Pass,
-    cut: Cut,
-    settings: &Settings,
+    rest: &Rest,
+    saver: &mut Option<Saver>,
     sink: &mut K,
-    gate: &G,
-) -> Result<Fed, Status>
-    requires limited { AreLimited settings.now }
-    requires wide { IsWide settings.now }
-    requires pass { IsPassOf board.now pass }
-    requires view { view pass ≡ first_view board.now.opening }
-    requires shape { HasShape (length board.now.opening) (capacity_of board.now.opening) cut }
-    requires alike { capacity_of board.now.opening ≡ settings.now.capacity }
-    requires bases { BasesRepresent board.now.opening }
-    ensures fed { IfOk result (IsFed board.now settings.now (K.taken sink.old) (K.taken sink.new)) }
-    ensures faults { OnOk result (K.faults sink.new ≡ K.faults sink.old) }
-    ensures part { OnErr result (WritesRoundsInPart board.now.opening settings.now (K.taken sink.old) (K.taken sink.new)) }
-    ensures fault { IfErr result (IsFault (K.faults sink.old) (K.faults sink.new)) }
+    disk: &mut D,
+) -> Result<(), Status>
+    requires can_save { IfSome saver.old (CanSaveCut (D.reads disk.old) (D.image_now disk.old) rest.now.cut) }
+    requires more { 0 < length rest.now.back.items }
+    ensures whole { OnOk result (Appends (K.taken sink.old) (K.taken sink.new) (rest.now.front.items ++ rest.now.back.items)) }
+    ensures saved { OnOk result (SavesInTurn D.reads D.image_now D.moment D.image_since saver.old saver.new disk.old disk.new (rest.now.cut ∷ [])) }
+    ensures faults { OnOk result ((K.faults sink.new ≡ K.faults sink.old) × (D.faults disk.new ≡ D.faults disk.old)) }
+    ensures part { OnErr result (AppendsBeginning (K.taken sink.old) (K.taken sink.new) (rest.now.front.items ++ rest.now.back.items)) }
+    ensures fault { IfErr result (IsFault (record { sink = K.faults sink.old; disk = D.faults disk.old })
+        (record { sink = K.faults sink.new; disk = D.faults disk.new })) }
+    ensures unused { saver.old ≡ None → disk.new ≡ disk.old }
 {
-    let mut cut = cut;
-    let mut rounds = LiveRounds {
-        sink,
-        gate,
-        cut: &mut cut,
-        callers: settings.callers,
-        rounds: settings.rounds,
-        phi: settings.phi,
-        stop: None,
-    };
-    let gathered = run_feed(rt, alloc, board, pass, settings, &mut rounds, gate)?;
-    Ok(Fed { gathered, cut })
-}
-
-// Feeds the board to the ends while these rounds are made. A fault of the sink is reported also where memory ran out in
-// a caller.
-fn run_feed<R: Threads + Wait + Sync, K: Sink, G: Gate + Sync>(
-    rt: &R,
-    alloc: Global,
-    board: &Board,
-    pass: Pass,
-    settings: &Settings,
-    rounds: &mut LiveRounds<'_, K, G>,
-    gate: &G,
-) -> Result<Gathered, Status>
-    requires limited { AreLimited settings.now }
-    requires wide { IsWide settings.now }
-    requires pass { IsPassOf board.now pass }
-    requires view { view pass ≡ first_view board.now.opening }
-    requires alike { capacity_of board.now.opening ≡ settings.now.capacity }
-    requires bases { BasesRepresent board.now.opening }
-    requires shape { HasShape (length board.now.opening) (capacity_of board.now.opening) rounds.old.cut.now }
-    requires share { rounds.old.phi ≡ settings.now.phi }
-    requires count { rounds.old.rounds ≡ settings.now.rounds }
-    requires begun { rounds.old.stop ≡ None }
-    ensures same_sink { rounds.new.sink.ghost_name ≡ rounds.old.sink.ghost_name }
-    ensures same_cut { rounds.new.cut.ghost_name ≡ rounds.old.cut.ghost_name }
-    ensures shape { HasShape (length board.now.opening) (capacity_of board.now.opening) rounds.new.cut.now }
-    ensures fed { IfOk result (IsGathered board.now settings.now (K.taken rounds.old.sink.now) (K.taken rounds.new.sink.now)) }
-    ensures faults { OnOk result (K.faults rounds.new.sink.now ≡ K.faults rounds.old.sink.now) }
-    ensures part { OnErr result (WritesRoundsInPart board.now.opening settings.now (K.taken rounds.old.sink.now) (K.taken rounds.new.sink.now)) }
-    ensures fault { IfErr result (IsFault (K.faults rounds.old.sink.now) (K.faults rounds.new.sink.now)) }
-{
-    calls_follow_calls();
-    let gathered = run_threads(rt, alloc, board, pass, &plan_of(settings), gate, rounds);
-    if let Some(status) = rounds.stop {
-        return Err(status);
-    }
-    let gathered = gathered?;
-    Ok(gathered)
-}
-
-// The threads that the settings ask for.
-fn plan_of(settings: &Settings) -> ThreadPlan
-    ensures { result ≡ record {
-      workers = settings.now.workers;
-      callers = settings.now.callers;
-      rounds = settings.now.rounds;
-      block = settings.now.block;
-      phi = settings.now.phi;
-      capacity = settings.now.capacity;
-    } }
-{
-    ThreadPlan {
-        workers: settings.workers,
-        callers: settings.callers,
-        rounds: settings.rounds,
-        block: settings.block,
-        phi: settings.phi,
-        capacity: settings.capacity,
-    }
+    write(sink, &rest.front)?;
+    save_cut(alloc, saver, disk, &rest.cut)?;
+    write(sink, &rest.back)
 }
 
 // What follows the calling thread's rounds in a session: the reports of the other callers, a last report over all
@@ -279,7 +263,7 @@ fn rest_of_session<R: Wait>(
     fed: Fed,
     tail: &[u8],
     settings: &Settings,
-) -> Result<Vec<u8>, AllocError>
+) -> Result<Rest, AllocError>
     requires limited { AreLimited settings.now }
     requires wide { IsWide settings.now }
     requires pass { IsPassOf board.now fed.gathered.pass }
@@ -287,10 +271,8 @@ fn rest_of_session<R: Wait>(
     requires shape { HasShape (length board.now.opening) (capacity_of board.now.opening) fed.cut }
     requires callers { All (AreReportsOf board.now.opening settings.now settings.now.rounds) (reports_of fed.gathered.called.items) }
     requires alike { capacity_of board.now.opening ≡ settings.now.capacity }
-    requires bases { BasesRepresent board.now.opening }
-    ensures { IfOk result (λ rest. (last : Reported) × IsShown board.now.opening settings.now last
-        × (last.report.positions ≡ ends_of board.now.opening)
-        × (rest.items ≡ rest_text (reports_of fed.gathered.called.items) last tail.now)) }
+    ensures rest { IfOk result (IsRest board.now settings.now fed.gathered.called.items tail.now) }
+    ensures shape { IfOk result (λ rest. HasShape (length board.now.opening) (capacity_of board.now.opening) rest.cut) }
 {
     let Fed { gathered, mut cut } = fed;
     let Gathered { mut pass, called } = gathered;
@@ -306,10 +288,11 @@ fn rest_of_session<R: Wait>(
         &mut cut,
         &OpenGate,
     )?;
-    let mut rest = reports_text(alloc, board, settings, &called)?;
-    print(&last, &mut rest)?;
-    rest.extend_from_slice(tail)?;
-    Ok(rest)
+    let mut front = reports_text(alloc, board, settings, &called)?;
+    print(&last, &mut front)?;
+    let mut back = saved_line(alloc, settings.store, &last.positions)?;
+    back.extend_from_slice(tail)?;
+    Ok(Rest { cut, front, back })
 }
 
 // The reports of the other callers, one caller after the other.
@@ -320,7 +303,7 @@ fn reports_text(
     called: &[Called],
 ) -> Result<Vec<u8>, AllocError>
     requires { All (AreReportsOf board.now.opening settings.now settings.now.rounds) (reports_of called.now) }
-    ensures { IfOk result (λ text. text.items ≡ flat_map parts_text (reports_of called.now)) }
+    ensures { IfOk result (λ text. text.items ≡ callers_text (reports_of called.now)) }
 {
     let _shards = board.shards();
     let mut text = Vec::new(alloc);
@@ -338,7 +321,7 @@ fn put_reports(
     text: &mut Vec<u8>,
 ) -> Result<(), AllocError>
     requires { AreReportsOf board.now.opening settings.now settings.now.rounds reports.now }
-    ensures { OnOk result (text.new.items ≡ text.old.items ++ parts_text reports.now) }
+    ensures { OnOk result (text.new.items ≡ text.old.items ++ parts_text false reports.now) }
 {
     let _shards = board.shards();
     let all = reports.as_slice();

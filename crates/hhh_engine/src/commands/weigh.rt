@@ -1,6 +1,6 @@
 //! The weight of one prefix, from a Space-Saving table.
 
-ghost use Rattle.std.specs.Prelude.{◌≡◌, ◌≤◌, List, length, All, IfOk, IfErr, IfSome, OnOk, IsErrOf};
+ghost use Rattle.std.specs.Prelude.{⊤, ◌≡◌, ◌≤◌, List, length, All, IfOk, IfErr, IfSome, OnOk, IsErrOf};
 ghost use Rattle.std.specs.Io.KnownBytes.{IsAtEnd};
 ghost use Rattle.prefix_lattice.specs.{RecordValue, most_records};
 ghost use Rattle.shard_state.specs.{records_table, HoldsWeightOver};
@@ -31,7 +31,7 @@ pub(crate) fn weigh<S: Source, K: Sink>(
 ) -> Status
     ensures { Ends (λ text. IfSome (S.left capture.old) (λ file. IsWeightText prefix.now settings.now.weigh file text))
         (λ front. IfSome (S.left capture.old) (λ file. IsWeightTextInPart prefix.now settings.now.weigh file front))
-        (IsAtEnd (S.left capture.new)) (S.left capture.old) (S.faults capture.old) (S.faults capture.new)
+        (IsAtEnd (S.left capture.new)) ⊥ ⊤ (λ fault. ⊥) (S.left capture.old) (S.faults capture.old) (S.faults capture.new)
         sink.old sink.new (K.taken sink.old) (K.taken sink.new) (K.faults sink.old) (K.faults sink.new) result }
 {
     let text = match read_weight(alloc, prefix, settings, capture) {

@@ -27,6 +27,11 @@ fn push_status(line: &mut Vec<u8>, status: &Status) -> Result<(), AllocError>
         Status::BadCapture(fault) => push_fault(line, fault),
         Status::ReadFault => line.extend_from_slice(b"read fault"),
         Status::WriteFault => line.extend_from_slice(b"write fault"),
+        Status::DiskFault => line.extend_from_slice(b"disk fault"),
+        Status::NotFormatted => line.extend_from_slice(b"store not formatted"),
+        Status::Damaged(slot) => push_number(line, b"store damaged: slot ", u64::from(*slot)),
+        Status::OtherSettings { .. } => line.extend_from_slice(b"store has other settings"),
+        Status::OtherCapture { .. } => line.extend_from_slice(b"store is of another capture"),
         Status::OutOfMemory => line.extend_from_slice(b"out of memory"),
     }
 }

@@ -1,8 +1,16 @@
-use Rattle.std.proofs.Common.{◌≡◌, ◌∙◌, ◌++◌, ap, subst}
+use Rattle.std.proofs.Common.{◌≡◌, ◌∙◌, ◌++◌, [], ◌∷◌, ap, sym, subst, refl}
+use Rattle.std.specs.Prelude.{is_some}
 use Rattle.std.specs.Io.KnownBytes.{Appends}
+use Rattle.std.proofs.KnownBytes.{Appends-trans}
 use Rattle.outside_io.specs.{AppendsBeginning}
+use Rattle.pass_tokens.specs.{view}
 use Rattle.report_text.specs.{report_text}
-use Rattle.hhh_engine.proofs.RoundLemmas.{report_of_call, report_positions, writes_one}
+use Rattle.hhh_engine.specs.Saves.{SavesInTurn}
+use Rattle.hhh_engine.specs.Session.{saved_text}
+use Rattle.hhh_engine.proofs.RoundLemmas.{begins_line, begins_part, report_of_call, report_positions, save_broke}
+use Rattle.hhh_engine.proofs.RoundLemmas.{sink_broke, writes_one}
+use Rattle.hhh_engine.proofs.SavesLemmas.{no_saver_no_save, saved_cut_is}
+use Rattle.hhh_engine.proofs.SeenLemmas.{can_save_cut, fits_after}
 use Rattle.hhh_engine.proofs.commands.live_rounds.make_round.Goals as goal
 
 pub print-requires-clause-positions : goal.print-requires-clause-positions
@@ -14,24 +22,71 @@ pub print-requires-clause-threshold : goal.print-requires-clause-threshold
 print-requires-clause-threshold g c =
     (report_of_call _ _ _ _ c.in_ok-report.report c.in_ok-report.ensures.calls).is.threshold.heavy.some
 
-pub returns-in-Ok-clause-whole : goal.returns-in-Ok-clause-whole
-returns-in-Ok-clause-whole g c =
-    writes_one _ _ _ _ _ _ c.in_ok-report.report _ c.in_ok-report.ensures.calls c.in_ok-report.ensures.sound
-    c.in-Ok.ensures.whole
-    (c.deref.ensures.value ∙ c.in_ok-print.ensures.ok
-    ∙ ap (λ bytes. bytes ++ report_text c.in_ok-report.report) c.new-text.ensures.items)
+pub saved_line-requires : goal.saved_line-requires
+saved_line-requires g c =
+    report_positions c.args.board.now.opening c.args.phi c.in_ok-report.report c.shards-shards.ensures.kept
+    (report_of_call _ _ _ _ c.in_ok-report.report c.in_ok-report.ensures.calls)
+
+pub save_cut-requires : goal.save_cut-requires
+save_cut-requires g c =
+    can_save_cut _ _ c.args.board.now.opening c.args.phi _ _ c.in_ok-report.report c.args.saver.now _
+    c.in_ok-report.ensures.cut c.requires.pass.seat.trails c.in_ok-report.ensures.calls c.requires.can_save
+
+pub returns-in-Err-clause-broken : goal.returns-in-Err-clause-broken
+returns-in-Err-clause-broken g c =
+    let report = c.in_ok-report.report in
+    let text = c.deref.ensures.value ∙ c.in_ok-print.ensures.ok ∙ ap (λ bytes. bytes ++ report_text report) c.new-text.ensures.items in
+    sink_broke _ _ _ _ (is_some c.args.saver.now) _ _ _ _ _ _ _ c.in-Err.status c.in-Err.ensures.fault refl refl
+    (record {
+      report = report;
+      reports = record { calls = c.in_ok-report.ensures.calls; sound = c.in_ok-report.ensures.sound };
+      written =
+          begins_part _ _ (report_text report) (saved_text (is_some c.args.saver.now) report.positions)
+          (subst (AppendsBeginning _ _) text c.in-Err.ensures.beginning);
+    })
+
+pub returns-in-Err-save_cut-clause-broken : goal.returns-in-Err-save_cut-clause-broken
+returns-in-Err-save_cut-clause-broken g c =
+    let report = c.in_ok-report.report in
+    let text = c.deref.ensures.value ∙ c.in_ok-print.ensures.ok ∙ ap (λ bytes. bytes ++ report_text report) c.new-text.ensures.items in
+    save_broke _ _ _ _ (is_some c.args.saver.now) _ _ _ _ _ _ c.in-Err-save_cut.status c.in-Err-save_cut.ensures.used
+    c.in-Err-save_cut.ensures.fault c.in_default.ensures.faults
+    (record {
+      report = report;
+      reports = record { calls = c.in_ok-report.ensures.calls; sound = c.in_ok-report.ensures.sound };
+      written = subst (Appends _ _) text c.in_default.ensures.whole;
+    })
 
 pub returns-clause-broken : goal.returns-clause-broken
-returns-clause-broken g c = (
-  record {
-    report = c.in_ok-report.report;
-    calls = c.in_ok-report.ensures.calls;
-    sound = c.in_ok-report.ensures.sound;
-    written =
-        subst (AppendsBeginning _ _)
-        (c.deref.ensures.value ∙ c.in_ok-print.ensures.ok
-        ∙ ap (λ bytes. bytes ++ report_text c.in_ok-report.report) c.new-text.ensures.items)
-        c.in-Err.ensures.beginning;
-  },
-  c.in-Err.ensures.cause.failed,
-)
+returns-clause-broken g c =
+    let report = c.in_ok-report.report in
+    let text = c.deref.ensures.value ∙ c.in_ok-print.ensures.ok ∙ ap (λ bytes. bytes ++ report_text report) c.new-text.ensures.items in
+    let line = c.deref-2.ensures.value ∙ c.in_ok-line.ensures ∙ ap (λ store. saved_text store report.positions) c.is_some.ensures in
+    sink_broke _ _ _ _ (is_some c.args.saver.now) _ _ _ _ _ _ _ c.in-Err-write.status c.in-Err-write.ensures.fault
+    c.in_default.ensures.faults c.in_default-save_cut.ensures.no_fault
+    (record {
+      report = report;
+      reports = record { calls = c.in_ok-report.ensures.calls; sound = c.in_ok-report.ensures.sound };
+      written =
+          begins_line _ _ _ (report_text report) (saved_text (is_some c.args.saver.now) report.positions)
+          (subst (Appends _ _) text c.in_default.ensures.whole)
+          (subst (AppendsBeginning _ _) line c.in-Err-write.ensures.beginning);
+    })
+
+pub returns-in-Ok-clause-whole : goal.returns-in-Ok-clause-whole
+returns-in-Ok-clause-whole g c =
+    let report = c.in_ok-report.report in
+    let text = c.deref.ensures.value ∙ c.in_ok-print.ensures.ok ∙ ap (λ bytes. bytes ++ report_text report) c.new-text.ensures.items in
+    let line = c.deref-2.ensures.value ∙ c.in_ok-line.ensures ∙ ap (λ store. saved_text store report.positions) c.is_some.ensures in
+    writes_one _ _ _ _ (is_some c.args.saver.now) _ _ _ report c.in_ok-report.ensures.calls c.in_ok-report.ensures.sound
+    (Appends-trans _ _ _ (report_text report) (saved_text (is_some c.args.saver.now) report.positions)
+    (subst (Appends _ _) text c.in_default.ensures.whole) (subst (Appends _ _) line c.in-Ok.ensures.whole))
+    (saved_cut_is (is_some c.args.saver.now) _ report _ (SavesInTurn g.D.Disk.reads g.D.Disk.image_now g.D.Disk.moment
+    g.D.Disk.image_since c.args.saver.now c.save_cut.new.saver c.args.disk.now c.save_cut.new.disk)
+    c.in_ok-report.ensures.cut (no_saver_no_save _ _ _ _ c.args.saver.now _ _ _ _) c.in_default-save_cut.ensures.saved)
+
+pub returns-in-Ok-clause-fits : goal.returns-in-Ok-clause-fits
+returns-in-Ok-clause-fits g c =
+    fits_after _ _ c.args.board.now.opening c.args.phi _ _ c.in_ok-report.report c.args.saver.now _ _
+    c.in_ok-report.ensures.cut c.requires.pass.seat.trails c.in_ok-report.ensures.calls c.requires.can_save
+    c.in_default-save_cut.ensures.saved.saver

@@ -1,9 +1,13 @@
-use Rattle.std.proofs.Common.{◌∙◌, ◌≤◌, length, refl, sym, subst, arith}
+use Rattle.std.proofs.Common.{◌≡◌, ◌∙◌, ◌≤◌, length, refl, sym, ap₂, subst, arith}
+use Rattle.std.specs.Prelude.{is_some}
 use Rattle.hhh_output.specs.{IsWideShare, million}
 use Rattle.shard_state.specs.{HasShape, capacity_of}
 use Rattle.pass_tokens.specs.{view}
 use Rattle.hhh_engine.specs.Rounds.{WritesRounds}
-use Rattle.hhh_engine.proofs.RoundLemmas.{all_made, one_broke_off, writes_none, writes_more}
+use Rattle.hhh_engine.specs.Saves.{SavesInTurn}
+use Rattle.hhh_engine.proofs.RoundLemmas.{all_made, one_broke_off, same_store, writes_none, writes_more}
+use Rattle.hhh_engine.proofs.SavesLemmas.{no_save, nothing_done, saves_follow}
+use Rattle.hhh_engine.proofs.SeenLemmas.{allowed, can_go_on, calls_many, fits_first, early_first, stands_first}
 use Rattle.hhh_engine.proofs.commands.live_rounds.LiveRoundsRounds.go.Goals as goal
 
 pub loop-round-init : goal.loop-round-init
@@ -11,11 +15,19 @@ loop-round-init g c = record {
   pass = c.requires.pass;
   shape = c.requires.ready.0;
   same_sink = refl;
+  same_disk = refl;
+  same_saver = refl;
   same_cut = refl;
   same_share = refl;
   unstopped = c.requires.ready.4;
-  faults = refl;
-  written = writes_none _ _ _ _ (c.calls_follow_calls.ensures.none _ _ _);
+  sink_faults = refl;
+  disk_faults = refl;
+  fits = fits_first _ _ c.args.board.now.opening _ _ c.args.self.now.saver.now c.requires.ready.5;
+  written =
+      writes_none _ _ _ _ _ _ (c.calls_follow_calls.ensures.none _ _ _)
+      (no_save g.D.Disk.reads g.D.Disk.image_now g.D.Disk.moment g.D.Disk.image_since c.args.self.now.saver.now
+      c.args.self.now.disk.now (g.met.D.Disk.only_now c.args.self.now.disk.now)
+      (stands_first _ _ c.args.board.now.opening _ _ c.args.self.now.saver.now c.requires.ready.5));
 }
 
 pub make_round-made-requires-clause-some : goal.make_round-made-requires-clause-some
@@ -31,41 +43,82 @@ make_round-made-requires-clause-wide g c =
     subst (λ phi. IsWideShare phi (capacity_of c.args.board.now.opening)) (sym c.loop-round.invariant.same_share)
     c.requires.ready.3
 
+pub make_round-made-requires-clause-can_save : goal.make_round-made-requires-clause-can_save
+make_round-made-requires-clause-can_save g c =
+    let far = c.loop-round.invariant in
+    can_go_on g.D.Disk.reads g.D.Disk.image_now g.D.Disk.moment g.D.Disk.image_since c.args.board.now.opening
+    (view c.loop-round.pass) c.args.self.now.saver.now c.loop-round.self.saver.now far.written.reports
+    c.args.self.now.disk.now c.loop-round.self.disk.now c.loop-round.round 1 c.args.self.now.rounds
+    (calls_many _ _ _ _ _ _ far.written.calls) (omega (arith, c.loop-round-test.true)) far.fits far.written.kept
+    (early_first _ _ c.args.board.now.opening _ _ c.args.self.now.saver.now c.requires.ready.5)
+
 pub returns-in-Err-clause-does : goal.returns-in-Err-clause-does
 returns-in-Err-clause-does g c =
     let far = c.loop-round.invariant in
     let opening = c.requires.pass.seat.opening in (
       far.same_sink,
+      far.same_disk,
+      far.same_saver,
       far.same_cut,
       subst (λ shards. HasShape (length shards) (capacity_of shards) c.make_round-made.new.cut) (sym opening)
           c.in-Err.ensures.shape,
-      one_broke_off _ _ _ _ _ _ _ _ _ _ _ _ _ _ _ c.in-Err.status opening far.same_share far.faults
-          c.loop-round-test.true far.written c.in-Err.ensures.broken,
+      one_broke_off _ _ _ _ _ _ _ _ _ _ _ _ _ _ _ _ _ _ c.in-Err.status opening far.same_share
+          (same_store c.args.self.now.saver.now c.loop-round.self.saver.now _ far.written.kept.saver)
+          (ap₂ (λ s d. record { sink = s; disk = d }) far.sink_faults far.disk_faults) c.loop-round-test.true far.written
+          c.in-Err.ensures.broken,
+      λ none.
+          let done = nothing_done _ _ _ _ _ _ _ _ _ far.written.kept none in
+          let round = c.in-Err.ensures.unused done.0 in (round.0, round.1 ∙ done.1),
     )
 
 pub loop-round-preserved : goal.loop-round-preserved
 loop-round-preserved g c =
     let far = c.loop-round.invariant in
-    let opening = c.args.board.now.opening in record {
+    let opening = c.args.board.now.opening in
+    let made = c.in_default.ensures.whole in record {
       pass = c.make_round-made.ensures.pass;
       shape = c.make_round-made.ensures.shape;
       same_sink = far.same_sink;
+      same_disk = far.same_disk;
+      same_saver = far.same_saver;
       same_cut = far.same_cut;
       same_share = far.same_share;
       unstopped = far.unstopped;
-      faults = c.in_default.ensures.faults ∙ far.faults;
+      sink_faults = c.in_default.ensures.faults.0 ∙ far.sink_faults;
+      disk_faults = c.in_default.ensures.faults.1 ∙ far.disk_faults;
+      fits = c.in_default.ensures.fits;
       written =
           writes_more opening c.args.self.now.phi c.loop-round.round 1 (view c.args.pass.now) (view c.loop-round.pass)
-          (view c.make_round-made.new.pass)
+          (view c.make_round-made.new.pass) (is_some c.args.self.now.saver.now)
+          (SavesInTurn g.D.Disk.reads g.D.Disk.image_now g.D.Disk.moment g.D.Disk.image_since c.args.self.now.saver.now
+          c.loop-round.self.saver.now c.args.self.now.disk.now c.loop-round.self.disk.now)
+          (SavesInTurn g.D.Disk.reads g.D.Disk.image_now g.D.Disk.moment g.D.Disk.image_since
+          c.loop-round.self.saver.now c.make_round-made.new.saver c.loop-round.self.disk.now c.make_round-made.new.disk)
+          (SavesInTurn g.D.Disk.reads g.D.Disk.image_now g.D.Disk.moment g.D.Disk.image_since c.args.self.now.saver.now
+          c.make_round-made.new.saver c.args.self.now.disk.now c.make_round-made.new.disk)
           (g.K.Sink.taken c.args.self.now.sink.now) (g.K.Sink.taken c.loop-round.self.sink.now)
           (g.K.Sink.taken c.make_round-made.new.sink)
           (λ phi rounds more middle now reports later.
           c.calls_follow_calls.ensures.more opening phi rounds more (view c.args.pass.now) middle now reports later
           c.requires.pass.seat.trails)
+          (λ cuts later first second.
+          saves_follow c.stores_open_to_one.ensures g.D.Disk.reads g.D.Disk.image_now g.D.Disk.moment
+          g.D.Disk.image_since c.args.self.now.saver.now c.loop-round.self.saver.now c.make_round-made.new.saver cuts later
+          c.args.self.now.disk.now c.loop-round.self.disk.now c.make_round-made.new.disk
+          (allowed _ _ opening _ _ c.args.self.now.saver.now c.requires.ready.5) g.met.D.Disk.reading_is_image first
+          second)
           far.written
+          (subst (λ store. WritesRounds opening c.args.self.now.phi 1 (view c.loop-round.pass)
+          (view c.make_round-made.new.pass) store
+          (SavesInTurn g.D.Disk.reads g.D.Disk.image_now g.D.Disk.moment g.D.Disk.image_since
+          c.loop-round.self.saver.now c.make_round-made.new.saver c.loop-round.self.disk.now c.make_round-made.new.disk)
+          (g.K.Sink.taken c.loop-round.self.sink.now) (g.K.Sink.taken c.make_round-made.new.sink))
+          (same_store c.args.self.now.saver.now c.loop-round.self.saver.now _ far.written.kept.saver)
           (subst (λ phi. WritesRounds opening phi 1 (view c.loop-round.pass) (view c.make_round-made.new.pass)
-          (g.K.Sink.taken c.loop-round.self.sink.now) (g.K.Sink.taken c.make_round-made.new.sink)) far.same_share
-          c.in_default.ensures.whole);
+          (is_some c.loop-round.self.saver.now)
+          (SavesInTurn g.D.Disk.reads g.D.Disk.image_now g.D.Disk.moment g.D.Disk.image_since
+          c.loop-round.self.saver.now c.make_round-made.new.saver c.loop-round.self.disk.now c.make_round-made.new.disk)
+          (g.K.Sink.taken c.loop-round.self.sink.now) (g.K.Sink.taken c.make_round-made.new.sink)) far.same_share made));
     }
 
 pub returns-clause-does : goal.returns-clause-does
@@ -73,8 +126,12 @@ returns-clause-does g c =
     let far = c.loop-round.invariant in
     let opening = c.requires.pass.seat.opening in (
       far.same_sink,
+      far.same_disk,
+      far.same_saver,
       far.same_cut,
       subst (λ shards. HasShape (length shards) (capacity_of shards) c.loop-round.self.cut.now) (sym opening) far.shape,
-      all_made _ _ _ _ _ _ _ _ _ _ _ c.loop-round.self.stop opening far.unstopped
-          (omega (arith, c.loop-round.auto.round-end, c.loop-round-test.false)) far.faults far.written,
+      all_made _ _ _ _ _ _ _ _ _ _ _ _ _ c.loop-round.self.stop opening far.unstopped
+          (omega (arith, c.loop-round.auto.round-end, c.loop-round-test.false))
+          (ap₂ (λ s d. record { sink = s; disk = d }) far.sink_faults far.disk_faults) far.written,
+      nothing_done _ _ _ _ _ _ _ _ _ far.written.kept,
     )

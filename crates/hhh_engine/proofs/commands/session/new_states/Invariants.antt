@@ -2,7 +2,7 @@ use Rattle.std.proofs.Common.{◌≡◌, ◌≤◌, ◌^◌, ◌++◌, length}
 use Rattle.std.specs.List.{All}
 use Rattle.std.specs.Vec.Iter.{into_iter_items}
 use Rattle.hhh_engine.specs.Session.{opening_of}
-use Rattle.hhh_engine.proofs.commands.session.states_of.Given as goal
+use Rattle.hhh_engine.proofs.commands.session.new_states.Given as goal
 
 -- the states of the lists so far
 abbrev pub invariant-loop-list : goal.invariant-loop-list

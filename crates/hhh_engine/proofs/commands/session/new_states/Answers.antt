@@ -5,7 +5,7 @@ use Rattle.std.proofs.lemmas.List.{nil_from_length}
 use Rattle.std.proofs.lemmas.List.Elements.{All-drop}
 use Rattle.hhh_engine.specs.Session.{opening_of}
 use Rattle.hhh_engine.proofs.OpeningLemmas.{each_few, opening-push}
-use Rattle.hhh_engine.proofs.commands.session.states_of.Goals as goal
+use Rattle.hhh_engine.proofs.commands.session.new_states.Goals as goal
 
 pub loop-list-init : goal.loop-list-init
 loop-list-init c =

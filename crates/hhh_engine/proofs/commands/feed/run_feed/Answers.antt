@@ -1,14 +1,16 @@
 use Rattle.std.proofs.Common.{◌≡◌, ◌∙◌, ap}
+use Rattle.std.specs.Prelude.{is_some}
 use Rattle.gate_workers.specs.declared.plan.ThreadPlan.{ThreadPlan}
 use Rattle.pass_tokens.specs.{view}
 use Rattle.hhh_engine.proofs.SessionLemmas.{ended_as_set, ended_whole, feed_in_part, gathered_whole, on_err, once_or_not}
-use Rattle.hhh_engine.proofs.commands.session.run_feed.Goals as goal
+use Rattle.hhh_engine.proofs.commands.feed.run_feed.Goals as goal
 
 pub returns-in-Some-clause-part : goal.returns-in-Some-clause-part
 returns-in-Some-clause-part g c =
-    feed_in_part _ _ c.args.board.now.opening c.args.settings.now _ (view c.args.pass) _ _ _ _ _ c.requires.view
-    c.requires.alike c.requires.bases
-    (λ before now does. ended_as_set _ _ _ _ _ before now _ _ _ _ _ c.requires.share c.requires.count does.3)
+    feed_in_part _ _ c.args.board.now.opening c.args.settings.now _ (view c.args.pass) _ _ _ _ _ _ c.requires.view
+    c.requires.alike
+    (λ before now does. ended_as_set _ _ _ _ _ before now _ _ _ _ _ _ _ _ c.requires.share c.requires.count
+    c.requires.used does.5)
     (c.calls_follow_calls.ensures.more c.args.board.now.opening)
     (λ same. ap (λ work. g.K.Sink.taken work.sink.now) same)
     (once_or_not _ _ c.args.board.now.opening _ (view c.args.pass) c.run_threads-gathered.result
@@ -17,9 +19,10 @@ returns-in-Some-clause-part g c =
 pub returns-in_err-gathered-clause-part : goal.returns-in_err-gathered-clause-part
 returns-in_err-gathered-clause-part g c =
     on_err c.from_residual.result _
-    (feed_in_part _ _ c.args.board.now.opening c.args.settings.now _ (view c.args.pass) _ _ _ _ _ c.requires.view
-    c.requires.alike c.requires.bases
-    (λ before now does. ended_as_set _ _ _ _ _ before now _ _ _ _ _ c.requires.share c.requires.count does.3)
+    (feed_in_part _ _ c.args.board.now.opening c.args.settings.now _ (view c.args.pass) _ _ _ _ _ _ c.requires.view
+    c.requires.alike
+    (λ before now does. ended_as_set _ _ _ _ _ before now _ _ _ _ _ _ _ _ c.requires.share c.requires.count
+    c.requires.used does.5)
     (c.calls_follow_calls.ensures.more c.args.board.now.opening)
     (λ same. ap (λ work. g.K.Sink.taken work.sink.now) same)
     c.in_err-gathered.ensures.memory)
@@ -28,11 +31,11 @@ pub returns-clause-fed : goal.returns-clause-fed
 returns-clause-fed g c =
     let plan = c.plan_of.ensures in
     let whole = gathered_whole _ c.args.board.now.opening c.args.settings.now _ (view c.args.pass)
-    c.in_ok-gathered.gathered _ _ c.requires.view c.requires.alike c.requires.bases
+    c.in_ok-gathered.gathered _ _ _ c.requires.view c.requires.alike
     (ap (λ (plan : ThreadPlan). plan.phi) plan) (ap (λ (plan : ThreadPlan). plan.rounds) plan)
     (ap (λ (plan : ThreadPlan). plan.callers) plan)
-    (λ before now does. ended_whole _ _ _ before now _ _ _ _ _ c.in_default.is
-    (ended_as_set _ _ _ _ _ before now _ _ _ _ _ c.requires.share c.requires.count does.3))
+    (λ before now does. ended_whole _ _ _ before now _ _ _ _ _ _ _ c.in_default.is
+    (ended_as_set _ _ _ _ _ before now _ _ _ _ _ _ _ _ c.requires.share c.requires.count c.requires.used does.5))
     c.in_ok-gathered.ensures.gathers c.in_ok-gathered.ensures.sound in
     record {
       pass = c.in_ok-gathered.ensures.pass;
@@ -42,4 +45,5 @@ returns-clause-fed g c =
       written = whole.2;
       as_many = whole.3;
       callers = whole.4;
+      kept = whole.5;
     }

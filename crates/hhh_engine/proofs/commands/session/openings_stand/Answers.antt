@@ -1,6 +1,6 @@
 use Rattle.hhh_engine.proofs.OpeningLemmas.{capacity_of_opening, empty_bases_represent, opening_is_shards}
 use Rattle.hhh_engine.proofs.OpeningLemmas.{starts_before_ends}
-use Rattle.hhh_engine.proofs.commands.session.openings_are_empty.Goals as goal
+use Rattle.hhh_engine.proofs.commands.session.openings_stand.Goals as goal
 
 pub returns-clause-shards : goal.returns-clause-shards
 returns-clause-shards c =
