@@ -1,11 +1,14 @@
 pub mod WeightTextLemmas
 pub mod StatusLemmas
+pub mod FaultLemmas
 pub mod SavesLemmas
 pub mod RoundLemmas
 pub mod SeenLemmas
 pub mod OpeningLemmas
 pub mod SessionLemmas
 pub mod SessionTextLemmas
+pub mod LastSaveLemmas
+pub mod BaseLemmas
 pub mod CaptureLemmas
 pub mod WiderRulesLemmas
 pub mod LastReportLemmas

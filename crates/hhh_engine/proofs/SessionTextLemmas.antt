@@ -22,6 +22,7 @@ use Rattle.hhh_engine.specs.Answer.{Writes}
 use Rattle.hhh_engine.specs.Feed.{IsFed, IsRest, StartsBeforeEnds, WritesRoundsInPart, reports_of}
 use Rattle.hhh_engine.specs.Session.{AreReportsOf, BeginsSession, IsShown, SpellsSession, calling_reports, callers_text}
 use Rattle.hhh_engine.specs.Session.{ends_of, parts_text, saved_cuts, saved_text, start_of}
+use Rattle.gate_workers.specs.declared.gathered.Called.{Called}
 use Rattle.hhh_engine.specs.declared.commands.feed.Fed.{Fed}
 use Rattle.hhh_engine.specs.declared.commands.session.Rest.{Rest}
 
@@ -219,6 +220,23 @@ session_in_part opening settings tail line rounds rest old first second new spel
           Appends-trans old first new line (rounds ++ three.front) one
           (Appends-trans first second new rounds three.front two three.appended);
     }
+
+-- a text without what follows it
+pub without_more : (old new : Option (List ℕ)) (front back : List ℕ) → 0 < length back → Appends old new front
+    → AppendsBeginning old new (front ++ back)
+without_more old new front back more written = record {
+  front = front;
+  is_beginning = (back, refl);
+  cut = omega (arith, more, length-append front back);
+  appended = written;
+}
+
+-- what a session ends with isn't empty
+pub more_behind : (board : WordsValue) (settings : Settings) (called : List Called) (tail : List ℕ) (rest : Rest)
+    → 0 < length tail → IsRest board settings called tail rest → 0 < length rest.back.items
+more_behind board settings called tail rest more end =
+    let saved : List ℕ = saved_text settings.store end.last.report.positions in
+    subst (λ (text : List ℕ). 0 < length text) (sym end.back_is) (omega (arith, more, length-append saved tail))
 
 -- no byte was written
 pub nothing_in_part : (opening : List ShardValue) (settings : Settings) (tail : List ℕ) (old new : Option (List ℕ))

@@ -130,8 +130,11 @@ pub(crate) fn openings_stand(dealt: &Dealt, base: &Option<Cut>, capacity: u32)
 {
     shards_stand();
     let _shards = dealt.shards();
-    if let Some(cut) = base {
-        let _kept = cut.shards();
+    match base {
+        None => {}
+        Some(cut) => {
+            let _kept = cut.shards();
+        }
     }
 }
 
@@ -223,12 +226,20 @@ fn write_feed<R: Threads + Wait + Sync, K: Sink, D: Disk, G: Gate + Sync>(
     let Opened { board, pass, cut } = opened;
     let mut saver = saver;
     stores_open_to_one();
-    write(sink, line)?;
-    let fed = feed(
+    if let Err(status) = write(sink, line) {
+        return Err(status);
+    }
+    let fed = match feed(
         rt, alloc, &board, pass, cut, settings, sink, disk, &mut saver, gate,
-    )?;
+    ) {
+        Ok(fed) => fed,
+        Err(status) => return Err(status),
+    };
     let rest = rest_of_session(rt, alloc, &board, fed, tail, settings)?;
-    write_rest(alloc, &rest, &mut saver, sink, disk)
+    match write_rest(alloc, &rest, &mut saver, sink, disk) {
+        Ok(()) => Ok(()),
+        Err(status) => Err(status),
+    }
 }
 
 // Writes the rest of a session, and saves its cut, if there is a saver, once the last report was written.
@@ -249,9 +260,16 @@ fn write_rest<K: Sink, D: Disk>(
         (record { sink = K.faults sink.new; disk = D.faults disk.new })) }
     ensures unused { saver.old ≡ None → disk.new ≡ disk.old }
 {
-    write(sink, &rest.front)?;
-    save_cut(alloc, saver, disk, &rest.cut)?;
-    write(sink, &rest.back)
+    if let Err(status) = write(sink, &rest.front) {
+        return Err(status);
+    }
+    if let Err(status) = save_cut(alloc, saver, disk, &rest.cut) {
+        return Err(status);
+    }
+    match write(sink, &rest.back) {
+        Ok(()) => Ok(()),
+        Err(status) => Err(status),
+    }
 }
 
 // What follows the calling thread's rounds in a session: the reports of the other callers, a last report over all

@@ -1,15 +1,15 @@
 use Rattle.std.proofs.Common.{◌∙◌, ◌≡◌, sym, ap, subst, length}
-use Rattle.std.proofs.lemmas.List.{length-map, length-replicate}
+use Rattle.std.proofs.lemmas.List.{length-replicate}
 use Rattle.pass_tokens.specs.{first_view}
 use Rattle.shard_state.specs.{AreShards, CutValue, empty_snapshot}
 use Rattle.hhh_engine.proofs.commands.session.open.Goals as goal
 
 pub start-requires : goal.start-requires
-start-requires c = subst AreShards (sym c.in_ok-states.ensures.states) c.openings_are_empty.ensures.shards
+start-requires c = subst AreShards (sym c.in_ok-states.ensures) c.openings_stand.ensures.shards
 
 pub returns : goal.returns
 returns c =
-    let states = c.in_ok-states.ensures.states in
+    let states = c.in_ok-states.ensures in
     record {
       opening = c.in_ok-board.ensures.opening ∙ states;
       pass = c.in_ok-board.ensures.pass;
@@ -18,8 +18,8 @@ returns c =
         as_many =
             ap (λ (cut : CutValue). length cut.shards) c.in_ok-cut.ensures
             ∙ length-replicate c.shards-shards.result (empty_snapshot c.args.capacity)
-            ∙ c.shards-shards.ensures.value ∙ sym (length-map c.args.dealt _);
+            ∙ c.shards-shards.ensures.value ∙ sym c.openings_stand.ensures.many;
         alike =
-            ap (λ (cut : CutValue). cut.capacity) c.in_ok-cut.ensures ∙ sym c.openings_are_empty.ensures.alike;
+            ap (λ (cut : CutValue). cut.capacity) c.in_ok-cut.ensures ∙ sym c.openings_stand.ensures.alike;
       };
     }

@@ -1,18 +1,28 @@
-use Rattle.hhh_engine.proofs.OpeningLemmas.{capacity_of_opening, empty_bases_represent, opening_is_shards}
-use Rattle.hhh_engine.proofs.OpeningLemmas.{starts_before_ends}
+use Rattle.std.proofs.Common.{sym}
+use Rattle.hhh_engine.proofs.OpeningLemmas.{capacity_of_opening, kept_none, kept_some, opening_is_shards, opening_many}
+use Rattle.hhh_engine.proofs.OpeningLemmas.{opening_represents, opening_starts_before_ends}
 use Rattle.hhh_engine.proofs.commands.session.openings_stand.Goals as goal
 
-pub returns-clause-shards : goal.returns-clause-shards
-returns-clause-shards c =
-    opening_is_shards c.args.capacity c.args.dealt.now c.shards-shards.ensures.bounded
+pub returns-in-None : goal.returns-in-None
+returns-in-None c =
+    let shards = c.shards-shards.ensures.bounded in
+    let kept = kept_none c.args.base.now (sym c.in-None.is) in
+    record {
+      shards = opening_is_shards c.args.capacity c.args.dealt.now c.args.base.now shards c.requires kept;
+      many = opening_many c.args.capacity c.args.dealt.now c.args.base.now c.requires;
+      alike = capacity_of_opening c.args.capacity c.args.dealt.now c.args.base.now shards c.requires kept;
+      starts = opening_starts_before_ends c.args.capacity c.args.dealt.now c.args.base.now c.requires;
+      represents = opening_represents c.args.capacity c.args.dealt.now c.args.base.now c.shards_stand.ensures.begins;
+    }
 
-pub returns-clause-alike : goal.returns-clause-alike
-returns-clause-alike c =
-    capacity_of_opening c.args.capacity c.args.dealt.now c.shards-shards.ensures.bounded.some
-
-pub returns-clause-bases : goal.returns-clause-bases
-returns-clause-bases c =
-    empty_bases_represent c.args.capacity c.args.dealt.now c.shards_stand.ensures.begins
-
-pub returns-clause-starts : goal.returns-clause-starts
-returns-clause-starts c = starts_before_ends c.args.capacity c.args.dealt.now
+pub returns-in-Some : goal.returns-in-Some
+returns-in-Some c =
+    let shards = c.shards-shards.ensures.bounded in
+    let kept = kept_some c.args.base.now c.in-Some.cut (sym c.in-Some.is) c.shards-kept.ensures.kept in
+    record {
+      shards = opening_is_shards c.args.capacity c.args.dealt.now c.args.base.now shards c.requires kept;
+      many = opening_many c.args.capacity c.args.dealt.now c.args.base.now c.requires;
+      alike = capacity_of_opening c.args.capacity c.args.dealt.now c.args.base.now shards c.requires kept;
+      starts = opening_starts_before_ends c.args.capacity c.args.dealt.now c.args.base.now c.requires;
+      represents = opening_represents c.args.capacity c.args.dealt.now c.args.base.now c.shards_stand.ensures.begins;
+    }

@@ -1,4 +1,4 @@
-use Rattle.std.proofs.Common.{◌≡◌, ◌∙◌, ◌≤◌, ◌++◌, length, take, sym, ap, subst, arith, append-nil, append_assoc}
+use Rattle.std.proofs.Common.{false, ◌≡◌, ◌∙◌, ◌≤◌, ◌++◌, length, take, sym, ap, subst, arith, append-nil, append_assoc}
 use Rattle.std.specs.List.{All}
 use Rattle.std.proofs.lemmas.List.{take_all}
 use Rattle.hhh_output.specs.declared.reports.Reported.{Reported}
@@ -31,16 +31,14 @@ loop-reported-preserved c =
     let index = c.loop-reported.reported-index in
     let all = c.as_slice-all.result.now in
     c.in_ok-print.ensures.ok ∙ ap (λ bytes. bytes ++ report_text c.reported-item.result.report) c.loop-reported.invariant
-    ∙ append_assoc c.args.text.now.items (parts_text (take index all)) (report_text c.reported-item.result.report)
+    ∙ append_assoc c.args.text.now.items (parts_text false (take index all)) (report_text c.reported-item.result.report)
     ∙ ap (λ rest. c.args.text.now.items ++ rest)
-    (ap (λ (reported : Reported). parts_text (take index all) ++ report_text reported.report) c.reported-item.is
-    ∙ sym (parts-more c.args.board.now.opening c.args.settings.now all index c.reported-item.result
-    (subst (All (IsShown c.args.board.now.opening c.args.settings.now)) (sym c.as_slice-all.ensures) c.requires.shown)
-    c.loop-reported-test.true))
+    (ap (λ (reported : Reported). parts_text false (take index all) ++ report_text reported.report) c.reported-item.is
+    ∙ sym (parts-more all index c.reported-item.result c.loop-reported-test.true))
 
 pub returns : goal.returns
 returns c =
     c.loop-reported.invariant
-    ∙ ap (λ reports. c.args.text.now.items ++ parts_text reports)
+    ∙ ap (λ reports. c.args.text.now.items ++ parts_text false reports)
     (take_all c.loop-reported.reported-index c.as_slice-all.result.now
     (omega (arith, c.loop-reported.auto.reported-index-end, c.loop-reported-test.false)) ∙ c.as_slice-all.ensures)

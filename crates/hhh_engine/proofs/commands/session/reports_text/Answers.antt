@@ -1,9 +1,8 @@
-use Rattle.std.proofs.Common.{◌≡◌, ◌∙◌, ◌<◌, ◌++◌, length, take, sym, ap, subst, arith}
-use Rattle.std.specs.List.{flat_map}
+use Rattle.std.proofs.Common.{false, ◌≡◌, ◌∙◌, ◌<◌, ◌++◌, length, take, sym, ap, subst, arith}
 use Rattle.std.proofs.lemmas.List.{length-map, take_all}
 use Rattle.gate_workers.specs.declared.gathered.Called.{Called}
 use Rattle.hhh_engine.specs.Feed.{reports_of}
-use Rattle.hhh_engine.specs.Session.{AreReportsOf, parts_text}
+use Rattle.hhh_engine.specs.Session.{AreReportsOf, callers_text, parts_text}
 use Rattle.hhh_engine.proofs.SessionLemmas.{caller_at, callers-more}
 use Rattle.hhh_engine.proofs.commands.session.reports_text.Goals as goal
 
@@ -25,8 +24,8 @@ loop-caller-preserved c =
     let index = c.loop-caller.caller-index in
     let called = c.args.called.now in
     let d = c.caller-item.result in
-    c.in_ok-put_reports.ensures ∙ ap (λ bytes. bytes ++ parts_text d.reports) c.loop-caller.invariant
-    ∙ ap (λ (caller : Called). flat_map parts_text (take index (reports_of called)) ++ parts_text caller.reports)
+    c.in_ok-put_reports.ensures ∙ ap (λ bytes. bytes ++ parts_text false d.reports) c.loop-caller.invariant
+    ∙ ap (λ (caller : Called). callers_text (take index (reports_of called)) ++ parts_text false caller.reports)
     c.caller-item.is
     ∙ sym (callers-more called index d c.loop-caller-test.true)
 
@@ -34,7 +33,7 @@ pub returns : goal.returns
 returns c =
     let called = c.args.called.now in
     c.loop-caller.invariant
-    ∙ ap (flat_map parts_text)
+    ∙ ap (callers_text)
     (take_all c.loop-caller.caller-index (reports_of called)
     (omega (
       arith,

@@ -1,48 +1,92 @@
-use Rattle.std.proofs.Common.{subst}
-use Rattle.std.specs.Io.KnownBytes.{Appends}
-use Rattle.outside_io.specs.{AppendsBeginning}
-use Rattle.hhh_engine.proofs.SessionLemmas.{on_err, on_err_of, on_ok_of}
+use Rattle.std.proofs.Common.{◌++◌, [], ◌∷◌, refl, ap}
+use Rattle.std.specs.Prelude.{⊤}
+use Rattle.hhh_engine.specs.Saves.{Saves}
+use Rattle.hhh_engine.specs.Session.{parts_text, saved_cuts}
+use Rattle.hhh_engine.proofs.FaultLemmas.{fault_after, fault_of_sink}
+use Rattle.hhh_engine.proofs.LastSaveLemmas.{can_save_fewer, can_save_last, session_kept}
+use Rattle.hhh_engine.proofs.SavesLemmas.{saves_follow}
+use Rattle.hhh_engine.proofs.SeenLemmas.{allowed}
+use Rattle.hhh_engine.proofs.SessionLemmas.{on_err}
 use Rattle.hhh_engine.proofs.SessionTextLemmas.{fed_in_part, line_in_part, rounds_in_part, session_in_part}
-use Rattle.hhh_engine.proofs.SessionTextLemmas.{session_whole, spells_session}
+use Rattle.hhh_engine.proofs.SessionTextLemmas.{more_behind, session_whole, spells_session}
 use Rattle.hhh_engine.proofs.commands.session.write_feed.Goals as goal
 
-pub returns-in_err-write-clause-part : goal.returns-in_err-write-clause-part
-returns-in_err-write-clause-part g c =
-    on_err c.from_residual.result _
-    (line_in_part c.args.opened.board.opening c.args.settings.now c.args.tail.now c.args.line.now _ _ c.requires.line
-    c.in_err-write.ensures.beginning)
+pub feed-requires-clause-can_save : goal.feed-requires-clause-can_save
+feed-requires-clause-can_save g c = λ lifetimes outlive.
+    can_save_fewer _ _ c.args.opened.board.opening _ _ c.args.settings.now.rounds c.args.saver c.requires.opened.view
+    c.requires.can_save
 
-pub returns-in_err-fed-clause-part : goal.returns-in_err-fed-clause-part
-returns-in_err-fed-clause-part g c =
-    on_err c.from_residual-in_err-fed.result _
-    (rounds_in_part c.args.opened.board.opening c.args.settings.now c.args.tail.now c.args.line.now _ _ _
-    c.requires.line c.in_ok-write.ensures.whole c.in_err-fed.ensures.part)
+pub returns-in-Err-clause-part : goal.returns-in-Err-clause-part
+returns-in-Err-clause-part g c =
+    line_in_part c.args.opened.board.opening c.args.settings.now c.args.tail.now c.args.line.now _ _ c.requires.line
+    c.in-Err.ensures.beginning
+
+pub returns-in-Err-clause-fault : goal.returns-in-Err-clause-fault
+returns-in-Err-clause-fault g c = fault_of_sink _ _ _ _ _ c.in-Err.status c.in-Err.ensures.fault refl refl
+
+pub returns-in-Err-feed-clause-part : goal.returns-in-Err-feed-clause-part
+returns-in-Err-feed-clause-part g c =
+    rounds_in_part c.args.opened.board.opening c.args.settings.now c.args.tail.now c.args.line.now _ _ _
+    c.requires.line c.in_default.ensures.whole c.in-Err-feed.ensures.part
+
+pub returns-in-Err-feed-clause-fault : goal.returns-in-Err-feed-clause-fault
+returns-in-Err-feed-clause-fault g c =
+    fault_after _ _ _ c.in-Err-feed.status
+    (ap (λ n. record { sink = n; disk = g.D.Disk.faults c.args.disk.now }) c.in_default.ensures.faults)
+    c.in-Err-feed.ensures.fault
 
 pub returns-in_err-rest-clause-part : goal.returns-in_err-rest-clause-part
 returns-in_err-rest-clause-part g c =
-    on_err c.from_residual-in_err-rest.result _
+    on_err c.from_residual.result _
     (rounds_in_part c.args.opened.board.opening c.args.settings.now c.args.tail.now c.args.line.now _ _ _
-    c.requires.line c.in_ok-write.ensures.whole
-    (fed_in_part c.args.opened.board c.args.settings.now _ _ c.in_ok-fed.fed c.in_ok-fed.ensures.fed))
+    c.requires.line c.in_default.ensures.whole
+    (fed_in_part c.args.opened.board c.args.settings.now _ _ _ c.in-Ok.fed c.in-Ok.ensures.fed))
 
-pub returns-clause-whole : goal.returns-clause-whole
-returns-clause-whole g c =
-    let rest = c.in_ok-rest.ensures in
-    let spelled = spells_session c.args.opened.board c.args.settings.now c.args.tail.now c.args.line.now _ _ _
-    c.in_ok-fed.fed rest.0 c.requires.starts c.requires.line c.in_ok-fed.ensures.fed rest.1 rest.2 rest.3 in
-    on_ok_of c.write-2.result _ _
-    (λ written. session_whole c.args.opened.board.opening c.args.settings.now c.args.tail.now c.args.line.now _ _ _ _ _ _
-    spelled c.in_ok-write.ensures.whole c.in_ok-fed.ensures.fed.gathered.written
-    (subst (Appends _ _) c.deref.ensures.value written))
-    c.write-2.ensures.whole
+pub write_rest-requires-clause-can_save : goal.write_rest-requires-clause-can_save
+write_rest-requires-clause-can_save g c =
+    can_save_last g.D.Disk.reads g.D.Disk.image_now g.D.Disk.moment g.D.Disk.image_since c.args.opened.board
+    c.args.settings.now c.in-Ok.fed.gathered.called.items c.args.tail.now c.in_ok-rest.rest
+    c.in-Ok.ensures.fed.gathered.rounds c.args.saver c.feed.new.saver c.args.disk.now c.feed.new.disk c.requires.can_save
+    c.requires.used c.requires.starts c.in-Ok.ensures.fed.gathered.are_rounds c.in-Ok.ensures.fed.gathered.kept
+    c.in_ok-rest.ensures.rest c.in_ok-rest.ensures.shape
+
+pub write_rest-requires-clause-more : goal.write_rest-requires-clause-more
+write_rest-requires-clause-more g c =
+    more_behind c.args.opened.board c.args.settings.now c.in-Ok.fed.gathered.called.items c.args.tail.now
+    c.in_ok-rest.rest c.requires.tail c.in_ok-rest.ensures.rest
+
+pub returns-in-Ok-write_rest-clause-whole : goal.returns-in-Ok-write_rest-clause-whole
+returns-in-Ok-write_rest-clause-whole g c =
+    let board = c.args.opened.board in
+    let settings = c.args.settings.now in
+    let gathered = c.in-Ok.ensures.fed.gathered in
+    let rest = c.in_ok-rest.rest in
+    let end = c.in_ok-rest.ensures.rest in
+    let kept = session_kept g.D.Disk.reads g.D.Disk.image_now g.D.Disk.moment g.D.Disk.image_since board.opening
+    settings.store gathered.rounds end.last rest.cut c.args.saver c.write_rest.new.saver c.args.disk.now
+    c.write_rest.new.disk c.requires.used end.cut_is
+    (saves_follow c.stores_open_to_one.ensures g.D.Disk.reads g.D.Disk.image_now g.D.Disk.moment g.D.Disk.image_since
+    c.args.saver c.feed.new.saver c.write_rest.new.saver
+    (saved_cuts settings.store board.opening gathered.rounds) (rest.cut ∷ []) c.args.disk.now c.feed.new.disk
+    c.write_rest.new.disk (allowed _ _ board.opening _ _ c.args.saver c.requires.can_save) g.met.D.Disk.reading_is_image
+    gathered.kept c.in-Ok-write_rest.ensures.saved) in
+    session_whole board.opening settings
+    (λ cuts. Saves g.D.Disk.reads g.D.Disk.image_now g.D.Disk.moment g.D.Disk.image_since c.args.saver cuts
+    c.args.disk.now c.write_rest.new.disk) c.args.tail.now c.args.line.now
+    (parts_text settings.store gathered.rounds) (rest.front.items ++ rest.back.items) _ _ _ _
+    (spells_session board settings _ _ c.args.tail.now c.args.line.now _ _ c.in-Ok.fed rest c.requires.starts
+    c.requires.line c.in-Ok.ensures.fed end kept)
+    c.in_default.ensures.whole gathered.written c.in-Ok-write_rest.ensures.whole
 
 pub returns-clause-part : goal.returns-clause-part
 returns-clause-part g c =
-    let rest = c.in_ok-rest.ensures in
-    let spelled = spells_session c.args.opened.board c.args.settings.now c.args.tail.now c.args.line.now _ _ _
-    c.in_ok-fed.fed rest.0 c.requires.starts c.requires.line c.in_ok-fed.ensures.fed rest.1 rest.2 rest.3 in
-    on_err_of c.write-2.result _ _
-    (λ written. session_in_part c.args.opened.board.opening c.args.settings.now c.args.tail.now c.args.line.now _ _ _ _ _
-    _ spelled c.in_ok-write.ensures.whole c.in_ok-fed.ensures.fed.gathered.written
-    (subst (AppendsBeginning _ _) c.deref.ensures.value written))
-    c.write-2.ensures.beginning
+    let board = c.args.opened.board in
+    let settings = c.args.settings.now in
+    let gathered = c.in-Ok.ensures.fed.gathered in
+    let rest = c.in_ok-rest.rest in
+    let end = c.in_ok-rest.ensures.rest in
+    session_in_part board.opening settings c.args.tail.now c.args.line.now
+    (parts_text settings.store gathered.rounds) (rest.front.items ++ rest.back.items) _ _ _ _
+    (spells_session board settings _ (λ cuts. ⊤) c.args.tail.now c.args.line.now _ _ c.in-Ok.fed rest c.requires.starts
+    c.requires.line c.in-Ok.ensures.fed end tt)
+    c.in_default.ensures.whole gathered.written c.in-Err-write_rest.ensures.part
