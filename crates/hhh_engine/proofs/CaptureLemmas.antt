@@ -1,18 +1,27 @@
 -- The session over a capture, by the dealt lists over which it was written.
-use Rattle.std.proofs.Common.{◌≡◌, ◌⊎◌, inl, inr, ℕ, List, [], Option, None, Some, IfSome, refl, sym, ap, subst}
+use Rattle.std.proofs.Common.{◌≡◌, ◌∙◌, ◌⊎◌, inl, inr, ⊎_elim, ℕ, Bool, true, List, [], Option, None, Some, IfSome, refl, sym, ap, subst}
 use Rattle.std.specs.Io.KnownBytes.{Appends}
-use Rattle.std.proofs.KnownBytes.{Appends-nil}
+use Rattle.outside_io.specs.{Rose}
 use Rattle.prefix_lattice.specs.{RecordValue}
+use Rattle.shard_state.specs.{CutValue}
+use Rattle.slot_disk.specs.{IfKnown}
+use Rattle.recovery.specs.{IsRefused}
+use Rattle.recovery.specs.declared.fault.OpenFault.{OpenFault}
+use Rattle.recovery.specs.declared.fault.OpenFault.TheVariants as opening
 use Rattle.command_words.specs.declared.settings.Settings.{Settings}
 use Rattle.report_text.specs.{tail_text}
 use Rattle.hhh_engine.specs.Answer.{Writes}
-use Rattle.hhh_engine.specs.Ending.{Ends}
-use Rattle.hhh_engine.specs.Feed.{IsDealtCapture, IsFault}
-use Rattle.hhh_engine.specs.Session.{BeginsSession, IsSession, IsSessionInPart, Rules, SpellsSession, opening_of}
+use Rattle.hhh_engine.specs.Ending.{Ends, IsRefusedStore, RefusesStore}
+use Rattle.hhh_engine.specs.Feed.{EndsDealt, HasNoBase, IsDealtCapture, IsFault, RefusesLists, WritesDealt}
+use Rattle.hhh_engine.specs.Feed.{WritesDealtInPart}
+use Rattle.hhh_engine.specs.Inputs.{inputs}
+use Rattle.hhh_engine.specs.Rounds.{DiskFailed, Faults, SinkFailed}
+use Rattle.hhh_engine.specs.Saves.{store_settings}
+use Rattle.hhh_engine.specs.Session.{BeginsSession, IsSession, IsSessionInPart, Keeping, Rules, SpellsSession, opening_of}
 use Rattle.hhh_engine.specs.declared.status.Status.{Status}
 use Rattle.hhh_engine.specs.declared.status.Status.TheVariants.{Done, BadWords, BadCapture, ReadFault, WriteFault}
-use Rattle.hhh_engine.specs.declared.status.Status.TheVariants.{OutOfMemory}
-use Rattle.hhh_engine.proofs.SessionTextLemmas.{nothing_in_part}
+use Rattle.hhh_engine.specs.declared.status.Status.TheVariants.{DiskFault, NotFormatted, Damaged, OtherSettings}
+use Rattle.hhh_engine.specs.declared.status.Status.TheVariants.{OtherCapture, OutOfMemory}
 
 -- what follows of each capture that may be known follows of the one that is
 pub if_known : (left : Option (List ℕ)) (P Q : List ℕ → Type 0) → ((file : List ℕ) → P file → Q file) → IfSome left P
@@ -21,94 +30,180 @@ if_known None P Q follows has = tt
 if_known (Some file) P Q follows has = follows file has
 
 -- the whole session over a capture
-pub writes_session : (settings : Settings) (rules : Rules) (left : Option (List ℕ)) (lists : List (List RecordValue))
-    (tail : List ℕ) (old new : Option (List ℕ))
+writes_session : (settings : Settings) (rules : Rules) (keeping : Keeping) (left store : Option (List ℕ))
+    (lists : List (List RecordValue)) (tail : List ℕ) (old new : Option (List ℕ))
     → IfSome left (λ file. IsDealtCapture settings rules file lists tail)
-    → Writes (SpellsSession (opening_of settings.capacity lists) settings tail) old new
-    → Writes (λ text. IfSome left (λ file. IsSession settings rules file text)) old new
-writes_session settings rules left lists tail old new dealt writes = record {
-  text = writes.text;
+    → WritesDealt settings lists tail keeping store old new
+    → Writes (λ text. IfSome left (λ file. IsSession settings rules keeping store file text)) old new
+writes_session settings rules keeping left store lists tail old new dealt writes = record {
+  text = writes.writes.text;
   is_text = if_known left (λ file. IsDealtCapture settings rules file lists tail)
-      (λ file. IsSession settings rules file writes.text)
+      (λ file. IsSession settings rules keeping store file writes.writes.text)
       (λ file capture. record {
         records = capture.records;
         lists = lists;
         dealt = capture.dealt;
+        base = writes.base;
+        begins = writes.begins;
+        represents = writes.represents;
         spelled =
-            subst (λ t. SpellsSession (opening_of settings.capacity lists) settings t writes.text) capture.is_tail
-            writes.is_text;
+            subst (λ t. SpellsSession (opening_of settings.capacity lists writes.base) settings
+            (λ cuts. settings.store ≡ true → keeping (store_settings settings) lists cuts) t writes.writes.text)
+            capture.is_tail writes.writes.is_text;
       }) dealt;
-  written = writes.written;
+  written = writes.writes.written;
 }
 
 -- the session in part
-writes_in_part : (settings : Settings) (rules : Rules) (left : Option (List ℕ)) (lists : List (List RecordValue))
+writes_in_part : (settings : Settings) (rules : Rules) (left store : Option (List ℕ)) (lists : List (List RecordValue))
     (tail : List ℕ) (old new : Option (List ℕ))
     → IfSome left (λ file. IsDealtCapture settings rules file lists tail)
-    → Writes (BeginsSession (opening_of settings.capacity lists) settings tail) old new
-    → Writes (λ front. IfSome left (λ file. IsSessionInPart settings rules file front)) old new
-writes_in_part settings rules left lists tail old new dealt writes = record {
-  text = writes.text;
+    → WritesDealtInPart settings lists tail store old new
+    → Writes (λ front. IfSome left (λ file. IsSessionInPart settings rules store file front)) old new
+writes_in_part settings rules left store lists tail old new dealt writes = record {
+  text = writes.writes.text;
   is_text = if_known left (λ file. IsDealtCapture settings rules file lists tail)
-      (λ file. IsSessionInPart settings rules file writes.text)
+      (λ file. IsSessionInPart settings rules store file writes.writes.text)
       (λ file capture. record {
         records = capture.records;
         lists = lists;
         dealt = capture.dealt;
+        base = writes.base;
+        begins = writes.begins;
+        represents = writes.represents;
         begun =
-            subst (λ t. BeginsSession (opening_of settings.capacity lists) settings t writes.text) capture.is_tail
-            writes.is_text;
+            subst (λ t. BeginsSession (opening_of settings.capacity lists writes.base) settings t writes.writes.text)
+            capture.is_tail writes.writes.is_text;
       }) dealt;
-  written = writes.written;
+  written = writes.writes.written;
 }
 
--- a sink that is as before took no byte, which is a part of each session
-part_or_nothing : {K : Type 0} (settings : Settings) (lists : List (List RecordValue)) (tail : List ℕ)
-    (sink written : K) (old new : Option (List ℕ)) → (written ≡ sink → new ≡ old)
-    → (written ≡ sink) ⊎ Writes (BeginsSession (opening_of settings.capacity lists) settings tail) old new
-    → Writes (BeginsSession (opening_of settings.capacity lists) settings tail) old new
-part_or_nothing settings lists tail sink written old new taken (inl same) =
-    nothing_in_part (opening_of settings.capacity lists) settings tail old new (taken same)
-part_or_nothing settings lists tail sink written old new taken (inr part) = part
+-- the store is refused over the dealt lists of a capture
+refuses_store : (settings : Settings) (rules : Rules) (left rest store store_now : Option (List ℕ))
+    (lists : List (List RecordValue)) (tail : List ℕ) (fault : OpenFault)
+    → IfSome left (λ file. IsDealtCapture settings rules file lists tail)
+    → RefusesLists settings lists store store_now fault
+    → RefusesStore settings rules (inputs left rest store) store_now fault
+refuses_store settings rules left rest store store_now lists tail fault dealt refuses = (
+  refuses.used,
+  refuses.reads,
+  if_known left (λ file. IsDealtCapture settings rules file lists tail)
+      (λ file. IsRefusedStore settings rules store file fault)
+      (λ file capture. record {
+        records = capture.records;
+        lists = lists;
+        dealt = capture.dealt;
+        refused = refuses.refused;
+      }) dealt,
+)
 
--- how a session that broke off ended
-pub broke_off : {K : Type 0} (settings : Settings) (rules : Rules) (left : Option (List ℕ))
-    (lists : List (List RecordValue)) (tail : List ℕ) (ReadToEnd : Type 0) (read_before read_now : ℕ) (sink written : K)
-    (old new : Option (List ℕ)) (write_before write_now : ℕ) (status : Status)
-    → (written ≡ sink → new ≡ old) → IfSome left (λ file. IsDealtCapture settings rules file lists tail) → ReadToEnd
-    → read_now ≡ read_before
-    → (written ≡ sink) ⊎ Writes (BeginsSession (opening_of settings.capacity lists) settings tail) old new
-    → IsFault write_before write_now status
-    → Ends (λ text. IfSome left (λ file. IsSession settings rules file text))
-    (λ front. IfSome left (λ file. IsSessionInPart settings rules file front))
-    ReadToEnd left read_before read_now sink written old new write_before write_now status
-broke_off settings rules left lists tail ReadToEnd read_before read_now sink written old new write_before write_now
-    WriteFault taken dealt read same part fault = (
-      read,
-      writes_in_part settings rules left lists tail old new dealt
-          (part_or_nothing settings lists tail sink written old new taken part),
-      fault,
+-- nothing was written, or a part of the text was
+nothing_or_part : {K : Type 0} (settings : Settings) (rules : Rules) (left store : Option (List ℕ))
+    (lists : List (List RecordValue)) (tail : List ℕ) (ReadToEnd : Type 0) (sink written : K) (old new : Option (List ℕ))
+    → IfSome left (λ file. IsDealtCapture settings rules file lists tail) → ReadToEnd
+    → (written ≡ sink) ⊎ WritesDealtInPart settings lists tail store old new
+    → (written ≡ sink)
+    ⊎ (ReadToEnd × Writes (λ front. IfSome left (λ file. IsSessionInPart settings rules store file front)) old new)
+nothing_or_part settings rules left store lists tail ReadToEnd sink written old new dealt read =
+    ⊎_elim (λ same. inl same)
+    (λ part. inr (read, writes_in_part settings rules left store lists tail old new dealt part))
+
+-- how a report over a capture ended, from how it ended over its dealt lists
+pub report_ends : {K : Type 0} (settings : Settings) (rules : Rules) (keeping : Keeping)
+    (left rest store store_now : Option (List ℕ)) (lists : List (List RecordValue)) (tail : List ℕ)
+    (ReadToEnd DiskSame : Type 0) (read_before read_now : ℕ) (sink written : K) (old new : Option (List ℕ))
+    (write_before write_now disk_before disk_now : ℕ) (status : Status)
+    → IfSome left (λ file. IsDealtCapture settings rules file lists tail) → ReadToEnd → read_now ≡ read_before
+    → EndsDealt settings lists tail keeping store store_now sink written old new
+    (record { sink = write_before; disk = disk_before }) (record { sink = write_now; disk = disk_now }) status
+    → Ends (λ text. IfSome left (λ file. IsSession settings rules keeping store file text))
+    (λ front. IfSome left (λ file. IsSessionInPart settings rules store file front))
+    ReadToEnd (Rose disk_before disk_now) DiskSame (RefusesStore settings rules (inputs left rest store) store_now) left
+    read_before read_now sink written old new write_before write_now status
+report_ends settings rules keeping left rest store store_now lists tail ReadToEnd DiskSame read_before read_now sink
+    written old new write_before write_now disk_before disk_now Done dealt read same ends =
+    (read, writes_session settings rules keeping left store lists tail old new dealt ends.0, same,
+    ap (λ (f : Faults). f.sink) ends.1)
+report_ends settings rules keeping left rest store store_now lists tail ReadToEnd DiskSame read_before read_now sink
+    written old new write_before write_now disk_before disk_now WriteFault dealt read same ends =
+    (read, writes_in_part settings rules left store lists tail old new dealt ends.0, ends.1.rose, same)
+report_ends settings rules keeping left rest store store_now lists tail ReadToEnd DiskSame read_before read_now sink
+    written old new write_before write_now disk_before disk_now DiskFault dealt read same ends = (
+      nothing_or_part settings rules left store lists tail ReadToEnd sink written old new dealt read ends.0,
+      ends.1.rose,
       same,
+      ends.1.sink,
     )
-broke_off settings rules left lists tail ReadToEnd read_before read_now sink written old new write_before write_now
-    OutOfMemory taken dealt read same (inl unwritten) fault = (inl unwritten, same, fault)
-broke_off settings rules left lists tail ReadToEnd read_before read_now sink written old new write_before write_now
-    OutOfMemory taken dealt read same (inr part) fault =
-    (inr (read, writes_in_part settings rules left lists tail old new dealt part), same, fault)
-broke_off settings rules left lists tail ReadToEnd read_before read_now sink written old new write_before write_now
-    Done taken dealt read same part fault = absurd fault
-broke_off settings rules left lists tail ReadToEnd read_before read_now sink written old new write_before write_now
-    (BadWords kind) taken dealt read same part fault = absurd fault
-broke_off settings rules left lists tail ReadToEnd read_before read_now sink written old new write_before write_now
-    (BadCapture wrong) taken dealt read same part fault = absurd fault
-broke_off settings rules left lists tail ReadToEnd read_before read_now sink written old new write_before write_now
-    ReadFault taken dealt read same part fault = absurd fault
+report_ends settings rules keeping left rest store store_now lists tail ReadToEnd DiskSame read_before read_now sink
+    written old new write_before write_now disk_before disk_now NotFormatted dealt read same ends = (
+      refuses_store settings rules left rest store store_now lists tail opening.NotFormatted dealt ends.0,
+      read,
+      ends.1,
+      same,
+      ap (λ (f : Faults). f.sink) ends.2,
+    )
+report_ends settings rules keeping left rest store store_now lists tail ReadToEnd DiskSame read_before read_now sink
+    written old new write_before write_now disk_before disk_now (Damaged slot) dealt read same ends = (
+      refuses_store settings rules left rest store store_now lists tail (opening.Damaged slot) dealt ends.0,
+      read,
+      ends.1,
+      same,
+      ap (λ (f : Faults). f.sink) ends.2,
+    )
+report_ends settings rules keeping left rest store store_now lists tail ReadToEnd DiskSame read_before read_now sink
+    written old new write_before write_now disk_before disk_now (OtherSettings stored asked) dealt read same ends = (
+      refuses_store settings rules left rest store store_now lists tail (opening.OtherSettings stored asked) dealt ends.0,
+      read,
+      ends.1,
+      same,
+      ap (λ (f : Faults). f.sink) ends.2,
+    )
+report_ends settings rules keeping left rest store store_now lists tail ReadToEnd DiskSame read_before read_now sink
+    written old new write_before write_now disk_before disk_now (OtherCapture stored asked) dealt read same ends = (
+      refuses_store settings rules left rest store store_now lists tail (opening.OtherCapture stored asked) dealt ends.0,
+      read,
+      ends.1,
+      same,
+      ap (λ (f : Faults). f.sink) ends.2,
+    )
+report_ends settings rules keeping left rest store store_now lists tail ReadToEnd DiskSame read_before read_now sink
+    written old new write_before write_now disk_before disk_now OutOfMemory dealt read same ends = (
+      nothing_or_part settings rules left store lists tail ReadToEnd sink written old new dealt read ends.0,
+      same,
+      ap (λ (f : Faults). f.sink) ends.1,
+    )
+report_ends settings rules keeping left rest store store_now lists tail ReadToEnd DiskSame read_before read_now sink
+    written old new write_before write_now disk_before disk_now (BadWords kind) dealt read same ends = absurd ends
+report_ends settings rules keeping left rest store store_now lists tail ReadToEnd DiskSame read_before read_now sink
+    written old new write_before write_now disk_before disk_now (BadCapture fault) dealt read same ends = absurd ends
+report_ends settings rules keeping left rest store store_now lists tail ReadToEnd DiskSame read_before read_now sink
+    written old new write_before write_now disk_before disk_now ReadFault dealt read same ends = absurd ends
 
--- the last lines, as they were handed on
-pub handed_on : {K : Type 0} (settings : Settings) (lists : List (List RecordValue)) (tail other : List ℕ)
-    (sink written : K) (old new : Option (List ℕ)) → other ≡ tail
-    → (written ≡ sink) ⊎ Writes (BeginsSession (opening_of settings.capacity lists) settings other) old new
-    → (written ≡ sink) ⊎ Writes (BeginsSession (opening_of settings.capacity lists) settings tail) old new
-handed_on settings lists tail other sink written old new same part =
-    subst (λ t. (written ≡ sink) ⊎ Writes (BeginsSession (opening_of settings.capacity lists) settings t) old new) same
-    part
+-- the disk's count of faults rose only where the status says so
+pub dealt_told : {K : Type 0} (settings : Settings) (lists : List (List RecordValue)) (tail : List ℕ)
+    (keeping : Keeping) (store store_now : Option (List ℕ)) (sink written : K) (old new : Option (List ℕ))
+    (before now : Faults) (status : Status)
+    → EndsDealt settings lists tail keeping store store_now sink written old new before now status
+    → (status ≡ DiskFault → ⊥) → now.disk ≡ before.disk
+dealt_told settings lists tail keeping store store_now sink written old new before now Done ends other =
+    ap (λ (f : Faults). f.disk) ends.1
+dealt_told settings lists tail keeping store store_now sink written old new before now WriteFault ends other =
+    ends.1.disk
+dealt_told settings lists tail keeping store store_now sink written old new before now DiskFault ends other =
+    absurd (other refl)
+dealt_told settings lists tail keeping store store_now sink written old new before now NotFormatted ends other =
+    ap (λ (f : Faults). f.disk) ends.2
+dealt_told settings lists tail keeping store store_now sink written old new before now (Damaged slot) ends other =
+    ap (λ (f : Faults). f.disk) ends.2
+dealt_told settings lists tail keeping store store_now sink written old new before now (OtherSettings stored asked) ends
+    other = ap (λ (f : Faults). f.disk) ends.2
+dealt_told settings lists tail keeping store store_now sink written old new before now (OtherCapture stored asked) ends
+    other = ap (λ (f : Faults). f.disk) ends.2
+dealt_told settings lists tail keeping store store_now sink written old new before now OutOfMemory ends other =
+    ap (λ (f : Faults). f.disk) ends.1
+dealt_told settings lists tail keeping store store_now sink written old new before now (BadWords kind) ends other =
+    absurd ends
+dealt_told settings lists tail keeping store store_now sink written old new before now (BadCapture fault) ends other =
+    absurd ends
+dealt_told settings lists tail keeping store store_now sink written old new before now ReadFault ends other =
+    absurd ends

@@ -10,6 +10,7 @@ pub mod SessionTextLemmas
 pub mod LastSaveLemmas
 pub mod BaseLemmas
 pub mod CaptureLemmas
+pub mod DealtLemmas
 pub mod WiderRulesLemmas
 pub mod LastReportLemmas
 pub mod Examples

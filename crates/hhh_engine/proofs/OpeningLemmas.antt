@@ -5,14 +5,14 @@ use Rattle.std.specs.List.{sum_by}
 use Rattle.std.proofs.lemmas.List.{length-map, map-append, length-replicate}
 use Rattle.std.proofs.lemmas.List.Elements.{All-map, All-replicate}
 use Rattle.std.proofs.lemmas.List.Sums.{get_or-le-sum_by}
-use Rattle.prefix_lattice.specs.{RecordValue}
+use Rattle.prefix_lattice.specs.{RecordValue, most_records}
 use Rattle.deal_rules.specs.{AreShardLists}
 use Rattle.std.proofs.Common.{Option, None, Some}
 use Rattle.std.specs.Prelude.{IfSome, slice_index}
 use Rattle.std.specs.List.{AllZip}
 use Rattle.std.proofs.lemmas.List.Elements.{All-cons, All-head, All-nil, All-tail}
 use Rattle.shard_state.specs.{AreShards, BasesRepresent, CutRepresents, CutValue, IsCut, ShardValue, SnapshotRepresents}
-use Rattle.shard_state.specs.{SnapshotValue, capacity_of, empty_snapshot, positions_of}
+use Rattle.shard_state.specs.{IsSnapshot, SnapshotValue, capacity_of, empty_snapshot, positions_of}
 use Rattle.shard_state.specs.{lists_of}
 use Rattle.report_text.specs.{ArePositions}
 use Rattle.recovery.specs.{ContinuesList, ContinuesLists}
@@ -195,3 +195,26 @@ pub resumed_more : (states all : List ShardValue) (state : ShardValue) (list : L
 resumed_more states all state list base lists bases is before =
     append_assoc states (state ∷ []) (resumed_shards lists bases)
     ∙ ap (λ s. states ++ s ∷ resumed_shards lists bases) is ∙ before
+
+cut_positions_below : (bases : List SnapshotValue) → All IsSnapshot bases
+    → All (λ position. position ≤ most_records) (map (λ (snapshot : SnapshotValue). snapshot.position) bases)
+cut_positions_below bases kept =
+    All-map (λ position. position ≤ most_records) (λ (snapshot : SnapshotValue). snapshot.position) bases
+    (λ k d lt. (kept k d lt).placed)
+
+-- a text can show the positions at which the shards of a run start
+pub opening_positions : (capacity : ℕ) (lists : List (List RecordValue)) (base : Option CutValue)
+    → AreShardLists lists → IfSome base (GoesOn capacity lists) → IfSome base IsCut
+    → ArePositions (start_of (opening_of capacity lists base))
+opening_positions capacity lists None shards goes_on kept =
+    subst ArePositions (sym (starts_are_zeros capacity lists)) (zeros_are_positions lists shards)
+opening_positions capacity lists (Some cut) shards goes_on kept =
+    let starts : start_of (resumed_shards lists cut.shards) ≡ positions_of cut =
+    resumed_starts lists cut.shards goes_on.continues in
+    let many : length (start_of (resumed_shards lists cut.shards)) ≡ length lists =
+    length-map (resumed_shards lists cut.shards) _ ∙ resumed_many lists cut.shards goes_on.continues in
+    record {
+      some = subst (λ n. 1 ≤ n) (sym many) shards.some;
+      few = subst (λ n. n ≤ 16) (sym many) shards.few;
+      within = subst (All (λ position. position ≤ most_records)) (sym starts) (cut_positions_below cut.shards kept.kept);
+    }

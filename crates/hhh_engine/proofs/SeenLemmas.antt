@@ -67,7 +67,7 @@ not_past_long (position ∷ earlier) [] past = absurd past
 not_past_long (position ∷ earlier) (next ∷ later) past =
     let tail = not_past_long earlier later past.1 in omega (arith, tail)
 
-not_past_self : (positions : List ℕ) → AreNotPast positions positions
+pub not_past_self : (positions : List ℕ) → AreNotPast positions positions
 not_past_self [] = tt
 not_past_self (position ∷ positions) = (omega arith, not_past_self positions)
 

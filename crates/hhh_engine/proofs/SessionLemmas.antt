@@ -3,7 +3,7 @@ use Rattle.std.proofs.Common.{Bool, false, ⊎_elim}
 use Rattle.std.proofs.Common.{◌≡◌, ◌∙◌, ◌≤◌, ◌<◌, ◌+◌, ◌⊎◌, inl, inr, ℕ, List, [], ◌∷◌, ◌++◌, Option, None, Some}
 use Rattle.std.proofs.Common.{Ok, Err, All, refl, sym, ap, ap₂, subst, arith, length, map, append_assoc, append-nil, get_or, take, zero, suc, slice_get}
 use Rattle.std.specs.Prelude.{slice_index}
-use Rattle.std.specs.Result.{IfOk, OnErr, OnOk}
+use Rattle.std.specs.Result.{IfErr, IfOk, OnErr, OnOk}
 use Rattle.std.specs.List.{flat_map}
 use Rattle.std.specs.List.Sorted.{IsNonDecreasing}
 use Rattle.std.specs.declared.result.Result.{Result}
@@ -405,3 +405,13 @@ on_ok_of (Err error) P Q follows holds = tt
 pub on_err_of : {T E : Type 0} (result : Result T E) (P Q : Type 0) → (P → Q) → OnErr result P → OnErr result Q
 on_err_of (Ok value) P Q follows holds = tt
 on_err_of (Err error) P Q follows holds = follows holds
+
+pub if_ok_of : {T E : Type 0} (result : Result T E) (P Q : T → Type 0) → ((x : T) → P x → Q x) → IfOk result P
+    → IfOk result Q
+if_ok_of (Ok value) P Q follows holds = follows value holds
+if_ok_of (Err error) P Q follows holds = tt
+
+pub if_err_of : {T E : Type 0} (result : Result T E) (P Q : E → Type 0) → ((e : E) → P e → Q e) → IfErr result P
+    → IfErr result Q
+if_err_of (Ok value) P Q follows holds = tt
+if_err_of (Err error) P Q follows holds = follows error holds

@@ -1,5 +1,5 @@
 -- What each status says of the arguments, of the source, of the sink and of the disk.
-use Rattle.std.specs.Prelude.{ℕ, ◌≡◌, ◌⊎◌, true, List, Option, IfSome}
+use Rattle.std.specs.Prelude.{ℕ, ◌≡◌, ◌⊎◌, true, List, Option, None, IfSome}
 use Rattle.std.specs.Io.KnownBytes.{IsAtEnd}
 use Rattle.outside_io.specs.{Rose}
 use Rattle.prefix_lattice.specs.{RecordValue}

@@ -93,6 +93,7 @@ pub(crate) fn write_session<R: Threads + Wait + Sync, K: Sink, D: Disk, G: Gate 
         positions,
         saver,
     } = base;
+    openings_stand(&dealt, &cut, settings.capacity);
     let line = opened_line(alloc, &positions)?;
     let opened = open(alloc, dealt, cut, settings.capacity)?;
     write_feed(rt, alloc, opened, saver, &line, tail, settings, sink, disk, gate)
@@ -126,6 +127,7 @@ pub(crate) fn openings_stand(dealt: &Dealt, base: &Option<Cut>, capacity: u32)
     ensures many { length (opening_of capacity dealt.now base.now) ≡ length dealt.now }
     ensures alike { capacity_of (opening_of capacity dealt.now base.now) ≡ capacity }
     ensures starts { StartsBeforeEnds (opening_of capacity dealt.now base.now) }
+    ensures positions { ArePositions (start_of (opening_of capacity dealt.now base.now)) }
     ensures represents { RepresentsWhere dealt.now base.now (opening_of capacity dealt.now base.now) }
 {
     shards_stand();

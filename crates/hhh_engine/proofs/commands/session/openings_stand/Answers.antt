@@ -1,6 +1,6 @@
 use Rattle.std.proofs.Common.{sym}
 use Rattle.hhh_engine.proofs.OpeningLemmas.{capacity_of_opening, kept_none, kept_some, opening_is_shards, opening_many}
-use Rattle.hhh_engine.proofs.OpeningLemmas.{opening_represents, opening_starts_before_ends}
+use Rattle.hhh_engine.proofs.OpeningLemmas.{opening_positions, opening_represents, opening_starts_before_ends}
 use Rattle.hhh_engine.proofs.commands.session.openings_stand.Goals as goal
 
 pub returns-in-None : goal.returns-in-None
@@ -12,6 +12,7 @@ returns-in-None c =
       many = opening_many c.args.capacity c.args.dealt.now c.args.base.now c.requires;
       alike = capacity_of_opening c.args.capacity c.args.dealt.now c.args.base.now shards c.requires kept;
       starts = opening_starts_before_ends c.args.capacity c.args.dealt.now c.args.base.now c.requires;
+      positions = opening_positions c.args.capacity c.args.dealt.now c.args.base.now shards c.requires kept;
       represents = opening_represents c.args.capacity c.args.dealt.now c.args.base.now c.shards_stand.ensures.begins;
     }
 
@@ -24,5 +25,6 @@ returns-in-Some c =
       many = opening_many c.args.capacity c.args.dealt.now c.args.base.now c.requires;
       alike = capacity_of_opening c.args.capacity c.args.dealt.now c.args.base.now shards c.requires kept;
       starts = opening_starts_before_ends c.args.capacity c.args.dealt.now c.args.base.now c.requires;
+      positions = opening_positions c.args.capacity c.args.dealt.now c.args.base.now shards c.requires kept;
       represents = opening_represents c.args.capacity c.args.dealt.now c.args.base.now c.shards_stand.ensures.begins;
     }

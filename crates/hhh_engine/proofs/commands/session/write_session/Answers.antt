@@ -1,5 +1,4 @@
-use Rattle.std.proofs.Common.{◌≡◌, ◌∙◌, inl, inr, sym, ap, subst}
-use Rattle.std.specs.Prelude.{IfSome}
+use Rattle.std.proofs.Common.{◌∙◌, inr, length, sym, ap, subst}
 use Rattle.shard_state.specs.{capacity_of}
 use Rattle.report_text.specs.{ArePositions, mark_text}
 use Rattle.report_text.specs.declared.mark.Mark.TheVariants.{Opened}
@@ -7,6 +6,59 @@ use Rattle.hhh_engine.specs.Answer.{Writes}
 use Rattle.hhh_engine.specs.Feed.{IsOpened, StartsBeforeEnds}
 use Rattle.hhh_engine.specs.Saves.{Saves}
 use Rattle.hhh_engine.specs.Session.{BeginsSession, SpellsSession, start_of}
-use Rattle.hhh_engine.proofs.BaseLemmas.{base_positions_are, base_goes_on, saver_can_save}
+use Rattle.hhh_engine.proofs.BaseLemmas.{base_goes_on, saver_can_save}
 use Rattle.hhh_engine.proofs.SessionLemmas.{on_err_of, on_ok_of}
 use Rattle.hhh_engine.proofs.commands.session.write_session.Goals as goal
+
+pub openings_stand-requires : goal.openings_stand-requires
+openings_stand-requires g c = λ lifetimes outlive.
+    base_goes_on c.args.settings.now c.args.dealt c.args.base.cut c.requires.base.begins.fits
+
+pub opened_line-requires : goal.opened_line-requires
+opened_line-requires g c = λ lifetimes outlive.
+    subst ArePositions (sym c.requires.base.positions_are) c.openings_stand.ensures.positions
+
+pub open-requires-clause-fits : goal.open-requires-clause-fits
+open-requires-clause-fits g c = λ lifetimes outlive.
+    base_goes_on c.args.settings.now c.args.dealt c.args.base.cut c.requires.base.begins.fits
+
+pub write_feed-requires-clause-opened : goal.write_feed-requires-clause-opened
+write_feed-requires-clause-opened g c = λ lifetimes outlive.
+    subst (λ shards. IsOpened shards c.in_ok-opened.opened) (sym c.in_ok-opened.ensures.opening) c.in_ok-opened.ensures
+
+pub write_feed-requires-clause-alike : goal.write_feed-requires-clause-alike
+write_feed-requires-clause-alike g c = λ lifetimes outlive.
+    ap capacity_of c.in_ok-opened.ensures.opening ∙ c.openings_stand.ensures.alike
+
+pub write_feed-requires-clause-starts : goal.write_feed-requires-clause-starts
+write_feed-requires-clause-starts g c = λ lifetimes outlive.
+    subst StartsBeforeEnds (sym c.in_ok-opened.ensures.opening) c.openings_stand.ensures.starts
+
+pub write_feed-requires-clause-line : goal.write_feed-requires-clause-line
+write_feed-requires-clause-line g c = λ lifetimes outlive.
+    c.deref.ensures.value ∙ c.in_ok-line.ensures ∙ ap (mark_text Opened) c.requires.base.positions_are
+    ∙ ap (λ shards. mark_text Opened (start_of shards)) (sym c.in_ok-opened.ensures.opening)
+
+pub write_feed-requires-clause-can_save : goal.write_feed-requires-clause-can_save
+write_feed-requires-clause-can_save g c = λ lifetimes outlive.
+    let opening = c.in_ok-opened.ensures.opening in
+    saver_can_save c.args.settings.now c.args.dealt _ _ c.in_ok-opened.opened.board.opening c.args.base.positions
+    c.args.base.saver c.requires.limited (ap length opening ∙ c.openings_stand.ensures.many ∙ c.requires.shards)
+    (ap capacity_of opening ∙ c.openings_stand.ensures.alike) (c.requires.base.positions_are ∙ ap start_of (sym opening))
+    c.requires.base.saver c.requires.stands
+
+pub returns-clause-whole : goal.returns-clause-whole
+returns-clause-whole g c =
+    on_ok_of c.write_feed.result _ _
+    (subst (λ shards. Writes (SpellsSession shards c.args.settings.now
+    (λ cuts. Saves g.D.Disk.reads g.D.Disk.image_now g.D.Disk.moment g.D.Disk.image_since c.args.base.saver cuts
+    c.args.disk.now c.write_feed.new.disk) c.args.tail.now) (g.K.Sink.taken c.args.sink.now)
+    (g.K.Sink.taken c.write_feed.new.sink)) c.in_ok-opened.ensures.opening)
+    c.write_feed.ensures.whole
+
+pub returns-clause-part : goal.returns-clause-part
+returns-clause-part g c =
+    on_err_of c.write_feed.result _ _
+    (λ part. inr (subst (λ shards. Writes (BeginsSession shards c.args.settings.now c.args.tail.now)
+    (g.K.Sink.taken c.args.sink.now) (g.K.Sink.taken c.write_feed.new.sink)) c.in_ok-opened.ensures.opening part))
+    c.write_feed.ensures.part
