@@ -2,7 +2,7 @@
 use Rattle.std.proofs.Common.{◌≡◌, ◌∙◌, ◌≤◌, ◌+◌, ◌^◌, ◌-◌, ℕ, Bool, true, false, List, [], ◌∷◌, Option, None, Some, All}
 use Rattle.std.proofs.Common.{refl, sym, ap, subst, arith, length, map, replicate, inr}
 use Rattle.std.proofs.lemmas.Bool.{false≢true}
-use Rattle.slot_disk.specs.{IfKnown}
+use Rattle.slot_disk.specs.{IfKnown, IsStore, closed_slots}
 use Rattle.checkpoint.specs.declared.settings.StoreSettings.{StoreSettings}
 use Rattle.recovery.specs.declared.fault.OpenFault.TheVariants as opening
 use Rattle.recovery.specs.declared.opened.Opened.{Opened}
@@ -15,7 +15,8 @@ use Rattle.deal_rules.specs.{AreShardLists}
 use Rattle.shard_state.specs.{AreNotPast, AreShards, CutValue, ShardValue, SnapshotValue, capacity_of, positions_of}
 use Rattle.pass_tokens.specs.{first_view}
 use Rattle.report_text.specs.{ArePositions}
-use Rattle.checkpoint.specs.{AreSettings, SaverState, StandsFor, last_sequence}
+use Rattle.checkpoint.specs.{AreSettings, FormattedStoresAreEmpty, Opens, SaverState, StandsFor, header_bytes}
+use Rattle.checkpoint.specs.{last_sequence}
 use Rattle.recovery.specs.{CanGoOn, IsBase, OpensToBase, base_positions, last_opened_sequence}
 use Rattle.command_words.specs.declared.settings.Settings.{Settings}
 use Rattle.hhh_engine.specs.Feed.{GoesOn, HasNoBase, IsBaseOf, IsSaverFor}
@@ -131,3 +132,12 @@ no_base settings lists store faults status is = record {
   rose = λ same. cc same;
   kept = λ other. refl;
 }
+
+-- a store that was just made opens to nothing, whatever a crash leaves
+pub formatted : FormattedStoresAreEmpty → (settings asked : StoreSettings) (header bytes image : List ℕ)
+    (possible : List ℕ → Type 0) → asked ≡ settings → header ≡ header_bytes asked
+    → IsStore bytes possible (closed_slots header) → possible image → Opens settings image None
+formatted empty settings asked header bytes image possible are is store now =
+    subst (λ i. Opens settings i None) (sym (store.only image now))
+    (empty settings bytes store.long
+    (sym store.slots_are ∙ ap closed_slots is ∙ ap (λ s. closed_slots (header_bytes s)) are))

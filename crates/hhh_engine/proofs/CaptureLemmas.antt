@@ -14,7 +14,7 @@ use Rattle.hhh_engine.specs.Answer.{Writes}
 use Rattle.hhh_engine.specs.Ending.{Ends, IsRefusedStore, RefusesStore}
 use Rattle.hhh_engine.specs.Feed.{EndsDealt, HasNoBase, IsDealtCapture, IsFault, RefusesLists, WritesDealt}
 use Rattle.hhh_engine.specs.Feed.{WritesDealtInPart}
-use Rattle.hhh_engine.specs.Inputs.{inputs}
+use Rattle.hhh_engine.specs.Inputs.{IsCapture, inputs}
 use Rattle.hhh_engine.specs.Rounds.{DiskFailed, Faults, SinkFailed}
 use Rattle.hhh_engine.specs.Saves.{store_settings}
 use Rattle.hhh_engine.specs.Session.{BeginsSession, IsSession, IsSessionInPart, Keeping, Rules, SpellsSession, opening_of}
@@ -118,7 +118,7 @@ pub report_ends : {K : Type 0} (settings : Settings) (rules : Rules) (keeping : 
     (record { sink = write_before; disk = disk_before }) (record { sink = write_now; disk = disk_now }) status
     → Ends (λ text. IfSome left (λ file. IsSession settings rules keeping store file text))
     (λ front. IfSome left (λ file. IsSessionInPart settings rules store file front))
-    ReadToEnd (Rose disk_before disk_now) DiskSame (RefusesStore settings rules (inputs left rest store) store_now) left
+    ReadToEnd (IfSome left IsCapture) (Rose disk_before disk_now) DiskSame (RefusesStore settings rules (inputs left rest store) store_now) left
     read_before read_now sink written old new write_before write_now status
 report_ends settings rules keeping left rest store store_now lists tail ReadToEnd DiskSame read_before read_now sink
     written old new write_before write_now disk_before disk_now Done dealt read same ends =
@@ -129,7 +129,11 @@ report_ends settings rules keeping left rest store store_now lists tail ReadToEn
     (read, writes_in_part settings rules left store lists tail old new dealt ends.0, ends.1.rose, same)
 report_ends settings rules keeping left rest store store_now lists tail ReadToEnd DiskSame read_before read_now sink
     written old new write_before write_now disk_before disk_now DiskFault dealt read same ends = (
-      nothing_or_part settings rules left store lists tail ReadToEnd sink written old new dealt read ends.0,
+      read,
+      if_known left (λ file. IsDealtCapture settings rules file lists tail) IsCapture
+          (λ file capture. (capture.dealt.frames, capture.dealt.capture)) dealt,
+      ⊎_elim (λ none. inl none)
+          (λ part. inr (writes_in_part settings rules left store lists tail old new dealt part)) ends.0,
       ends.1.rose,
       same,
       ends.1.sink,

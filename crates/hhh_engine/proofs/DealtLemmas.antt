@@ -12,16 +12,17 @@ use Rattle.recovery.specs.declared.fault.OpenFault.{OpenFault}
 use Rattle.recovery.specs.declared.fault.OpenFault.TheVariants as opening
 use Rattle.command_words.specs.declared.settings.Settings.{Settings}
 use Rattle.hhh_engine.specs.Answer.{Writes}
-use Rattle.hhh_engine.specs.Feed.{EndsDealt, HasNoBase, IsFault, IsSaverFor, RefusesLists, WritesDealtInPart}
+use Rattle.hhh_engine.specs.Feed.{EndsDealt, HasNoBase, IsFault, IsSaverFor, RefusesLists, WritesDealt}
+use Rattle.hhh_engine.specs.Feed.{WritesDealtInPart}
 use Rattle.hhh_engine.specs.Rounds.{Faults}
 use Rattle.hhh_engine.specs.Saves.{KeepsSaves, OpensAmong, Saves, kept_in, saved_after, store_settings}
-use Rattle.hhh_engine.specs.Session.{BeginsSession, GoesOnFrom, Keeping, RepresentsWhere, opening_of}
+use Rattle.hhh_engine.specs.Session.{BeginsSession, GoesOnFrom, Keeping, RepresentsWhere, SpellsSession, opening_of}
 use Rattle.hhh_engine.specs.Status.{status_of_opening}
 use Rattle.hhh_engine.specs.declared.status.Status.{Status}
 use Rattle.hhh_engine.specs.declared.status.Status.TheVariants.{Done, BadWords, BadCapture, ReadFault, WriteFault}
 use Rattle.hhh_engine.specs.declared.status.Status.TheVariants.{DiskFault, NotFormatted, Damaged, OtherSettings}
 use Rattle.hhh_engine.specs.declared.status.Status.TheVariants.{OtherCapture, OutOfMemory}
-use Rattle.hhh_engine.proofs.SessionTextLemmas.{nothing_in_part}
+use Rattle.hhh_engine.proofs.SessionTextLemmas.{nothing_in_part, spells_weaker}
 
 -- what a run keeps of its store, from the opening of the store and the saves after it
 pub run_keeps : {D : Type 0} (reads : D → Option (List ℕ)) (image_now : D → List ℕ → Type 0) (moment : D → ℕ)
@@ -173,3 +174,22 @@ session_ends settings lists tail keeping store store_now base sink written old n
     represents taken part fault = absurd fault
 session_ends settings lists tail keeping store store_now base sink written old new before now (OtherCapture stored asked) begins
     represents taken part fault = absurd fault
+
+-- the session was written whole
+pub writes_dealt : (settings : Settings) (lists : List (List RecordValue)) (tail : List ℕ) (keeping : Keeping)
+    (store : Option (List ℕ)) (base : Option CutValue) (Kept : List CutValue → Type 0) (old new : Option (List ℕ))
+    → GoesOnFrom settings lists store base → RepresentsWhere lists base (opening_of settings.capacity lists base)
+    → ((cuts : List CutValue) → Kept cuts → settings.store ≡ true → keeping (store_settings settings) lists cuts)
+    → Writes (SpellsSession (opening_of settings.capacity lists base) settings Kept tail) old new
+    → WritesDealt settings lists tail keeping store old new
+writes_dealt settings lists tail keeping store base Kept old new begins represents keeps writes = record {
+  base = base;
+  begins = begins;
+  represents = represents;
+  writes = record {
+    text = writes.text;
+    is_text = spells_weaker (opening_of settings.capacity lists base) settings Kept
+        (λ cuts. settings.store ≡ true → keeping (store_settings settings) lists cuts) tail writes.text keeps writes.is_text;
+    written = writes.written;
+  };
+}

@@ -1,7 +1,5 @@
 -- The last report of a session.
 use Rattle.std.proofs.Common.{◌≡◌, ◌∙◌, ◌+◌, ℕ, List, [], ◌∷◌, ◌++◌, All, refl, sym, ap, ap₂, subst, arith, length}
-use Rattle.std.proofs.Common.{append-nil}
-use Rattle.std.specs.List.{flat_map}
 use Rattle.std.proofs.lemmas.List.Elements.{All-head, All-tail}
 use Rattle.shard_state.specs.{CutValue, ShardValue}
 use Rattle.prefix_lattice.specs.{RecordValue}
@@ -13,8 +11,8 @@ use Rattle.gate_workers.specs.{cut_at}
 use Rattle.command_words.specs.declared.settings.Settings.{Settings}
 use Rattle.report_text.specs.{mark_text, report_text}
 use Rattle.report_text.specs.declared.mark.Mark.TheVariants.{Opened}
-use Rattle.hhh_engine.specs.Session.{AreReportsOf, AreSessionReports, IsShown, SessionReports, ends_of, opening_of}
-use Rattle.hhh_engine.specs.Session.{parts_text, saved_text, session_text, start_of}
+use Rattle.hhh_engine.specs.Session.{AreReportsOf, AreSessionReports, IsShown, SessionReports, callers_text, ends_of}
+use Rattle.hhh_engine.specs.Session.{part_text, parts_text, session_text, start_of}
 
 -- what holds of all elements holds of the last one
 all_of_last : {A : Type 0} (P : A → Type 0) (xs : List A) (x : A) → All P (xs ++ x ∷ []) → P x
@@ -61,7 +59,7 @@ no_rounds (first ∷ rounds) last count many none = absurd (omega (arith, many, 
 
 -- and none of the other callers
 nothing_reported : (opening : List ShardValue) (settings : Settings) (count : ℕ) (callers : List (List Reported))
-    → count ≡ 0 → All (AreReportsOf opening settings count) callers → flat_map parts_text callers ≡ []
+    → count ≡ 0 → All (AreReportsOf opening settings count) callers → callers_text callers ≡ []
 nothing_reported opening settings count [] none all = refl
 nothing_reported opening settings count ([] ∷ callers) none all =
     nothing_reported opening settings count callers none
@@ -74,18 +72,12 @@ nothing_reported opening settings count ((first ∷ reports) ∷ callers) none a
 -- so the session is its first line, the last report and the last lines
 pub one_report : (opening : List ShardValue) (settings : Settings) (reports : SessionReports) (tail : List ℕ)
     → settings.rounds ≡ 0 → AreSessionReports opening settings reports
-    → session_text (start_of opening) reports tail
-    ≡ mark_text Opened (start_of opening) ++ (report_text reports.last.report ++ tail)
+    → session_text settings.store (start_of opening) reports tail
+    ≡ mark_text Opened (start_of opening) ++ (part_text settings.store reports.last ++ tail)
 one_report opening settings reports tail none are =
     let line = mark_text Opened (start_of opening) in
-    let last : IsShown opening settings reports.last =
-    all_of_last (IsShown opening settings) reports.rounds reports.last are.calling.shown in
     let no_round : reports.rounds ≡ [] = no_rounds reports.rounds reports.last settings.rounds are.calling.as_many none in
-    let nobody : flat_map parts_text reports.callers ≡ [] =
+    let nobody : callers_text reports.callers ≡ [] =
     nothing_reported opening settings settings.rounds reports.callers none are.callers in
-    let text : report_text reports.last.report ++ saved_text reports.last.saved ≡ report_text reports.last.report =
-    ap (λ saved. report_text reports.last.report ++ saved_text saved) last.unsaved
-    ∙ append-nil (report_text reports.last.report) in
-    ap₂ (λ rounds callers. line ++ (parts_text rounds
-    ++ (callers ++ ((report_text reports.last.report ++ saved_text reports.last.saved) ++ tail)))) no_round nobody
-    ∙ ap (λ part. line ++ (part ++ tail)) text
+    ap₂ (λ rounds callers. line ++ (parts_text settings.store rounds
+    ++ (callers ++ (part_text settings.store reports.last ++ tail)))) no_round nobody

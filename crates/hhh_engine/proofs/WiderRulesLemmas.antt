@@ -4,10 +4,10 @@ use Rattle.prefix_lattice.specs.{RecordValue}
 use Rattle.deal_rules.specs.declared.deal_kind.DealKind.{DealKind}
 use Rattle.deal_rules.specs.{IsDealing}
 use Rattle.command_words.specs.declared.command.Command.{Command}
-use Rattle.command_words.specs.declared.command.Command.TheVariants.{Weigh, Report}
+use Rattle.command_words.specs.declared.command.Command.TheVariants.{Weigh, Report, Format}
 use Rattle.hhh_engine.specs.Answer.{IsAnswer, IsAnswerInPart, Answers, AnswersInPart}
 use Rattle.frame_records.specs.declared.records.Records.{Records}
-use Rattle.hhh_engine.specs.Session.{AreDealtFrom, IsSession, IsSessionInPart, Rules}
+use Rattle.hhh_engine.specs.Session.{AreDealtFrom, IsSession, IsSessionInPart, Keeping, Rules}
 use Rattle.hhh_engine.specs.Inputs.{InputBytes}
 use Rattle.hhh_engine.proofs.CaptureLemmas.{if_known}
 use Rattle.command_words.specs.declared.settings.Settings.{Settings}
@@ -43,36 +43,45 @@ wider_records narrow wide settings file records lists widen dealt = record {
       (widen settings.deal) dealt.dealt;
 }
 
-wider_session : (narrow wide : Rules) (settings : Settings) (file text : List ℕ)
+wider_session : (narrow wide : Rules) (keeping : Keeping) (settings : Settings) (store : Option (List ℕ))
+    (file text : List ℕ)
     → ((kind : DealKind) (place : ℕ) (rec : RecordValue) (shards number : ℕ) → narrow kind place rec shards number
     → wide kind place rec shards number)
-    → IsSession settings narrow file text → IsSession settings wide file text
-wider_session narrow wide settings file text widen session = record {
+    → IsSession settings narrow keeping store file text → IsSession settings wide keeping store file text
+wider_session narrow wide keeping settings store file text widen session = record {
   records = session.records;
   lists = session.lists;
   dealt = wider_records narrow wide settings file session.records session.lists widen session.dealt;
+  base = session.base;
+  begins = session.begins;
+  represents = session.represents;
   spelled = session.spelled;
 }
 
-wider_part : (narrow wide : Rules) (settings : Settings) (file front : List ℕ)
+wider_part : (narrow wide : Rules) (settings : Settings) (store : Option (List ℕ)) (file front : List ℕ)
     → ((kind : DealKind) (place : ℕ) (rec : RecordValue) (shards number : ℕ) → narrow kind place rec shards number
     → wide kind place rec shards number)
-    → IsSessionInPart settings narrow file front → IsSessionInPart settings wide file front
-wider_part narrow wide settings file front widen session = record {
+    → IsSessionInPart settings narrow store file front → IsSessionInPart settings wide store file front
+wider_part narrow wide settings store file front widen session = record {
   records = session.records;
   lists = session.lists;
   dealt = wider_records narrow wide settings file session.records session.lists widen session.dealt;
+  base = session.base;
+  begins = session.begins;
+  represents = session.represents;
   begun = session.begun;
 }
 
-wider_answer : (narrow wide : Rules) (command : Command) (read : InputBytes) (text : List ℕ)
+wider_answer : (narrow wide : Rules) (keeping : Keeping) (command : Command) (read : InputBytes) (text : List ℕ)
     → ((kind : DealKind) (place : ℕ) (rec : RecordValue) (shards number : ℕ) → narrow kind place rec shards number
     → wide kind place rec shards number)
-    → IsAnswer narrow command read text → IsAnswer wide command read text
-wider_answer narrow wide (Weigh prefix settings) read text widen answer = answer
-wider_answer narrow wide (Report settings) read text widen answer =
-    if_known read.capture (λ file. IsSession settings narrow file text) (λ file. IsSession settings wide file text)
-    (λ file session. wider_session narrow wide settings file text widen session) answer
+    → IsAnswer narrow keeping command read text → IsAnswer wide keeping command read text
+wider_answer narrow wide keeping (Weigh prefix settings) read text widen answer = answer
+wider_answer narrow wide keeping (Report settings) read text widen answer =
+    if_known read.capture (λ file. IsSession settings narrow keeping read.store file text)
+    (λ file. IsSession settings wide keeping read.store file text)
+    (λ file session. wider_session narrow wide keeping settings read.store file text widen session) answer
+wider_answer narrow wide keeping (Format settings) read text widen answer = answer
 
 wider_answer_in_part : (narrow wide : Rules) (command : Command) (read : InputBytes) (front : List ℕ)
     → ((kind : DealKind) (place : ℕ) (rec : RecordValue) (shards number : ℕ) → narrow kind place rec shards number
@@ -80,21 +89,23 @@ wider_answer_in_part : (narrow wide : Rules) (command : Command) (read : InputBy
     → IsAnswerInPart narrow command read front → IsAnswerInPart wide command read front
 wider_answer_in_part narrow wide (Weigh prefix settings) read front widen answer = answer
 wider_answer_in_part narrow wide (Report settings) read front widen answer =
-    if_known read.capture (λ file. IsSessionInPart settings narrow file front)
-    (λ file. IsSessionInPart settings wide file front)
-    (λ file session. wider_part narrow wide settings file front widen session) answer
+    if_known read.capture (λ file. IsSessionInPart settings narrow read.store file front)
+    (λ file. IsSessionInPart settings wide read.store file front)
+    (λ file session. wider_part narrow wide settings read.store file front widen session) answer
+wider_answer_in_part narrow wide (Format settings) read front widen answer = answer
 
-pub wider_answers : (narrow wide : Rules) (words : List (List ℕ)) (read : InputBytes) (old new : Option (List ℕ))
+pub wider_answers : (narrow wide : Rules) (keeping : Keeping) (words : List (List ℕ)) (read : InputBytes)
+    (old new : Option (List ℕ))
     → ((kind : DealKind) (place : ℕ) (rec : RecordValue) (shards number : ℕ) → narrow kind place rec shards number
     → wide kind place rec shards number)
-    → Answers narrow words read old new → Answers wide words read old new
-wider_answers narrow wide words read old new widen answers = record {
+    → Answers narrow keeping words read old new → Answers wide keeping words read old new
+wider_answers narrow wide keeping words read old new widen answers = record {
   command = answers.command;
   asked = answers.asked;
   read_to_end = answers.read_to_end;
   answer = record {
     text = answers.answer.text;
-    is_text = wider_answer narrow wide answers.command read answers.answer.text widen answers.answer.is_text;
+    is_text = wider_answer narrow wide keeping answers.command read answers.answer.text widen answers.answer.is_text;
     written = answers.answer.written;
   };
 }

@@ -112,46 +112,46 @@ RefusesFor (command.Report settings) rules read store_now fault = RefusesStore s
 RefusesFor (command.Format settings) rules read store_now fault = ⊥
 
 -- within the crate: how a command ended. IsText says what is its text, IsPart which bytes begin it, ReadToEnd that its
--- inputs were read to their ends, DiskRose that the disk's count of faults rose, DiskSame that the disk is as before, and
+-- inputs were read to their ends, Accepted that they are in their formats, DiskRose that the disk's count of faults rose, DiskSame that the disk is as before, and
 -- Refused that its store is refused for a fault
-abbrev pub Ends : {K : Type 0} → (IsText IsPart : List ℕ → Type 0) → (ReadToEnd DiskRose DiskSame : Type 0)
+abbrev pub Ends : {K : Type 0} → (IsText IsPart : List ℕ → Type 0) → (ReadToEnd Accepted DiskRose DiskSame : Type 0)
     → (Refused : OpenFault → Type 0) → (capture : Option (List ℕ)) → (read_before read_now : ℕ) → (sink written : K)
     → (old new : Option (List ℕ)) → (write_before write_now : ℕ) → Status → Type 0
-Ends IsText IsPart ReadToEnd DiskRose DiskSame Refused capture read_before read_now sink written old new write_before write_now
+Ends IsText IsPart ReadToEnd Accepted DiskRose DiskSame Refused capture read_before read_now sink written old new write_before write_now
     Done =
     ReadToEnd × Writes IsText old new × (read_now ≡ read_before) × (write_now ≡ write_before)
-Ends IsText IsPart ReadToEnd DiskRose DiskSame Refused capture read_before read_now sink written old new write_before write_now
+Ends IsText IsPart ReadToEnd Accepted DiskRose DiskSame Refused capture read_before read_now sink written old new write_before write_now
     (BadWords kind) = ⊥
-Ends IsText IsPart ReadToEnd DiskRose DiskSame Refused capture read_before read_now sink written old new write_before write_now
+Ends IsText IsPart ReadToEnd Accepted DiskRose DiskSame Refused capture read_before read_now sink written old new write_before write_now
     (BadCapture fault) =
     IfSome capture (λ file. IsRefusedFor file fault) × (written ≡ sink) × DiskSame × (read_now ≡ read_before)
     × (write_now ≡ write_before)
-Ends IsText IsPart ReadToEnd DiskRose DiskSame Refused capture read_before read_now sink written old new write_before write_now
+Ends IsText IsPart ReadToEnd Accepted DiskRose DiskSame Refused capture read_before read_now sink written old new write_before write_now
     ReadFault =
     Rose read_before read_now × (written ≡ sink) × DiskSame × (write_now ≡ write_before)
-Ends IsText IsPart ReadToEnd DiskRose DiskSame Refused capture read_before read_now sink written old new write_before write_now
+Ends IsText IsPart ReadToEnd Accepted DiskRose DiskSame Refused capture read_before read_now sink written old new write_before write_now
     WriteFault =
     ReadToEnd × Writes IsPart old new × Rose write_before write_now × (read_now ≡ read_before)
-Ends IsText IsPart ReadToEnd DiskRose DiskSame Refused capture read_before read_now sink written old new write_before write_now
+Ends IsText IsPart ReadToEnd Accepted DiskRose DiskSame Refused capture read_before read_now sink written old new write_before write_now
     DiskFault =
-    ((written ≡ sink) ⊎ (ReadToEnd × Writes IsPart old new)) × DiskRose × (read_now ≡ read_before)
+    ReadToEnd × Accepted × ((written ≡ sink) ⊎ Writes IsPart old new) × DiskRose × (read_now ≡ read_before)
     × (write_now ≡ write_before)
-Ends IsText IsPart ReadToEnd DiskRose DiskSame Refused capture read_before read_now sink written old new write_before write_now
+Ends IsText IsPart ReadToEnd Accepted DiskRose DiskSame Refused capture read_before read_now sink written old new write_before write_now
     NotFormatted =
     Refused opening.NotFormatted × ReadToEnd × (written ≡ sink) × (read_now ≡ read_before) × (write_now ≡ write_before)
-Ends IsText IsPart ReadToEnd DiskRose DiskSame Refused capture read_before read_now sink written old new write_before write_now
+Ends IsText IsPart ReadToEnd Accepted DiskRose DiskSame Refused capture read_before read_now sink written old new write_before write_now
     (Damaged slot) =
     Refused (opening.Damaged slot) × ReadToEnd × (written ≡ sink) × (read_now ≡ read_before)
     × (write_now ≡ write_before)
-Ends IsText IsPart ReadToEnd DiskRose DiskSame Refused capture read_before read_now sink written old new write_before write_now
+Ends IsText IsPart ReadToEnd Accepted DiskRose DiskSame Refused capture read_before read_now sink written old new write_before write_now
     (OtherSettings stored asked) =
     Refused (opening.OtherSettings stored asked) × ReadToEnd × (written ≡ sink) × (read_now ≡ read_before)
     × (write_now ≡ write_before)
-Ends IsText IsPart ReadToEnd DiskRose DiskSame Refused capture read_before read_now sink written old new write_before write_now
+Ends IsText IsPart ReadToEnd Accepted DiskRose DiskSame Refused capture read_before read_now sink written old new write_before write_now
     (OtherCapture stored asked) =
     Refused (opening.OtherCapture stored asked) × ReadToEnd × (written ≡ sink) × (read_now ≡ read_before)
     × (write_now ≡ write_before)
-Ends IsText IsPart ReadToEnd DiskRose DiskSame Refused capture read_before read_now sink written old new write_before write_now
+Ends IsText IsPart ReadToEnd Accepted DiskRose DiskSame Refused capture read_before read_now sink written old new write_before write_now
     OutOfMemory =
     ((written ≡ sink) ⊎ (ReadToEnd × Writes IsPart old new)) × (read_now ≡ read_before)
     × (write_now ≡ write_before)

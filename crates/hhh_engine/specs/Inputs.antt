@@ -1,5 +1,5 @@
 -- What a command reads.
-use Rattle.std.specs.Prelude.{⊤, ℕ, ◌≡◌, ◌≤◌, true, List, Option, Some}
+use Rattle.std.specs.Prelude.{⊤, ℕ, ◌≡◌, ◌≤◌, true, List, Option, Some, IfSome}
 use Rattle.std.specs.Io.KnownBytes.{IsAtEnd}
 use Rattle.prefix_lattice.specs.{RecordValue}
 use Rattle.pcap_frames.specs.{FrameValue}
@@ -43,6 +43,16 @@ abbrev pub WasRead : Command → InputBytes → Type 0
 WasRead (Weigh prefix settings) read = IsAtEnd read.capture_left
 WasRead (Report settings) read = IsAtEnd read.capture_left
 WasRead (Format settings) read = ⊤
+
+-- the file is a capture of some frames
+abbrev pub IsCapture : List ℕ → Type 0
+IsCapture file = (frames : List FrameValue) × HasFrames file frames
+
+-- what a command reads was accepted: its capture is one, where its bytes are known
+abbrev pub WasAccepted : Command → InputBytes → Type 0
+WasAccepted (Weigh prefix settings) read = IfSome read.capture IsCapture
+WasAccepted (Report settings) read = IfSome read.capture IsCapture
+WasAccepted (Format settings) read = ⊤
 
 -- the bytes of a source are known, and they are a capture of some frames
 pub record HasKnownCapture (bytes : Option (List ℕ)) : Type 0 where

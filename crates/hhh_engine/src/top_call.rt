@@ -1,6 +1,6 @@
 //! The top call: from arguments, a capture and the disk of a store to an output text and a status.
 
-ghost use Rattle.std.specs.Prelude.{◌≡◌, ◌⊎◌, ℕ, List, Some};
+ghost use Rattle.std.specs.Prelude.{◌≡◌, ◌⊎◌, ℕ, List, Some, true};
 ghost use Rattle.outside_io.specs.{Rose};
 ghost use Rattle.prefix_lattice.specs.{RecordValue};
 ghost use Rattle.pcap_frames.specs.{FrameValue};
@@ -17,7 +17,7 @@ ghost use Rattle.command_words.specs.declared.settings.Settings.{Settings};
 ghost use Rattle.command_words.specs.declared.words_kind.WordsKind.{WordsKind};
 ghost use Rattle.hhh_engine.specs.Answer.{Answers, AnswersInPart, IsAnswer, IsAnswerInPart};
 ghost use Rattle.hhh_engine.specs.Ending.{Ends, FailedDisk, FailedToRead, FailedToWrite, FormatEnds, RefusedCapture, RefusedStore, RefusedWords, RefusesFor, WroteInPart};
-ghost use Rattle.hhh_engine.specs.Inputs.{AskForNoStore, AskToRead, CanBeAnswered, UsesStore, WasRead, inputs};
+ghost use Rattle.hhh_engine.specs.Inputs.{AskForNoStore, AskToRead, CanBeAnswered, UsesStore, WasAccepted, WasRead, inputs};
 ghost use Rattle.hhh_engine.specs.Saves.{kept_in, store_settings};
 ghost use Rattle.hhh_engine.specs.Session.{AreDealtFrom};
 ghost use Rattle.hhh_engine.specs.Status.{status_of_opening};
@@ -146,6 +146,7 @@ fn answer<R: Threads + Wait + Sync, S: Source, K: Sink, D: Disk, G: Gate + Sync>
         command.now (inputs (S.left capture.old) (S.left capture.new) (D.reads disk.old)))
         (IsAnswerInPart (λ kind. ⟦<Dealer as Deals>⟧.may_answer (dealer_of kind dealers.now)) command.now (inputs (S.left capture.old) (S.left capture.new) (D.reads disk.old)))
         (WasRead command.now (inputs (S.left capture.old) (S.left capture.new) (D.reads disk.old)))
+        (WasAccepted command.now (inputs (S.left capture.old) (S.left capture.new) (D.reads disk.old)))
         (Rose (D.faults disk.old) (D.faults disk.new)) (disk.new ≡ disk.old)
         (RefusesFor command.now (λ kind. ⟦<Dealer as Deals>⟧.may_answer (dealer_of kind dealers.now)) (inputs (S.left capture.old) (S.left capture.new) (D.reads disk.old)) (D.reads disk.new))
         (S.left capture.old) (S.faults capture.old) (S.faults capture.new)

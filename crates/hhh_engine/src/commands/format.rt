@@ -18,7 +18,7 @@ use slot_disk::Disk;
 /// nothing was written, and the store is formatted again before it is used.
 pub(crate) fn format<K: Sink, D: Disk>(settings: &Settings, sink: &mut K, disk: &mut D) -> Status
     requires { AreLimited settings.now }
-    ensures ends { (capture : Option (List ℕ)) (faults : ℕ) → Ends (λ text. text ≡ formatted_text) (IsCutShort (λ text. text ≡ formatted_text)) ⊤
+    ensures ends { (capture : Option (List ℕ)) (faults : ℕ) → Ends (λ text. text ≡ formatted_text) (IsCutShort (λ text. text ≡ formatted_text)) ⊤ ⊤
         (Rose (D.faults disk.old) (D.faults disk.new)) (disk.new ≡ disk.old) (λ fault. ⊥) capture faults faults
         sink.old sink.new (K.taken sink.old) (K.taken sink.new) (K.faults sink.old) (K.faults sink.new) result }
     ensures store { FormatEnds (store_settings settings.now) (D.reads disk.new) (D.image_now disk.new)
@@ -27,7 +27,7 @@ pub(crate) fn format<K: Sink, D: Disk>(settings: &Settings, sink: &mut K, disk: 
 {
     formatted_stores_are_empty();
     let header = header_of(&store_settings(settings));
-    if slot_disk::format(disk, &header).is_err() {
+    if let Err(_) = slot_disk::format(disk, &header) {
         return Status::DiskFault;
     }
     match write_all(sink, b"formatted\n") {

@@ -8,7 +8,7 @@ ghost use Rattle.command_words.specs.{AreLimited, IsWide};
 ghost use Rattle.outside_io.specs.{Rose};
 ghost use Rattle.hhh_engine.specs.Ending.{Ends, RefusesStore};
 ghost use Rattle.hhh_engine.specs.Feed.{EndsDealt, IsDealtCapture};
-ghost use Rattle.hhh_engine.specs.Inputs.{inputs};
+ghost use Rattle.hhh_engine.specs.Inputs.{IsCapture, inputs};
 ghost use Rattle.hhh_engine.specs.NoText.{HasNoText};
 ghost use Rattle.hhh_engine.specs.Saves.{kept_in};
 ghost use Rattle.hhh_engine.specs.Session.{IsSession, IsSessionInPart};
@@ -56,7 +56,7 @@ pub(crate) fn report<R: Threads + Wait + Sync, S: Source, K: Sink, D: Disk, G: G
         (kept_in D.reads D.image_now D.moment D.image_since disk.old disk.new) (D.reads disk.old) file text))
         (λ front. IfSome (S.left capture.old) (λ file. IsSessionInPart settings.now
         (λ kind. ⟦<Dealer as Deals>⟧.may_answer (dealer_of kind dealers.now)) (D.reads disk.old) file front))
-        (IsAtEnd (S.left capture.new)) (Rose (D.faults disk.old) (D.faults disk.new)) (disk.new ≡ disk.old)
+        (IsAtEnd (S.left capture.new)) (IfSome (S.left capture.old) IsCapture) (Rose (D.faults disk.old) (D.faults disk.new)) (disk.new ≡ disk.old)
         (RefusesStore settings.now (λ kind. ⟦<Dealer as Deals>⟧.may_answer (dealer_of kind dealers.now))
         (inputs (S.left capture.old) (S.left capture.new) (D.reads disk.old)) (D.reads disk.new))
         (S.left capture.old) (S.faults capture.old) (S.faults capture.new)

@@ -31,7 +31,7 @@ pub(crate) fn weigh<S: Source, K: Sink>(
 ) -> Status
     ensures { Ends (λ text. IfSome (S.left capture.old) (λ file. IsWeightText prefix.now settings.now.weigh file text))
         (λ front. IfSome (S.left capture.old) (λ file. IsWeightTextInPart prefix.now settings.now.weigh file front))
-        (IsAtEnd (S.left capture.new)) ⊥ ⊤ (λ fault. ⊥) (S.left capture.old) (S.faults capture.old) (S.faults capture.new)
+        (IsAtEnd (S.left capture.new)) ⊤ ⊥ ⊤ (λ fault. ⊥) (S.left capture.old) (S.faults capture.old) (S.faults capture.new)
         sink.old sink.new (K.taken sink.old) (K.taken sink.new) (K.faults sink.old) (K.faults sink.new) result }
 {
     let text = match read_weight(alloc, prefix, settings, capture) {

@@ -1,10 +1,56 @@
-use Rattle.std.proofs.Common.{◌≡◌, ◌∙◌, sym, ap, subst}
-use Rattle.hhh_engine.specs.Feed.{IsBaseOf}
+use Rattle.std.proofs.Common.{◌≡◌, ◌∙◌, ◌⊎◌, ap, ap₂, sym, subst}
+use Rattle.hhh_engine.specs.Answer.{Writes}
+use Rattle.hhh_engine.specs.Feed.{IsBaseOf, IsFault}
+use Rattle.hhh_engine.specs.Session.{BeginsSession, SpellsSession, opening_of}
+use Rattle.hhh_engine.specs.Saves.{Saves, kept_in, store_settings}
 use Rattle.hhh_engine.proofs.BaseLemmas.{base_goes_on}
-use Rattle.hhh_engine.proofs.DealtLemmas.{no_base_ends, run_keeps, session_ends}
-use Rattle.hhh_engine.proofs.SessionTextLemmas.{spells_weaker}
+use Rattle.hhh_engine.proofs.DealtLemmas.{no_base_ends, run_keeps, session_ends, writes_dealt}
+use Rattle.hhh_engine.proofs.FaultLemmas.{fault_after}
 use Rattle.hhh_engine.proofs.commands.report.report_dealt.Goals as goal
 
 pub openings_stand-requires : goal.openings_stand-requires
-openings_stand-requires g c = λ lifetimes outlive.
+openings_stand-requires g c =
     base_goes_on c.args.settings.now c.args.fed.dealt c.in-Ok.base.cut c.in-Ok.ensures.base.begins.fits
+
+pub returns-in-Err-clause-ends : goal.returns-in-Err-clause-ends
+returns-in-Err-clause-ends g c =
+    no_base_ends c.args.settings.now c.args.fed.dealt c.args.fed.tail.items _ _ _ _ _ _ _ _ c.in-Err.status
+    c.open_base.ensures.reads c.in-Err.ensures.refused
+
+pub write_session-requires-clause-base : goal.write_session-requires-clause-base
+write_session-requires-clause-base g c = λ lifetimes outlive.
+    subst (λ store. IsBaseOf c.args.settings.now c.args.fed.dealt store c.in-Ok.base) (sym c.open_base.ensures.reads)
+    c.in-Ok.ensures.base
+
+pub returns-in-Ok-write_session-clause-ends : goal.returns-in-Ok-write_session-clause-ends
+returns-in-Ok-write_session-clause-ends g c =
+    let base = c.in-Ok.ensures.base in (
+      writes_dealt c.args.settings.now c.args.fed.dealt c.args.fed.tail.items _ _ c.in-Ok.base.cut
+          (λ cuts. Saves g.D.Disk.reads g.D.Disk.image_now g.D.Disk.moment g.D.Disk.image_since c.in-Ok.base.saver cuts
+          c.open_base.new.disk c.write_session.new.disk) _ _ base.begins
+          c.openings_stand.ensures.represents
+          (λ cuts saves used. run_keeps g.D.Disk.reads g.D.Disk.image_now g.D.Disk.moment g.D.Disk.image_since
+          c.args.settings.now c.args.fed.dealt c.in-Ok.base.positions c.in-Ok.base.saver cuts c.args.disk.now
+          c.open_base.new.disk c.write_session.new.disk base.used base.saver c.open_base.ensures.any_moment
+          c.open_base.ensures.reads saves used)
+          (subst (λ tail. Writes (SpellsSession (opening_of c.args.settings.now.capacity c.args.fed.dealt c.in-Ok.base.cut)
+          c.args.settings.now
+          (λ cuts. Saves g.D.Disk.reads g.D.Disk.image_now g.D.Disk.moment g.D.Disk.image_since c.in-Ok.base.saver cuts
+          c.open_base.new.disk c.write_session.new.disk) tail) (g.K.Sink.taken c.args.sink.now)
+          (g.K.Sink.taken c.write_session.new.sink)) c.deref.ensures.value c.in-Ok-write_session.ensures.whole),
+      ap₂ (λ s d. record { sink = s; disk = d }) c.in-Ok-write_session.ensures.faults.0
+          (c.in-Ok-write_session.ensures.faults.1 ∙ c.in-Ok.ensures.no_fault),
+    )
+
+pub returns-clause-ends : goal.returns-clause-ends
+returns-clause-ends g c =
+    session_ends c.args.settings.now c.args.fed.dealt c.args.fed.tail.items _ _ _ c.in-Ok.base.cut _ _ _ _ _ _
+    c.in-Err-write_session.status c.in-Ok.ensures.base.begins c.openings_stand.ensures.represents
+    (λ same. ap g.K.Sink.taken same)
+    (subst (λ tail. (c.write_session.new.sink ≡ c.args.sink.now)
+    ⊎ Writes (BeginsSession (opening_of c.args.settings.now.capacity c.args.fed.dealt c.in-Ok.base.cut)
+    c.args.settings.now tail) (g.K.Sink.taken c.args.sink.now) (g.K.Sink.taken c.write_session.new.sink))
+    c.deref.ensures.value c.in-Err-write_session.ensures.part)
+    (fault_after _ _ _ c.in-Err-write_session.status
+    (ap (λ n. record { sink = g.K.Sink.faults c.args.sink.now; disk = n }) c.in-Ok.ensures.no_fault)
+    c.in-Err-write_session.ensures.fault)

@@ -11,15 +11,15 @@ use Rattle.hhh_engine.proofs.SessionLemmas.{on_err_of, on_ok_of}
 use Rattle.hhh_engine.proofs.commands.session.write_session.Goals as goal
 
 pub openings_stand-requires : goal.openings_stand-requires
-openings_stand-requires g c = λ lifetimes outlive.
+openings_stand-requires g c =
     base_goes_on c.args.settings.now c.args.dealt c.args.base.cut c.requires.base.begins.fits
 
 pub opened_line-requires : goal.opened_line-requires
-opened_line-requires g c = λ lifetimes outlive.
+opened_line-requires g c =
     subst ArePositions (sym c.requires.base.positions_are) c.openings_stand.ensures.positions
 
 pub open-requires-clause-fits : goal.open-requires-clause-fits
-open-requires-clause-fits g c = λ lifetimes outlive.
+open-requires-clause-fits g c =
     base_goes_on c.args.settings.now c.args.dealt c.args.base.cut c.requires.base.begins.fits
 
 pub write_feed-requires-clause-opened : goal.write_feed-requires-clause-opened
