@@ -1,12 +1,12 @@
 -- Worked examples of what stands behind a command's word.
-use Rattle.std.proofs.Common.{◌≡◌, ◌≢◌, List, [], ◌∷◌, Some, None, inl, inr, refl, codes, arith, Bor}
+use Rattle.std.proofs.Common.{◌≡◌, ◌≢◌, ℕ, List, [], ◌∷◌, Some, None, inl, inr, refl, codes, arith, Bor}
 use Rattle.std.proofs.lemmas.List.Elements.{All-cons, All-nil}
 use Rattle.std.proofs.lemmas.List.Kept.{AllPairs-cons}
 use Rattle.std.specs.List.{All, AllPairs, Contains}
 use Rattle.command_words.specs.Arguments.{Text, Argument, positional, option, hyphen, equals_sign, IsValue, IsName}
 use Rattle.command_words.specs.Arguments.{long, Spells, Begins, SpellsAll, positionals_in, names_in, value_of, Form}
 use Rattle.command_words.specs.Arguments.{AreOfForm, AreWellFormed}
-use Rattle.command_words.specs.Scanning.{option_name, text_at, FitsRest}
+use Rattle.command_words.specs.Scanning.{form_named, option_name, text_at, FitsRest}
 use Rattle.command_words.specs.Forms.{form_of}
 use Rattle.command_words.specs.Words.{texts}
 use Rattle.command_words.specs.declared.command_word.CommandWord.TheVariants.{Weigh, Report}
@@ -110,6 +110,14 @@ positional_has_no_name = refl
 
 pub text_behind_a_reference : (word : Bor Text) → text_at (Some word) ≡ Some word.now
 text_behind_a_reference word = refl
+
+pub form_of_names : (name : Bor Text) (at : ℕ × ℕ)
+    → form_named (record {
+      positionals = record { ref_ptr = at; now = [] };
+      options = record { ref_ptr = at; now = name ∷ [] };
+      required = record { ref_ptr = at; now = name ∷ [] };
+    }) ≡ record { positionals = []; options = name.now ∷ []; required = name.now ∷ [] }
+form_of_names name at = refl
 
 pub texts_of_two_words : (word other : Bor Text) → texts (word ∷ other ∷ []) ≡ word.now ∷ other.now ∷ []
 texts_of_two_words word other = refl

@@ -1,7 +1,8 @@
 -- The first word of a command line, and what stands behind it.
-use Rattle.std.proofs.Common.{◌≡◌, ◌≢◌, List, ◌∷◌, Bor, Err, Result, ap, ◌∙◌, subst}
+use Rattle.std.proofs.Common.{◌≡◌, ◌≢◌, ◌↔◌, Bool, List, ◌∷◌, Bor, Err, Result, ap, ◌∙◌, subst}
 use Rattle.clap.specs.declared.parser.matches.ArgMatches.{ArgMatches}
-use Rattle.command_words.specs.Arguments.{Text, Argument, AreWellFormed}
+use Rattle.std.specs.Bool.{IsTrue}
+use Rattle.command_words.specs.Arguments.{Text, Argument, Form, AreWellFormed}
 use Rattle.command_words.specs.Forms.{word_of, form_of}
 use Rattle.command_words.specs.Matches.{AreMatchesOf, AreMatchesOfWords}
 use Rattle.command_words.specs.Words.{texts, HasWordsFault}
@@ -22,6 +23,13 @@ pub unknown_first : (words : List (Bor Text)) (first : Bor Text) (others : List 
     → ((word : CommandWord) → first.now ≢ word_of word)
     → HasWordsFault (texts words) UnknownCommand
 unknown_first words first others are no_command = (first.now, texts others, ap texts are, no_command)
+
+-- what a test says of one form, it says of the same form
+pub of_same_form : (test : Bool) (form other : Form) (words : List Text) → form ≡ other
+    → (IsTrue test ↔ ((arguments : List Argument) × AreWellFormed form words arguments))
+    → IsTrue test ↔ ((arguments : List Argument) × AreWellFormed other words arguments)
+of_same_form test form other words same says =
+    subst (λ f. IsTrue test ↔ ((arguments : List Argument) × AreWellFormed f words arguments)) same says
 
 -- words behind a command's word that are not well formed are a fault
 pub refused_behind : (words : List (Bor Text)) (first : Bor Text) (others : List (Bor Text)) (word : CommandWord)

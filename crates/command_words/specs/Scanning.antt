@@ -1,12 +1,21 @@
 -- What the scan of words reports, which no public contract cites.
-use Rattle.std.specs.Prelude.{ℕ, ◌≡◌, ◌≢◌, List, length, All, AllPairs, Contains, Option, Some, None, option_map}
+use Rattle.std.specs.Prelude.{ℕ, ◌≡◌, ◌≢◌, List, length, map, All, AllPairs, Contains, Option, Some, None, option_map}
 use Rattle.std.specs.Borrow.{Bor}
+use Rattle.command_words.specs.declared.form_names.FormNames.{FormNames}
 use Rattle.command_words.specs.Arguments.{Text, Argument, positional, option, SpellsAll, positionals_in, names_in, Form}
 
 -- the name of the option that an argument gives, if the argument is an option
 abbrev pub option_name : Argument → Option Text
 option_name (positional text) = None
 option_name (option name value) = Some name
+
+-- the form with these names
+abbrev pub form_named : FormNames → Form
+form_named names = record {
+  positionals = map (λ name. name.now) names.positionals.now;
+  options = map (λ name. name.now) names.options.now;
+  required = map (λ name. name.now) names.required.now;
+}
 
 -- the text that a reference points to, if there is a reference
 abbrev pub text_at : Option (Bor Text) → Option Text

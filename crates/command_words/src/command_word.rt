@@ -1,8 +1,11 @@
-//! The names of commands, and the positionals and options that each command takes.
+//! The names of commands, and what each command takes.
 
-ghost use Rattle.std.specs.Prelude.{◌≡◌, ◌≢◌, ◌↔◌, map, Contains, IfSome, IfNone, IsTrue};
+ghost use Rattle.std.specs.Prelude.{◌≡◌, ◌≢◌, IfSome, IfNone};
 ghost use Rattle.command_words.specs.Forms.{word_of, form_of};
+ghost use Rattle.command_words.specs.Scanning.{form_named};
 ghost use Rattle.command_words.specs.declared.command_word.CommandWord.{CommandWord};
+
+use crate::form_names::FormNames;
 
 /// The name of a command, which is the first argument of a command line.
 #[derive(Clone, Copy, Debug, PartialEq, Eq)]
@@ -52,41 +55,26 @@ impl CommandWord {
         }
     }
 
-    /// The names of the command's positionals, in their order.
-    pub fn positionals<'a>(self) -> &'a [&'a str]
-        ensures { map (λ name. name.now) result.now ≡ (form_of self).positionals }
+    /// What the command takes.
+    pub(crate) fn form<'a>(self) -> FormNames<'a>
+        ensures { form_named result ≡ form_of self }
     {
         match self {
-            CommandWord::Weigh => WEIGH_POSITIONALS.as_slice(),
-            CommandWord::Report | CommandWord::Format => NONE.as_slice(),
+            CommandWord::Weigh => FormNames {
+                positionals: WEIGH_POSITIONALS.as_slice(),
+                options: WEIGH_OPTIONS.as_slice(),
+                required: NONE.as_slice(),
+            },
+            CommandWord::Report => FormNames {
+                positionals: NONE.as_slice(),
+                options: REPORT_OPTIONS.as_slice(),
+                required: NONE.as_slice(),
+            },
+            CommandWord::Format => FormNames {
+                positionals: NONE.as_slice(),
+                options: FORMAT_OPTIONS.as_slice(),
+                required: FORMAT_REQUIRED.as_slice(),
+            },
         }
-    }
-
-    /// The names of the command's options.
-    pub fn options<'a>(self) -> &'a [&'a str]
-        ensures { map (λ name. name.now) result.now ≡ (form_of self).options }
-    {
-        match self {
-            CommandWord::Weigh => WEIGH_OPTIONS.as_slice(),
-            CommandWord::Report => REPORT_OPTIONS.as_slice(),
-            CommandWord::Format => FORMAT_OPTIONS.as_slice(),
-        }
-    }
-
-    /// The names of the options that the command can't do without.
-    pub fn required<'a>(self) -> &'a [&'a str]
-        ensures { map (λ name. name.now) result.now ≡ (form_of self).required }
-    {
-        match self {
-            CommandWord::Weigh | CommandWord::Report => NONE.as_slice(),
-            CommandWord::Format => FORMAT_REQUIRED.as_slice(),
-        }
-    }
-
-    /// Whether the command has an option of this name.
-    pub fn has_option(self, name: &str) -> bool
-        ensures { IsTrue result ↔ Contains (form_of self).options name.now }
-    {
-        self.options().contains(&name)
     }
 }

@@ -3,6 +3,7 @@
 
 mod command;
 mod command_word;
+mod form_names;
 mod opt;
 mod parsing;
 mod path_texts;

@@ -37,8 +37,9 @@ fn parser_of<'a>(alloc: Global, command: CommandWord) -> Result<Command<'a>, All
     let parser = Command::new(alloc, command.word())
         .no_binary_name(true)
         .disable_help_flag(true);
-    let parser = take_positionals(alloc, parser, command.positionals())?;
-    take_options(alloc, parser, command.options())
+    let form = command.form();
+    let parser = take_positionals(alloc, parser, form.positionals)?;
+    take_options(alloc, parser, form.options)
 }
 
 // The parser with positionals of these names added.

@@ -62,7 +62,7 @@ fn path_in<'a>(line: &CommandLine<'a>, name: &str, default: &'a str) -> &'a str
         → result.now ≡ unwrap_or (first_value (found_of line.now.matches) name.now) default.entry.now }
     ensures absent { (Contains (form_of line.now.word).options name.now → ⊥) → result.now ≡ [] }
 {
-    if !line.word.has_option(name) {
+    if !line.word.form().has_option(name) {
         return "";
     }
     line.matches.get_str(name).unwrap_or(default)

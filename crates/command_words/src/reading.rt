@@ -68,7 +68,7 @@ pub(crate) fn read_line<'a>(
     let Some(word) = CommandWord::of(first) else {
         return Err(WordsRefusal::Bad(WordsKind::UnknownCommand));
     };
-    if !are_well_formed(word, behind) {
+    if !are_well_formed(&word.form(), behind) {
         return Err(WordsRefusal::Bad(WordsKind::Refused));
     }
     let matches = parse(alloc, word, behind)?;

@@ -2,18 +2,17 @@
 
 ghost use Rattle.std.specs.Prelude.{◌≡◌, ◌↔◌, ◌<◌, ◌≤◌, List, drop, length, All, Contains, Some, IfSome, IfNone, IsTrue};
 ghost use Rattle.command_words.specs.Arguments.{Argument, AreWellFormed, Begins, IsValue, SpellsAll, Text, names_in};
-ghost use Rattle.command_words.specs.Scanning.{text_at, option_name, FitsRest};
-ghost use Rattle.command_words.specs.Forms.{form_of};
+ghost use Rattle.command_words.specs.Scanning.{form_named, text_at, option_name, FitsRest};
 ghost use Rattle.command_words.specs.Words.{texts};
 
-use crate::command_word::CommandWord;
+use crate::form_names::FormNames;
 
-/// Whether the words after the command's name are well formed: they are its positionals, each once, and options
-/// of its own, each at most once and the required ones among them, in any order.
-pub(crate) fn are_well_formed(command: CommandWord, behind: &[&str]) -> bool
-    ensures { IsTrue result ↔ ((arguments : List Argument) × AreWellFormed (form_of command) (texts behind.now) arguments) }
+/// Whether words are well formed: they are the positionals of the form, each once, and options of it, each at most
+/// once and the required ones among them, in any order.
+pub(crate) fn are_well_formed(form: &FormNames<'_>, behind: &[&str]) -> bool
+    ensures { IsTrue result ↔ ((arguments : List Argument) × AreWellFormed (form_named form.now) (texts behind.now) arguments) }
 {
-    fit(command, behind, command.positionals().len()) && are_present(command.required(), behind)
+    fit(form, behind, form.positionals.len()) && are_present(form.required, behind)
 }
 
 // Whether options of all these names are present among the arguments that the words spell.
@@ -29,25 +28,25 @@ fn are_present(names: &[&str], words: &[&str]) -> bool
     true
 }
 
-// Whether the words spell exactly this many positionals, and options of the command, none of them twice. An
+// Whether the words spell exactly this many positionals, and options of the form, none of them twice. An
 // argument that doesn't fit ends the scan, so it calls itself at most once for each positional and each option.
-fn fit(command: CommandWord, words: &[&str], positionals: usize) -> bool
-    ensures { IsTrue result ↔ ((arguments : List Argument) × FitsRest (form_of command) positionals (texts words.now) arguments) }
+fn fit(form: &FormNames<'_>, words: &[&str], positionals: usize) -> bool
+    ensures { IsTrue result ↔ ((arguments : List Argument) × FitsRest (form_named form.now) positionals (texts words.now) arguments) }
 {
     let Some(front) = front_of(words) else {
         return words.is_empty() && positionals == 0;
     };
     let others = &words[front.words..];
     let Some(name) = front.option else {
-        return positionals > 0 && fit(command, others, positionals - 1);
+        return positionals > 0 && fit(form, others, positionals - 1);
     };
-    if !command.has_option(name) {
+    if !form.has_option(name) {
         return false;
     }
     if stands(others, name) {
         return false;
     }
-    fit(command, others, positionals)
+    fit(form, others, positionals)
 }
 
 // Whether an option of this name is present among the arguments that the words spell.

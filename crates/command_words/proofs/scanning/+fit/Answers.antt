@@ -1,8 +1,7 @@
 use Rattle.std.proofs.Common.{refl, sym, ap, ◌∙◌, arith}
 use Rattle.std.proofs.lemmas.Bool.{false≢true}
 use Rattle.std.proofs.lemmas.Bool.Decides.{Decides-eqb, Decides-ltb}
-use Rattle.command_words.specs.Scanning.{text_at}
-use Rattle.command_words.specs.Forms.{form_of}
+use Rattle.command_words.specs.Scanning.{form_named, text_at}
 use Rattle.command_words.specs.Words.{texts}
 use Rattle.command_words.proofs.ArgumentTailLemmas.{begins_range, no_texts, no_words}
 use Rattle.command_words.proofs.FormLemmas.{none_fit, fit_none, positional_fits, fit_positional, option_fits}
@@ -11,7 +10,7 @@ use Rattle.command_words.proofs.scanning.+fit.Goals as goal
 
 pub returns-then-is_empty : goal.returns-then-is_empty
 returns-then-is_empty t c =
-    let form = form_of c.args.command in let n = c.args.positionals in let words = c.args.words.now in
+    let form = form_named c.args.form.now in let n = c.args.positionals in let words = c.args.words.now in
     let empty = no_texts words ((Decides-eqb _ 0).0 (sym c.if-is_empty.ensures)) in (
       λ yes. none_fit form n (texts words) empty ((Decides-eqb n 0).0 yes),
       λ fits. (Decides-eqb n 0).1 (fit_none form n (texts words) c.in_default.ensures.none fits).1,
@@ -19,7 +18,7 @@ returns-then-is_empty t c =
 
 pub returns-else-is_empty : goal.returns-else-is_empty
 returns-else-is_empty t c =
-    let form = form_of c.args.command in let n = c.args.positionals in let words = c.args.words.now in (
+    let form = form_named c.args.form.now in let n = c.args.positionals in let words = c.args.words.now in (
       λ yes. absurd (false≢true (sym c.if-is_empty.false ∙ yes)),
       λ fits.
           absurd (false≢true
@@ -30,7 +29,7 @@ returns-else-is_empty t c =
 
 pub returns-then-positionals-gt0 : goal.returns-then-positionals-gt0
 returns-then-positionals-gt0 t c =
-    let form = form_of c.args.command in let n = c.args.positionals in
+    let form = form_named c.args.form.now in let n = c.args.positionals in
     let front = begins_range c.args.words.now c.in-Some.front.words _ c.in-Some.ensures.some in
     let is = sym (ap text_at c.in_default-option.is) ∙ front.2 in (
       λ yes. positional_fits form n _ _ front.0 front.1 is (omega arith) (c.fit.ensures.0 yes),
@@ -39,7 +38,7 @@ returns-then-positionals-gt0 t c =
 
 pub returns-else-positionals-gt0 : goal.returns-else-positionals-gt0
 returns-else-positionals-gt0 t c =
-    let form = form_of c.args.command in let n = c.args.positionals in
+    let form = form_named c.args.form.now in let n = c.args.positionals in
     let front = begins_range c.args.words.now c.in-Some.front.words _ c.in-Some.ensures.some in
     let is = sym (ap text_at c.in_default-option.is) ∙ front.2 in (
       λ yes. absurd (omega (arith, (Decides-ltb 0 n).0 yes)),
@@ -48,7 +47,7 @@ returns-else-positionals-gt0 t c =
 
 pub returns-then-not-has_option : goal.returns-then-not-has_option
 returns-then-not-has_option t c =
-    let form = form_of c.args.command in let n = c.args.positionals in
+    let form = form_named c.args.form.now in let n = c.args.positionals in
     let front = begins_range c.args.words.now c.in-Some.front.words _ c.in-Some.ensures.some in
     let is = sym (ap text_at c.in-Some-option.is) ∙ front.2 in (
       λ yes. absurd (false≢true yes),
@@ -58,7 +57,7 @@ returns-then-not-has_option t c =
 
 pub returns-then-stands : goal.returns-then-stands
 returns-then-stands t c =
-    let form = form_of c.args.command in let n = c.args.positionals in
+    let form = form_named c.args.form.now in let n = c.args.positionals in
     let front = begins_range c.args.words.now c.in-Some.front.words _ c.in-Some.ensures.some in
     let is = sym (ap text_at c.in-Some-option.is) ∙ front.2 in (
       λ yes. absurd (false≢true yes),
@@ -69,7 +68,7 @@ returns-then-stands t c =
 
 pub returns : goal.returns
 returns t c =
-    let form = form_of c.args.command in let n = c.args.positionals in
+    let form = form_named c.args.form.now in let n = c.args.positionals in
     let front = begins_range c.args.words.now c.in-Some.front.words _ c.in-Some.ensures.some in
     let is = sym (ap text_at c.in-Some-option.is) ∙ front.2 in (
       λ yes.

@@ -1,0 +1,59 @@
+-- What is written is the capture of the frames so far, and the other frames follow.
+use Rattle.std.proofs.Common.{◌≡◌, ◌+◌, ◌-◌, ◌++◌, ◌∙◌, ap, arith, refl, subst, sym}
+use Rattle.std.specs.Io.KnownBytes.{Appends}
+use Rattle.std.proofs.KnownBytes.{Appends-trans}
+use Rattle.outside_io.specs.{AppendsBeginning}
+use Rattle.traffic_maker.specs.Capture.{capture_header, made_capture, made_frames}
+use Rattle.traffic_maker.proofs.FrameLemmas.{capture_of_none, capture_more}
+use Rattle.traffic_maker.proofs.PieceLemmas.{begins_after, begins_in_first, on_err}
+use Rattle.traffic_maker.proofs.making.make.Goals as goal
+
+pub returns-in_err-write_all-clause-beginning : goal.returns-in_err-write_all-clause-beginning
+unfolding capture_header
+returns-in_err-write_all-clause-beginning g c =
+    on_err c.from_residual.result
+    (begins_in_first _ _ _ (made_frames c.args.seed 0 c.args.frames) (made_capture c.args.seed c.args.frames)
+    c.in_err-write_all.ensures.beginning refl)
+
+pub loop-made-init : goal.loop-made-init
+unfolding capture_header
+loop-made-init g c = record {
+  within = omega arith;
+  written =
+      subst (Appends (g.K.Sink.taken c.args.sink.now) (g.K.Sink.taken c.write_all.new.sink))
+      (sym (capture_of_none c.args.seed)) c.in_ok-write_all.ensures.whole;
+  kept = c.in_ok-write_all.ensures.cause.kept;
+  drawn = c.from_seed-draws.ensures;
+}
+
+pub returns-in_err-write_all-2-clause-beginning : goal.returns-in_err-write_all-2-clause-beginning
+returns-in_err-write_all-2-clause-beginning g c =
+    let seed = c.args.seed in
+    let made = c.loop-made.made in
+    let count = c.min-count.result in
+    let more = c.args.frames - (made + count) in
+    let held = c.loop-made.invariant in
+    let piece = c.as_slice.ensures ∙ c.fill.ensures.made seed held.drawn in
+    let all : c.args.frames ≡ made + count + more = omega (arith, c.min-count.ensures, held.within) in
+    let joined = ap (made_capture seed) all ∙ capture_more seed (made + count) more
+    ∙ ap (λ front. front ++ made_frames seed (made + count) more) (capture_more seed made count) in
+    on_err c.from_residual-in_err-write_all-2.result
+    (begins_after _ _ _ (made_capture seed made) (made_frames seed made count) (made_frames seed (made + count) more)
+    (made_capture seed c.args.frames) held.written
+    (subst (AppendsBeginning _ _) piece c.in_err-write_all-2.ensures.beginning) joined)
+
+pub loop-made-preserved : goal.loop-made-preserved
+loop-made-preserved g c =
+    let seed = c.args.seed in
+    let made = c.loop-made.made in
+    let count = c.min-count.result in
+    let held = c.loop-made.invariant in
+    let piece = c.as_slice.ensures ∙ c.fill.ensures.made seed held.drawn in
+    let appended = Appends-trans _ _ _ (made_capture seed made) _ held.written c.in_ok-write_all-2.ensures.whole in
+    let joined = ap (λ last. made_capture seed made ++ last) piece ∙ sym (capture_more seed made count) in
+    record {
+      within = omega (arith, c.min-count.ensures, held.within);
+      written = subst (Appends _ _) joined appended;
+      kept = c.in_ok-write_all-2.ensures.cause.kept ∙ held.kept;
+      drawn = c.fill.ensures.drawn seed held.drawn;
+    }
