@@ -7,13 +7,13 @@ use Rattle.pcap_frames.specs.declared.file_order.FileOrder.TheVariants.{Little}
 use Rattle.pcap_frames.specs.{number_at, FrameValue, magic_order}
 use Rattle.frame_records.specs.{HasFrames}
 use Rattle.frame_records.specs.declared.weigh.Weigh.TheVariants.{Bytes, Packets}
-use Rattle.hhh_engine.specs.Session.{by_formula, ends_of, opening_of, start_of}
+use Rattle.hhh_engine.specs.Session.{by_formula, ends_of, new_shards, start_of}
 use Rattle.hhh_engine.specs.WeightText.{weigh_capacity, weigh_text, text_for, IsWeightText}
 use Rattle.deal_rules.specs.declared.deal_kind.DealKind.{DealKind}
 use Rattle.deal_rules.specs.declared.deal_kind.DealKind.TheVariants.{Free}
 
 -- 100 bytes from 10.1.2.3 to 20.1.2.3
-abbrev packet : RecordValue
+abbrev pub packet : RecordValue
 packet = record { src = 0x0a010203; dst = 0x14010203; weight = 100 }
 
 -- 10.0.0.0/8 20.0.0.0/8, and 11.0.0.0/8 20.0.0.0/8
@@ -28,7 +28,7 @@ abbrev pub two_lists : List (List RecordValue)
 two_lists = (packet ∷ []) ∷ [] ∷ []
 
 abbrev pub two_shards : List ShardValue
-two_shards = opening_of 512 two_lists
+two_shards = new_shards 512 two_lists
 
 pub start_of_two_shards : start_of two_shards ≡ 0 ∷ 0 ∷ []
 start_of_two_shards = refl

@@ -1,5 +1,6 @@
 -- Worked examples of what commands write and read, of what comes in its place, and of what each status says.
-use Rattle.std.proofs.Common.{◌≡◌, ℕ, List, [], ◌∷◌, ◌++◌, Some, None, inl, inr, refl, ap, codes, arith, get_or}
+use Rattle.std.proofs.Common.{◌≡◌, ℕ, List, [], ◌∷◌, ◌++◌, Some, None, inl, inr, refl, ap}
+use Rattle.std.proofs.Common.{codes, arith, get_or, length, true}
 use Rattle.std.specs.Prelude.{⊤}
 use Rattle.std.proofs.lemmas.List.Elements.{All-nil}
 use Rattle.pcap_frames.specs.declared.fault.FaultKind.TheVariants.{ShortHeader}
@@ -7,22 +8,31 @@ use Rattle.pcap_frames.specs.{header_fault, fault_at}
 use Rattle.frame_records.specs.declared.weigh.Weigh.TheVariants.{Bytes}
 use Rattle.command_words.specs.{AskFor}
 use Rattle.command_words.specs.declared.command.Command.{Command}
-use Rattle.command_words.specs.declared.command.Command.TheVariants.{Weigh, Report as report_command}
+use Rattle.command_words.specs.declared.command.Command.TheVariants.{Weigh, Report as report_command, Format}
 use Rattle.command_words.specs.declared.words_kind.WordsKind.TheVariants.{NoCommand}
 use Rattle.hhh_engine.specs.Answer.{Answers, AnswersInPart, IsAnswer, IsAnswerInPart, IsWeightTextInPart, Writes}
-use Rattle.hhh_engine.specs.Inputs.{AskToRead, CanBeAnswered, HasKnownCapture, ReadsCapture, WasRead, inputs}
-use Rattle.hhh_engine.specs.Ending.{Ends, RefusedWords, RefusedCapture, FailedToRead, FailedToWrite}
+use Rattle.hhh_engine.specs.Answer.{IsCutShort, formatted_text}
+use Rattle.hhh_engine.specs.Inputs.{AskForNoStore, AskToRead, CanBeAnswered, HasKnownCapture, ReadsCapture, UsesStore}
+use Rattle.hhh_engine.specs.Inputs.{WasAccepted, WasRead, inputs}
+use Rattle.hhh_engine.specs.Ending.{Ends, FailedDisk, FailedToRead, FailedToWrite, FormatEnds, RefusedCapture}
+use Rattle.hhh_engine.specs.Ending.{RefusedWords, RefusesFor, RefusesStore, WroteInPart}
+use Rattle.recovery.specs.declared.fault.OpenFault.{OpenFault}
+use Rattle.recovery.specs.declared.fault.OpenFault.TheVariants as opening
+use Rattle.hhh_engine.specs.Saves.{store_settings}
 use Rattle.hhh_engine.specs.NoText.{HasNoText}
+use Rattle.hhh_engine.specs.declared.status.Status.{Status}
 use Rattle.hhh_engine.specs.declared.status.Status.TheVariants.{Done, BadCapture, BadWords, ReadFault}
-use Rattle.hhh_engine.specs.declared.status.Status.TheVariants.{WriteFault, OutOfMemory}
+use Rattle.hhh_engine.specs.declared.status.Status.TheVariants.{WriteFault, DiskFault, NotFormatted, Damaged}
+use Rattle.hhh_engine.specs.declared.status.Status.TheVariants.{OutOfMemory}
 use Rattle.hhh_engine.proofs.Examples.{file, header, prefix, weight_of_the_file}
-use Rattle.hhh_engine.proofs.ExamplesOfSessions.{header_is_a_capture, in_turn, session_in_part, session_over_the_header}
-use Rattle.hhh_engine.proofs.ExamplesOfSessions.{settings, text}
+use Rattle.hhh_engine.proofs.ExamplesOfSessions.{header_is_a_capture, in_turn, keeps_nothing, session_in_part}
+use Rattle.hhh_engine.proofs.ExamplesOfSessions.{session_over_the_header, settings, text}
 
 abbrev words : List (List ℕ)
 words = codes "report" ∷ []
 
-pub session_is_the_answer : IsAnswer in_turn (report_command settings) (inputs (Some header) (Some [])) text
+pub session_is_the_answer :
+    IsAnswer in_turn keeps_nothing (report_command settings) (inputs (Some header) (Some []) None) text
 session_is_the_answer = session_over_the_header
 
 asks_for_a_report : AskFor words (report_command settings)
@@ -37,6 +47,7 @@ asks_for_a_report = record {
         as_many = refl;
         known = All-nil _;
         once = λ i j d before within. absurd (omega (arith, within));
+        complete = All-nil _;
       };
     };
   };
@@ -61,6 +72,7 @@ report_asks_to_read = record { command = report_command settings; asked = asks_f
 no_words_ask : (command : Command) → AskFor [] command → ⊥
 no_words_ask (Weigh prefix settings) asked = let begun = asked.are_words.begun in cc
 no_words_ask (report_command settings) asked = let begun = asked.are_words.begun in cc
+no_words_ask (Format settings) asked = let begun = asked.are_words.begun in cc
 
 pub no_words_ask_to_read : AskToRead [] → ⊥
 no_words_ask_to_read asks = no_words_ask asks.command asks.asked
@@ -68,22 +80,50 @@ no_words_ask_to_read asks = no_words_ask asks.command asks.asked
 pub report_reads_a_capture : ReadsCapture (report_command settings)
 report_reads_a_capture = tt
 
+pub format_reads_no_capture : ReadsCapture (Format settings) → ⊥
+format_reads_no_capture reads = reads
+
+-- the settings ask for no store
+pub report_without_a_store : UsesStore (report_command settings) → ⊥
+report_without_a_store uses = cc uses
+
+pub report_with_a_store : UsesStore (report_command (record settings { store = true }))
+report_with_a_store = refl
+
+pub report_asks_for_no_store : AskForNoStore words
+report_asks_for_no_store = record {
+  command = report_command settings;
+  asked = asks_for_a_report;
+  unused = report_without_a_store;
+}
+
 pub source_of_a_header : HasKnownCapture (Some header)
 source_of_a_header = record { file = header; told = refl; frames = []; capture = header_is_a_capture }
 
 pub silent_source_tells_no_capture : HasKnownCapture None → ⊥
 silent_source_tells_no_capture tells = let told = tells.told in cc
 
-pub report_over_a_header_can_be_answered : CanBeAnswered (report_command settings) (inputs (Some header) (Some []))
-report_over_a_header_can_be_answered = source_of_a_header
+-- of the disk nothing needs to be known
+pub report_over_a_header_can_be_answered :
+    CanBeAnswered in_turn (report_command settings) (inputs (Some header) (Some []) None)
+report_over_a_header_can_be_answered = (source_of_a_header, λ used. absurd (cc used))
+
+-- but it does with a store
+pub report_over_an_unknown_store :
+    CanBeAnswered in_turn (report_command (record settings { store = true })) (inputs (Some header) (Some []) None) → ⊥
+report_over_an_unknown_store can = let store = can.1 refl in cc store.told
+
+pub header_was_accepted : WasAccepted (report_command settings) (inputs (Some header) (Some []) None)
+header_was_accepted = ([], header_is_a_capture)
 
 -- a source with a byte left was not read to its end
-pub one_byte_left : WasRead (report_command settings) (inputs (Some header) (Some (1 ∷ []))) → ⊥
+pub one_byte_left : WasRead (report_command settings) (inputs (Some header) (Some (1 ∷ [])) None) → ⊥
 one_byte_left read = cc read
 
 -- the text stands behind what the sink held
 pub session_was_written :
-    Answers in_turn words (inputs (Some header) (Some [])) (Some (codes "# ")) (Some (codes "# " ++ text))
+    Answers in_turn keeps_nothing words (inputs (Some header) (Some []) None) (Some (codes "# "))
+    (Some (codes "# " ++ text))
 session_was_written = record {
   command = report_command settings;
   asked = asks_for_a_report;
@@ -93,7 +133,7 @@ session_was_written = record {
 
 -- a sink with room for 12 bytes took a part of the first line
 pub session_was_written_in_part :
-    AnswersInPart in_turn words (inputs (Some header) (Some [])) (Some []) (Some (codes "opened 0 0 0"))
+    AnswersInPart in_turn words (inputs (Some header) (Some []) None) (Some []) (Some (codes "opened 0 0 0"))
 session_was_written_in_part = record {
   command = report_command settings;
   asked = asks_for_a_report;
@@ -118,8 +158,29 @@ weight_in_part = record {
 }
 
 pub weight_in_part_is_an_answer_in_part :
-    IsAnswerInPart in_turn (Weigh prefix settings) (inputs (Some file) (Some [])) (codes "low 10")
+    IsAnswerInPart in_turn (Weigh prefix settings) (inputs (Some file) (Some []) None) (codes "low 10")
 weight_in_part_is_an_answer_in_part = weight_in_part
+
+-- `format` writes one line, whatever its inputs are
+pub text_of_format : formatted_text ≡ codes "formatted\n"
+text_of_format = refl
+
+pub format_answers_in_a_line :
+    IsAnswer in_turn keeps_nothing (Format settings) (inputs None None None) (codes "formatted\n")
+format_answers_in_a_line = refl
+
+pub format_is_cut_short : IsAnswerInPart in_turn (Format settings) (inputs None None None) (codes "format")
+format_is_cut_short = record {
+  text = formatted_text;
+  is_text = refl;
+  begins = (codes "ted\n", refl);
+  cut = omega arith;
+}
+
+-- a whole text isn't cut short
+pub whole_text_is_not_cut_short : IsCutShort (λ text. text ≡ codes "yes") (codes "yes") → ⊥
+whole_text_is_not_cut_short short =
+    let same : length short.text ≡ 3 = ap length short.is_text in omega (arith, same, short.cut)
 
 -- no text comes of an empty file, nor where the source failed
 pub empty_file_has_no_text : HasNoText (Some []) 0 0 (BadCapture (fault_at ShortHeader 0))
@@ -139,27 +200,70 @@ memory_may_want_at_any_time = tt
 pub success_has_a_text : HasNoText (Some header) 3 3 Done → ⊥
 success_has_a_text no_text = no_text
 
--- ---- what a status says, of sinks that are lists of bytes
+-- ---- what a status says, of sources, sinks and disks that are lists of bytes
 
 -- the first byte was read before the missing command was seen
-pub no_command_before_a_read : RefusedWords {S = List ℕ} {K = List ℕ} [] NoCommand (1 ∷ 2 ∷ []) (2 ∷ []) [] [] → ⊥
+pub no_command_before_a_read :
+    RefusedWords {S = List ℕ} {K = List ℕ} {D = List ℕ} [] NoCommand (1 ∷ 2 ∷ []) (2 ∷ []) [] [] [] [] → ⊥
 no_command_before_a_read refused =
     let same : 2 ≡ 1 = ap (λ bytes. get_or bytes 0 0) refused.unread in omega (arith, same)
 
-pub no_command : RefusedWords {S = List ℕ} {K = List ℕ} [] NoCommand (1 ∷ 2 ∷ []) (1 ∷ 2 ∷ []) [] []
-no_command = record { first_fault = refl; unread = refl; unwritten = refl }
+pub no_command :
+    RefusedWords {S = List ℕ} {K = List ℕ} {D = List ℕ} [] NoCommand (1 ∷ 2 ∷ []) (1 ∷ 2 ∷ []) [] [] (7 ∷ []) (7 ∷ [])
+no_command = record { first_fault = refl; unread = refl; unwritten = refl; untouched = refl }
 
-pub empty_file_is_refused : RefusedCapture {K = List ℕ} (Some []) (fault_at ShortHeader 0) [] []
-empty_file_is_refused = record { first_fault = empty_file_has_no_text; unwritten = refl }
+pub empty_file_is_refused :
+    RefusedCapture {K = List ℕ} {D = List ℕ} (Some []) (fault_at ShortHeader 0) [] [] (7 ∷ []) (7 ∷ [])
+empty_file_is_refused = record { first_fault = empty_file_has_no_text; unwritten = refl; untouched = refl }
 
-pub source_failed : FailedToRead {K = List ℕ} 3 4 [] []
-source_failed = record { rose = omega arith; unwritten = refl }
+-- a disk that changed isn't untouched
+pub capture_refused_after_a_save :
+    RefusedCapture {K = List ℕ} {D = List ℕ} (Some []) (fault_at ShortHeader 0) [] [] (7 ∷ []) (8 ∷ []) → ⊥
+capture_refused_after_a_save refused =
+    let same : 8 ≡ 7 = ap (λ bytes. get_or bytes 0 0) refused.untouched in omega (arith, same)
+
+pub source_failed : FailedToRead {K = List ℕ} {D = List ℕ} 3 4 [] [] (7 ∷ []) (7 ∷ [])
+source_failed = record { rose = omega arith; unwritten = refl; untouched = refl }
 
 pub sink_failed_in_the_session :
-    FailedToWrite in_turn words (inputs (Some header) (Some [])) (Some []) (Some (codes "opened 0 0 0")) 3 4
+    FailedToWrite in_turn words (inputs (Some header) (Some []) None) (Some []) (Some (codes "opened 0 0 0")) 3 4
 sink_failed_in_the_session = record { rose = omega arith; in_part = session_was_written_in_part }
 
--- ---- how a command ended, whose text is "yes" and whose sink held nothing
+-- a disk fails before anything is written, or after a part
+pub nothing_was_written_in_part : WroteInPart {K = List ℕ} in_turn [] (inputs None None None) [] [] (Some []) (Some [])
+nothing_was_written_in_part = inl refl
+
+pub disk_failed_in_the_session :
+    FailedDisk {K = List ℕ} in_turn words (inputs (Some header) (Some []) None) [] (codes "opened 0 0 0") (Some [])
+    (Some (codes "opened 0 0 0")) 3 4
+disk_failed_in_the_session = record { rose = omega arith; in_part = inr session_was_written_in_part }
+
+-- where no store is asked for, none is refused
+pub no_store_is_refused : (fault : OpenFault)
+    → RefusesStore settings in_turn (inputs (Some header) (Some []) None) None fault → ⊥
+no_store_is_refused fault refuses = cc refuses.0
+
+pub format_refuses_no_store : (fault : OpenFault)
+    → RefusesFor (Format settings) in_turn (inputs None None None) None fault → ⊥
+format_refuses_no_store fault refuses = refuses
+
+-- where the disk fails, `format` writes nothing; where memory runs out, the disk is as before too
+pub format_on_a_disk_that_failed :
+    FormatEnds {K = List ℕ} {D = List ℕ} (store_settings settings) None (λ image. ⊤) [] [] [] (8 ∷ []) DiskFault
+format_on_a_disk_that_failed = refl
+
+pub format_without_memory :
+    FormatEnds {K = List ℕ} {D = List ℕ} (store_settings settings) None (λ image. ⊤) [] [] [] (8 ∷ []) OutOfMemory → ⊥
+format_without_memory ended =
+    let same : 1 ≡ 0 = ap (λ (bytes : List ℕ). length bytes) ended.1 in omega (arith, same)
+
+-- `format` reads no capture that could be refused
+pub format_refuses_no_capture :
+    FormatEnds {K = List ℕ} {D = List ℕ} (store_settings settings) None (λ image. ⊤) [] [] [] []
+    (BadCapture (fault_at ShortHeader 0)) → ⊥
+format_refuses_no_capture ended = ended
+
+-- ---- how a command ended, whose text is "yes", whose sink held nothing, and whose disk failed but didn't change
 
 -- bytes of "yes", which is the text, or of "ye", which is a part
 abbrev yes : List ℕ → Type 0
@@ -168,28 +272,51 @@ yes text = text ≡ codes "yes"
 abbrev part : List ℕ → Type 0
 part text = text ≡ codes "ye"
 
+-- its store isn't formatted
+abbrev unformatted : OpenFault → Type 0
+unformatted fault = fault ≡ opening.NotFormatted
+
+-- how it ended with these counts of faults, and these bytes in the sink
+abbrev ends_with : (read_before read_now : ℕ) → List ℕ → (write_before write_now : ℕ) → Status → Type 0
+ends_with read_before read_now written write_before write_now status =
+    Ends {K = List ℕ} yes part ⊤ ⊤ ⊤ ⊤ unformatted (Some []) read_before read_now [] written (Some []) (Some written)
+    write_before write_now status
+
 pub command_that_wrote_its_text :
-    Ends {K = List ℕ} yes part ⊤ (Some []) 0 0 [] (codes "yes") (Some []) (Some (codes "yes")) 0 0 Done
+    ends_with 0 0 (codes "yes") 0 0 Done
 command_that_wrote_its_text = (tt, record { text = codes "yes"; is_text = refl; written = refl }, refl, refl)
 
 pub command_that_wrote_a_part :
-    Ends {K = List ℕ} yes part ⊤ (Some []) 0 0 [] (codes "ye") (Some []) (Some (codes "ye")) 0 1 WriteFault
+    ends_with 0 0 (codes "ye") 0 1 WriteFault
 command_that_wrote_a_part =
     (tt, record { text = codes "ye"; is_text = refl; written = refl }, omega arith, refl)
 
-pub command_whose_source_failed : Ends {K = List ℕ} yes part ⊤ (Some []) 3 4 [] [] (Some []) (Some []) 0 0 ReadFault
-command_whose_source_failed = (omega arith, refl, refl)
+pub command_whose_source_failed : ends_with 3 4 [] 0 0 ReadFault
+command_whose_source_failed = (omega arith, refl, tt, refl)
 
 -- the count of faults stayed
 pub source_that_did_not_fail :
-    Ends {K = List ℕ} yes part ⊤ (Some []) 3 3 [] [] (Some []) (Some []) 0 0 ReadFault → ⊥
+    ends_with 3 3 [] 0 0 ReadFault → ⊥
 source_that_did_not_fail ended = omega (arith, ended.0)
 
 -- arguments are told bad before anything is read
 pub bad_words_end_no_command :
-    Ends {K = List ℕ} yes part ⊤ (Some []) 0 0 [] [] (Some []) (Some []) 0 0 (BadWords NoCommand) → ⊥
+    ends_with 0 0 [] 0 0 (BadWords NoCommand) → ⊥
 bad_words_end_no_command ended = ended
 
 -- memory may run out before anything is written
-pub memory_that_ran_out : Ends {K = List ℕ} yes part ⊤ (Some []) 0 0 [] [] (Some []) (Some []) 0 0 OutOfMemory
+pub memory_that_ran_out : ends_with 0 0 [] 0 0 OutOfMemory
 memory_that_ran_out = (inl refl, refl, refl)
+
+-- the disk may fail after a part of the text
+pub command_whose_disk_failed :
+    ends_with 0 0 (codes "ye") 0 0 DiskFault
+command_whose_disk_failed =
+    (tt, tt, inr (record { text = codes "ye"; is_text = refl; written = refl }), tt, refl, refl)
+
+pub command_whose_store_is_refused : ends_with 0 0 [] 0 0 NotFormatted
+command_whose_store_is_refused = (refl, tt, refl, refl, refl)
+
+-- a store that isn't formatted has no damaged body
+pub command_whose_store_has_another_fault : ends_with 0 0 [] 0 0 (Damaged 1) → ⊥
+command_whose_store_has_another_fault ended = cc ended.0

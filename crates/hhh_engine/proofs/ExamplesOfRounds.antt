@@ -1,11 +1,11 @@
 -- Worked examples of the rounds of the calling thread, and of the feed around them, over four shards without records.
 use Rattle.std.proofs.Common.{◌≡◌, ◌≤◌, ℕ, zero, suc, List, [], ◌∷◌, ◌++◌, Some, None, length, refl, sym, ap, subst}
-use Rattle.std.proofs.Common.{codes, arith}
+use Rattle.std.proofs.Common.{codes, arith, Bool, true, false, inl, inr}
 use Rattle.std.specs.Fmt.{digits}
 use Rattle.std.proofs.lemmas.List.Elements.{All-nil, All-cons, All-from_recursion}
 use Rattle.std.proofs.lemmas.Option.{same_Some}
-use Rattle.std.specs.Prelude.{All}
-use Rattle.shard_state.specs.{ShardValue}
+use Rattle.std.specs.Prelude.{⊤, All}
+use Rattle.shard_state.specs.{CutValue, ShardValue}
 use Rattle.hhh_output.specs.{IsSound}
 use Rattle.hhh_output.specs.declared.reports.Reported.{Reported}
 use Rattle.pass_tokens.specs.{IsOdd, SeatValue, ShardRead, WordsValue, after_reads, first_view}
@@ -13,14 +13,16 @@ use Rattle.gate_workers.specs.{Calls, HasSeenEnds, IsReportAt, ReadsOnce, View, 
 use Rattle.gate_workers.specs.declared.gathered.Gathered.{Gathered}
 use Rattle.report_text.specs.{tail_text}
 use Rattle.hhh_engine.specs.Session.{AreReportsOf, part_text, parts_text}
-use Rattle.hhh_engine.specs.Rounds.{BreakOff, BreaksRound, EndRounds, ReadsInVain, WritesRoundInPart, WritesRounds}
-use Rattle.hhh_engine.specs.Feed.{IsDealtCapture, IsFault, IsFed, IsGathered, IsOpened, StartsBeforeEnds}
+use Rattle.hhh_engine.specs.Rounds.{BreakOff, BreaksRound, DiskFailed, EndRounds, Faults, ReadsInVain, ReportsOnce}
+use Rattle.hhh_engine.specs.Rounds.{SinkFailed, WritesRoundInPart, WritesRounds, WritesUnsaved}
+use Rattle.hhh_engine.specs.Feed.{IsDealtCapture, IsFault, IsFed, IsGathered, IsOpened, IsSaveFault, StartsBeforeEnds}
 use Rattle.hhh_engine.specs.Feed.{WritesRoundsInPart, reports_of}
 use Rattle.hhh_engine.specs.declared.commands.session.Opened.{Opened}
-use Rattle.hhh_engine.specs.declared.commands.session.Fed.{Fed}
-use Rattle.hhh_engine.specs.declared.status.Status.TheVariants.{Done, BadWords, ReadFault, WriteFault, OutOfMemory}
+use Rattle.hhh_engine.specs.declared.commands.feed.Fed.{Fed}
+use Rattle.hhh_engine.specs.declared.status.Status.TheVariants.{Done, BadWords, ReadFault, WriteFault}
+use Rattle.hhh_engine.specs.declared.status.Status.TheVariants.{DiskFault, OutOfMemory}
 use Rattle.command_words.specs.declared.words_kind.WordsKind.TheVariants.{NoCommand}
-use Rattle.hhh_engine.proofs.OpeningLemmas.{starts_before_ends}
+use Rattle.hhh_engine.proofs.OpeningLemmas.{new_start_before_ends}
 use Rattle.hhh_engine.proofs.Examples.{header, two_lists, two_shards}
 use Rattle.hhh_engine.proofs.ExamplesOfSessions.{dealt_from_the_header, in_turn, last, lists, nothing_is_sound}
 use Rattle.hhh_engine.proofs.ExamplesOfSessions.{no_reports, once_more, one_number, one_report_with, opening, records}
@@ -29,6 +31,29 @@ use Rattle.hhh_engine.proofs.ExamplesOfSessions.{report, report_at_the_ends, run
 -- what the calling thread knows before its first round
 abbrev first : View
 first = first_view opening
+
+-- counts of faults: as before, and where the sink or the disk failed since
+abbrev pub calm : Faults
+calm = record { sink = 3; disk = 3 }
+
+abbrev pub sink_rose : Faults
+sink_rose = record { sink = 4; disk = 3 }
+
+abbrev pub disk_rose : Faults
+disk_rose = record { sink = 3; disk = 4 }
+
+pub sink_failed : SinkFailed calm sink_rose
+sink_failed = record { rose = omega arith; disk = refl }
+
+pub disk_failed : DiskFailed calm disk_rose
+disk_failed = record { rose = omega arith; sink = refl }
+
+pub disk_did_not_fail : DiskFailed calm sink_rose → ⊥
+disk_did_not_fail failed = omega (arith, failed.rose)
+
+-- no cut was saved
+abbrev none_saved : List CutValue → Type 0
+none_saved cuts = cuts ≡ []
 
 -- no round was made
 
@@ -44,15 +69,31 @@ no_calls = record {
   unsaved = All-nil _;
 }
 
-pub no_round_writes_nothing : WritesRounds opening 10000 0 first first (Some []) (Some [])
-no_round_writes_nothing = record { reports = []; calls = no_calls; sound = λ bases. All-nil _; written = refl }
+no_round_with : (store : Bool) → WritesRounds opening 10000 0 first first store (λ cuts. ⊤) (Some []) (Some [])
+no_round_with store = record {
+  reports = [];
+  calls = no_calls;
+  sound = λ bases. All-nil _;
+  written = refl;
+  kept = tt;
+}
 
-pub no_round_of_none : EndRounds opening 10000 0 first first (Some []) (Some []) 3 3 None
+pub no_round_writes_nothing : WritesRounds opening 10000 0 first first false none_saved (Some []) (Some [])
+no_round_writes_nothing = record {
+  reports = [];
+  calls = no_calls;
+  sound = λ bases. All-nil _;
+  written = refl;
+  kept = refl;
+}
+
+pub no_round_of_none : EndRounds opening 10000 0 first first false none_saved (Some []) (Some []) calm calm None
 no_round_of_none = (no_round_writes_nothing, refl)
 
 -- a fault would have ended them
-pub fault_without_a_stop : EndRounds opening 10000 0 first first (Some []) (Some []) 3 4 None → ⊥
-fault_without_a_stop ended = omega (arith, ended.1)
+pub fault_without_a_stop :
+    EndRounds opening 10000 0 first first false none_saved (Some []) (Some []) calm sink_rose None → ⊥
+fault_without_a_stop ended = let same : 4 ≡ 3 = ap (λ (faults : Faults). faults.sink) ended.1 in omega (arith, same)
 
 -- ---- a round
 
@@ -85,28 +126,51 @@ one_call = record {
   unsaved = All-cons (λ (reported : Reported). reported.saved ≡ None) last [] refl (All-nil _);
 }
 
-pub one_round_is_written : WritesRounds opening 10000 1 first after_one (Some []) (Some (part_text last))
+last_is_sound : All (λ (reported : Reported). IsSound reported.report lists 512 10000) (last ∷ [])
+last_is_sound =
+    All-cons (λ (reported : Reported). IsSound reported.report lists 512 10000) last [] nothing_is_sound (All-nil _)
+
+pub one_round_is_written :
+    WritesRounds opening 10000 1 first after_one false none_saved (Some []) (Some (part_text false last))
 unfolding digits
 one_round_is_written = record {
   reports = last ∷ [];
   calls = one_call;
-  sound = λ bases.
-      All-cons (λ (reported : Reported). IsSound reported.report lists 512 10000) last [] nothing_is_sound (All-nil _);
+  sound = λ bases. last_is_sound;
   written = refl;
+  kept = refl;
 }
 
-pub one_round_of_one : EndRounds opening 10000 1 first after_one (Some []) (Some (part_text last)) 3 3 None
+pub one_round_of_one : EndRounds opening 10000 1 first after_one false none_saved (Some [])
+    (Some (part_text false last)) calm calm None
 one_round_of_one = (one_round_is_written, refl)
+
+-- with a store the cut at the positions of the report is saved, and they are written
+abbrev one_saved : List CutValue → Type 0
+one_saved cuts = cuts ≡ cut_at opening (0 ∷ 0 ∷ 0 ∷ 0 ∷ []) ∷ []
+
+pub one_round_is_saved :
+    WritesRounds opening 10000 1 first after_one true one_saved (Some []) (Some (part_text true last))
+unfolding digits
+one_round_is_saved = record {
+  reports = last ∷ [];
+  calls = one_call;
+  sound = λ bases. last_is_sound;
+  written = refl;
+  kept = refl;
+}
 
 -- ---- a round that broke off
 
+pub report_of_one_round : ReportsOnce opening 10000 first after_one report
+report_of_one_round = record { calls = one_call; sound = λ bases. nothing_is_sound }
+
 -- a sink with room for 7 bytes took the first line of the report
-pub round_in_part : WritesRoundInPart opening 10000 first after_one (Some []) (Some (codes "report\n"))
+pub round_in_part : WritesRoundInPart opening 10000 first after_one false (Some []) (Some (codes "report\n"))
 unfolding digits
 round_in_part = record {
   report = report;
-  calls = one_call;
-  sound = λ bases. nothing_is_sound;
+  reports = report_of_one_round;
   written = record {
     front = codes "report\n";
     is_beginning = (codes "at 0 0 0 0\ntotal 0\nthreshold 1\ndone\n", refl);
@@ -114,6 +178,26 @@ round_in_part = record {
     appended = refl;
   };
 }
+
+-- with a store the line of the saved positions may be missing
+pub round_without_its_last_line :
+    WritesRoundInPart opening 10000 first after_one true (Some []) (Some (part_text false last))
+unfolding digits
+round_without_its_last_line = record {
+  report = report;
+  reports = report_of_one_round;
+  written = record {
+    front = part_text false last;
+    is_beginning = (codes "saved 0 0 0 0\n", refl);
+    cut = omega arith;
+    appended = refl;
+  };
+}
+
+-- and where the disk fails, it is
+pub unsaved_round : WritesUnsaved opening 10000 first after_one (Some []) (Some (part_text false last))
+unfolding digits
+unsaved_round = record { report = report; reports = report_of_one_round; written = refl }
 
 pub each_shard_was_read_once : ReadsOnce opening first after_one
 each_shard_was_read_once = record { reads = reads; as_many = refl; odd = no_losses; view = refl }
@@ -125,41 +209,58 @@ pub round_in_vain_writes_nothing : ReadsInVain opening first after_one (Some [])
 round_in_vain_writes_nothing vain = cc vain.unwritten
 
 pub sink_breaks_a_round :
-    BreaksRound opening 10000 first after_one (Some []) (Some (codes "report\n")) 3 4 WriteFault
-sink_breaks_a_round = (round_in_part, omega arith)
+    BreaksRound opening 10000 first after_one false (Some []) (Some (codes "report\n")) calm sink_rose WriteFault
+sink_breaks_a_round = (round_in_part, sink_failed)
 
 -- a sink that failed has counted it
 pub sink_that_did_not_fail :
-    BreaksRound opening 10000 first after_one (Some []) (Some (codes "report\n")) 3 3 WriteFault → ⊥
-sink_that_did_not_fail breaks = omega (arith, breaks.1)
+    BreaksRound opening 10000 first after_one false (Some []) (Some (codes "report\n")) calm calm WriteFault → ⊥
+sink_that_did_not_fail breaks = omega (arith, breaks.1.rose)
 
-pub memory_breaks_a_round : BreaksRound opening 10000 first after_one (Some []) (Some []) 3 3 OutOfMemory
-memory_breaks_a_round = (round_in_vain, refl)
+pub disk_breaks_a_round :
+    BreaksRound opening 10000 first after_one true (Some []) (Some (part_text false last)) calm disk_rose DiskFault
+disk_breaks_a_round = (refl, unsaved_round, disk_failed)
 
-pub success_breaks_no_round : BreaksRound opening 10000 first after_one (Some []) (Some []) 3 3 Done → ⊥
+-- without a store no disk is written to
+pub disk_breaks_no_round_without_a_store :
+    BreaksRound opening 10000 first after_one false (Some []) (Some (part_text false last)) calm disk_rose DiskFault → ⊥
+disk_breaks_no_round_without_a_store breaks = cc breaks.0
+
+pub memory_breaks_a_round :
+    BreaksRound opening 10000 first after_one false (Some []) (Some []) calm calm OutOfMemory
+memory_breaks_a_round = (inl round_in_vain, refl)
+
+-- memory may also run out in a save
+pub memory_breaks_a_save :
+    BreaksRound opening 10000 first after_one true (Some []) (Some (part_text false last)) calm calm OutOfMemory
+memory_breaks_a_save = (inr (refl, unsaved_round), refl)
+
+pub success_breaks_no_round : BreaksRound opening 10000 first after_one false (Some []) (Some []) calm calm Done → ⊥
 success_breaks_no_round breaks = breaks
 
-pub source_breaks_no_round : BreaksRound opening 10000 first after_one (Some []) (Some []) 3 4 ReadFault → ⊥
+pub source_breaks_no_round :
+    BreaksRound opening 10000 first after_one false (Some []) (Some []) calm sink_rose ReadFault → ⊥
 source_breaks_no_round breaks = breaks
 
 -- the first of two rounds broke off
 pub first_round_broke_off :
-    BreakOff opening 10000 2 first after_one (Some []) (Some (codes "report\n")) 3 4 WriteFault
+    BreakOff opening 10000 2 first after_one false (Some []) (Some (codes "report\n")) calm sink_rose WriteFault
 first_round_broke_off = record {
   whole = 0;
   few = omega arith;
   middle = first;
   between = Some [];
-  written = no_round_writes_nothing;
+  written = no_round_with false;
   broken = sink_breaks_a_round;
 }
 
 pub no_round_breaks_off :
-    BreakOff opening 10000 0 first after_one (Some []) (Some (codes "report\n")) 3 4 WriteFault → ⊥
+    BreakOff opening 10000 0 first after_one false (Some []) (Some (codes "report\n")) calm sink_rose WriteFault → ⊥
 no_round_breaks_off breaks = omega (arith, breaks.few)
 
 pub two_rounds_ended_in_the_first :
-    EndRounds opening 10000 2 first after_one (Some []) (Some (codes "report\n")) 3 4 (Some WriteFault)
+    EndRounds opening 10000 2 first after_one false none_saved (Some []) (Some (codes "report\n")) calm sink_rose
+    (Some WriteFault)
 two_rounds_ended_in_the_first = first_round_broke_off
 
 -- ---- the feed
@@ -168,28 +269,46 @@ pub dealt_capture : IsDealtCapture settings in_turn header lists (tail_text reco
 dealt_capture = record { records = records; dealt = dealt_from_the_header; is_tail = refl }
 
 pub two_shards_start_before_their_ends : StartsBeforeEnds two_shards
-two_shards_start_before_their_ends = starts_before_ends 512 two_lists
+two_shards_start_before_their_ends = new_start_before_ends 512 two_lists
 
 -- a shard of no record can't have counted one
 pub shard_past_its_end : StartsBeforeEnds (record shard { position = 1 } ∷ []) → ⊥
 shard_past_its_end starts = let start : 1 ≤ 0 = starts 0 in omega (arith, start)
 
-pub fault_of_the_sink : IsFault 3 4 WriteFault
-fault_of_the_sink = omega arith
+pub fault_of_the_sink : IsFault calm sink_rose WriteFault
+fault_of_the_sink = sink_failed
 
-pub fault_without_a_count : IsFault 3 3 WriteFault → ⊥
-fault_without_a_count rose = omega (arith, rose)
+pub fault_without_a_count : IsFault calm calm WriteFault → ⊥
+fault_without_a_count failed = omega (arith, failed.rose)
 
-pub want_of_memory : IsFault 3 3 OutOfMemory
+pub fault_of_the_disk : IsFault calm disk_rose DiskFault
+fault_of_the_disk = disk_failed
+
+-- a fault of the disk isn't told as one of the sink
+pub fault_of_the_other : IsFault calm disk_rose WriteFault → ⊥
+fault_of_the_other failed = omega (arith, failed.rose)
+
+pub want_of_memory : IsFault calm calm OutOfMemory
 want_of_memory = refl
 
-pub want_of_memory_counts_no_fault : IsFault 3 4 OutOfMemory → ⊥
-want_of_memory_counts_no_fault same = omega (arith, same)
+pub want_of_memory_counts_no_fault : IsFault calm sink_rose OutOfMemory → ⊥
+want_of_memory_counts_no_fault is =
+    let same : 4 ≡ 3 = ap (λ (faults : Faults). faults.sink) is in omega (arith, same)
 
-pub success_is_no_fault : IsFault 3 3 Done → ⊥
+pub success_is_no_fault : IsFault calm calm Done → ⊥
 success_is_no_fault fault = fault
 
-pub bad_words_are_no_fault_of_a_session : IsFault 3 3 (BadWords NoCommand) → ⊥
+-- saves fail with the disk, or for want of memory
+pub disk_fails_a_save : IsSaveFault 3 4 DiskFault
+disk_fails_a_save = omega arith
+
+pub memory_fails_a_save : IsSaveFault 3 3 OutOfMemory
+memory_fails_a_save = refl
+
+pub sink_fails_no_save : IsSaveFault 3 4 WriteFault → ⊥
+sink_fails_no_save fault = fault
+
+pub bad_words_are_no_fault_of_a_session : IsFault calm calm (BadWords NoCommand) → ⊥
 bad_words_are_no_fault_of_a_session fault = fault
 
 -- what two callers bring back with any passes
@@ -234,24 +353,25 @@ ends_were_seen (suc (suc (suc (suc place)))) state is = cc is
 
 -- nothing was reported, as the settings ask
 pub gathered_without_a_round : (seat : SeatValue) (gathered : Gathered) → gathered.called.items ≡ []
-    → IsGathered (board_of seat) settings (Some []) (Some []) (record gathered { pass = pass_of seat })
+    → IsGathered (board_of seat) settings none_saved (Some []) (Some []) (record gathered { pass = pass_of seat })
 gathered_without_a_round seat gathered nobody = record {
   pass = (opened_shards seat).pass;
   ends = ends_were_seen;
   rounds = [];
   are_rounds = no_reports;
   written = refl;
+  kept = refl;
   as_many = ap length nobody;
   callers = subst (λ called. All (AreReportsOf opening settings 0) (reports_of called)) (sym nobody) (All-nil _);
 }
 
 -- another caller was asked for
 pub gathered_without_a_caller : (seat : SeatValue) (gathered : Gathered) → gathered.called.items ≡ []
-    → IsGathered (board_of seat) running (Some []) (Some []) gathered → ⊥
+    → IsGathered (board_of seat) running none_saved (Some []) (Some []) gathered → ⊥
 gathered_without_a_caller seat gathered nobody is = omega (arith, is.as_many, ap length nobody)
 
 pub fed_without_a_round : (seat : SeatValue) (fed : Fed) → fed.gathered.called.items ≡ []
-    → IsFed (board_of seat) settings (Some []) (Some [])
+    → IsFed (board_of seat) settings none_saved (Some []) (Some [])
     (record { gathered = record fed.gathered { pass = pass_of seat }; cut = (opened seat).cut })
 fed_without_a_round seat fed nobody = record {
   gathered = gathered_without_a_round seat fed.gathered nobody;
@@ -259,7 +379,7 @@ fed_without_a_round seat fed nobody = record {
 }
 
 pub fed_with_another_cut : (seat : SeatValue) (fed : Fed)
-    → IsFed (board_of seat) settings (Some []) (Some []) (record fed { cut = cut_at [] [] }) → ⊥
+    → IsFed (board_of seat) settings none_saved (Some []) (Some []) (record fed { cut = cut_at [] [] }) → ⊥
 fed_with_another_cut seat fed is = cc is.shape.as_many
 
 -- a sink with room for 7 bytes took the first line of the only round's report
@@ -279,8 +399,8 @@ pub no_rounds_in_part : WritesRoundsInPart opening settings (Some []) (Some (cod
 no_rounds_in_part in_part =
     none in_part.rounds in_part.few in_part.front in_part.begins.0 in_part.begins.1 in_part.written
   where
-    none : (rounds : List Reported) → length rounds ≤ 0 → (front rest : List ℕ) → parts_text rounds ≡ front ++ rest
-        → codes "report\n" ≡ front → ⊥
+    none : (rounds : List Reported) → length rounds ≤ 0 → (front rest : List ℕ)
+        → parts_text false rounds ≡ front ++ rest → codes "report\n" ≡ front → ⊥
     none [] few [] rest begins written = cc written
     none [] few (byte ∷ front) rest begins written = cc begins
     none (one ∷ rounds) few front rest begins written = omega (arith, few)

@@ -1,7 +1,7 @@
 -- Worked examples of the session over a capture without frames, and of its parts.
-use Rattle.std.proofs.Common.{◌≡◌, ◌%◌, ◌≤◌, ℕ, List, [], ◌∷◌, ◌++◌, Some, None, inl, inr, refl, sym, ap, codes}
-use Rattle.std.specs.Prelude.{slice_index}
-use Rattle.std.proofs.Common.{arith, All, subst, lit<, zero, suc, false, get_or}
+use Rattle.std.proofs.Common.{◌≡◌, ◌%◌, ◌≤◌, ℕ, List, [], ◌∷◌, ◌++◌, None, inl, inr, refl, sym, ap, codes}
+use Rattle.std.specs.Prelude.{⊤, Option, slice_index}
+use Rattle.std.proofs.Common.{arith, All, subst, lit<, zero, suc, true, false, get_or}
 use Rattle.std.specs.Fmt.{digits}
 use Rattle.std.proofs.lemmas.List.{get_or-replicate}
 use Rattle.std.specs.List.Sorted.{IsNonDecreasing}
@@ -11,7 +11,7 @@ use Rattle.prefix_lattice.specs.{RecordValue, NodeValue, IsKeyOf, IsNode, index_
 use Rattle.deal_rules.specs.declared.deal_kind.DealKind.TheVariants.{RoundRobin}
 use Rattle.deal_rules.specs.{IsDealing}
 use Rattle.shard_state.specs.{CutValue, IsShard, IsSnapshot, ShardValue, empty_snapshot, entries_at, no_entries}
-use Rattle.shard_state.specs.{table_at}
+use Rattle.shard_state.specs.{BasesRepresent, SnapshotRepresents, table_at}
 use Rattle.space_saving.specs.declared.entry.Entry.{Entry}
 use Rattle.space_saving.specs.{AreEntries, interval_in, total_count}
 use Rattle.hhh_output.specs.{AreLines, IsLineOf, IsReportOf, IsSound, IsThreshold}
@@ -27,9 +27,10 @@ use Rattle.frame_records.specs.declared.weigh.Weigh.TheVariants.{Bytes}
 use Rattle.report_text.specs.{tail_text}
 use Rattle.command_words.specs.declared.settings.Settings.{Settings}
 use Rattle.hhh_engine.specs.Session.{AreDealtFrom, AreReportsOf, AreSessionReports, BeginsSession, BreaksOffInRounds}
-use Rattle.hhh_engine.specs.Session.{BreaksOffLater, IsSession, IsSessionInPart, IsShown, NeverFall, Rules}
-use Rattle.hhh_engine.specs.Session.{SessionReports, SpellsSession, opening_of, part_text, parts_text}
-use Rattle.hhh_engine.specs.Session.{rest_text, saved_text, session_text, start_of}
+use Rattle.hhh_engine.specs.Session.{BreaksOffLater, GoesOnFrom, IsSession, IsSessionInPart, IsShown, Keeping}
+use Rattle.hhh_engine.specs.Session.{NeverFall, RepresentsWhere, Rules, SessionReports, SpellsSession, calling_reports}
+use Rattle.hhh_engine.specs.Session.{callers_text, new_shards, opening_of, part_text, parts_text, rest_text}
+use Rattle.hhh_engine.specs.Session.{saved_text, session_text, start_of}
 use Rattle.hhh_engine.proofs.Examples.{header, two_shards}
 
 -- `report`, with all that it doesn't say
@@ -51,6 +52,10 @@ settings = record {
 abbrev pub in_turn : Rules
 in_turn kind place rec shards number = number ≡ place % shards
 
+-- a disk of which nothing holds, whatever was saved: it is asked of no run without a store
+abbrev pub keeps_nothing : Keeping
+keeps_nothing asked dealt cuts = ⊥
+
 pub header_is_a_capture : HasFrames header []
 unfolding number_at magic_order
 header_is_a_capture = (
@@ -67,7 +72,7 @@ abbrev pub lists : List (List RecordValue)
 lists = [] ∷ [] ∷ [] ∷ [] ∷ []
 
 abbrev pub opening : List ShardValue
-opening = opening_of 512 lists
+opening = new_shards 512 lists
 
 abbrev pub shard : ShardValue
 shard = record { list = []; base = empty_snapshot 512; position = 0 }
@@ -179,48 +184,50 @@ with_rounds rounds callers = record settings { rounds = rounds; callers = caller
 shown_with : (rounds callers : ℕ) → IsShown opening (with_rounds rounds callers) last
 shown_with rounds callers = record {
   is_report = report_at_the_ends;
-  is_sound = nothing_is_sound;
-  unsaved = refl;
+  is_sound = λ bases. nothing_is_sound;
 }
 
 pub report_is_shown : IsShown opening settings last
 report_is_shown = shown_with 0 0
 
--- a report after which a cut was saved
-abbrev saved : Reported
-saved = record { report = report; saved = Some (1 ∷ []) }
-
--- no report of this program is shown with it
-pub saved_report_is_not_shown : IsShown opening settings saved → ⊥
-saved_report_is_not_shown shown = cc shown.unsaved
-
 -- ---- the text
 
-pub nothing_was_saved : saved_text None ≡ []
-nothing_was_saved = refl
+-- a later report than the last one of the session
+abbrev later : Reported
+later = record { report = record report { positions = 1 ∷ 0 ∷ 0 ∷ 0 ∷ [] }; saved = None }
 
-pub one_position_was_saved : saved_text (Some (1 ∷ [])) ≡ codes "saved 1\n"
+pub nothing_is_saved_without_a_store : saved_text false (1 ∷ []) ≡ []
+nothing_is_saved_without_a_store = refl
+
+pub one_position_was_saved : saved_text true (1 ∷ []) ≡ codes "saved 1\n"
 unfolding digits
 one_position_was_saved = refl
 
-pub text_of_a_report : part_text last ≡ codes "report\nat 0 0 0 0\ntotal 0\nthreshold 1\ndone\n"
+pub text_of_a_report : part_text false last ≡ codes "report\nat 0 0 0 0\ntotal 0\nthreshold 1\ndone\n"
 unfolding digits
 text_of_a_report = refl
 
-pub text_of_a_saved_report : part_text saved ≡ codes "report\nat 0 0 0 0\ntotal 0\nthreshold 1\ndone\nsaved 1\n"
+-- the positions of the cut that was saved are those of the report
+pub text_of_a_saved_report :
+    part_text true later ≡ codes "report\nat 1 0 0 0\ntotal 0\nthreshold 1\ndone\nsaved 1 0 0 0\n"
 unfolding digits
 text_of_a_saved_report = refl
 
-pub no_report_no_text : parts_text [] ≡ []
+pub no_report_no_text : parts_text true [] ≡ []
 no_report_no_text = refl
 
-pub text_of_two_reports : parts_text (saved ∷ last ∷ []) ≡ part_text saved ++ part_text last
+pub text_of_two_reports : parts_text true (last ∷ later ∷ []) ≡ part_text true last ++ part_text true later
 unfolding digits
 text_of_two_reports = refl
 
+-- nothing is saved after the reports of the other callers
+pub text_of_two_callers : callers_text ((later ∷ []) ∷ (last ∷ []) ∷ []) ≡ part_text false later ++ part_text false last
+unfolding digits
+text_of_two_callers = refl
+
 -- the reports of two callers stand before the last one
-pub text_behind_the_rounds : rest_text ((saved ∷ []) ∷ (last ∷ []) ∷ []) last (codes "end\n")
-    ≡ part_text saved ++ part_text last ++ part_text last ++ codes "end\n"
+pub text_behind_the_rounds : rest_text true ((later ∷ []) ∷ (last ∷ []) ∷ []) last (codes "end\n")
+    ≡ part_text false later ++ part_text false last ++ part_text true last ++ codes "end\n"
 unfolding digits
 text_behind_the_rounds = refl
 
@@ -270,6 +277,9 @@ no_report_is_not_one are = cc are.as_many
 abbrev pub reports : SessionReports
 reports = record { rounds = []; callers = []; last = last }
 
+pub calling_thread_makes_the_last_report : calling_reports reports ≡ last ∷ []
+calling_thread_makes_the_last_report = refl
+
 pub reports_of_the_session : AreSessionReports opening settings reports
 reports_of_the_session = record { calling = one_report; at_ends = refl; as_many = refl; callers = All-nil _ }
 
@@ -310,21 +320,34 @@ records = record { list = []; frames = 0; not_ipv4 = 0; short = 0; bad_header = 
 abbrev pub text : List ℕ
 text = codes "opened 0 0 0 0\nreport\nat 0 0 0 0\ntotal 0\nthreshold 1\ndone\nframes 0\nskipped 0 0 0\nend\n"
 
-pub text_of_the_session : session_text (start_of opening) reports (tail_text records) ≡ text
+pub text_of_the_session : session_text false (start_of opening) reports (tail_text records) ≡ text
 unfolding digits
 text_of_the_session = refl
 
-pub text_of_a_running_session : session_text (start_of opening) running_reports (codes "end\n")
-    ≡ codes "opened 0 0 0 0\n" ++ part_text last ++ part_text last ++ part_text last ++ codes "end\n"
+pub text_of_a_running_session : session_text false (start_of opening) running_reports (codes "end\n")
+    ≡ codes "opened 0 0 0 0\n" ++ part_text false last ++ part_text false last ++ part_text false last
+    ++ codes "end\n"
 unfolding digits
 text_of_a_running_session = refl
 
-pub session_is_spelled : SpellsSession opening settings (tail_text records) text
-session_is_spelled = record {
+-- with a store, the cuts of the calling thread are saved, and not that of the other caller
+pub text_of_a_saving_session : session_text true (start_of opening) running_reports (codes "end\n")
+    ≡ codes "opened 0 0 0 0\n" ++ part_text true last ++ part_text false last ++ part_text true last
+    ++ codes "end\n"
+unfolding digits
+text_of_a_saving_session = refl
+
+-- no cut was saved
+spelled_where : (Kept : List CutValue → Type 0) → Kept [] → SpellsSession opening settings Kept (tail_text records) text
+spelled_where Kept kept = record {
   reports = reports;
   are_reports = reports_of_the_session;
   spelled = sym text_of_the_session;
+  kept = kept;
 }
+
+pub session_is_spelled : SpellsSession opening settings (λ cuts. ⊤) (tail_text records) text
+session_is_spelled = spelled_where (λ cuts. ⊤) tt
 
 dealt_in_turn : IsDealing RoundRobin (in_turn RoundRobin) 4 [] lists
 dealt_in_turn = record {
@@ -341,12 +364,33 @@ dealt_from_the_header = record {
   dealt = dealt_in_turn;
 }
 
-pub session_over_the_header : IsSession settings in_turn header text
+-- without a store a run goes on from nothing, whatever its disk holds
+pub begins_anew : (store : Option (List ℕ)) → GoesOnFrom settings lists store None
+begins_anew store = record { unused = λ unused. refl; fits = tt; opens = λ used. absurd (cc used) }
+
+nothing_represents : SnapshotRepresents (empty_snapshot 512) []
+unfolding no_entries
+nothing_represents = record {
+  within = omega arith;
+  shape = refl;
+  tables = λ node is_node. nothing_counted node is_node;
+}
+
+pub tables_of_no_records : BasesRepresent opening
+tables_of_no_records = All-replicate (λ shard. SnapshotRepresents shard.base shard.list) 4 shard nothing_represents
+
+pub new_shards_represent : RepresentsWhere lists None (opening_of 512 lists None)
+new_shards_represent none = tables_of_no_records
+
+pub session_over_the_header : IsSession settings in_turn keeps_nothing None header text
 session_over_the_header = record {
   records = records;
   lists = lists;
   dealt = dealt_from_the_header;
-  spelled = session_is_spelled;
+  base = None;
+  begins = begins_anew None;
+  represents = new_shards_represent;
+  spelled = spelled_where (λ cuts. settings.store ≡ true → ⊥) (λ used. absurd (cc used));
 }
 
 -- ---- a session that broke off
@@ -393,10 +437,13 @@ pub most_bytes_of_the_session : BeginsSession opening settings (tail_text record
     (codes "opened 0 0 0 0\nreport\nat 0 0 0 0\ntotal 0\nthreshold 1\ndone\nframes")
 most_bytes_of_the_session = inr broken_off_in_the_last_lines
 
-pub session_in_part : IsSessionInPart settings in_turn header (codes "opened 0 0 0")
+pub session_in_part : IsSessionInPart settings in_turn None header (codes "opened 0 0 0")
 session_in_part = record {
   records = records;
   lists = lists;
   dealt = dealt_from_the_header;
+  base = None;
+  begins = begins_anew None;
+  represents = new_shards_represent;
   begun = first_bytes_of_the_session;
 }

@@ -1,5 +1,5 @@
 -- Worked examples of statuses, and of the line that tells them.
-use Rattle.std.proofs.Common.{◌≡◌, codes, refl}
+use Rattle.std.proofs.Common.{◌≡◌, ℕ, List, codes, refl}
 use Rattle.std.specs.Fmt.{digits}
 use Rattle.pcap_frames.specs.declared.fault.CaptureFault.{CaptureFault}
 use Rattle.pcap_frames.specs.declared.fault.FaultKind.TheVariants.{CutFrame, TooManyFrames}
@@ -7,8 +7,13 @@ use Rattle.pcap_frames.specs.declared.fault.ReadRefusal.TheVariants as refusals
 use Rattle.command_words.specs.declared.opt.Opt.TheVariants.{Shards}
 use Rattle.command_words.specs.declared.words_kind.WordsKind.TheVariants.{Refused, OutOfLimits, Bound}
 use Rattle.command_words.specs.declared.words_kind.WordsRefusal.TheVariants as words
-use Rattle.hhh_engine.specs.Status.{words_text, fault_text, status_text, line_of, number_of, status_of, status_of_words}
+use Rattle.hhh_engine.specs.Status.{fault_text, line_of, number_of, status_of, status_of_opening, status_of_words}
+use Rattle.hhh_engine.specs.Status.{status_text, words_text}
 use Rattle.hhh_engine.specs.declared.status.Status.TheVariants.{Done, BadWords, BadCapture, WriteFault}
+use Rattle.hhh_engine.specs.declared.status.Status.TheVariants.{DiskFault, NotFormatted, Damaged, OtherSettings}
+use Rattle.hhh_engine.specs.declared.status.Status.TheVariants.{OtherCapture}
+use Rattle.checkpoint.specs.declared.settings.StoreSettings.{StoreSettings}
+use Rattle.recovery.specs.declared.fault.OpenFault.TheVariants as opening
 
 -- a capture that ends inside its first frame
 abbrev cut_frame : CaptureFault
@@ -55,3 +60,46 @@ number_of_a_read_fault = refl
 
 pub number_of_success : number_of Done ≡ 0
 number_of_success = refl
+
+-- ---- statuses of stores
+
+pub number_of_a_disk_fault : number_of DiskFault ≡ 6
+number_of_a_disk_fault = refl
+
+pub text_of_a_disk_fault : status_text DiskFault ≡ codes "disk fault"
+text_of_a_disk_fault = refl
+
+pub number_of_a_store_without_a_header : number_of NotFormatted ≡ 7
+number_of_a_store_without_a_header = refl
+
+pub text_of_a_store_without_a_header : status_text NotFormatted ≡ codes "store not formatted"
+text_of_a_store_without_a_header = refl
+
+pub number_of_a_damaged_store : number_of (Damaged 1) ≡ 8
+number_of_a_damaged_store = refl
+
+pub line_of_a_damaged_store : line_of (Damaged 1) ≡ codes "hhh: store damaged: slot 1\n"
+unfolding digits
+line_of_a_damaged_store = refl
+
+-- the lines don't tell the settings or the digests
+pub number_of_other_settings : (stored asked : StoreSettings) → number_of (OtherSettings stored asked) ≡ 9
+number_of_other_settings stored asked = refl
+
+pub text_of_other_settings : (stored asked : StoreSettings)
+    → status_text (OtherSettings stored asked) ≡ codes "store has other settings"
+text_of_other_settings stored asked = refl
+
+pub number_of_another_capture : (stored asked : List ℕ) → number_of (OtherCapture stored asked) ≡ 10
+number_of_another_capture stored asked = refl
+
+pub text_of_another_capture : (stored asked : List ℕ)
+    → status_text (OtherCapture stored asked) ≡ codes "store is of another capture"
+text_of_another_capture stored asked = refl
+
+pub status_of_a_damaged_store : status_of_opening (opening.Damaged 0) ≡ Damaged 0
+status_of_a_damaged_store = refl
+
+-- want of memory is told alike, whether a store was being opened or words were being read
+pub want_of_memory_for_a_store : status_of_opening opening.OutOfMemory ≡ status_of_words words.OutOfMemory
+want_of_memory_for_a_store = refl

@@ -18,3 +18,4 @@ pub mod ExamplesOfStatuses
 pub mod ExamplesOfSessions
 pub mod ExamplesOfAnswers
 pub mod ExamplesOfRounds
+pub mod ExamplesOfSaves

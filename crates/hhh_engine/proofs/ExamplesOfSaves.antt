@@ -1,0 +1,234 @@
+-- Worked examples of stores: what a run saves into one, what it goes on from, and what it then writes.
+use Rattle.std.proofs.Common.{◌≡◌, ◌≤◌, ℕ, List, [], ◌∷◌, ◌++◌, Some, None, inl, inr, refl, sym, subst, codes, arith}
+use Rattle.std.specs.Prelude.{⊤, ◌⊎◌, true, false}
+use Rattle.std.specs.Fmt.{digits}
+use Rattle.std.proofs.lemmas.List.Elements.{All-nil, All-cons}
+use Rattle.prefix_lattice.specs.{RecordValue}
+use Rattle.deal_rules.specs.declared.deal_kind.DealKind.TheVariants.{RoundRobin}
+use Rattle.shard_state.specs.{CutValue, ShardValue, SnapshotValue, empty_snapshot, no_entries}
+use Rattle.hhh_output.specs.{AreLines}
+use Rattle.hhh_output.specs.declared.line.Line.{Line}
+use Rattle.hhh_output.specs.declared.report.Report.{Report}
+use Rattle.hhh_output.specs.declared.reports.Reported.{Reported}
+use Rattle.gate_workers.specs.{cut_at}
+use Rattle.frame_records.specs.declared.records.Records.{Records}
+use Rattle.frame_records.specs.declared.weigh.Weigh.TheVariants.{Bytes}
+use Rattle.report_text.specs.{tail_text}
+use Rattle.slot_disk.specs.{Leaves-none, slots_of}
+use Rattle.checkpoint.specs.{Opens, SavedValue, SaverState, StoreHolds, header_bytes, saver_of}
+use Rattle.checkpoint.specs.declared.settings.StoreSettings.{StoreSettings}
+use Rattle.command_words.specs.declared.settings.Settings.{Settings}
+use Rattle.hhh_engine.specs.Ending.{HoldsEmptyStore}
+use Rattle.hhh_engine.specs.Inputs.{IsStoreOf}
+use Rattle.hhh_engine.specs.Saves.{KeepsSaves, LeavesSaves, OpensAmong, Saves, after_saves, last_saved, saved_after}
+use Rattle.hhh_engine.specs.Saves.{store_settings}
+use Rattle.hhh_engine.specs.Session.{GoesOnFrom, SessionReports, ends_of, opening_of, part_text, resumed_shards}
+use Rattle.hhh_engine.specs.Session.{saved_cuts, session_text, start_of}
+use Rattle.hhh_engine.proofs.Examples.{packet}
+use Rattle.hhh_engine.proofs.ExamplesOfSessions.{last, opening, settings}
+
+-- `report --store`, with one shard and tables of two entries
+abbrev one_shard : Settings
+one_shard = record settings { shards = 1; capacity = 2; store = true }
+
+abbrev one : StoreSettings
+one = store_settings one_shard
+
+-- of a command's settings a store has these
+pub settings_of_a_store : store_settings settings
+    ≡ record { shards = 4; capacity = 512; weigh = Bytes; deal = RoundRobin }
+settings_of_a_store = refl
+
+-- ---- what is saved
+
+-- cuts of no record, and, as it says, of one
+abbrev none_counted : CutValue
+none_counted = record { capacity = 2; shards = empty_snapshot 2 ∷ [] }
+
+abbrev snapshot : SnapshotValue
+snapshot = record { capacity = 2; position = 1; tables = no_entries }
+
+abbrev one_counted : CutValue
+one_counted = record { capacity = 2; shards = snapshot ∷ [] }
+
+-- with a digest that no test here looks into
+abbrev saved : ℕ → CutValue → SavedValue
+saved sequence cut = record { sequence = sequence; digest = 9 ∷ []; cut = cut }
+
+pub two_saves_after_sequence_4 : saved_after 4 (9 ∷ []) (none_counted ∷ one_counted ∷ [])
+    ≡ saved 5 none_counted ∷ saved 6 one_counted ∷ []
+two_saves_after_sequence_4 = refl
+
+pub nothing_is_saved_of_no_cut : saved_after 4 (9 ∷ []) [] ≡ []
+nothing_is_saved_of_no_cut = refl
+
+pub last_of_two_saves : last_saved None (saved 1 none_counted ∷ saved 2 one_counted ∷ []) ≡ Some (saved 2 one_counted)
+last_of_two_saves = refl
+
+-- a store to which nothing was saved opens as before
+pub last_of_no_saves : last_saved (Some (saved 4 none_counted)) [] ≡ Some (saved 4 none_counted)
+last_of_no_saves = refl
+
+-- with a store the cut at the positions of each report is saved, and without one none
+pub cut_of_one_report : saved_cuts true opening (last ∷ []) ≡ cut_at opening (0 ∷ 0 ∷ 0 ∷ 0 ∷ []) ∷ []
+cut_of_one_report = refl
+
+pub no_cuts_without_a_store : saved_cuts false opening (last ∷ last ∷ []) ≡ []
+no_cuts_without_a_store = refl
+
+-- ---- what a stop leaves
+
+-- a store whose gates are closed
+abbrev formatted : List ℕ
+formatted = 0 ∷ 0 ∷ header_bytes one
+
+formatted_holds_nothing : StoreHolds one formatted None None
+formatted_holds_nothing = record { long = omega arith; header = refl; first_slot = refl; second_slot = refl }
+
+pub formatted_opens_to_nothing : Opens one formatted None
+formatted_opens_to_nothing = (None, None, formatted_holds_nothing, refl)
+
+-- a crash in the first save may leave the store as it was
+pub first_save_was_lost : OpensAmong one None (saved_after 0 (9 ∷ []) (none_counted ∷ [])) formatted
+first_save_was_lost = inl formatted_opens_to_nothing
+
+-- and one in the second save a store that opens to the first
+pub second_save_was_lost : (image : List ℕ) → Opens one image (Some (saved 1 none_counted))
+    → OpensAmong one None (saved_after 0 (9 ∷ []) (none_counted ∷ one_counted ∷ [])) image
+second_save_was_lost image opens = inr (inl opens)
+
+pub second_save_was_made : (image : List ℕ) → Opens one image (Some (saved 2 one_counted))
+    → OpensAmong one None (saved_after 0 (9 ∷ []) (none_counted ∷ one_counted ∷ [])) image
+second_save_was_made image opens = inr (inr opens)
+
+-- but none an empty disk
+pub disk_was_emptied : OpensAmong one None (saved_after 0 (9 ∷ []) (none_counted ∷ [])) [] → ⊥
+disk_was_emptied (inl opens) = omega (arith, opens.2.long)
+disk_was_emptied (inr opens) = omega (arith, opens.2.long)
+
+-- a disk whose images are all the formatted store; its moments are numbers
+abbrev image_since : ℕ → ℕ → List ℕ → Type 0
+image_since disk moment image = image ≡ formatted
+
+abbrev pub no_saves_leave_the_store :
+    LeavesSaves {D = ℕ} (λ disk. disk) image_since one (9 ∷ []) (λ image. ⊥) [] 7 7 formatted
+no_saves_leave_the_store = record {
+  opened = None;
+  opens = formatted_opens_to_nothing;
+  any_moment = Leaves-none (λ disk. disk) image_since 7 (λ image. ⊥ ⊎ OpensAmong one None [] image)
+      (λ image is. inr (subst (λ bytes. Opens one bytes None) (sym is) formatted_opens_to_nothing));
+}
+
+pub no_saves_keep_the_store :
+    KeepsSaves {D = ℕ} (λ disk image. image ≡ formatted) (λ disk. disk) image_since one (9 ∷ []) (λ image. ⊥) [] 7 7
+    formatted
+no_saves_keep_the_store = record {
+  leaves = no_saves_leave_the_store;
+  at_last = λ image is. subst (λ bytes. Opens one bytes None) (sym is) formatted_opens_to_nothing;
+}
+
+-- the saver of the formatted store, after two saves
+abbrev saver : SaverState
+saver = saver_of (slots_of formatted) one (9 ∷ []) None
+
+pub two_saves_use_two_sequences : (after_saves saver (none_counted ∷ one_counted ∷ [])).sequence ≡ 2
+two_saves_use_two_sequences = refl
+
+pub two_saves_end_at_the_later_cut : (after_saves saver (none_counted ∷ one_counted ∷ [])).positions ≡ 1 ∷ []
+two_saves_end_at_the_later_cut = refl
+
+-- without a saver the disk stays
+pub nothing_is_saved_without_a_saver :
+    Saves {D = ℕ} (λ disk. None) (λ disk image. ⊤) (λ disk. disk) image_since None [] 7 8 → ⊥
+nothing_is_saved_without_a_saver same = omega (arith, same)
+
+-- what `format` leaves
+pub formatted_store_is_empty : HoldsEmptyStore (Some formatted) (λ image. image ≡ formatted) one
+formatted_store_is_empty bytes told image is =
+    subst (λ bytes. Opens one bytes None) (sym is) formatted_opens_to_nothing
+
+-- ---- what a run goes on from
+
+-- a list of one packet
+abbrev lists : List (List RecordValue)
+lists = (packet ∷ []) ∷ []
+
+abbrev resumed : ShardValue
+resumed = record { list = packet ∷ []; base = snapshot; position = 1 }
+
+pub one_resumed_shard : resumed_shards lists (snapshot ∷ []) ≡ resumed ∷ []
+one_resumed_shard = refl
+
+pub run_goes_on_from_a_cut : opening_of 2 lists (Some one_counted) ≡ resumed ∷ []
+run_goes_on_from_a_cut = refl
+
+pub resumed_shard_starts_at_its_cut : start_of (resumed ∷ []) ≡ 1 ∷ []
+resumed_shard_starts_at_its_cut = refl
+
+pub resumed_shard_ends_with_its_list : ends_of (resumed ∷ []) ≡ 1 ∷ []
+resumed_shard_ends_with_its_list = refl
+
+-- a formatted store is one of any lists, and a run goes on from nothing
+pub formatted_store_is_of_any_lists : (lists : List (List RecordValue)) → IsStoreOf one lists formatted
+formatted_store_is_of_any_lists lists = (None, formatted_opens_to_nothing, tt, omega arith)
+
+pub formatted_store_has_no_base : GoesOnFrom one_shard lists (Some formatted) None
+formatted_store_has_no_base = record {
+  unused = λ unused. refl;
+  fits = tt;
+  opens = λ used bytes told.
+      let same : formatted ≡ bytes = cc told in
+      (None, subst (λ bytes. Opens one bytes None) same formatted_opens_to_nothing, tt, refl);
+}
+
+-- without a store no saved cut is gone on from
+pub no_base_without_a_store : GoesOnFrom settings lists None (Some one_counted) → ⊥
+no_base_without_a_store goes_on = let none = goes_on.unused refl in cc none
+
+-- ---- the text of a session with a store, over the packet
+
+abbrev line : Line
+line = record { prefix = record { source = 10 ∷ 1 ∷ 2 ∷ 3 ∷ []; dest = 20 ∷ 1 ∷ 2 ∷ 3 ∷ [] }; lo = 100; hi = 100 }
+
+pub one_line : AreLines (line ∷ [])
+one_line = record {
+  few = omega arith;
+  ordered = All-cons (λ (line : Line). line.lo ≤ line.hi) line [] (omega arith) (All-nil _);
+  rising = λ i j d before within. absurd (omega (arith, before, within));
+}
+
+abbrev report : Report
+report = record { positions = 1 ∷ []; total = 100; threshold = 1; lines = line ∷ []; are_lines = one_line }
+
+abbrev of_the_packet : Reported
+of_the_packet = record { report = report; saved = None }
+
+abbrev reports : SessionReports
+reports = record { rounds = []; callers = []; last = of_the_packet }
+
+abbrev records : Records
+records = record { list = packet ∷ []; frames = 1; not_ipv4 = 0; short = 0; bad_header = 0 }
+
+pub report_with_a_store : part_text true of_the_packet
+    ≡ codes "report\nat 1\ntotal 100\nthreshold 1\nline 10.1.2.3/32 20.1.2.3/32 100 100\ndone\nsaved 1\n"
+unfolding digits
+report_with_a_store = refl
+
+pub session_with_a_store : session_text true (0 ∷ []) reports (tail_text records)
+    ≡ codes "opened 0\nreport\nat 1\ntotal 100\nthreshold 1\nline 10.1.2.3/32 20.1.2.3/32 100 100\ndone\nsaved 1\n"
+    ++ codes "frames 1\nskipped 0 0 0\nend\n"
+unfolding digits
+session_with_a_store = refl
+
+-- a second run over the same capture goes on at its end
+pub resumed_session : session_text true (start_of (resumed ∷ [])) reports (tail_text records)
+    ≡ codes "opened 1\nreport\nat 1\ntotal 100\nthreshold 1\nline 10.1.2.3/32 20.1.2.3/32 100 100\ndone\nsaved 1\n"
+    ++ codes "frames 1\nskipped 0 0 0\nend\n"
+unfolding digits
+resumed_session = refl
+
+pub session_without_a_store : session_text false (0 ∷ []) reports (tail_text records)
+    ≡ codes "opened 0\nreport\nat 1\ntotal 100\nthreshold 1\nline 10.1.2.3/32 20.1.2.3/32 100 100\ndone\n"
+    ++ codes "frames 1\nskipped 0 0 0\nend\n"
+unfolding digits
+session_without_a_store = refl
