@@ -1,0 +1,2 @@
+pub mod BoolListLemmas
+pub mod DepthLemmas

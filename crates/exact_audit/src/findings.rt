@@ -1,0 +1,47 @@
+//! What passes over the records find, one node at a time.
+
+use crate::counted::Counted;
+use crate::left_out::{LeftOut, first_left_out};
+use crate::line_codes::LineCodes;
+use crate::node_sums::{Sums, sums_at};
+use hhh_output::Line;
+use indexmap::IndexMap;
+use prefix_lattice::Node;
+use std::alloc::{AllocError, Global};
+
+/// The sums of each line's prefix, and the first prefix that is left out.
+#[derive(Debug, Drop)]
+pub(crate) struct Findings {
+    pub(crate) sums: Vec<Sums>,
+    pub(crate) left_out: Option<LeftOut>,
+}
+
+/// What counted records show of lines, and of the prefixes that no line has. It costs one pass over the records for each
+/// of the 25 nodes, and the memory of the keys of one node.
+pub(crate) fn find(
+    alloc: Global,
+    counted: &[Counted],
+    lines: &[Line],
+    codes: &LineCodes,
+    threshold: u64,
+) -> Result<Findings, AllocError>
+{
+    let mut line_sums = vec![in alloc; Sums::NONE; lines.len()]?;
+    let mut left_out = None;
+    for index in 0..25 {
+        let node = Node::from_index(index).unwrap();
+        let sums = sums_at(alloc, counted, node)?;
+        note_lines(&mut line_sums, lines, node, &sums);
+        left_out = first_left_out(codes, node, threshold, &sums, left_out);
+    }
+    Ok(Findings { sums: line_sums, left_out })
+}
+
+// Notes the sums of the lines of a node.
+fn note_lines(line_sums: &mut [Sums], lines: &[Line], node: Node, sums: &IndexMap<u64, Sums>) {
+    for (place, line) in lines.iter().enumerate() {
+        if line.prefix.node() == node {
+            line_sums[place] = sums.get(&line.prefix.key()).copied().unwrap_or(Sums::NONE);
+        }
+    }
+}

@@ -1,0 +1,63 @@
+//! The sums of one node.
+
+ghost use Rattle.std.specs.Prelude.{◌≡◌, ◌+◌, ◌<◌, ◌^◌, ℕ, nat_eq, true, if◌then◌else◌, ◌&&◌, not, IfOk, OnOk};
+ghost use Rattle.prefix_lattice.specs.{total_weight, total_limit};
+ghost use Rattle.exact_audit.specs.NodeSums.{AreSums, records_of, sums_for};
+
+use crate::counted::Counted;
+use indexmap::IndexMap;
+use prefix_lattice::{Node, Prefix};
+use std::alloc::{AllocError, Global};
+
+/// The weight of a prefix, and its conditioned weight, in bytes or packets.
+#[derive(Clone, Copy, Debug, PartialEq, Eq)]
+pub(crate) struct Sums {
+    pub(crate) weight: u64,
+    pub(crate) left: u64,
+}
+
+impl Sums {
+    /// The sums of no record.
+    pub(crate) const NONE: Sums = Sums { weight: 0, left: 0 };
+}
+
+/// The sums of each prefix of a node that covers a counted record, by its key, in the order in which the keys came.
+/// It costs one pass over the records.
+pub(crate) fn sums_at(
+    alloc: Global,
+    counted: &[Counted],
+    node: Node,
+) -> Result<IndexMap<u64, Sums>, AllocError>
+    requires { total_weight (records_of counted.now) < total_limit }
+    ensures { IfOk result (AreSums node counted.now) }
+{
+    let mut sums = IndexMap::new(alloc);
+    for one in counted {
+        let key = Prefix::of(&one.rec, node).key();
+        add(&mut sums, key, one.rec.weight, one.depths.explained(node))?;
+    }
+    Ok(sums)
+}
+
+// Adds the weight of a record to the sums of a key, and to what is left of it unless the record is explained.
+fn add(
+    sums: &mut IndexMap<u64, Sums>,
+    key: u64,
+    weight: u32,
+    explained: bool,
+) -> Result<(), AllocError>
+    requires weight { (sums_for sums.old key).weight + weight < 2 ^ 64 }
+    requires left { (sums_for sums.old key).left + weight < 2 ^ 64 }
+    ensures weight { OnOk result ((other : ℕ) → (sums_for sums.new other).weight
+        ≡ (sums_for sums.old other).weight + (if nat_eq key other then weight else 0)) }
+    ensures left { OnOk result ((other : ℕ) → (sums_for sums.new other).left
+        ≡ (sums_for sums.old other).left + (if nat_eq key other && not explained then weight else 0)) }
+{
+    let weight = u64::from(weight);
+    let of_key = sums.entry(key)?.or_insert(Sums::NONE);
+    of_key.weight += weight;
+    if !explained {
+        of_key.left += weight;
+    }
+    Ok(())
+}
