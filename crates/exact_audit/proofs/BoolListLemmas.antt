@@ -1,5 +1,5 @@
 -- Tests of lists: whether one of the elements passes.
-use Rattle.std.proofs.Common.{◌≡◌, ℕ, Bool, true, false, ◌&&◌, ◌||◌, not, List, [], ◌∷◌, length, All, zero, suc, cond, filter}
+use Rattle.std.proofs.Common.{◌≡◌, ℕ, Bool, true, false, ◌&&◌, ◌||◌, not, ◌<◌, List, [], ◌∷◌, length, All, zero, suc, cond, filter}
 use Rattle.std.proofs.Common.{refl, sym, ap, ◌∙◌, arith, get_or}
 use Rattle.std.specs.List.{list_any}
 use Rattle.std.proofs.lemmas.Bool.{false≢true}

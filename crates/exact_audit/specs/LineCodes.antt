@@ -11,4 +11,4 @@ code_of prefix = index_of (node_of prefix) * 2 ^ 64 + key_of prefix
 pub record AreCodesOf (lines : List PrefixValue) (codes : List ℕ) : Type 0 where
   pub prefixes : All IsPrefix lines
   pub small : All (λ line. key_of line < 2 ^ 64) lines
-  pub codes : (code : ℕ) → list_any (nat_eq code) codes ≡ list_any (λ line. nat_eq code (code_of line)) lines
+  pub coded : (code : ℕ) → list_any (nat_eq code) codes ≡ list_any (λ line. nat_eq code (code_of line)) lines

@@ -1,17 +1,19 @@
 //! The audit of a report.
 
-ghost use Rattle.std.specs.Prelude.{◌≡◌, ◌≤◌, ◌↔◌, IfOk};
+ghost use Rattle.std.specs.Prelude.{◌≡◌, ◌≤◌, ◌<◌, ◌↔◌, List, length, IfOk};
+ghost use Rattle.prefix_lattice.specs.{RecordValue, total_weight, total_limit};
 ghost use Rattle.shard_state.specs.{least_capacity, most_capacity};
-ghost use Rattle.hhh_output.specs.{million, IsSound};
+ghost use Rattle.hhh_output.specs.{million, AreLines, IsSound};
 ghost use Rattle.exact_audit.specs.declared.verdict.Verdict.{Verdict as VerdictValue};
 ghost use Rattle.exact_audit.specs.declared.verdict.Verdict.TheVariants.{Good};
-ghost use Rattle.exact_audit.specs.Verdict.{IsVerdict};
+ghost use Rattle.exact_audit.specs.Verdict.{IsLineVerdict, IsVerdict};
+ghost use Rattle.exact_audit.specs.Findings.{AreFindings};
 
 use crate::Verdict;
 use crate::counted::{are_within, count_before, total_before};
 use crate::findings::{Findings, find};
 use crate::line_codes::LineCodes;
-use crate::line_tests::{Judgement, bad_interval, low_line, not_justified, too_wide};
+use crate::line_tests::{Measures, bad_interval, low_line, not_justified, too_wide};
 use deal_rules::Dealt;
 use hhh_output::{Line, Report, threshold};
 use std::alloc::{AllocError, Global};
@@ -68,7 +70,15 @@ fn verdict_of(
     capacity: u32,
     threshold: u64,
     total: u64,
-) -> Result<Verdict, AllocError> {
+) -> Result<Verdict, AllocError>
+    requires lines { AreLines lines.now }
+    requires as_many { length findings.now.sums.items ≡ length lines.now }
+    requires capacity { capacity ≤ most_capacity }
+    requires total { total < total_limit }
+    ensures { IfOk result (λ verdict. (records : List RecordValue) → AreFindings lines.now records threshold findings.now
+        → total_weight records ≡ total
+        → IsLineVerdict (record { capacity = capacity; threshold = threshold; total = total }) records lines.now verdict) }
+{
     if let Some(line) = bad_interval(lines, &findings.sums) {
         return Ok(Verdict::BadInterval(line));
     }
@@ -78,8 +88,8 @@ fn verdict_of(
     if let Some(line) = low_line(lines, threshold) {
         return Ok(Verdict::LowLine(line));
     }
-    let judgement = Judgement { capacity, threshold, total };
-    if let Some(line) = not_justified(alloc, lines, &findings.sums, &judgement)? {
+    let by = Measures { capacity, threshold, total };
+    if let Some(line) = not_justified(alloc, lines, &findings.sums, &by)? {
         return Ok(Verdict::NotJustified(line));
     }
     Ok(match findings.left_out {

@@ -4,6 +4,7 @@ ghost use Rattle.std.specs.Prelude.{◌≡◌, ◌<◌, ◌≤◌, ◌*◌, IfOk
 ghost use Rattle.std.specs.List.{filter_map, list_any};
 ghost use Rattle.prefix_lattice.specs.{strictly_under, lines_under, greatest, closest, same_prefix, under_third, kept_meet, kept_pairs};
 ghost use Rattle.hhh_output.specs.{prefixes_of};
+ghost use Rattle.exact_audit.specs.Widths.{line_limit};
 
 use hhh_output::Line;
 use prefix_lattice::Prefix;
@@ -12,7 +13,8 @@ use std::alloc::{AllocError, Global};
 /// The closest lines of a prefix: those strictly under it that are strictly under no other such line. It costs a pass
 /// over the lines, and up to the square of the number of those under the prefix.
 pub(crate) fn closest(alloc: Global, prefix: &Prefix, lines: &[Line]) -> Result<Vec<Prefix>, AllocError>
-    ensures { IfOk result (λ found. found.items ≡ closest prefix.now (prefixes_of lines.now)) }
+    ensures closest { IfOk result (λ found. found.items ≡ closest prefix.now (prefixes_of lines.now)) }
+    ensures few { IfOk result (λ found. length found.items ≤ length lines.now) }
 {
     let under = lines_under(alloc, prefix, lines)?;
     let mut found = Vec::new(alloc);
@@ -46,9 +48,9 @@ fn is_under_another(member: &Prefix, members: &[Prefix]) -> bool
 /// How many pairs of members are kept: those whose meet exists and is under no third member. It costs up to the cube
 /// of the number of members.
 pub(crate) fn count_kept_pairs(members: &[Prefix]) -> u64
-    requires { length members.now < 16777216 }
+    requires { length members.now < line_limit }
     ensures number { result ≡ length (kept_pairs members.now) }
-    ensures few { result ≤ 16777216 * 16777216 }
+    ensures few { result ≤ line_limit * line_limit }
 {
     let mut pairs = 0;
     for (place, first) in members.iter().enumerate() {
@@ -59,6 +61,7 @@ pub(crate) fn count_kept_pairs(members: &[Prefix]) -> u64
 
 // How many pairs of one member with each of these others are kept.
 fn count_kept_with(members: &[Prefix], first: &Prefix, seconds: &[Prefix]) -> u64
+    requires { length seconds.now < line_limit }
     ensures number { result ≡ length (filter_map (kept_meet members.now first.now) seconds.now) }
     ensures few { result ≤ length seconds.now }
 {

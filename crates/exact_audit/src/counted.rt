@@ -1,11 +1,12 @@
 //! The records that a report counts.
 
-ghost use Rattle.std.specs.Prelude.{◌≡◌, ◌≤◌, ◌<◌, ◌++◌, ◌↔◌, List, length, take, sum_by, IsTrue, IfOk, OnOk, slice_index};
-ghost use Rattle.prefix_lattice.specs.{PrefixValue, RecordValue, total_weight, total_limit};
+ghost use Rattle.std.specs.Prelude.{◌≡◌, ◌≤◌, ◌<◌, ◌*◌, ◌^◌, ◌++◌, ◌↔◌, List, length, All, IsTrue, IfOk, OnOk};
+ghost use Rattle.prefix_lattice.specs.{PrefixValue, RecordValue, total_weight, total_limit, most_records};
 ghost use Rattle.shard_state.specs.{records_before};
 ghost use Rattle.hhh_output.specs.{ArePositionsWithin};
 ghost use Rattle.exact_audit.specs.LineCodes.{AreCodesOf};
 ghost use Rattle.exact_audit.specs.NodeSums.{AreCounted};
+ghost use Rattle.exact_audit.specs.Parts.{part_at};
 
 use crate::depths::Depths;
 use crate::line_codes::LineCodes;
@@ -44,7 +45,7 @@ pub(crate) fn total_before(dealt: &Dealt, positions: &Positions) -> u64
 {
     let mut total = 0;
     for shard in 0..dealt.shards() {
-        total += total_of(records_of(dealt, positions, shard));
+        total += total_of(part(dealt, positions, shard));
     }
     total
 }
@@ -62,22 +63,30 @@ pub(crate) fn count_before(
 {
     let mut counted = Vec::new(alloc);
     for shard in 0..dealt.shards() {
-        push_counted(&mut counted, records_of(dealt, positions, shard), lines)?;
+        push_counted(&mut counted, part(dealt, positions, shard), lines)?;
     }
     Ok(counted)
 }
 
 // The records of a shard before its position.
-fn records_of<'a>(dealt: &'a Dealt, positions: &Positions, shard: u32) -> &'a [Record]
+fn part<'a>(dealt: &'a Dealt, positions: &Positions, shard: u32) -> &'a [Record]
     requires within { ArePositionsWithin positions.now dealt.now }
     requires shard { shard < length dealt.now }
+    ensures value { result.now ≡ part_at dealt.now positions.now shard }
+    ensures few { length result.now ≤ most_records }
+    ensures light { All (λ rec. rec.weight < 2 ^ 32) result.now }
 {
     let records = dealt.list(shard).as_slice();
     &records[..positions.at(shard as usize) as usize]
 }
 
 // The weight of some records.
-fn total_of(records: &[Record]) -> u64 {
+fn total_of(records: &[Record]) -> u64
+    requires few { length records.now ≤ most_records }
+    requires light { All (λ rec. rec.weight < 2 ^ 32) records.now }
+    ensures total { result ≡ total_weight records.now }
+    ensures bounded { result ≤ length records.now * 2 ^ 32 }
+{
     let mut total = 0;
     for rec in records {
         total += u64::from(rec.weight);
@@ -90,7 +99,10 @@ fn push_counted(
     counted: &mut Vec<Counted>,
     records: &[Record],
     lines: &LineCodes,
-) -> Result<(), AllocError> {
+) -> Result<(), AllocError>
+    ensures { OnOk result ((prefixes : List PrefixValue) (before : List RecordValue) → AreCodesOf prefixes lines.now.codes.keys
+        → AreCounted prefixes before counted.old.items → AreCounted prefixes (before ++ records.now) counted.new.items) }
+{
     counted.reserve(records.len())?;
     for rec in records {
         let depths = Depths::of(lines, rec);

@@ -1,5 +1,12 @@
 //! What passes over the records find, one node at a time.
 
+ghost use Rattle.std.specs.Prelude.{◌≡◌, ◌+◌, ◌≤◌, ◌<◌, List, length, IfOk};
+ghost use Rattle.prefix_lattice.specs.{RecordValue, index_of, total_weight, total_limit};
+ghost use Rattle.hhh_output.specs.{prefixes_of};
+ghost use Rattle.exact_audit.specs.LineCodes.{AreCodesOf};
+ghost use Rattle.exact_audit.specs.NodeSums.{AreCounted, AreNodeSums, records_of};
+ghost use Rattle.exact_audit.specs.Findings.{AreFindings, AreLineSumsBefore};
+
 use crate::counted::Counted;
 use crate::left_out::{LeftOut, first_left_out};
 use crate::line_codes::LineCodes;
@@ -25,6 +32,11 @@ pub(crate) fn find(
     codes: &LineCodes,
     threshold: u64,
 ) -> Result<Findings, AllocError>
+    requires codes { AreCodesOf (prefixes_of lines.now) codes.now.codes.keys }
+    requires light { total_weight (records_of counted.now) < total_limit }
+    requires some { 1 ≤ threshold }
+    ensures { IfOk result (λ findings. (records : List RecordValue)
+        → AreCounted (prefixes_of lines.now) records counted.now → AreFindings lines.now records threshold findings) }
 {
     let mut line_sums = vec![in alloc; Sums::NONE; lines.len()]?;
     let mut left_out = None;
@@ -38,7 +50,13 @@ pub(crate) fn find(
 }
 
 // Notes the sums of the lines of a node.
-fn note_lines(line_sums: &mut [Sums], lines: &[Line], node: Node, sums: &IndexMap<u64, Sums>) {
+fn note_lines(line_sums: &mut [Sums], lines: &[Line], node: Node, sums: &IndexMap<u64, Sums>)
+    requires { length line_sums.old ≡ length lines.now }
+    ensures as_many { length line_sums.new ≡ length lines.now }
+    ensures sums { (records : List RecordValue) → AreNodeSums node (prefixes_of lines.now) records sums.now
+        → AreLineSumsBefore (index_of node) lines.now records line_sums.old
+        → AreLineSumsBefore (index_of node + 1) lines.now records line_sums.new }
+{
     for (place, line) in lines.iter().enumerate() {
         if line.prefix.node() == node {
             line_sums[place] = sums.get(&line.prefix.key()).copied().unwrap_or(Sums::NONE);

@@ -1,12 +1,13 @@
 //! The sums of one node.
 
-ghost use Rattle.std.specs.Prelude.{◌≡◌, ◌+◌, ◌<◌, ◌^◌, ℕ, nat_eq, true, if◌then◌else◌, ◌&&◌, not, IfOk, OnOk};
-ghost use Rattle.prefix_lattice.specs.{total_weight, total_limit};
-ghost use Rattle.exact_audit.specs.NodeSums.{AreSums, records_of, sums_for};
+ghost use Rattle.std.specs.Prelude.{◌≡◌, ◌+◌, ◌<◌, ◌^◌, ℕ, List, nat_eq, is_some, if◌then◌else◌, ◌&&◌, ◌||◌, not, IfOk, OnOk};
+ghost use Rattle.std.specs.HashMap.{get};
+ghost use Rattle.prefix_lattice.specs.{IsNode, PrefixValue, RecordValue, total_weight, total_limit};
+ghost use Rattle.exact_audit.specs.NodeSums.{AreCounted, AreNodeSums, HasKeysOf, records_of, sums_for};
 
 use crate::counted::Counted;
 use indexmap::IndexMap;
-use prefix_lattice::{Node, Prefix};
+use prefix_lattice::{Node, Prefix, keys_are_of_their_node, keys_tell_covering};
 use std::alloc::{AllocError, Global};
 
 /// The weight of a prefix, and its conditioned weight, in bytes or packets.
@@ -28,9 +29,14 @@ pub(crate) fn sums_at(
     counted: &[Counted],
     node: Node,
 ) -> Result<IndexMap<u64, Sums>, AllocError>
-    requires { total_weight (records_of counted.now) < total_limit }
-    ensures { IfOk result (AreSums node counted.now) }
+    requires node { IsNode node }
+    requires light { total_weight (records_of counted.now) < total_limit }
+    ensures keys { IfOk result (HasKeysOf node) }
+    ensures sums { IfOk result (λ sums. (lines : List PrefixValue) (records : List RecordValue)
+        → AreCounted lines records counted.now → AreNodeSums node lines records sums) }
 {
+    keys_tell_covering();
+    keys_are_of_their_node();
     let mut sums = IndexMap::new(alloc);
     for one in counted {
         let key = Prefix::of(&one.rec, node).key();
@@ -48,6 +54,8 @@ fn add(
 ) -> Result<(), AllocError>
     requires weight { (sums_for sums.old key).weight + weight < 2 ^ 64 }
     requires left { (sums_for sums.old key).left + weight < 2 ^ 64 }
+    ensures keys { OnOk result ((other : ℕ) → is_some (get nat_eq sums.new other)
+        ≡ (nat_eq key other || is_some (get nat_eq sums.old other))) }
     ensures weight { OnOk result ((other : ℕ) → (sums_for sums.new other).weight
         ≡ (sums_for sums.old other).weight + (if nat_eq key other then weight else 0)) }
     ensures left { OnOk result ((other : ℕ) → (sums_for sums.new other).left
