@@ -1,17 +1,22 @@
 -- Lines that cover a record, by how many bytes they keep.
 use Rattle.std.proofs.Common.{◌≡◌, ◌≢◌, ℕ, ◌+◌, ◌*◌, ◌^◌, ◌<◌, ◌≤◌, ◌/◌, ◌%◌, nat_le, nat_lt, nat_eq, eqb, Bool, true, false}
 use Rattle.std.proofs.Common.{◌&&◌, ◌||◌, not}
-use Rattle.std.proofs.Common.{zero, suc, List, [], ◌∷◌, length, take, get_or, All, refl, sym, ap, ◌∙◌, subst, arith, ◌⊎◌, inl, inr}
+use Rattle.std.proofs.Common.{zero, suc, List, [], ◌∷◌, length, take, get_or, All, Contains, refl, sym, ap, ◌∙◌, subst, arith, ◌⊎◌, inl, inr}
 use Rattle.std.proofs.Common.{⊎_elim}
 use Rattle.std.specs.List.{list_any}
 use Rattle.std.proofs.lemmas.Bool.{false≢true, eqb-true, eq-eqb, and_parts, and_from, and_left, or_parts, or_from, or_left, or_right}
 use Rattle.std.proofs.lemmas.Bool.{false_from_ne_true, lt-ltb, le-ltb, ltb-true, le-leb, leb-true, lt-leb, cases_lt, and_right}
+use Rattle.std.proofs.lemmas.Bool.{or_cases}
 use Rattle.std.proofs.lemmas.Bool.Decides.{nat_tests}
+use Rattle.std.proofs.lemmas.List.Elements.{All-head, All-tail}
+use Rattle.std.proofs.lemmas.List.Folds.{list_any_at}
 use Rattle.prefix_lattice.specs.{RecordValue, NodeValue, IsNode, index_of, node_at, PrefixValue, IsPrefix, covers, node_of}
 use Rattle.prefix_lattice.specs.{key_of, prefix_at, begins_with, under, same_prefix, strictly_under, lines_under, one_covers}
 use Rattle.prefix_lattice.proofs.NodePlaceLemmas.{node_at-index_of}
+use Rattle.prefix_lattice.proofs.ListLemmas.{Contains-head, Contains-tail}
+use Rattle.exact_audit.specs.declared.depths.Depths.{Depths}
 use Rattle.exact_audit.specs.LineCodes.{code_of, AreCodesOf}
-use Rattle.exact_audit.specs.Depths.{reaches, IsDepth, AreDepths}
+use Rattle.exact_audit.specs.Depths.{reaches, IsDepth, AreDepths, depth_at, explained}
 use Rattle.exact_audit.proofs.BoolListLemmas.{list_any-same, list_any-filter, list_any-either, list_any-weaker}
 use Rattle.exact_audit.proofs.BoolListLemmas.{same_truth}
 
@@ -236,3 +241,117 @@ same_code apart prefix other is other_is small other_small same =
   where
     kept : (prefix : PrefixValue) → IsPrefix prefix → IsNode (node_of prefix)
     kept prefix is = record { source = is.source.few; dest = is.dest.few }
+
+-- where lines have codes, whether one has the code of a prefix
+none_coded : (lines : List PrefixValue) (codes : List ℕ) (prefix : PrefixValue) → AreCodesOf lines codes
+    → list_any (nat_eq (code_of prefix)) codes ≡ false
+    → list_any (λ line. nat_eq (code_of prefix) (code_of line)) lines ≡ false
+none_coded lines codes prefix coded none = sym (coded.coded (code_of prefix)) ∙ none
+
+-- one more number of destination bytes, where no line has the record's prefix there
+pub depth_next : (lines : List PrefixValue) (codes : List ℕ) (rec : RecordValue) (s dest below : ℕ)
+    → AreCodesOf lines codes → IsDepth lines rec (s + 1) below → below ≤ dest
+    → list_any (nat_eq (code_of (prefix_at (record { source_bytes = s; dest_bytes = dest }) rec))) codes ≡ false
+    → ((d : ℕ) → dest + 1 ≤ d → reaches lines rec s d ≡ false) → (d : ℕ) → dest ≤ d → reaches lines rec s d ≡ false
+depth_next lines codes rec s dest below coded depth past none before d at_least =
+    ⊎_elim (λ (same : d < dest + 1).
+    let is : dest ≡ d = omega arith in
+    subst (λ e. reaches lines rec s e ≡ false) is
+    (reaches_not lines rec s dest
+    (none_coded lines codes (prefix_at (record { source_bytes = s; dest_bytes = dest }) rec) coded none)
+    (sym (depth dest) ∙ le-ltb dest below past) (before (dest + 1) (omega arith))))
+    (λ (more : dest + 1 ≤ d). before d more) (cases_lt d (dest + 1))
+
+-- a line has a prefix of one of its codes
+pub has_line : ((prefix other : PrefixValue) → IsPrefix prefix → IsPrefix other
+    → node_of prefix ≡ node_of other → key_of prefix ≡ key_of other → prefix ≡ other)
+    → (lines : List PrefixValue) (codes : List ℕ) (prefix : PrefixValue) → AreCodesOf lines codes → IsPrefix prefix
+    → key_of prefix < 2 ^ 64 → list_any (nat_eq (code_of prefix)) codes ≡ true → Contains lines prefix
+has_line apart lines codes prefix coded is small has =
+    find lines coded.prefixes coded.small (sym (coded.coded (code_of prefix)) ∙ has)
+  where
+    find : (lines : List PrefixValue) → All IsPrefix lines → All (λ line. key_of line < 2 ^ 64) lines
+        → list_any (λ line. nat_eq (code_of prefix) (code_of line)) lines ≡ true → Contains lines prefix
+    find [] are smalls has = absurd (false≢true has)
+    find (line ∷ lines) are smalls has =
+        ⊎_elim (λ (here : nat_eq (code_of prefix) (code_of line) ≡ true).
+        subst (Contains (line ∷ lines))
+        (sym (same_code apart prefix line is (All-head IsPrefix line lines are) small
+        (All-head (λ line. key_of line < 2 ^ 64) line lines smalls) (eqb-true (code_of prefix) (code_of line) here)))
+        (Contains-head line lines))
+        (λ (there : list_any (λ line. nat_eq (code_of prefix) (code_of line)) lines ≡ true).
+        Contains-tail line lines prefix
+        (find lines (All-tail IsPrefix line lines are) (All-tail (λ line. key_of line < 2 ^ 64) line lines smalls) there))
+        (or_cases (nat_eq (code_of prefix) (code_of line))
+        (list_any (λ line. nat_eq (code_of prefix) (code_of line)) lines) has)
+
+-- and no line has a prefix of no code
+pub has_no_line : (lines : List PrefixValue) (codes : List ℕ) (prefix : PrefixValue) → AreCodesOf lines codes
+    → list_any (nat_eq (code_of prefix)) codes ≡ false → ¬ Contains lines prefix
+has_no_line lines codes prefix coded none (place, within, same) =
+    false≢true (sym (none_coded lines codes prefix coded none)
+    ∙ list_any_at (λ line. nat_eq (code_of prefix) (code_of line)) lines place prefix within
+    (eq-eqb (code_of prefix) (code_of (get_or lines place prefix)) (sym (ap code_of same))))
+
+-- the depth where a line has the record's prefix, and none reaches further down
+pub depth_found : (lines : List PrefixValue) (rec : RecordValue) (s dest : ℕ) (prefix : PrefixValue)
+    → Contains lines prefix → covers prefix rec ≡ true → node_of prefix ≡ record { source_bytes = s; dest_bytes = dest }
+    → ((d : ℕ) → dest + 1 ≤ d → reaches lines rec s d ≡ false) → IsDepth lines rec s (dest + 1)
+depth_found lines rec s dest prefix (place, within, same) covered node none = λ d.
+    ⊎_elim (λ (less : d < dest + 1).
+    lt-ltb d (dest + 1) less ∙ sym (reaches_less lines rec s dest s d (omega arith) (omega arith) here))
+    (λ (more : dest + 1 ≤ d). le-ltb d (dest + 1) more ∙ sym (none d more)) (cases_lt d (dest + 1))
+  where
+    source_is : length prefix.source ≡ s
+    source_is = ap (λ n. n.source_bytes) node
+
+    dest_is : length prefix.dest ≡ dest
+    dest_is = ap (λ n. n.dest_bytes) node
+
+    Test : PrefixValue → Bool
+    Test line = covers line rec && (nat_le s (length line.source) && nat_le dest (length line.dest))
+
+    passes : Test prefix ≡ true
+    passes =
+        and_from (covers prefix rec) (nat_le s (length prefix.source) && nat_le dest (length prefix.dest)) covered
+        (and_from (nat_le s (length prefix.source)) (nat_le dest (length prefix.dest))
+        (le-leb s (length prefix.source) (omega (arith, source_is)))
+        (le-leb dest (length prefix.dest) (omega (arith, dest_is))))
+
+    here : reaches lines rec s dest ≡ true
+    here = list_any_at Test lines place prefix within (subst (λ p. Test p ≡ true) (sym same) passes)
+
+-- the depth where no line reaches further down than with one more source byte
+pub depth_end : (lines : List PrefixValue) (rec : RecordValue) (s dest below : ℕ) → IsDepth lines rec (s + 1) below
+    → dest ≤ below → ((d : ℕ) → dest ≤ d → reaches lines rec s d ≡ false) → IsDepth lines rec s below
+depth_end lines rec s dest below depth least none = λ d.
+    ⊎_elim (λ (less : d < below).
+    lt-ltb d below less
+    ∙ sym (reaches_less lines rec (s + 1) d s d (omega arith) (omega arith) (sym (depth d) ∙ lt-ltb d below less)))
+    (λ (more : below ≤ d). le-ltb d below more ∙ sym (none d (omega arith))) (cases_lt d below)
+
+-- no line reaches down with five source bytes
+pub depth_of_five : (lines : List PrefixValue) (rec : RecordValue) → IsDepth lines rec 5 0
+depth_of_five lines rec = λ d. le-ltb d 0 (omega arith) ∙ sym (reaches_none lines rec 5 d (inl (omega arith)))
+
+-- the depth for each number of source bytes
+depths_at : (lines : List PrefixValue) (rec : RecordValue) (depths : Depths) → AreDepths lines rec depths
+    → (source : ℕ) → source ≤ 5 → IsDepth lines rec source (depth_at depths source)
+depths_at lines rec depths are zero few = are.zero
+depths_at lines rec depths are (suc zero) few = are.one
+depths_at lines rec depths are (suc (suc zero)) few = are.two
+depths_at lines rec depths are (suc (suc (suc zero))) few = are.three
+depths_at lines rec depths are (suc (suc (suc (suc zero)))) few = are.four
+depths_at lines rec depths are (suc (suc (suc (suc (suc zero))))) few = are.five
+depths_at lines rec depths are (suc (suc (suc (suc (suc (suc n)))))) few = absurd (omega arith)
+
+-- depths tell at each node whether a line strictly under the record's prefix covers the record
+pub explained_is : (lines : List PrefixValue) (rec : RecordValue) (depths : Depths) (node : NodeValue)
+    → AreDepths lines rec depths → IsNode node
+    → explained depths node ≡ one_covers (lines_under (prefix_at node rec) lines) rec
+explained_is lines rec depths node are is =
+    ap (λ b. b || nat_lt (node.dest_bytes + 1) (depth_at depths node.source_bytes))
+    (depths_at lines rec depths are (node.source_bytes + 1) (omega (arith, is.source)) node.dest_bytes)
+    ∙ ap (λ b. reaches lines rec (node.source_bytes + 1) node.dest_bytes || b)
+    (depths_at lines rec depths are node.source_bytes (omega (arith, is.source)) (node.dest_bytes + 1))
+    ∙ sym (explained_by_reaches lines node rec is)

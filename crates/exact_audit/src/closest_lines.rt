@@ -17,18 +17,13 @@ pub(crate) fn closest(alloc: Global, prefix: &Prefix, lines: &[Line]) -> Result<
     ensures few { IfOk result (λ found. length found.items ≤ length lines.now) }
 {
     let under = lines_under(alloc, prefix, lines)?;
-    let mut found = Vec::new(alloc);
-    for line in &under {
-        if !is_under_another(line, &under) {
-            found.push(*line)?;
-        }
-    }
-    Ok(found)
+    greatest(alloc, &under)
 }
 
 // The lines that are strictly under a prefix.
 fn lines_under(alloc: Global, prefix: &Prefix, lines: &[Line]) -> Result<Vec<Prefix>, AllocError>
-    ensures { IfOk result (λ under. under.items ≡ lines_under prefix.now (prefixes_of lines.now)) }
+    ensures under { IfOk result (λ under. under.items ≡ lines_under prefix.now (prefixes_of lines.now)) }
+    ensures few { IfOk result (λ under. length under.items ≤ length lines.now) }
 {
     let mut under = Vec::new(alloc);
     for line in lines {
@@ -37,6 +32,20 @@ fn lines_under(alloc: Global, prefix: &Prefix, lines: &[Line]) -> Result<Vec<Pre
         }
     }
     Ok(under)
+}
+
+// The members that are strictly under no other member.
+fn greatest(alloc: Global, members: &[Prefix]) -> Result<Vec<Prefix>, AllocError>
+    ensures greatest { IfOk result (λ tops. tops.items ≡ greatest members.now) }
+    ensures few { IfOk result (λ tops. length tops.items ≤ length members.now) }
+{
+    let mut tops = Vec::new(alloc);
+    for member in members {
+        if !is_under_another(member, members) {
+            tops.push(*member)?;
+        }
+    }
+    Ok(tops)
 }
 
 fn is_under_another(member: &Prefix, members: &[Prefix]) -> bool

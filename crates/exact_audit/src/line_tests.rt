@@ -1,7 +1,7 @@
 //! The tests of lines. Each answers the number of the first line that fails it, counted from 1.
 
 ghost use Rattle.std.specs.Prelude.{◌≡◌, ◌+◌, ◌*◌, ◌≤◌, ◌<◌, ◌^◌, ◌↔◌, List, length, All, IsTrue, IfOk};
-ghost use Rattle.prefix_lattice.specs.{RecordValue, total_weight, total_limit};
+ghost use Rattle.prefix_lattice.specs.{RecordValue, Holds, total_weight, total_limit};
 ghost use Rattle.shard_state.specs.{most_capacity};
 ghost use Rattle.hhh_output.specs.{HoldsWeight, IsHeavyLine, IsNarrowLine, prefixes_of};
 ghost use Rattle.exact_audit.specs.Verdict.{IsFirstFailure, IsJustifiedAmong};
@@ -20,12 +20,18 @@ pub(crate) fn bad_interval(lines: &[Line], sums: &[Sums]) -> Option<u64>
         → IsFirstFailure (HoldsWeight records) lines.now result }
 {
     for (place, line) in lines.iter().enumerate() {
-        let weight = sums[place].weight;
-        if weight < line.lo || weight > line.hi {
+        if !holds(line, sums[place].weight) {
             return Some(place as u64 + 1);
         }
     }
     None
+}
+
+// Whether the interval of a line holds a weight.
+fn holds(line: &Line, weight: u64) -> bool
+    ensures { IsTrue result ↔ Holds line.now.lo line.now.hi weight }
+{
+    line.lo <= weight && weight <= line.hi
 }
 
 /// The first line whose interval's width times the capacity is above the total.
