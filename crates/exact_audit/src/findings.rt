@@ -35,7 +35,8 @@ pub(crate) fn find(
     requires codes { AreCodesOf (prefixes_of lines.now) codes.now.codes.keys }
     requires light { total_weight (records_of counted.now) < total_limit }
     requires some { 1 ≤ threshold }
-    ensures { IfOk result (λ findings. (records : List RecordValue)
+    ensures as_many { IfOk result (λ findings. length findings.sums.items ≡ length lines.now) }
+    ensures found { IfOk result (λ findings. (records : List RecordValue)
         → AreCounted (prefixes_of lines.now) records counted.now → AreFindings lines.now records threshold findings) }
 {
     let mut line_sums = vec![in alloc; Sums::NONE; lines.len()]?;
@@ -50,15 +51,20 @@ pub(crate) fn find(
 }
 
 // Notes the sums of the lines of a node.
-fn note_lines(line_sums: &mut [Sums], lines: &[Line], node: Node, sums: &IndexMap<u64, Sums>)
-    requires { length line_sums.old ≡ length lines.now }
-    ensures as_many { length line_sums.new ≡ length lines.now }
+fn note_lines(
+    line_sums: &mut Vec<Sums>,
+    lines: &[Line],
+    node: Node,
+    sums: &IndexMap<u64, Sums>,
+)
+    requires { length line_sums.old.items ≡ length lines.now }
+    ensures as_many { length line_sums.new.items ≡ length lines.now }
     ensures sums { (records : List RecordValue) → AreNodeSums node (prefixes_of lines.now) records sums.now
-        → AreLineSumsBefore (index_of node) lines.now records line_sums.old
-        → AreLineSumsBefore (index_of node + 1) lines.now records line_sums.new }
+        → AreLineSumsBefore (index_of node) lines.now records line_sums.old.items
+        → AreLineSumsBefore (index_of node + 1) lines.now records line_sums.new.items }
 {
     for (place, line) in lines.iter().enumerate() {
-        if line.prefix.node() == node {
+        if line.prefix.node().index() == node.index() {
             line_sums[place] = sums.get(&line.prefix.key()).copied().unwrap_or(Sums::NONE);
         }
     }

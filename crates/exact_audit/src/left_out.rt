@@ -1,8 +1,8 @@
 //! Prefixes that no line has, though their conditioned weight reaches the threshold.
 
-ghost use Rattle.std.specs.Prelude.{◌≡◌, ◌+◌, ◌≤◌, List, Some, nat_eq, if◌then◌else◌};
+ghost use Rattle.std.specs.Prelude.{◌≡◌, ◌+◌, ◌^◌, ◌≤◌, ◌<◌, List, Some, nat_eq, if◌then◌else◌};
 ghost use Rattle.std.specs.List.{list_any};
-ghost use Rattle.prefix_lattice.specs.{RecordValue, PrefixValue, IsNode, index_of};
+ghost use Rattle.prefix_lattice.specs.{RecordValue, PrefixValue, IsNode, index_of, key_of};
 ghost use Rattle.exact_audit.specs.LineCodes.{code_of, AreCodesOf};
 ghost use Rattle.exact_audit.specs.NodeSums.{AreNodeSums, HasKeysOf};
 ghost use Rattle.exact_audit.specs.Findings.{IsFirstBefore, first_with};
@@ -56,8 +56,9 @@ fn first_unless_line(
     weight: u64,
     found: Option<LeftOut>,
 ) -> Option<LeftOut>
-    ensures { result ≡ (if list_any (nat_eq (code_of prefix)) lines.now.codes.keys then found
+    ensures value { result ≡ (if list_any (nat_eq (code_of prefix)) lines.now.codes.keys then found
         else Some (first_with found (record { prefix = prefix; weight = weight }))) }
+    ensures small { key_of prefix < 2 ^ 64 }
 {
     if lines.has(&prefix) {
         return found;

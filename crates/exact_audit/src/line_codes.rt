@@ -1,8 +1,8 @@
 //! The prefixes of lines, for look-ups.
 
-ghost use Rattle.std.specs.Prelude.{◌≡◌, nat_eq, IfOk};
+ghost use Rattle.std.specs.Prelude.{◌≡◌, ◌^◌, ◌<◌, nat_eq, IfOk};
 ghost use Rattle.std.specs.List.{list_any};
-ghost use Rattle.prefix_lattice.specs.{IsPrefix};
+ghost use Rattle.prefix_lattice.specs.{IsPrefix, key_of};
 ghost use Rattle.hhh_output.specs.{prefixes_of};
 ghost use Rattle.exact_audit.specs.LineCodes.{code_of, AreCodesOf};
 
@@ -33,6 +33,7 @@ impl LineCodes {
     pub(crate) fn has(&self, prefix: &Prefix) -> bool
         ensures value { result ≡ list_any (nat_eq (code_of prefix.now)) self.now.codes.keys }
         ensures prefix { IsPrefix prefix.now }
+        ensures small { key_of prefix.now < 2 ^ 64 }
     {
         self.codes.contains(&code_of(prefix))
     }
@@ -42,6 +43,7 @@ impl LineCodes {
 fn code_of(prefix: &Prefix) -> u128
     ensures value { result ≡ code_of prefix.now }
     ensures prefix { IsPrefix prefix.now }
+    ensures small { key_of prefix.now < 2 ^ 64 }
 {
     u128::from(prefix.node().index()) << 64 | u128::from(prefix.key())
 }

@@ -7,7 +7,7 @@ ghost use Rattle.exact_audit.specs.NodeSums.{AreCounted, AreNodeSums, HasKeysOf,
 
 use crate::counted::Counted;
 use indexmap::IndexMap;
-use prefix_lattice::{Node, Prefix, keys_are_of_their_node, keys_tell_covering};
+use prefix_lattice::{Node, Prefix, Record, keys_are_of_their_node, keys_tell_covering};
 use std::alloc::{AllocError, Global};
 
 /// The weight of a prefix, and its conditioned weight, in bytes or packets.
@@ -40,7 +40,7 @@ pub(crate) fn sums_at(
     let mut sums = IndexMap::new(alloc);
     for one in counted {
         let key = Prefix::of(&one.rec, node).key();
-        add(&mut sums, key, one.rec.weight, one.depths.explained(node))?;
+        add(&mut sums, key, &one.rec, one.depths.explained(node))?;
     }
     Ok(sums)
 }
@@ -49,19 +49,19 @@ pub(crate) fn sums_at(
 fn add(
     sums: &mut IndexMap<u64, Sums>,
     key: u64,
-    weight: u32,
+    rec: &Record,
     explained: bool,
 ) -> Result<(), AllocError>
-    requires weight { (sums_for sums.old key).weight + weight < 2 ^ 64 }
-    requires left { (sums_for sums.old key).left + weight < 2 ^ 64 }
+    requires weight { (sums_for sums.old key).weight + rec.now.weight < 2 ^ 64 }
+    requires left { (sums_for sums.old key).left + rec.now.weight < 2 ^ 64 }
     ensures keys { OnOk result ((other : ℕ) → is_some (get nat_eq sums.new other)
         ≡ (nat_eq key other || is_some (get nat_eq sums.old other))) }
     ensures weight { OnOk result ((other : ℕ) → (sums_for sums.new other).weight
-        ≡ (sums_for sums.old other).weight + (if nat_eq key other then weight else 0)) }
+        ≡ (sums_for sums.old other).weight + (if nat_eq key other then rec.now.weight else 0)) }
     ensures left { OnOk result ((other : ℕ) → (sums_for sums.new other).left
-        ≡ (sums_for sums.old other).left + (if nat_eq key other && not explained then weight else 0)) }
+        ≡ (sums_for sums.old other).left + (if nat_eq key other && not explained then rec.now.weight else 0)) }
 {
-    let weight = u64::from(weight);
+    let weight = u64::from(rec.weight);
     let of_key = sums.entry(key)?.or_insert(Sums::NONE);
     of_key.weight += weight;
     if !explained {

@@ -13,7 +13,9 @@ loop-shard-preserved c = λ prefixes coded.
     let same = within_length positions lists c.requires in
     let within : shard < length lists = omega (arith, c.loop-shard-test.true, c.shards-shard-end.ensures.value) in
     let before = records_before (take shard lists) (take shard positions) in
-    ?
+    subst (λ records. AreCounted prefixes records c.push_counted.new.counted.items)
+    (ap (λ rs. before ++ rs) c.part.ensures.value ∙ sym (records_before-more lists positions shard same within))
+    (c.in_ok-push_counted.ensures prefixes before coded (c.loop-shard.invariant prefixes coded))
 
 pub returns : goal.returns
 returns c = λ prefixes coded.
