@@ -55,8 +55,7 @@ pub fn audit(
     let codes = LineCodes::of(alloc, lines)?;
     let counted = count_before(alloc, dealt, &report.positions, &codes)?;
     let findings = find(alloc, &counted, lines, &codes, report.threshold)?;
-    let verdict = verdict_of(alloc, lines, &findings, capacity, report.threshold, total)?;
-    Ok(verdict)
+    verdict_of(alloc, lines, &findings, capacity, report.threshold, total)
 }
 
 // The verdict on a report whose positions, total and threshold are right, from what was found of its lines and of the

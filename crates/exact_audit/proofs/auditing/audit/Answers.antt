@@ -1,10 +1,12 @@
-use Rattle.std.proofs.Common.{◌≡◌, ◌<◌, List, refl, ap, sym, ◌∙◌, subst, arith}
+use Rattle.std.proofs.Common.{◌≡◌, ℕ, ◌<◌, ◌↔◌, List, refl, ap, sym, ◌∙◌, subst, arith}
+use Rattle.std.proofs.lemmas.Result.{IfOk-weaker}
 use Rattle.prefix_lattice.specs.{RecordValue, total_weight}
 use Rattle.shard_state.specs.{records_before}
 use Rattle.hhh_output.specs.declared.line.Line.{Line}
-use Rattle.hhh_output.specs.{IsThreshold, prefixes_of}
+use Rattle.hhh_output.specs.{IsSound, IsThreshold, prefixes_of}
 use Rattle.exact_audit.specs.declared.counted.Counted.{Counted}
-use Rattle.exact_audit.specs.declared.verdict.Verdict.TheVariants.{BadThreshold}
+use Rattle.exact_audit.specs.declared.verdict.Verdict.TheVariants.{Good, BadThreshold}
+use Rattle.exact_audit.specs.declared.verdict.Verdict.{Verdict}
 use Rattle.exact_audit.specs.NodeSums.{AreCounted, records_of}
 use Rattle.exact_audit.specs.Verdict.{IsLineVerdict, IsVerdict, PassesHead}
 use Rattle.exact_audit.specs.Findings.{AreFindings}
@@ -41,9 +43,26 @@ returns-clause-verdict c =
     let are = c.in_ok-counted.ensures (prefixes_of c.as_slice-lines.result.now) c.in_ok-codes.ensures in
     let found = c.in_ok-findings.ensures.found records
     (subst (AreCounted (prefixes_of c.as_slice-lines.result.now) records) (sym c.deref.ensures.value) are) in
-    ?
+    let ByTotal : ℕ → List Line → Verdict → Type 0 = λ total lines verdict.
+    IsLineVerdict (record { capacity = c.args.capacity; threshold = report.threshold; total = total }) records lines verdict in
+    let head : PassesHead lists c.args.phi report = record {
+      positions = c.if-not-are_within.ensures.0 refl;
+      total = c.if-report-total.false ∙ c.total_before-total.ensures.total;
+      threshold =
+          subst (λ total. IsThreshold c.args.phi total report.threshold) (sym c.if-report-total.false)
+          (subst (IsThreshold c.args.phi c.total_before-total.result) (sym c.if-report-threshold.false) c.threshold.ensures);
+    } in
+    IfOk-weaker c.verdict_of.result _ (IsVerdict lists c.args.capacity c.args.phi report)
+    (λ verdict is.
+    verdict_from_lines lists c.args.capacity c.args.phi report verdict head
+    (subst (λ lines. ByTotal report.total lines verdict) c.as_slice-lines.ensures
+    (subst (λ total. ByTotal total c.as_slice-lines.result.now verdict) (sym c.if-report-total.false)
+    (is records found (sym c.total_before-total.ensures.total)))))
+    c.verdict_of.ensures
 
 pub returns-clause-good : goal.returns-clause-good
 returns-clause-good c =
-    good_exactly c.args.dealt.now c.args.capacity c.args.phi c.args.report.now c.in_ok-verdict.verdict
+    IfOk-weaker c.verdict_of.result (IsVerdict c.args.dealt.now c.args.capacity c.args.phi c.args.report.now)
+    (λ verdict. (verdict ≡ Good) ↔ IsSound c.args.report.now c.args.dealt.now c.args.capacity c.args.phi)
+    (good_exactly c.args.dealt.now c.args.capacity c.args.phi c.args.report.now)
     (returns-clause-verdict c)
