@@ -14,3 +14,6 @@ mod verdict;
 
 pub use auditing::audit;
 pub use verdict::Verdict;
+
+#[cfg(test)]
+mod tests;
