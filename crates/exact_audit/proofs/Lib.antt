@@ -8,3 +8,4 @@ pub mod LineTestLemmas
 pub mod ClosestLineLemmas
 pub mod FindingLemmas
 pub mod VerdictLemmas
+pub mod OneVerdictLemmas

@@ -6,6 +6,7 @@ mod closest_lines;
 mod counted;
 mod depths;
 mod findings;
+mod laws;
 mod left_out;
 mod line_codes;
 mod line_tests;
@@ -13,6 +14,7 @@ mod node_sums;
 mod verdict;
 
 pub use auditing::audit;
+pub use laws::a_report_has_one_verdict;
 pub use verdict::Verdict;
 
 #[cfg(test)]
