@@ -1,6 +1,6 @@
 -- The records before positions, shard by shard, and each counted record with its depths.
-use Rattle.std.proofs.Common.{◌≡◌, ℕ, ◌+◌, ◌<◌, ◌≤◌, zero, suc, List, [], ◌∷◌, ◌++◌, length, take, get_or, All, refl, sym, ap, ◌∙◌}
-use Rattle.std.proofs.Common.{subst, arith, map, append_assoc, append-nil, add-one}
+use Rattle.std.proofs.Common.{◌≡◌, ℕ, ◌+◌, ◌<◌, ◌≤◌, zero, suc, List, [], ◌∷◌, ◌++◌, length, take, get_or, refl, sym, ap, ◌∙◌}
+use Rattle.std.proofs.Common.{arith, append_assoc, append-nil, add-one}
 use Rattle.std.proofs.lemmas.List.{map-append, length-take}
 use Rattle.std.proofs.lemmas.List.Elements.{All-push}
 use Rattle.prefix_lattice.specs.{RecordValue, PrefixValue}
@@ -9,7 +9,7 @@ use Rattle.hhh_output.specs.{ArePositionsWithin}
 use Rattle.exact_audit.specs.declared.counted.Counted.{Counted}
 use Rattle.exact_audit.specs.Parts.{part_at}
 use Rattle.exact_audit.specs.Depths.{AreDepths}
-use Rattle.exact_audit.specs.NodeSums.{records_of, AreCounted}
+use Rattle.exact_audit.specs.NodeSums.{AreCounted}
 
 -- positions are within lists where there are as many, and each is within its list
 pub within_from : (positions : List ℕ) (lists : List (List RecordValue)) → length positions ≡ length lists

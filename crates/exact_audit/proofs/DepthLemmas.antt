@@ -1,17 +1,17 @@
 -- Lines that cover a record, by how many bytes they keep.
-use Rattle.std.proofs.Common.{◌≡◌, ◌≢◌, ℕ, ◌+◌, ◌*◌, ◌^◌, ◌<◌, ◌≤◌, ◌/◌, ◌%◌, nat_le, nat_lt, nat_eq, eqb, Bool, true, false}
+use Rattle.std.proofs.Common.{◌≡◌, ℕ, ◌+◌, ◌^◌, ◌<◌, ◌≤◌, ◌/◌, ◌%◌, nat_le, nat_lt, nat_eq, eqb, Bool, true, false}
 use Rattle.std.proofs.Common.{◌&&◌, ◌||◌, not}
-use Rattle.std.proofs.Common.{zero, suc, List, [], ◌∷◌, length, take, get_or, All, Contains, refl, sym, ap, ◌∙◌, subst, arith, ◌⊎◌, inl, inr}
+use Rattle.std.proofs.Common.{zero, suc, List, [], ◌∷◌, length, take, get_or, All, Contains, refl, sym, ap, ◌∙◌, subst, arith, ◌⊎◌, inl}
 use Rattle.std.proofs.Common.{⊎_elim}
 use Rattle.std.specs.List.{list_any}
-use Rattle.std.proofs.lemmas.Bool.{false≢true, eqb-true, eq-eqb, and_parts, and_from, and_left, or_parts, or_from, or_left, or_right}
-use Rattle.std.proofs.lemmas.Bool.{false_from_ne_true, lt-ltb, le-ltb, ltb-true, le-leb, leb-true, lt-leb, cases_lt, and_right}
+use Rattle.std.proofs.lemmas.Bool.{false≢true, eqb-true, eq-eqb, and_parts, and_from, or_parts, or_from}
+use Rattle.std.proofs.lemmas.Bool.{false_from_ne_true, lt-ltb, le-ltb, le-leb, leb-true, lt-leb, cases_lt}
 use Rattle.std.proofs.lemmas.Bool.{or_cases}
 use Rattle.std.proofs.lemmas.Bool.Decides.{nat_tests}
 use Rattle.std.proofs.lemmas.List.Elements.{All-head, All-tail}
 use Rattle.std.proofs.lemmas.List.Folds.{list_any_at}
 use Rattle.prefix_lattice.specs.{RecordValue, NodeValue, IsNode, index_of, node_at, PrefixValue, IsPrefix, covers, node_of}
-use Rattle.prefix_lattice.specs.{key_of, prefix_at, begins_with, under, same_prefix, strictly_under, lines_under, one_covers}
+use Rattle.prefix_lattice.specs.{key_of, prefix_at, begins_with, strictly_under, lines_under, one_covers}
 use Rattle.prefix_lattice.proofs.NodePlaceLemmas.{node_at-index_of}
 use Rattle.prefix_lattice.proofs.ListLemmas.{Contains-head, Contains-tail}
 use Rattle.exact_audit.specs.declared.depths.Depths.{Depths}
@@ -94,8 +94,7 @@ line_front : (bytes front : List ℕ) (n : ℕ) → begins_with bytes front ≡ 
     × (begins_with (take n bytes) front ≡ nat_le (length front) n)
 line_front bytes front n begins few =
     let is = take-begins_with bytes front begins in
-    let short = begins_with-length bytes front begins in
-    (
+    let short = begins_with-length bytes front begins in (
       ap (λ l. begins_with l (take n bytes)) (sym is) ∙ front-of_front bytes (length front) n short few,
       ap (λ l. begins_with (take n bytes) l) (sym is) ∙ front-of_front bytes n (length front) few short,
     )
@@ -111,7 +110,7 @@ strictly_by_lengths node rec is line covered =
     let dest = line_front (bytes_of rec.dst) line.dest node.dest_bytes both.1 is.dest in
     let shape = λ (a b c d : Bool). (a && b) && not ((a && b) && (c && d)) in
     let sides = λ (a c : Bool). shape a (begins_with line.dest (take node.dest_bytes (bytes_of rec.dst))) c
-        (begins_with (take node.dest_bytes (bytes_of rec.dst)) line.dest) in
+    (begins_with (take node.dest_bytes (bytes_of rec.dst)) line.dest) in
     ap (λ a. sides a (begins_with (take node.source_bytes (bytes_of rec.src)) line.source)) source.0
     ∙ ap (λ c. sides (nat_le node.source_bytes (length line.source)) c) source.1
     ∙ ap (λ b. shape (nat_le node.source_bytes (length line.source)) b (nat_le (length line.source) node.source_bytes)
@@ -199,24 +198,24 @@ reaches_not (line ∷ lines) rec s d none source dest =
     let own = prefix_at (record { source_bytes = s; dest_bytes = d }) rec in
     let nones = or_parts (nat_eq (code_of own) (code_of line)) (list_any (λ line. nat_eq (code_of own) (code_of line)) lines) none in
     let sources = or_parts (covers line rec && (nat_le (s + 1) (length line.source) && nat_le d (length line.dest)))
-        (reaches lines rec (s + 1) d) source in
+    (reaches lines rec (s + 1) d) source in
     let dests = or_parts (covers line rec && (nat_le s (length line.source) && nat_le (d + 1) (length line.dest)))
-        (reaches lines rec s (d + 1)) dest in
+    (reaches lines rec s (d + 1)) dest in
     or_from (covers line rec && (nat_le s (length line.source) && nat_le d (length line.dest))) (reaches lines rec s d)
     (false_from_ne_true (covers line rec && (nat_le s (length line.source) && nat_le d (length line.dest))) (λ is.
     let both = and_parts (covers line rec) (nat_le s (length line.source) && nat_le d (length line.dest)) is in
     let sides = and_parts (nat_le s (length line.source)) (nat_le d (length line.dest)) both.1 in
     let no_more_source : length line.source ≤ s = at_most line.source s (λ more.
-        and_from (covers line rec) (nat_le (s + 1) (length line.source) && nat_le d (length line.dest)) both.0
-        (and_from (nat_le (s + 1) (length line.source)) (nat_le d (length line.dest)) more sides.1)) sources.0 in
+    and_from (covers line rec) (nat_le (s + 1) (length line.source) && nat_le d (length line.dest)) both.0
+    (and_from (nat_le (s + 1) (length line.source)) (nat_le d (length line.dest)) more sides.1)) sources.0 in
     let no_more_dest : length line.dest ≤ d = at_most line.dest d (λ more.
-        and_from (covers line rec) (nat_le s (length line.source) && nat_le (d + 1) (length line.dest)) both.0
-        (and_from (nat_le s (length line.source)) (nat_le (d + 1) (length line.dest)) sides.0 more)) dests.0 in
+    and_from (covers line rec) (nat_le s (length line.source) && nat_le (d + 1) (length line.dest)) both.0
+    (and_from (nat_le s (length line.source)) (nat_le (d + 1) (length line.dest)) sides.0 more)) dests.0 in
     let source_same : s ≡ length line.source = let le = leb-true s (length line.source) sides.0 in omega arith in
     let dest_same : d ≡ length line.dest = let le = leb-true d (length line.dest) sides.1 in omega arith in
     let make : ℕ → ℕ → PrefixValue = λ a b. prefix_at (record { source_bytes = a; dest_bytes = b }) rec in
     let same : own ≡ line = ap (λ a. make a d) source_same ∙ ap (make (length line.source)) dest_same
-        ∙ covering_is_front line rec both.0 in
+    ∙ covering_is_front line rec both.0 in
     false≢true (sym nones.0 ∙ eq-eqb (code_of own) (code_of line) (ap code_of same))))
     (reaches_not lines rec s d nones.1 sources.1 dests.1)
   where

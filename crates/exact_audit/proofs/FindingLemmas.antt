@@ -1,8 +1,8 @@
 -- What is found after the last node.
-use Rattle.std.proofs.Common.{◌≡◌, ℕ, ◌<◌, ◌≤◌, List, length, get_or, All, Option, slice_get, Some, refl, sym, ap, ◌∙◌, subst, arith, map}
+use Rattle.std.proofs.Common.{◌≡◌, ℕ, ◌<◌, ◌≤◌, List, length, get_or, All, Option, ap, ◌∙◌, subst, arith}
 use Rattle.std.proofs.lemmas.List.{length-map, get_or-map}
 use Rattle.std.proofs.lemmas.Option.{slice_get_within, get_or_from_slice_get}
-use Rattle.prefix_lattice.specs.{RecordValue, IsNode, index_of, PrefixValue, IsPrefix, node_of}
+use Rattle.prefix_lattice.specs.{RecordValue, index_of, PrefixValue, IsPrefix, node_of}
 use Rattle.prefix_lattice.proofs.NodePlaceLemmas.{index_small}
 use Rattle.hhh_output.specs.declared.line.Line.{Line}
 use Rattle.hhh_output.specs.{prefixes_of}
@@ -24,10 +24,10 @@ line_sums_all lines records index sums last prefixes before = record {
   each = λ place line at.
       let within : place < length lines = slice_get_within lines place line at in
       let is : get_or (prefixes_of lines) place line.prefix ≡ line.prefix =
-          get_or-map (λ (l : Line). l.prefix) lines place line line.prefix within
-          ∙ ap (λ (l : Line). l.prefix) (get_or_from_slice_get lines place line line at) in
+      get_or-map (λ (l : Line). l.prefix) lines place line line.prefix within
+      ∙ ap (λ (l : Line). l.prefix) (get_or_from_slice_get lines place line line at) in
       let prefix : IsPrefix line.prefix =
-          subst IsPrefix is (prefixes place line.prefix (omega (arith, within, length-map {A = Line} lines (λ l. l.prefix)))) in
+      subst IsPrefix is (prefixes place line.prefix (omega (arith, within, length-map {A = Line} lines (λ l. l.prefix)))) in
       before.each place line at (omega (arith, prefix_small line.prefix prefix, last));
 }
 

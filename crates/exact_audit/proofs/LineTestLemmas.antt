@@ -1,5 +1,5 @@
 -- Tests of lines: the first line that fails one.
-use Rattle.std.proofs.Common.{◌≡◌, ◌≢◌, ℕ, ◌+◌, ◌*◌, ◌<◌, ◌≤◌, List, take, length, get_or, All, slice_get, Some, refl, sym, ap, ◌∙◌, subst, arith}
+use Rattle.std.proofs.Common.{◌≡◌, ◌≢◌, ℕ, ◌+◌, ◌<◌, ◌≤◌, List, take, length, get_or, All, slice_get, Some, refl, sym, ap, ◌∙◌, subst, arith}
 use Rattle.std.proofs.Common.{set, Option, ◌⊎◌, inl, inr, ⊎_elim}
 use Rattle.std.proofs.lemmas.Bool.{cases_lt, cases_eq}
 use Rattle.std.proofs.lemmas.List.{length-set, get_or-set_same, get_or-set_other}
@@ -66,7 +66,7 @@ pub noted_line : (index place : ℕ) (lines : List Line) (records : List RecordV
 noted_line index place lines records sums line own same within at is before other its there when =
     ⊎_elim (λ (here : other ≡ place).
     let one : its ≡ line = some-line its line
-        (sym there ∙ ap (slice_get lines) here ∙ slice_get_read lines (length lines) place line refl within at) in
+    (sym there ∙ ap (slice_get lines) here ∙ slice_get_read lines (length lines) place line refl within at) in
     ap (slice_get (set sums place own)) here
     ∙ slice_get-set_same sums place own (omega (arith, same, within)) ∙ ap Some (is ∙ ap Of (sym one)))
     (λ (apart : other ≢ place).
@@ -103,7 +103,7 @@ noted_other index place lines records sums line within at differs before other i
     (λ (not_less : place ≤ other).
     let here : other ≡ place = omega (arith, not_less, equal.1) in
     let one : its ≡ line = some-line its line
-        (sym there ∙ ap (slice_get lines) here ∙ slice_get_read lines (length lines) place line refl within at) in
+    (sym there ∙ ap (slice_get lines) here ∙ slice_get_read lines (length lines) place line refl within at) in
     absurd (differs (sym (ap (λ (l : Line). index_of (node_of l.prefix)) one) ∙ equal.0)))
     (cases_lt other place)) when)
   where

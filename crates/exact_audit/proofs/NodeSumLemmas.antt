@@ -1,9 +1,9 @@
 -- The sums of a node, by keys and by prefixes.
-use Rattle.std.proofs.Common.{◌≡◌, ℕ, ◌+◌, ◌<◌, ◌≤◌, nat_eq, eqb, Bool, true, false, ◌&&◌, ◌||◌, not, cond, zero, suc, List, [], ◌∷◌}
+use Rattle.std.proofs.Common.{◌≡◌, ℕ, ◌+◌, ◌<◌, ◌≤◌, nat_eq, Bool, true, false, ◌&&◌, not, cond, List, [], ◌∷◌}
 use Rattle.std.proofs.Common.{length, take, get_or, All, map, filter, refl, sym, ap, ◌∙◌, subst, arith}
 use Rattle.std.specs.List.{sum_by}
-use Rattle.std.specs.HashMap.{HashMap, get}
-use Rattle.std.proofs.lemmas.Bool.{false≢true, eqb-true, cases_Bool, cond-true, cond-false}
+use Rattle.std.specs.HashMap.{HashMap}
+use Rattle.std.proofs.lemmas.Bool.{false≢true, eqb-true}
 use Rattle.std.proofs.lemmas.List.Elements.{All-head, All-tail}
 use Rattle.std.proofs.lemmas.List.Sums.{sum_by-cons, sum_by_more, sum_by-take-le}
 use Rattle.prefix_lattice.specs.{RecordValue, NodeValue, IsNode, PrefixValue, IsPrefix, HasKey, covers, node_of, key_of, prefix_at}
@@ -12,7 +12,7 @@ use Rattle.exact_audit.specs.declared.counted.Counted.{Counted}
 use Rattle.exact_audit.specs.declared.node_sums.Sums.{Sums}
 use Rattle.exact_audit.specs.Depths.{AreDepths, explained}
 use Rattle.exact_audit.specs.NodeSums.{records_of, AreCounted, has_key, key_weight, key_left, sums_for, AreKeySums}
-use Rattle.exact_audit.specs.NodeSums.{sums_of, AreNodeSums}
+use Rattle.exact_audit.specs.NodeSums.{AreNodeSums}
 use Rattle.exact_audit.proofs.DepthLemmas.{explained_is}
 
 -- a sum over elements that pass a test is the sum over those that a filter of what they hold keeps

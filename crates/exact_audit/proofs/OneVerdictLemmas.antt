@@ -1,6 +1,6 @@
 -- A report has one verdict: the number of tests that pass fixes it, and the first that fails has one first line or prefix.
-use Rattle.std.proofs.Common.{◌≡◌, ◌≢◌, ℕ, ◌+◌, ◌<◌, ◌≤◌, zero, suc, List, length, get_or, take, All, Contains, slice_get, Option, None, Some}
-use Rattle.std.proofs.Common.{refl, sym, ap, ◌∙◌, subst, arith, ⊎_elim, ◌⊎◌, inl, inr}
+use Rattle.std.proofs.Common.{◌≡◌, ◌≢◌, ℕ, ◌<◌, ◌≤◌, zero, suc, List}
+use Rattle.std.proofs.Common.{refl, sym, ap, ◌∙◌, subst, arith, ⊎_elim, ◌⊎◌}
 use Rattle.std.specs.Cmp.{IsTotalOrder}
 use Rattle.std.specs.Ordering.{ordering_reverse}
 use Rattle.std.specs.declared.cmp.Ordering.{Ordering}
@@ -12,11 +12,11 @@ use Rattle.prefix_lattice.specs.{RecordValue, PrefixValue, IsPrefix, report_orde
 use Rattle.shard_state.specs.{records_before}
 use Rattle.hhh_output.specs.declared.line.Line.{Line}
 use Rattle.hhh_output.specs.declared.report.Report.{Report}
-use Rattle.hhh_output.specs.{IsSound, ArePositionsWithin, IsThreshold, HoldsWeight, IsNarrowLine, IsHeavyLine, AreComplete, prefixes_of}
+use Rattle.hhh_output.specs.{ArePositionsWithin, IsThreshold, HoldsWeight, IsNarrowLine, IsHeavyLine, AreComplete, prefixes_of}
 use Rattle.exact_audit.specs.declared.verdict.Verdict.{Verdict}
 use Rattle.exact_audit.specs.declared.verdict.Verdict.TheVariants.{Good, BadPositions, BadTotal, BadThreshold}
 use Rattle.exact_audit.specs.declared.verdict.Verdict.TheVariants.{BadInterval, TooWide, LowLine, NotJustified, LeftOut}
-use Rattle.exact_audit.specs.Verdict.{IsFirstFailing, IsLeftOut, IsFirstLeftOut, IsVerdict, IsTotal, TestedBy}
+use Rattle.exact_audit.specs.Verdict.{IsFirstFailing, IsFirstLeftOut, IsVerdict, IsTotal, TestedBy}
 use Rattle.exact_audit.specs.Verdict.{HoldWeights, AreNarrowLines, AreHeavyLines, AreJustified, IsJustifiedAmong, PassesHead}
 use Rattle.exact_audit.proofs.VerdictLemmas.{none_fails}
 
@@ -47,10 +47,10 @@ left_out_is_one : IsTotalOrder report_order
     → LeftOut prefix weight ≡ LeftOut other more
 left_out_is_one order apart lines records threshold prefix other weight more is other_is =
     let same : prefix ≡ other =
-        apart prefix other is.left_out.is_prefix other_is.left_out.is_prefix
-        (equal (report_order prefix other) refl) in
+    apart prefix other is.left_out.is_prefix other_is.left_out.is_prefix
+    (equal (report_order prefix other) refl) in
     let weights : weight ≡ more =
-        is.left_out.weighs ∙ ap (λ p. conditioned_weight p lines records) same ∙ sym other_is.left_out.weighs in
+    is.left_out.weighs ∙ ap (λ p. conditioned_weight p lines records) same ∙ sym other_is.left_out.weighs in
     ap (λ p. LeftOut p weight) same ∙ ap (LeftOut other) weights
   where
     equal : (answer : Ordering) → report_order prefix other ≡ answer → report_order prefix other ≡ Equal

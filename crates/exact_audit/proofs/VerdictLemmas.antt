@@ -1,13 +1,13 @@
 -- From the tests of lines to the verdict on a report.
-use Rattle.std.proofs.Common.{◌≡◌, ◌≢◌, ℕ, ◌+◌, ◌<◌, ◌≤◌, List, length, get_or, take, All, Contains, slice_get, Option, None, Some, ◌↔◌}
-use Rattle.std.proofs.Common.{refl, sym, ap, ◌∙◌, subst, arith, ⊎_elim}
+use Rattle.std.proofs.Common.{◌≡◌, ℕ, ◌<◌, ◌≤◌, List, All, None, Some, ◌↔◌}
+use Rattle.std.proofs.Common.{refl, subst, arith, ⊎_elim}
 use Rattle.std.proofs.lemmas.Bool.{cases_lt}
 use Rattle.std.proofs.lemmas.Option.{get_or_from_slice_get, slice_get_within}
-use Rattle.prefix_lattice.specs.{RecordValue, PrefixValue, IsPrefix, total_weight, conditioned_weight}
+use Rattle.prefix_lattice.specs.{RecordValue, PrefixValue, conditioned_weight}
 use Rattle.shard_state.specs.{records_before}
 use Rattle.hhh_output.specs.declared.line.Line.{Line}
 use Rattle.hhh_output.specs.declared.report.Report.{Report}
-use Rattle.hhh_output.specs.{IsSound, IsThreshold, AreComplete, prefixes_of}
+use Rattle.hhh_output.specs.{IsSound, IsThreshold, AreComplete}
 use Rattle.exact_audit.specs.declared.verdict.Verdict.{Verdict}
 use Rattle.exact_audit.specs.declared.verdict.Verdict.TheVariants.{Good, BadPositions, BadTotal, BadThreshold}
 use Rattle.exact_audit.specs.declared.verdict.Verdict.TheVariants.{BadInterval, TooWide, LowLine, NotJustified, LeftOut}
@@ -92,6 +92,7 @@ sound_is_good lists capacity phi report (LeftOut prefix weight) sound is =
 -- the verdict is that a report is sound exactly where it is
 pub good_exactly : (lists : List (List RecordValue)) (capacity phi : ℕ) (report : Report) (verdict : Verdict)
     → IsVerdict lists capacity phi report verdict → (verdict ≡ Good) ↔ IsSound report lists capacity phi
-good_exactly lists capacity phi report verdict is =
-    (λ same. subst (IsVerdict lists capacity phi report) same is,
-    λ sound. sound_is_good lists capacity phi report verdict sound is)
+good_exactly lists capacity phi report verdict is = (
+  λ same. subst (IsVerdict lists capacity phi report) same is,
+  λ sound. sound_is_good lists capacity phi report verdict sound is,
+)

@@ -85,7 +85,11 @@ fn verdict_of(
     if let Some(line) = low_line(lines, threshold) {
         return Ok(Verdict::LowLine(line));
     }
-    let by = Measures { capacity, threshold, total };
+    let by = Measures {
+        capacity,
+        threshold,
+        total,
+    };
     if let Some(line) = not_justified(alloc, lines, &findings.sums, &by)? {
         return Ok(Verdict::NotJustified(line));
     }

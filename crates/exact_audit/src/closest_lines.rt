@@ -12,7 +12,11 @@ use std::alloc::{AllocError, Global};
 
 /// The closest lines of a prefix: those strictly under it that are strictly under no other such line. It costs a pass
 /// over the lines, and up to the square of the number of those under the prefix.
-pub(crate) fn closest(alloc: Global, prefix: &Prefix, lines: &[Line]) -> Result<Vec<Prefix>, AllocError>
+pub(crate) fn closest(
+    alloc: Global,
+    prefix: &Prefix,
+    lines: &[Line],
+) -> Result<Vec<Prefix>, AllocError>
     ensures closest { IfOk result (λ found. found.items ≡ closest prefix.now (prefixes_of lines.now)) }
     ensures few { IfOk result (λ found. length found.items ≤ length lines.now) }
 {

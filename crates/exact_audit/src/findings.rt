@@ -47,16 +47,14 @@ pub(crate) fn find(
         note_lines(&mut line_sums, lines, node, &sums);
         left_out = first_left_out(codes, node, threshold, &sums, left_out);
     }
-    Ok(Findings { sums: line_sums, left_out })
+    Ok(Findings {
+        sums: line_sums,
+        left_out,
+    })
 }
 
 // Notes the sums of the lines of a node.
-fn note_lines(
-    line_sums: &mut Vec<Sums>,
-    lines: &[Line],
-    node: Node,
-    sums: &IndexMap<u64, Sums>,
-)
+fn note_lines(line_sums: &mut Vec<Sums>, lines: &[Line], node: Node, sums: &IndexMap<u64, Sums>)
     requires { length line_sums.old.items ≡ length lines.now }
     ensures as_many { length line_sums.new.items ≡ length lines.now }
     ensures sums { (records : List RecordValue) → AreNodeSums node (prefixes_of lines.now) records sums.now

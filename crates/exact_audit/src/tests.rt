@@ -20,7 +20,10 @@ type Sent = (u32, u32, u32);
 const ONE: [Sent; 1] = [(0x0a01_0203, 0x1401_0203, 100)];
 
 // Two packets to one destination, of 100 and of 10 bytes.
-const TWO: [Sent; 2] = [(0x0a01_0203, 0x1401_0203, 100), (0x0a01_0204, 0x1401_0203, 10)];
+const TWO: [Sent; 2] = [
+    (0x0a01_0203, 0x1401_0203, 100),
+    (0x0a01_0204, 0x1401_0203, 10),
+];
 
 // Packets from N.0.0.1 to (100 + N).0.0.1, N being 1 1 1 3 1 4 1 5 1 6 2.
 const ELEVEN: [Sent; 11] = [
@@ -165,17 +168,45 @@ fn lines_are_left_out_or_too_many(rt: HostRuntime) -> Result<(), Fail> {
     let prefix = prefix_of("10.1.2.3/32", "20.1.2.3/32")?;
     let root = prefix_of("0.0.0.0/0", "0.0.0.0/0")?;
     let silent = without_lines(alloc, &[1], 100, 1)?;
-    assert_eq!(rt; audit_one(&rt, alloc, &silent)?, Verdict::LeftOut(prefix, 100));
-    let first = Line { prefix, lo: 100, hi: 100 };
-    let second = Line { prefix: root, lo: 100, hi: 100 };
+    assert_eq!(rt;
+        audit_one(&rt, alloc, &silent)?,
+        Verdict::LeftOut(prefix, 100)
+    );
+    let first = Line {
+        prefix,
+        lo: 100,
+        hi: 100,
+    };
+    let second = Line {
+        prefix: root,
+        lo: 100,
+        hi: 100,
+    };
     let more = with_two_lines(alloc, &[1], 100, 1, first, second)?;
     assert_eq!(rt; audit_one(&rt, alloc, &more)?, Verdict::NotJustified(2));
     let two_positions = with_line(alloc, &[1, 0], 100, 1, first)?;
-    assert_eq!(rt; audit_one(&rt, alloc, &two_positions)?, Verdict::BadPositions);
+    assert_eq!(rt;
+        audit_one(&rt, alloc, &two_positions)?,
+        Verdict::BadPositions
+    );
     let light = prefix_of("10.1.2.4/32", "20.1.2.3/32")?;
-    let low = with_two_lines(alloc, &[2], 110, 55, first, Line { prefix: light, lo: 10, hi: 10 })?;
+    let low = with_two_lines(
+        alloc,
+        &[2],
+        110,
+        55,
+        first,
+        Line {
+            prefix: light,
+            lo: 10,
+            hi: 10,
+        },
+    )?;
     let dealt = dealt_of(&rt, alloc, &TWO, 1)?;
-    assert_eq!(rt; audit(alloc, &dealt, &low, 512, 500_000)?, Verdict::LowLine(2));
+    assert_eq!(rt;
+        audit(alloc, &dealt, &low, 512, 500_000)?,
+        Verdict::LowLine(2)
+    );
     Ok(())
 }
 
@@ -185,13 +216,27 @@ fn records_of_two_shards_are_added(rt: HostRuntime) -> Result<(), Fail> {
     let prefix = prefix_of("1.0.0.1/32", "101.0.0.1/32")?;
     let root = prefix_of("0.0.0.0/0", "0.0.0.0/0")?;
     let dealt = dealt_of(&rt, alloc, &ELEVEN, 2)?;
-    let first = Line { prefix, lo: 5, hi: 6 };
-    let second = Line { prefix: root, lo: 11, hi: 11 };
+    let first = Line {
+        prefix,
+        lo: 5,
+        hi: 6,
+    };
+    let second = Line {
+        prefix: root,
+        lo: 11,
+        hi: 11,
+    };
     let whole = with_two_lines(alloc, &[6, 5], 11, 6, first, second)?;
     assert_eq!(rt; audit(alloc, &dealt, &whole, 4, 500_000)?, Verdict::Good);
     let coarse = with_line(alloc, &[6, 5], 11, 6, second)?;
-    assert_eq!(rt; audit(alloc, &dealt, &coarse, 4, 500_000)?, Verdict::LeftOut(prefix, 6));
+    assert_eq!(rt;
+        audit(alloc, &dealt, &coarse, 4, 500_000)?,
+        Verdict::LeftOut(prefix, 6)
+    );
     let wide = with_two_lines(alloc, &[6, 5], 11, 6, first, second)?;
-    assert_eq!(rt; audit(alloc, &dealt, &wide, 12, 500_000)?, Verdict::TooWide(1));
+    assert_eq!(rt;
+        audit(alloc, &dealt, &wide, 12, 500_000)?,
+        Verdict::TooWide(1)
+    );
     Ok(())
 }

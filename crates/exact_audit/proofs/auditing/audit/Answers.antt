@@ -1,6 +1,6 @@
-use Rattle.std.proofs.Common.{◌≡◌, ℕ, ◌<◌, ◌↔◌, List, refl, ap, sym, ◌∙◌, subst, arith}
+use Rattle.std.proofs.Common.{◌≡◌, ℕ, ◌↔◌, List, refl, ap, sym, ◌∙◌, subst, arith}
 use Rattle.std.proofs.lemmas.Result.{IfOk-weaker}
-use Rattle.prefix_lattice.specs.{RecordValue, total_weight}
+use Rattle.prefix_lattice.specs.{total_weight}
 use Rattle.shard_state.specs.{records_before}
 use Rattle.hhh_output.specs.declared.line.Line.{Line}
 use Rattle.hhh_output.specs.{IsSound, IsThreshold, prefixes_of}
@@ -9,7 +9,6 @@ use Rattle.exact_audit.specs.declared.verdict.Verdict.TheVariants.{Good, BadThre
 use Rattle.exact_audit.specs.declared.verdict.Verdict.{Verdict}
 use Rattle.exact_audit.specs.NodeSums.{AreCounted, records_of}
 use Rattle.exact_audit.specs.Verdict.{IsLineVerdict, IsVerdict, PassesHead}
-use Rattle.exact_audit.specs.Findings.{AreFindings}
 use Rattle.exact_audit.proofs.VerdictLemmas.{one_threshold, verdict_from_lines, good_exactly}
 use Rattle.exact_audit.proofs.auditing.audit.Goals as goal
 
@@ -18,8 +17,8 @@ returns-then-report-threshold-clause-verdict c = (
   c.if-not-are_within.ensures.0 refl,
   c.if-report-total.false ∙ c.total_before-total.ensures.total,
   λ is. c.if-report-threshold.true
-  (one_threshold c.args.phi c.args.report.now.total c.args.report.now.threshold c.threshold.result is
-  (subst (λ t. IsThreshold c.args.phi t c.threshold.result) (sym c.if-report-total.false) c.threshold.ensures)),
+      (one_threshold c.args.phi c.args.report.now.total c.args.report.now.threshold c.threshold.result is
+      (subst (λ t. IsThreshold c.args.phi t c.threshold.result) (sym c.if-report-total.false) c.threshold.ensures)),
 )
 
 pub returns-then-report-threshold-clause-good : goal.returns-then-report-threshold-clause-good

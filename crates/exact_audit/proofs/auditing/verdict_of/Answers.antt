@@ -1,7 +1,5 @@
-use Rattle.std.proofs.Common.{◌≡◌, None, Some, All, ap, sym, ◌∙◌, subst}
-use Rattle.prefix_lattice.specs.{total_weight}
+use Rattle.std.proofs.Common.{All, sym, subst}
 use Rattle.hhh_output.specs.{prefixes_of}
-use Rattle.exact_audit.specs.declared.verdict.Verdict.{Verdict}
 use Rattle.exact_audit.specs.Verdict.{IsFirstFailure, IsJustifiedAmong, IsLeftOut, IsLineVerdict, TestedBy}
 use Rattle.exact_audit.specs.Findings.{AreLineSums, IsFirstOf}
 use Rattle.exact_audit.proofs.VerdictLemmas.{first_left_out_is, none_left_out}
@@ -19,13 +17,21 @@ returns c = λ records are total.
     (c.in_ok-line.ensures records (subst (AreLineSums lines records) (sym c.deref-2.ensures.value) are.sums) total) in
     elim c.match-findings.branch [
       | in-Some-left_out w ↦
-          subst (IsLineVerdict by records lines) (sym w.result-is)
-          (held, c.in_default-too_wide.ensures, c.in_default-low_line.ensures, justified,
-          first_left_out_is prefixes records c.args.threshold w.in-Some-left_out.left_out
-          (subst (IsFirstOf (IsLeftOut prefixes records c.args.threshold)) w.in-Some-left_out.is are.left_out))
+          subst (IsLineVerdict by records lines) (sym w.result-is) (
+            held,
+            c.in_default-too_wide.ensures,
+            c.in_default-low_line.ensures,
+            justified,
+            first_left_out_is prefixes records c.args.threshold w.in-Some-left_out.left_out
+                (subst (IsFirstOf (IsLeftOut prefixes records c.args.threshold)) w.in-Some-left_out.is are.left_out),
+          )
       | in-None w ↦
-          subst (IsLineVerdict by records lines) (sym w.result-is)
-          (held, c.in_default-too_wide.ensures, c.in_default-low_line.ensures, justified,
-          none_left_out prefixes records c.args.threshold
-          (subst (IsFirstOf (IsLeftOut prefixes records c.args.threshold)) w.in-None.is are.left_out))
+          subst (IsLineVerdict by records lines) (sym w.result-is) (
+            held,
+            c.in_default-too_wide.ensures,
+            c.in_default-low_line.ensures,
+            justified,
+            none_left_out prefixes records c.args.threshold
+                (subst (IsFirstOf (IsLeftOut prefixes records c.args.threshold)) w.in-None.is are.left_out),
+          )
     ]

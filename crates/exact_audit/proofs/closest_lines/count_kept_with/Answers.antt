@@ -1,5 +1,4 @@
-use Rattle.std.proofs.Common.{◌≡◌, ℕ, ◌+◌, cond, length, take, ap, ◌∙◌, is_some, arith}
-use Rattle.std.specs.List.{filter_map}
+use Rattle.std.proofs.Common.{ℕ, cond, ap, ◌∙◌, is_some, arith}
 use Rattle.prefix_lattice.specs.{kept_meet}
 use Rattle.exact_audit.proofs.ClosestLineLemmas.{count_more}
 use Rattle.exact_audit.proofs.closest_lines.count_kept_with.Goals as goal

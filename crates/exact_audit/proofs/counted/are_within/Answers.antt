@@ -1,4 +1,4 @@
-use Rattle.std.proofs.Common.{◌≡◌, ℕ, ◌+◌, ◌≤◌, ◌<◌, List, [], length, get_or, refl, sym, ap, ◌∙◌, arith}
+use Rattle.std.proofs.Common.{◌≤◌, ◌<◌, [], length, get_or, refl, sym, ap, ◌∙◌, arith}
 use borrow.Author.Count.{below_more}
 use Rattle.std.proofs.lemmas.Bool.{false≢true}
 use Rattle.std.proofs.lemmas.Option.{get_or_from_slice_get}
@@ -9,19 +9,25 @@ pub returns-then-len-shards : goal.returns-then-len-shards
 returns-then-len-shards c = (
   λ is. absurd (false≢true is),
   λ within. absurd (c.if-len-shards.true
-  (c.len.ensures ∙ within_length c.args.positions.now c.args.dealt.now within ∙ sym c.shards.ensures.value)),
+      (c.len.ensures ∙ within_length c.args.positions.now c.args.dealt.now within ∙ sym c.shards.ensures.value)),
 )
 
 pub returns-then-at-len : goal.returns-then-at-len
 returns-then-at-len c = (
   λ is. absurd (false≢true is),
   λ within.
-  let less : c.loop-shard.shard < length c.args.dealt.now =
-  omega (arith, c.loop-shard-test.true, c.shards-shard-end.ensures.value) in
-  let list = get_or_from_slice_get c.args.dealt.now c.loop-shard.shard c.list.result.now [] c.list.ensures.value in
-  let position = get_or_from_slice_get c.args.positions.now c.loop-shard.shard c.at.result 0 c.at.ensures in
-  absurd (omega (arith, within_at c.args.positions.now c.args.dealt.now c.loop-shard.shard within less, position,
-  ap length list, c.len-in-loop-shard.ensures, c.if-at-len.true)),
+      let less : c.loop-shard.shard < length c.args.dealt.now =
+      omega (arith, c.loop-shard-test.true, c.shards-shard-end.ensures.value) in
+      let list = get_or_from_slice_get c.args.dealt.now c.loop-shard.shard c.list.result.now [] c.list.ensures.value in
+      let position = get_or_from_slice_get c.args.positions.now c.loop-shard.shard c.at.result 0 c.at.ensures in
+      absurd (omega (
+        arith,
+        within_at c.args.positions.now c.args.dealt.now c.loop-shard.shard within less,
+        position,
+        ap length list,
+        c.len-in-loop-shard.ensures,
+        c.if-at-len.true,
+      )),
 )
 
 pub loop-shard-preserved : goal.loop-shard-preserved
@@ -35,8 +41,8 @@ loop-shard-preserved c =
 pub returns : goal.returns
 returns c = (
   λ is. within_from c.args.positions.now c.args.dealt.now
-  (sym c.len.ensures ∙ c.if-len-shards.false ∙ c.shards.ensures.value)
-  (λ place less. c.loop-shard.invariant place
-  (omega (arith, less, c.loop-shard-test.false, c.shards-shard-end.ensures.value))),
+      (sym c.len.ensures ∙ c.if-len-shards.false ∙ c.shards.ensures.value)
+      (λ place less. c.loop-shard.invariant place
+      (omega (arith, less, c.loop-shard-test.false, c.shards-shard-end.ensures.value))),
   λ within. refl,
 )

@@ -1,4 +1,4 @@
-use Rattle.std.proofs.Common.{ℕ, ◌<◌, ◌≤◌, List, [], length, get_or}
+use Rattle.std.proofs.Common.{ℕ, ◌<◌, ◌≤◌, [], length, get_or}
 use Rattle.exact_audit.proofs.counted.are_within.Given as goal
 
 -- no position so far is past its list

@@ -1,5 +1,4 @@
-use Rattle.std.proofs.Common.{◌≡◌, ◌+◌, ◌*◌, ◌^◌, ◌≤◌, ◌<◌, List, [], length, take, get_or, sym, ap, ◌∙◌, arith}
-use Rattle.std.specs.List.{sum_by}
+use Rattle.std.proofs.Common.{◌≡◌, ◌+◌, ◌≤◌, ◌<◌, List, [], length, take, ap, ◌∙◌, arith}
 use Rattle.std.proofs.lemmas.List.{take_all}
 use Rattle.std.proofs.lemmas.List.Sums.{sum_by-append, sum_by_more}
 use Rattle.prefix_lattice.specs.{RecordValue, total_weight}
@@ -22,11 +21,16 @@ loop-shard-preserved c =
     ∙ sum_by-append (λ (r : RecordValue). r.weight) before (part_at lists positions shard) in
     let own : c.total_of-total.result ≡ total_weight (part_at lists positions shard) =
     c.total_of-total.ensures.total ∙ ap total_weight c.part.ensures.value in
-    let lengths = sum_by_more (λ (list : List RecordValue). length list) lists shard [] within in
-    (
+    let lengths = sum_by_more (λ (list : List RecordValue). length list) lists shard [] within in (
       omega (arith, more, own, c.loop-shard.invariant.0),
-      omega (arith, lengths, c.total_of-total.ensures.bounded, ap length c.part.ensures.value,
-      length-part_at lists positions shard, c.loop-shard.invariant.1),
+      omega (
+        arith,
+        lengths,
+        c.total_of-total.ensures.bounded,
+        ap length c.part.ensures.value,
+        length-part_at lists positions shard,
+        c.loop-shard.invariant.1,
+      ),
     )
 
 pub returns-clause-total : goal.returns-clause-total

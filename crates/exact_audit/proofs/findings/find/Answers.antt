@@ -1,4 +1,4 @@
-use Rattle.std.proofs.Common.{◌≡◌, ◌+◌, ap, sym, ◌∙◌, subst, IfSome, arith}
+use Rattle.std.proofs.Common.{◌≡◌, ◌+◌, sym, subst, IfSome, arith}
 use Rattle.prefix_lattice.specs.{index_of}
 use Rattle.hhh_output.specs.{prefixes_of}
 use Rattle.exact_audit.specs.Findings.{AreLineSumsBefore, IsFirstBefore}
@@ -10,20 +10,18 @@ loop-index-preserved c =
     let lines = c.args.lines.now in
     let node = c.unwrap-node.result in
     let at : index_of node ≡ c.loop-index.index =
-    subst (λ o. IfSome o (λ n. index_of n ≡ c.loop-index.index)) c.unwrap-node.ensures c.from_index.ensures.back in
-    (
+    subst (λ o. IfSome o (λ n. index_of n ≡ c.loop-index.index)) c.unwrap-node.ensures c.from_index.ensures.back in (
       c.note_lines.ensures.as_many,
       λ records are.
-      let before = c.loop-index.invariant.1 records are in
-      let sums = c.in_ok-sums.ensures.sums (prefixes_of lines) records are in
-      (
-        subst (λ i. AreLineSumsBefore (i + 1) lines records c.note_lines.new.line_sums.items) at
-        (c.note_lines.ensures.sums records sums
-        (subst (λ i. AreLineSumsBefore i lines records c.loop-index.line_sums.items) (sym at) before.0)),
-        subst (λ i. IsFirstBefore (i + 1) (prefixes_of lines) records c.args.threshold c.first_left_out-left_out.result) at
-        (c.first_left_out-left_out.ensures (prefixes_of lines) records c.requires.codes sums
-        (subst (λ i. IsFirstBefore i (prefixes_of lines) records c.args.threshold c.loop-index.left_out) (sym at) before.1)),
-      ),
+          let before = c.loop-index.invariant.1 records are in
+          let sums = c.in_ok-sums.ensures.sums (prefixes_of lines) records are in (
+            subst (λ i. AreLineSumsBefore (i + 1) lines records c.note_lines.new.line_sums.items) at
+                (c.note_lines.ensures.sums records sums
+                (subst (λ i. AreLineSumsBefore i lines records c.loop-index.line_sums.items) (sym at) before.0)),
+            subst (λ i. IsFirstBefore (i + 1) (prefixes_of lines) records c.args.threshold c.first_left_out-left_out.result) at
+                (c.first_left_out-left_out.ensures (prefixes_of lines) records c.requires.codes sums
+                (subst (λ i. IsFirstBefore i (prefixes_of lines) records c.args.threshold c.loop-index.left_out) (sym at) before.1)),
+          ),
     )
 
 pub returns-clause-found : goal.returns-clause-found

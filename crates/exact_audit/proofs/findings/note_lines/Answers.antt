@@ -1,12 +1,9 @@
-use Rattle.std.proofs.Common.{◌≡◌, ◌≢◌, ◌+◌, ◌<◌, ◌≤◌, List, unwrap_or, length, set, slice_get, inl, inr, ⊎_elim, ap, sym, ◌∙◌, subst, arith}
-use Rattle.std.specs.HashMap.{get}
+use Rattle.std.proofs.Common.{◌≡◌, ◌<◌, ◌≤◌, unwrap_or, length, slice_get, inl, inr, ⊎_elim, ap, sym, ◌∙◌, arith}
 use Rattle.std.proofs.lemmas.Bool.{cases_lt}
 use Rattle.std.proofs.lemmas.List.{length-set}
 use Rattle.std.proofs.lemmas.Option.{slice_get_within}
 use Rattle.prefix_lattice.specs.{index_of, node_of, node_at, key_of}
-use Rattle.hhh_output.specs.{prefixes_of}
-use Rattle.exact_audit.specs.declared.node_sums.Sums.{Sums}
-use Rattle.exact_audit.specs.NodeSums.{sums_of, sums_for, no_sums}
+use Rattle.exact_audit.specs.NodeSums.{sums_for, no_sums}
 use Rattle.exact_audit.proofs.LineTestLemmas.{noted_line, noted_other}
 use Rattle.exact_audit.proofs.findings.note_lines.Goals as goal
 use Rattle.exact_audit.proofs.findings.note_lines.Goals.{then-index, else-index}
@@ -27,25 +24,23 @@ loop-place-preserved c =
           w.unwrap_or.ensures ∙ ap (λ o. unwrap_or o no_sums) (w.copied.ensures ∙ w.get.ensures.value)
           ∙ ap (sums_for sums) w.key.ensures.value in
           let node : node_of line.prefix ≡ c.args.node =
-          sym c.node.ensures ∙ sym c.index.ensures.back ∙ ap node_at w.if-index.true ∙ c.index-in-loop-place.ensures.back in
-          (
+          sym c.node.ensures ∙ sym c.index.ensures.back ∙ ap node_at w.if-index.true ∙ c.index-in-loop-place.ensures.back in (
             omega (arith, ap length items, length-set old place own, c.loop-place.invariant.0),
             λ records are before other its there when.
-            ap (λ s. slice_get s other) items
-            ∙ noted_line index place lines records old line own c.loop-place.invariant.0 c.loop-place-test.true
-            c.index-lines-place.is (own_is ∙ are line.prefix w.key.ensures.prefix node)
-            (c.loop-place.invariant.1 records are before) other its there when,
+                ap (λ s. slice_get s other) items
+                ∙ noted_line index place lines records old line own c.loop-place.invariant.0 c.loop-place-test.true
+                c.index-lines-place.is (own_is ∙ are line.prefix w.key.ensures.prefix node)
+                (c.loop-place.invariant.1 records are before) other its there when,
           )
       | else-index w ↦
-          let items = ap (λ v. v.items) w.line_sums-is in
-          (
+          let items = ap (λ v. v.items) w.line_sums-is in (
             omega (arith, ap length items, c.loop-place.invariant.0),
             λ records are before other its there when.
-            ap (λ s. slice_get s other) items
-            ∙ noted_other index place lines records old line c.loop-place-test.true c.index-lines-place.is
-            (λ same. w.if-index.false (c.index.ensures.value ∙ ap index_of c.node.ensures ∙ same
-            ∙ sym c.index-in-loop-place.ensures.value))
-            (c.loop-place.invariant.1 records are before) other its there when,
+                ap (λ s. slice_get s other) items
+                ∙ noted_other index place lines records old line c.loop-place-test.true c.index-lines-place.is
+                (λ same. w.if-index.false (c.index.ensures.value ∙ ap index_of c.node.ensures ∙ same
+                ∙ sym c.index-in-loop-place.ensures.value))
+                (c.loop-place.invariant.1 records are before) other its there when,
           )
     ]
 

@@ -1,4 +1,3 @@
-use Rattle.prefix_lattice.specs.{IsPrefix, report_order}
 use Rattle.exact_audit.proofs.OneVerdictLemmas.{one_verdict}
 use Rattle.exact_audit.proofs.laws.a_report_has_one_verdict.Goals as goal
 

@@ -1,4 +1,4 @@
-use Rattle.std.proofs.Common.{List, take, ◌≤◌}
+use Rattle.std.proofs.Common.{List, take}
 use Rattle.std.specs.HashMap.{keys}
 use Rattle.prefix_lattice.specs.{RecordValue, PrefixValue, index_of}
 use Rattle.exact_audit.specs.LineCodes.{AreCodesOf}

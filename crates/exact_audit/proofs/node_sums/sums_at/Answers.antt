@@ -1,4 +1,4 @@
-use Rattle.std.proofs.Common.{◌≡◌, ◌+◌, ◌≤◌, ◌<◌, ◌&&◌, not, true, nat_eq, is_some, cond, take, ap, sym, ◌∙◌, subst, arith, ⊎_elim}
+use Rattle.std.proofs.Common.{◌≡◌, ◌+◌, ◌&&◌, not, true, nat_eq, is_some, cond, ap, sym, ◌∙◌, subst, arith, ⊎_elim}
 use Rattle.std.specs.HashMap.{get}
 use Rattle.std.proofs.lemmas.Bool.{eqb-true, or_cases}
 use Rattle.std.proofs.lemmas.List.{take_all}
@@ -27,22 +27,21 @@ add-requires-clause-left c =
 pub loop-one-preserved : goal.loop-one-preserved
 loop-one-preserved c =
     let key : c.key-key.result ≡ key_of (prefix_at c.args.node c.one-item.result.rec) =
-    c.key-key.ensures.value ∙ ap key_of c.of.ensures.value in
-    (
+    c.key-key.ensures.value ∙ ap key_of c.of.ensures.value in (
       AreKeySums-more c.args.node c.args.counted.now c.loop-one.one-index c.one-item.result c.key-key.result
-      c.loop-one.sums c.add.new.sums c.loop-one-test.true c.one-item.is key
-      c.in_ok-add.ensures.weight
-      (λ other. c.in_ok-add.ensures.left other
-      ∙ ap (λ e. (sums_for c.loop-one.sums other).left
-      + cond (nat_eq c.key-key.result other && not e) c.one-item.result.rec.weight 0) c.explained.ensures)
-      c.loop-one.invariant.0,
+          c.loop-one.sums c.add.new.sums c.loop-one-test.true c.one-item.is key
+          c.in_ok-add.ensures.weight
+          (λ other. c.in_ok-add.ensures.left other
+          ∙ ap (λ e. (sums_for c.loop-one.sums other).left
+          + cond (nat_eq c.key-key.result other && not e) c.one-item.result.rec.weight 0) c.explained.ensures)
+          c.loop-one.invariant.0,
       λ other there. ⊎_elim
-      (λ (same : nat_eq c.key-key.result other ≡ true).
-      subst (IsKeyOf c.args.node) (sym key ∙ eqb-true c.key-key.result other same)
-      (c.keys_are_of_their_node.ensures.of_record_key c.args.node c.one-item.result.rec c.requires.node))
-      (λ (old : is_some (get nat_eq c.loop-one.sums other) ≡ true). c.loop-one.invariant.1 other old)
-      (or_cases (nat_eq c.key-key.result other) (is_some (get nat_eq c.loop-one.sums other))
-      (sym (c.in_ok-add.ensures.keys other) ∙ there)),
+          (λ (same : nat_eq c.key-key.result other ≡ true).
+          subst (IsKeyOf c.args.node) (sym key ∙ eqb-true c.key-key.result other same)
+          (c.keys_are_of_their_node.ensures.of_record_key c.args.node c.one-item.result.rec c.requires.node))
+          (λ (old : is_some (get nat_eq c.loop-one.sums other) ≡ true). c.loop-one.invariant.1 other old)
+          (or_cases (nat_eq c.key-key.result other) (is_some (get nat_eq c.loop-one.sums other))
+          (sym (c.in_ok-add.ensures.keys other) ∙ there)),
     )
 
 pub returns-clause-sums : goal.returns-clause-sums

@@ -1,4 +1,4 @@
-use Rattle.std.proofs.Common.{◌≡◌, ℕ, nat_eq, true, cond, subst, arith}
+use Rattle.std.proofs.Common.{◌≡◌, ℕ, nat_eq, true, cond, subst}
 use Rattle.std.specs.List.{list_any}
 use Rattle.exact_audit.proofs.LineCodeLemmas.{AreCodesOf-more}
 use Rattle.exact_audit.proofs.line_codes.LineCodes.of.Goals as goal
