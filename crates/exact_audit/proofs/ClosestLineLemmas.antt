@@ -1,5 +1,6 @@
 -- Closest lines and their kept pairs, one after another.
-use Rattle.std.proofs.Common.{◌≡◌, ℕ, ◌+◌, ◌<◌, Bool, true, false, cond, List, [], ◌∷◌, ◌++◌, length, get_or, take, filter, Option}
+use Rattle.std.proofs.Common.{◌≡◌, ℕ, ◌+◌, ◌<◌, Bool, true, false, cond, List, [], ◌∷◌, ◌++◌, length, get_or, take}
+use Rattle.std.proofs.Common.{filter, Option}
 use Rattle.std.proofs.Common.{None, Some, is_some, refl, sym, ap, ◌∙◌, append-nil}
 use Rattle.std.specs.List.{filter_map, cons_option}
 use Rattle.std.proofs.lemmas.Bool.{cond-true, cond-false}
@@ -28,7 +29,8 @@ filter_more_no p xs kept i x within is fails before =
     cc
 
 -- how many elements give something, after one more
-pub count_more : (f : PrefixValue → Option PrefixValue) (xs : List PrefixValue) (at : ℕ) (x : PrefixValue) (given : Bool)
+pub count_more : (f : PrefixValue → Option PrefixValue) (xs : List PrefixValue) (at : ℕ) (x : PrefixValue)
+    (given : Bool)
     → at < length xs → x ≡ get_or xs at x → given ≡ is_some (f x)
     → length (filter_map f (take (at + 1) xs)) ≡ length (filter_map f (take at xs)) + cond given 1 0
 count_more f xs at x given within is gives =

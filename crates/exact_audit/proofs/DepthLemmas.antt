@@ -1,7 +1,8 @@
 -- Lines that cover a record, by how many bytes they keep.
 use Rattle.std.proofs.Common.{◌≡◌, ℕ, ◌+◌, ◌^◌, ◌<◌, ◌≤◌, ◌/◌, ◌%◌, nat_le, nat_lt, nat_eq, eqb, Bool, true, false}
 use Rattle.std.proofs.Common.{◌&&◌, ◌||◌, not}
-use Rattle.std.proofs.Common.{zero, suc, List, [], ◌∷◌, length, take, get_or, All, Contains, refl, sym, ap, ◌∙◌, subst, arith, ◌⊎◌, inl}
+use Rattle.std.proofs.Common.{zero, suc, List, [], ◌∷◌, length, take, get_or, All, Contains, refl, sym, ap, ◌∙◌}
+use Rattle.std.proofs.Common.{subst, arith, ◌⊎◌, inl}
 use Rattle.std.proofs.Common.{⊎_elim}
 use Rattle.std.specs.List.{list_any}
 use Rattle.std.proofs.lemmas.Bool.{false≢true, eqb-true, eq-eqb, and_parts, and_from, or_parts, or_from}
@@ -10,7 +11,8 @@ use Rattle.std.proofs.lemmas.Bool.{or_cases}
 use Rattle.std.proofs.lemmas.Bool.Decides.{nat_tests}
 use Rattle.std.proofs.lemmas.List.Elements.{All-head, All-tail}
 use Rattle.std.proofs.lemmas.List.Folds.{list_any_at}
-use Rattle.prefix_lattice.specs.{RecordValue, NodeValue, IsNode, index_of, node_at, PrefixValue, IsPrefix, covers, node_of}
+use Rattle.prefix_lattice.specs.{RecordValue, NodeValue, IsNode, index_of, node_at, PrefixValue, IsPrefix, covers}
+use Rattle.prefix_lattice.specs.{node_of}
 use Rattle.prefix_lattice.specs.{key_of, prefix_at, begins_with, strictly_under, lines_under, one_covers}
 use Rattle.prefix_lattice.proofs.NodePlaceLemmas.{node_at-index_of}
 use Rattle.prefix_lattice.proofs.ListLemmas.{Contains-head, Contains-tail}
@@ -55,7 +57,8 @@ front-of_front (x ∷ bytes) zero (suc n) few_m few_n = sym (lt-leb (suc n) 0 (o
 front-of_front (x ∷ bytes) (suc m) (suc n) few_m few_n =
     ap (λ b. b && begins_with (take m bytes) (take n bytes)) (eq-eqb x x refl)
     ∙ front-of_front bytes m n (omega arith) (omega arith)
-    ∙ same_truth (nat_le n m) (nat_le (suc n) (suc m)) (λ is. le-leb (suc n) (suc m) (let le = leb-true n m is in omega arith))
+    ∙ same_truth (nat_le n m) (nat_le (suc n) (suc m))
+        (λ is. le-leb (suc n) (suc m) (let le = leb-true n m is in omega arith))
     (λ is. le-leb n m (let le = leb-true (suc n) (suc m) is in omega arith))
 
 -- a list that begins with another is no shorter
@@ -70,7 +73,8 @@ begins_with-length (x ∷ bytes) (b ∷ front) begins =
 pub covering_is_front : (line : PrefixValue) (rec : RecordValue) → covers line rec ≡ true
     → prefix_at (node_of line) rec ≡ line
 covering_is_front line rec covered =
-    let both = and_parts (begins_with (bytes_of rec.src) line.source) (begins_with (bytes_of rec.dst) line.dest) covered in
+    let both = and_parts (begins_with (bytes_of rec.src) line.source) (begins_with (bytes_of rec.dst) line.dest)
+        covered in
     let make : List ℕ → List ℕ → PrefixValue = λ source dest. record { source = source; dest = dest } in
     ap (λ source. make source (take (length line.dest) (bytes_of rec.dst)))
     (take-begins_with (bytes_of rec.src) line.source both.0)
@@ -80,11 +84,13 @@ covering_is_front line rec covered =
 pub covering_few : (line : PrefixValue) (rec : RecordValue) → covers line rec ≡ true
     → (length line.source ≤ 4) × (length line.dest ≤ 4)
 covering_few line rec covered =
-    let both = and_parts (begins_with (bytes_of rec.src) line.source) (begins_with (bytes_of rec.dst) line.dest) covered in
+    let both = and_parts (begins_with (bytes_of rec.src) line.source) (begins_with (bytes_of rec.dst) line.dest)
+        covered in
     (begins_with-length (bytes_of rec.src) line.source both.0, begins_with-length (bytes_of rec.dst) line.dest both.1)
 
 -- which of two numbers of kept bytes is more, on both sides
-below_by_lengths : (s d l m : ℕ) → ((nat_le s l && nat_le d m) && not ((nat_le s l && nat_le d m) && (nat_le l s && nat_le m d)))
+below_by_lengths : (s d l m : ℕ)
+    → ((nat_le s l && nat_le d m) && not ((nat_le s l && nat_le d m) && (nat_le l s && nat_le m d)))
     ≡ ((nat_le (s + 1) l && nat_le d m) || (nat_le s l && nat_le (d + 1) m))
 below_by_lengths s d l m = grind (arith, nat_tests)
 
@@ -105,7 +111,8 @@ pub strictly_by_lengths : (node : NodeValue) (rec : RecordValue) → IsNode node
     ≡ ((nat_le (node.source_bytes + 1) (length line.source) && nat_le node.dest_bytes (length line.dest))
     || (nat_le node.source_bytes (length line.source) && nat_le (node.dest_bytes + 1) (length line.dest)))
 strictly_by_lengths node rec is line covered =
-    let both = and_parts (begins_with (bytes_of rec.src) line.source) (begins_with (bytes_of rec.dst) line.dest) covered in
+    let both = and_parts (begins_with (bytes_of rec.src) line.source) (begins_with (bytes_of rec.dst) line.dest)
+        covered in
     let source = line_front (bytes_of rec.src) line.source node.source_bytes both.0 is.source in
     let dest = line_front (bytes_of rec.dst) line.dest node.dest_bytes both.1 is.dest in
     let shape = λ (a b c d : Bool). (a && b) && not ((a && b) && (c && d)) in
@@ -122,7 +129,8 @@ strictly_by_lengths node rec is line covered =
 -- lines strictly under the record's prefix of a node cover it exactly where lines reach further down that cover it
 pub explained_by_reaches : (lines : List PrefixValue) (node : NodeValue) (rec : RecordValue) → IsNode node
     → one_covers (lines_under (prefix_at node rec) lines) rec
-    ≡ (reaches lines rec (node.source_bytes + 1) node.dest_bytes || reaches lines rec node.source_bytes (node.dest_bytes + 1))
+    ≡ (reaches lines rec (node.source_bytes + 1) node.dest_bytes || reaches lines rec node.source_bytes
+        (node.dest_bytes + 1))
 explained_by_reaches lines node rec is =
     list_any-filter (λ line. covers line rec) (λ line. strictly_under line (prefix_at node rec)) lines
     ∙ list_any-same (λ line. strictly_under line (prefix_at node rec) && covers line rec)
@@ -186,17 +194,20 @@ reaches_none (line ∷ lines) rec s d past =
     let source = leb-true s (length line.source) sides.0 in
     let dest = leb-true d (length line.dest) sides.1 in
     let few = covering_few line rec both.0 in
-    ⊎_elim (λ (more : 4 < s). omega (arith, few, source, more)) (λ (more : 4 < d). omega (arith, few, dest, more)) past))
+    ⊎_elim (λ (more : 4 < s). omega (arith, few, source, more)) (λ (more : 4 < d). omega (arith, few, dest, more))
+        past))
     (reaches_none lines rec s d past)
 
 -- where no line reaches further down, and none has the record's prefix of a node, none reaches there
 pub reaches_not : (lines : List PrefixValue) (rec : RecordValue) (s d : ℕ)
-    → list_any (λ line. nat_eq (code_of (prefix_at (record { source_bytes = s; dest_bytes = d }) rec)) (code_of line)) lines ≡ false
+    → list_any (λ line. nat_eq (code_of (prefix_at (record { source_bytes = s; dest_bytes = d }) rec)) (code_of line))
+        lines ≡ false
     → reaches lines rec (s + 1) d ≡ false → reaches lines rec s (d + 1) ≡ false → reaches lines rec s d ≡ false
 reaches_not [] rec s d none source dest = refl
 reaches_not (line ∷ lines) rec s d none source dest =
     let own = prefix_at (record { source_bytes = s; dest_bytes = d }) rec in
-    let nones = or_parts (nat_eq (code_of own) (code_of line)) (list_any (λ line. nat_eq (code_of own) (code_of line)) lines) none in
+    let nones = or_parts (nat_eq (code_of own) (code_of line))
+        (list_any (λ line. nat_eq (code_of own) (code_of line)) lines) none in
     let sources = or_parts (covers line rec && (nat_le (s + 1) (length line.source) && nat_le d (length line.dest)))
     (reaches lines rec (s + 1) d) source in
     let dests = or_parts (covers line rec && (nat_le s (length line.source) && nat_le (d + 1) (length line.dest)))
@@ -280,7 +291,8 @@ has_line apart lines codes prefix coded is small has =
         (Contains-head line lines))
         (λ (there : list_any (λ line. nat_eq (code_of prefix) (code_of line)) lines ≡ true).
         Contains-tail line lines prefix
-        (find lines (All-tail IsPrefix line lines are) (All-tail (λ line. key_of line < 2 ^ 64) line lines smalls) there))
+        (find lines (All-tail IsPrefix line lines are) (All-tail (λ line. key_of line < 2 ^ 64) line lines smalls)
+            there))
         (or_cases (nat_eq (code_of prefix) (code_of line))
         (list_any (λ line. nat_eq (code_of prefix) (code_of line)) lines) has)
 

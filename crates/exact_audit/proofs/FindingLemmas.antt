@@ -27,12 +27,14 @@ line_sums_all lines records index sums last prefixes before = record {
       get_or-map (λ (l : Line). l.prefix) lines place line line.prefix within
       ∙ ap (λ (l : Line). l.prefix) (get_or_from_slice_get lines place line line at) in
       let prefix : IsPrefix line.prefix =
-      subst IsPrefix is (prefixes place line.prefix (omega (arith, within, length-map {A = Line} lines (λ l. l.prefix)))) in
+      subst IsPrefix is (prefixes place line.prefix
+          (omega (arith, within, length-map {A = Line} lines (λ l. l.prefix)))) in
       before.each place line at (omega (arith, prefix_small line.prefix prefix, last));
 }
 
 -- the first prefix left out of all nodes is the first of all prefixes left out
-pub left_out_all : (lines : List PrefixValue) (records : List RecordValue) (threshold index : ℕ) (found : Option LeftOut)
+pub left_out_all : (lines : List PrefixValue) (records : List RecordValue) (threshold index : ℕ)
+    (found : Option LeftOut)
     → 25 ≤ index → IsFirstBefore index lines records threshold found
     → IsFirstOf (IsLeftOut lines records threshold) found
 left_out_all lines records threshold index found last =

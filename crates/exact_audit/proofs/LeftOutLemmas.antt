@@ -1,6 +1,8 @@
 -- The first of the prefixes that are left out.
-use Rattle.std.proofs.Common.{◌≡◌, ◌≢◌, ℕ, ◌+◌, ◌<◌, ◌≤◌, ◌^◌, nat_eq, Bool, true, false, ◌||◌, cond, List, [], ◌∷◌, length}
-use Rattle.std.proofs.Common.{take, get_or, Contains, Option, None, Some, unwrap_or, refl, sym, ap, ◌∙◌, subst, arith, ◌⊎◌, inl, inr, ⊎_elim}
+use Rattle.std.proofs.Common.{◌≡◌, ◌≢◌, ℕ, ◌+◌, ◌<◌, ◌≤◌, ◌^◌, nat_eq, Bool, true, false, ◌||◌, cond, List, [], ◌∷◌}
+use Rattle.std.proofs.Common.{length}
+use Rattle.std.proofs.Common.{take, get_or, Contains, Option, None, Some, unwrap_or, refl, sym, ap, ◌∙◌, subst, arith}
+use Rattle.std.proofs.Common.{◌⊎◌, inl, inr, ⊎_elim}
 use Rattle.std.specs.List.{list_any}
 use Rattle.std.specs.Cmp.{IsTotalOrder}
 use Rattle.std.specs.HashMap.{HashMap, keys}
@@ -8,9 +10,11 @@ use Rattle.std.specs.Map.{lookup, keys_of}
 use Rattle.std.specs.Ordering.{ordering_reverse}
 use Rattle.std.specs.declared.cmp.Ordering.{Ordering}
 use Rattle.std.specs.declared.cmp.Ordering.TheVariants.{Less, Equal, Greater}
-use Rattle.std.proofs.lemmas.Bool.{false≢true, eqb-true, eq-eqb, or_cases, or_left, or_right, cases_lt, cond_both, true_from_ne_false}
+use Rattle.std.proofs.lemmas.Bool.{false≢true, eqb-true, eq-eqb, or_cases, or_left, or_right, cases_lt, cond_both}
+use Rattle.std.proofs.lemmas.Bool.{true_from_ne_false}
 use Rattle.std.proofs.lemmas.List.Folds.{list_any_more}
-use Rattle.prefix_lattice.specs.{RecordValue, NodeValue, IsNode, index_of, node_at, PrefixValue, IsPrefix, HasKey, node_of, key_of}
+use Rattle.prefix_lattice.specs.{RecordValue, NodeValue, IsNode, index_of, node_at, PrefixValue, IsPrefix, HasKey}
+use Rattle.prefix_lattice.specs.{node_of, key_of}
 use Rattle.prefix_lattice.specs.{report_order, conditioned_weight}
 use Rattle.prefix_lattice.proofs.NodePlaceLemmas.{node_at-index_of}
 use Rattle.exact_audit.specs.declared.node_sums.Sums.{Sums}
@@ -40,7 +44,8 @@ IsFirstOf-more order Meets Others None one meets to from first = (
   meets,
   λ prefix weight other less.
       ⊎_elim (λ (met : Meets prefix weight). first prefix weight met)
-      (λ (same : prefix ≡ one.prefix). not_less order one.prefix (subst (λ p. report_order p one.prefix ≡ Less) same less))
+      (λ (same : prefix ≡ one.prefix). not_less order one.prefix
+          (subst (λ p. report_order p one.prefix ≡ Less) same less))
       (from prefix weight other),
 )
   where
@@ -76,7 +81,8 @@ IsFirstOf-more order Meets Others (Some found) one meets to from first =
       λ prefix weight other less.
           ⊎_elim (λ (met : Meets prefix weight).
           first.1 prefix weight met (order.trans prefix one.prefix found.prefix less is))
-          (λ (same : prefix ≡ one.prefix). not_less one.prefix (subst (λ p. report_order p one.prefix ≡ Less) same less))
+          (λ (same : prefix ≡ one.prefix). not_less one.prefix
+              (subst (λ p. report_order p one.prefix ≡ Less) same less))
           (from prefix weight other),
     )
     by Equal is = keeps (λ less. let same : Less ≡ Equal = sym less ∙ is in cc)
@@ -119,7 +125,8 @@ same_node node prefix is prefix_is same =
 
 -- after the last key
 pub first_all : {S : Type 0} (node : NodeValue) (lines : List PrefixValue) (records : List RecordValue) (threshold : ℕ)
-    (sums : HashMap ℕ Sums S) (found : Option LeftOut) → IsNode node → 1 ≤ threshold → AreNodeSums node lines records sums
+    (sums : HashMap ℕ Sums S) (found : Option LeftOut) → IsNode node → 1 ≤ threshold → AreNodeSums node lines records
+        sums
     → IsFirstWith (index_of node) (keys sums) lines records threshold found
     → IsFirstBefore (index_of node + 1) lines records threshold found
 first_all {S} node lines records threshold sums found node_is some are =
@@ -131,7 +138,8 @@ first_all {S} node lines records threshold sums found node_is some are =
     (λ prefix weight met. (
       met.0,
       ⊎_elim (λ (before : index_of (node_of prefix) < index_of node). omega (arith, before))
-          (λ (at : (index_of (node_of prefix) ≡ index_of node) × (list_any (nat_eq (key_of prefix)) (keys sums) ≡ true)).
+          (λ (at : (index_of (node_of prefix) ≡ index_of node)
+              × (list_any (nat_eq (key_of prefix)) (keys sums) ≡ true)).
           omega (arith, at.0)) met.1,
     ))
     (λ prefix weight met. (
@@ -155,7 +163,8 @@ first_all {S} node lines records threshold sums found node_is some are =
         omega (arith, left, left_out.weighs, left_out.heavy, some))
 
 -- one more key, whose conditioned weight is below the threshold
-pub first_light : {S : Type 0} (node : NodeValue) (lines : List PrefixValue) (records : List RecordValue) (threshold : ℕ)
+pub first_light : {S : Type 0} (node : NodeValue) (lines : List PrefixValue) (records : List RecordValue)
+    (threshold : ℕ)
     (sums : HashMap ℕ Sums S) (place key left : ℕ) (found : Option LeftOut) → IsNode node
     → AreNodeSums node lines records sums → place < length (keys sums) → get_or (keys sums) place 0 ≡ key
     → (sums_for sums key).left ≡ left → left < threshold
@@ -166,7 +175,8 @@ first_light node lines records threshold sums place key left found node_is are w
     (λ prefix weight met. (
       met.0,
       ⊎_elim (λ (before : index_of (node_of prefix) < index_of node). inl before)
-          (λ (is : (index_of (node_of prefix) ≡ index_of node) × (list_any (nat_eq (key_of prefix)) (take place (keys sums)) ≡ true)).
+          (λ (is : (index_of (node_of prefix) ≡ index_of node)
+              × (list_any (nat_eq (key_of prefix)) (take place (keys sums)) ≡ true)).
           inr (
             is.0,
             list_any_more (nat_eq (key_of prefix)) (keys sums) place 0 within
@@ -180,7 +190,8 @@ first_light node lines records threshold sums place key left found node_is are w
           (λ (is : (index_of (node_of prefix) ≡ index_of node)
           × (list_any (nat_eq (key_of prefix)) (take (place + 1) (keys sums)) ≡ true)).
           ⊎_elim (λ (old : list_any (nat_eq (key_of prefix)) (take place (keys sums)) ≡ true). inr (is.0, old))
-          (λ (new : nat_eq (key_of prefix) (get_or (keys sums) place 0) ≡ true). absurd (no prefix weight met.0 is.0 new))
+          (λ (new : nat_eq (key_of prefix) (get_or (keys sums) place 0) ≡ true). absurd
+              (no prefix weight met.0 is.0 new))
           (or_cases (list_any (nat_eq (key_of prefix)) (take place (keys sums)))
           (nat_eq (key_of prefix) (get_or (keys sums) place 0))
           (sym (list_any_more (nat_eq (key_of prefix)) (keys sums) place 0 within) ∙ is.1))) met.1,
@@ -202,7 +213,8 @@ first_light node lines records threshold sums place key left found node_is are w
         omega (arith, lefts, left_out.weighs, left_out.heavy, light)
 
 -- one more key, whose conditioned weight reaches the threshold
-pub first_heavy : {S : Type 0} → IsTotalOrder report_order → ((prefix other : PrefixValue) → IsPrefix prefix → IsPrefix other
+pub first_heavy : {S : Type 0} → IsTotalOrder report_order
+    → ((prefix other : PrefixValue) → IsPrefix prefix → IsPrefix other
     → node_of prefix ≡ node_of other → key_of prefix ≡ key_of other → prefix ≡ other)
     → (node : NodeValue) (lines : List PrefixValue) (records : List RecordValue) (codes : List ℕ) (threshold : ℕ)
     (sums : HashMap ℕ Sums S) (place key left : ℕ) (one : PrefixValue) (found : Option LeftOut) → IsNode node
@@ -211,8 +223,10 @@ pub first_heavy : {S : Type 0} → IsTotalOrder report_order → ((prefix other 
     → HasKey node key one → key < 2 ^ 64
     → IsFirstWith (index_of node) (take place (keys sums)) lines records threshold found
     → IsFirstWith (index_of node) (take (place + 1) (keys sums)) lines records threshold
-    (cond (list_any (nat_eq (code_of one)) codes) found (Some (first_with found (record { prefix = one; weight = left }))))
-first_heavy order apart node lines records codes threshold sums place key left one found node_is are coded within at of_key
+    (cond (list_any (nat_eq (code_of one)) codes) found
+        (Some (first_with found (record { prefix = one; weight = left }))))
+first_heavy order apart node lines records codes threshold sums place key left one found node_is are coded within at
+    of_key
     heavy one_is small before =
     cond_both (list_any (nat_eq (code_of one)) codes) found
     (Some (first_with found (record { prefix = one; weight = left })))
@@ -251,7 +265,8 @@ first_heavy order apart node lines records codes threshold sums place key left o
         ⊎_elim (λ (before : index_of (node_of prefix) < index_of node). inl (met.0, inl before))
         (λ (is : (index_of (node_of prefix) ≡ index_of node)
         × (list_any (nat_eq (key_of prefix)) (take (place + 1) (keys sums)) ≡ true)).
-        ⊎_elim (λ (old : list_any (nat_eq (key_of prefix)) (take place (keys sums)) ≡ true). inl (met.0, inr (is.0, old)))
+        ⊎_elim (λ (old : list_any (nat_eq (key_of prefix)) (take place (keys sums)) ≡ true). inl
+            (met.0, inr (is.0, old)))
         (λ (new : nat_eq (key_of prefix) (get_or (keys sums) place 0) ≡ true).
         inr (apart prefix one met.0.is_prefix one_is.is_prefix
         (same_node node prefix node_is met.0.is_prefix is.0 ∙ sym one_is.of_node)

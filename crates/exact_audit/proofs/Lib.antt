@@ -9,3 +9,4 @@ pub mod ClosestLineLemmas
 pub mod FindingLemmas
 pub mod VerdictLemmas
 pub mod OneVerdictLemmas
+pub mod Examples

@@ -1,5 +1,6 @@
 -- The codes of lines, one line after another.
-use Rattle.std.proofs.Common.{◌≡◌, ℕ, ◌+◌, ◌^◌, ◌<◌, nat_eq, Bool, true, false, ◌||◌, cond, List, [], ◌∷◌, ◌++◌, length, take, get_or}
+use Rattle.std.proofs.Common.{◌≡◌, ℕ, ◌+◌, ◌^◌, ◌<◌, nat_eq, Bool, true, false, ◌||◌, cond, List, [], ◌∷◌, ◌++◌}
+use Rattle.std.proofs.Common.{length, take, get_or}
 use Rattle.std.proofs.Common.{refl, sym, ap, ◌∙◌, subst}
 use Rattle.std.specs.List.{list_any}
 use Rattle.std.proofs.lemmas.Bool.{false≢true, eqb-true, eq-eqb}
@@ -15,7 +16,8 @@ use Rattle.exact_audit.proofs.BoolListLemmas.{same_truth}
 -- one more prefix
 AreCodesOf-push : (lines : List PrefixValue) (prefix : PrefixValue) (codes new : List ℕ) → IsPrefix prefix
     → key_of prefix < 2 ^ 64
-    → ((code : ℕ) → list_any (nat_eq code) new ≡ cond (nat_eq (code_of prefix) code) true (list_any (nat_eq code) codes))
+    → ((code : ℕ) → list_any (nat_eq code) new ≡ cond (nat_eq (code_of prefix) code) true
+        (list_any (nat_eq code) codes))
     → AreCodesOf lines codes → AreCodesOf (lines ++ prefix ∷ []) new
 AreCodesOf-push lines prefix codes new is small adds before = record {
   prefixes = All-push IsPrefix lines prefix before.prefixes is;

@@ -1,5 +1,6 @@
 -- Tests of lines: the first line that fails one.
-use Rattle.std.proofs.Common.{◌≡◌, ◌≢◌, ℕ, ◌+◌, ◌<◌, ◌≤◌, List, take, length, get_or, All, slice_get, Some, refl, sym, ap, ◌∙◌, subst, arith}
+use Rattle.std.proofs.Common.{◌≡◌, ◌≢◌, ℕ, ◌+◌, ◌<◌, ◌≤◌, List, take, length, get_or, All, slice_get, Some, refl, sym}
+use Rattle.std.proofs.Common.{ap, ◌∙◌, subst, arith}
 use Rattle.std.proofs.Common.{set, Option, ◌⊎◌, inl, inr, ⊎_elim}
 use Rattle.std.proofs.lemmas.Bool.{cases_lt, cases_eq}
 use Rattle.std.proofs.lemmas.List.{length-set, get_or-set_same, get_or-set_other}
@@ -33,7 +34,8 @@ passes_more Passes lines place line within at passes passed =
     All-more Passes lines place line within passed (subst Passes at passes)
 
 -- the sums of a line
-pub sums_at_place : (lines : List Line) (records : List RecordValue) (sums : List Sums) (place : ℕ) (line : Line) (d : Sums)
+pub sums_at_place : (lines : List Line) (records : List RecordValue) (sums : List Sums) (place : ℕ) (line : Line)
+    (d : Sums)
     → AreLineSums lines records sums → place < length lines → line ≡ get_or lines place line
     → get_or sums place d ≡ sums_of (prefixes_of lines) records line.prefix
 sums_at_place lines records sums place line d are within at =
@@ -84,7 +86,8 @@ noted_line index place lines records sums line own same within at is before othe
     Of line = sums_of (prefixes_of lines) records line.prefix
 
     less_than : {a b : ℕ} → a ≢ b → a < b + 1 → a < b
-    less_than {a} {b} apart less = ⊎_elim (λ (is : a < b). is) (λ (not : b ≤ a). absurd (apart (omega arith))) (cases_lt a b)
+    less_than {a} {b} apart less = ⊎_elim (λ (is : a < b). is) (λ (not : b ≤ a). absurd (apart (omega arith)))
+        (cases_lt a b)
 
 -- one more line, of another node
 pub noted_other : (index place : ℕ) (lines : List Line) (records : List RecordValue) (sums : List Sums) (line : Line)

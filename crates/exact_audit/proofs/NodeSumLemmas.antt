@@ -6,7 +6,8 @@ use Rattle.std.specs.HashMap.{HashMap}
 use Rattle.std.proofs.lemmas.Bool.{false≢true, eqb-true}
 use Rattle.std.proofs.lemmas.List.Elements.{All-head, All-tail}
 use Rattle.std.proofs.lemmas.List.Sums.{sum_by-cons, sum_by_more, sum_by-take-le}
-use Rattle.prefix_lattice.specs.{RecordValue, NodeValue, IsNode, PrefixValue, IsPrefix, HasKey, covers, node_of, key_of, prefix_at}
+use Rattle.prefix_lattice.specs.{RecordValue, NodeValue, IsNode, PrefixValue, IsPrefix, HasKey, covers, node_of}
+use Rattle.prefix_lattice.specs.{key_of, prefix_at}
 use Rattle.prefix_lattice.specs.{weight_of, total_weight, conditioned_weight, one_covers, lines_under}
 use Rattle.exact_audit.specs.declared.counted.Counted.{Counted}
 use Rattle.exact_audit.specs.declared.node_sums.Sums.{Sums}
@@ -72,7 +73,8 @@ part_fits counted test index one within at =
 pub AreKeySums-more : {S : Type 0} (node : NodeValue) (counted : List Counted) (index : ℕ) (one : Counted)
     (key : ℕ) (old new : HashMap ℕ Sums S) → index < length counted → one ≡ get_or counted index one
     → key ≡ key_of (prefix_at node one.rec)
-    → ((other : ℕ) → (sums_for new other).weight ≡ (sums_for old other).weight + cond (nat_eq key other) one.rec.weight 0)
+    → ((other : ℕ) → (sums_for new other).weight ≡ (sums_for old other).weight + cond (nat_eq key other)
+        one.rec.weight 0)
     → ((other : ℕ) → (sums_for new other).left
     ≡ (sums_for old other).left + cond (nat_eq key other && not (explained one.depths node)) one.rec.weight 0)
     → AreKeySums node (take index counted) old → AreKeySums node (take (index + 1) counted) new
@@ -114,7 +116,8 @@ key_left-is : AreLaws → (lines : List PrefixValue) (prefix : PrefixValue) (cou
     → IsNode (node_of prefix) → All (λ (c : Counted). AreDepths lines c.rec c.depths) counted
     → key_left (node_of prefix) (key_of prefix) counted ≡ conditioned_weight prefix lines (records_of counted)
 key_left-is laws lines prefix counted is node depths =
-    sum_by_test (λ (c : Counted). has_key (node_of prefix) (key_of prefix) c && not (explained c.depths (node_of prefix)))
+    sum_by_test (λ (c : Counted). has_key (node_of prefix) (key_of prefix) c && not
+        (explained c.depths (node_of prefix)))
     (λ (r : RecordValue). covers prefix r && not (one_covers (lines_under prefix lines) r)) (λ (c : Counted). c.rec)
     (λ (r : RecordValue). r.weight) counted
     (λ place d within. same (get_or counted place d) (depths place d within))

@@ -1,4 +1,5 @@
--- A report has one verdict: the number of tests that pass fixes it, and the first that fails has one first line or prefix.
+-- A report has one verdict: the number of tests that pass fixes it, and the first that fails has one first line or
+-- prefix.
 use Rattle.std.proofs.Common.{◌≡◌, ◌≢◌, ℕ, ◌<◌, ◌≤◌, zero, suc, List}
 use Rattle.std.proofs.Common.{refl, sym, ap, ◌∙◌, subst, arith, ⊎_elim, ◌⊎◌}
 use Rattle.std.specs.Cmp.{IsTotalOrder}
@@ -12,12 +13,14 @@ use Rattle.prefix_lattice.specs.{RecordValue, PrefixValue, IsPrefix, report_orde
 use Rattle.shard_state.specs.{records_before}
 use Rattle.hhh_output.specs.declared.line.Line.{Line}
 use Rattle.hhh_output.specs.declared.report.Report.{Report}
-use Rattle.hhh_output.specs.{ArePositionsWithin, IsThreshold, HoldsWeight, IsNarrowLine, IsHeavyLine, AreComplete, prefixes_of}
+use Rattle.hhh_output.specs.{ArePositionsWithin, IsThreshold, HoldsWeight, IsNarrowLine, IsHeavyLine, AreComplete}
+use Rattle.hhh_output.specs.{prefixes_of}
 use Rattle.exact_audit.specs.declared.verdict.Verdict.{Verdict}
 use Rattle.exact_audit.specs.declared.verdict.Verdict.TheVariants.{Good, BadPositions, BadTotal, BadThreshold}
 use Rattle.exact_audit.specs.declared.verdict.Verdict.TheVariants.{BadInterval, TooWide, LowLine, NotJustified, LeftOut}
 use Rattle.exact_audit.specs.Verdict.{IsFirstFailing, IsFirstLeftOut, IsVerdict, IsTotal, TestedBy}
-use Rattle.exact_audit.specs.Verdict.{HoldWeights, AreNarrowLines, AreHeavyLines, AreJustified, IsJustifiedAmong, PassesHead}
+use Rattle.exact_audit.specs.Verdict.{HoldWeights, AreNarrowLines, AreHeavyLines, AreJustified, IsJustifiedAmong}
+use Rattle.exact_audit.specs.Verdict.{PassesHead}
 use Rattle.exact_audit.proofs.VerdictLemmas.{none_fails}
 
 -- two first lines that fail a test are one
@@ -30,7 +33,8 @@ first_is_one Passes lines number other is other_is =
     (λ (more : other_is.before < is.before). absurd (earlier other number other_is is more)) apart)
     (cases_order is.before other_is.before)
   where
-    earlier : (number other : ℕ) (is : IsFirstFailing Passes lines number) (other_is : IsFirstFailing Passes lines other)
+    earlier : (number other : ℕ) (is : IsFirstFailing Passes lines number)
+        (other_is : IsFirstFailing Passes lines other)
         → is.before < other_is.before → ⊥
     earlier number other is other_is less =
         let within = slice_get_within lines other_is.before other_is.line other_is.is in
@@ -41,8 +45,10 @@ first_is_one Passes lines number other is other_is =
 
 -- two first prefixes that are left out are one
 left_out_is_one : IsTotalOrder report_order
-    → ((prefix other : PrefixValue) → IsPrefix prefix → IsPrefix other → report_order prefix other ≡ Equal → prefix ≡ other)
-    → (lines : List PrefixValue) (records : List RecordValue) (threshold : ℕ) (prefix other : PrefixValue) (weight more : ℕ)
+    → ((prefix other : PrefixValue) → IsPrefix prefix → IsPrefix other → report_order prefix other ≡ Equal → prefix
+        ≡ other)
+    → (lines : List PrefixValue) (records : List RecordValue) (threshold : ℕ) (prefix other : PrefixValue)
+        (weight more : ℕ)
     → IsFirstLeftOut lines records threshold prefix weight → IsFirstLeftOut lines records threshold other more
     → LeftOut prefix weight ≡ LeftOut other more
 left_out_is_one order apart lines records threshold prefix other weight more is other_is =
@@ -132,7 +138,8 @@ test_fails of BadThreshold is = is.2
 test_fails of (BadInterval number) is = λ all. none_fails (HoldsWeight (counted of)) of.report.lines number all is.lines
 test_fails of (TooWide number) is =
     λ all. none_fails (IsNarrowLine of.capacity of.report.total) of.report.lines number all is.lines.1
-test_fails of (LowLine number) is = λ all. none_fails (IsHeavyLine of.report.threshold) of.report.lines number all is.lines.2
+test_fails of (LowLine number) is = λ all. none_fails (IsHeavyLine of.report.threshold) of.report.lines number all
+    is.lines.2
 test_fails of (NotJustified number) is =
     λ all. none_fails (IsJustifiedAmong (by of) (counted of) of.report.lines) of.report.lines number all is.lines.3
 test_fails of (LeftOut prefix weight) is = λ complete.
@@ -151,21 +158,25 @@ first_tests of (suc n) k less all =
     below apart = ⊎_elim (λ (is : k < n). is) (λ (not : n ≤ k). absurd (apart (omega arith))) (cases_lt k n)
 
 -- no verdict fails earlier than another
-none_earlier : (of : Audited) (verdict other : Verdict) → IsOf of verdict → IsOf of other → held verdict < held other → ⊥
+none_earlier : (of : Audited) (verdict other : Verdict) → IsOf of verdict → IsOf of other → held verdict < held other
+    → ⊥
 none_earlier of verdict other is other_is less =
     test_fails of verdict is (first_tests of (held other) (held verdict) less (tests_hold of other other_is))
 
 -- two verdicts that fail at one test are one
 at_one_test : IsTotalOrder report_order
-    → ((prefix other : PrefixValue) → IsPrefix prefix → IsPrefix other → report_order prefix other ≡ Equal → prefix ≡ other)
-    → (of : Audited) (verdict other : Verdict) → IsOf of verdict → IsOf of other → held verdict ≡ held other → verdict ≡ other
+    → ((prefix other : PrefixValue) → IsPrefix prefix → IsPrefix other → report_order prefix other ≡ Equal → prefix
+        ≡ other)
+    → (of : Audited) (verdict other : Verdict) → IsOf of verdict → IsOf of other → held verdict ≡ held other → verdict
+        ≡ other
 at_one_test order apart of BadPositions BadPositions is other_is same = refl
 at_one_test order apart of BadTotal BadTotal is other_is same = refl
 at_one_test order apart of BadThreshold BadThreshold is other_is same = refl
 at_one_test order apart of (BadInterval number) (BadInterval other) is other_is same =
     ap BadInterval (first_is_one (HoldsWeight (counted of)) of.report.lines number other is.lines other_is.lines)
 at_one_test order apart of (TooWide number) (TooWide other) is other_is same =
-    ap TooWide (first_is_one (IsNarrowLine of.capacity of.report.total) of.report.lines number other is.lines.1 other_is.lines.1)
+    ap TooWide (first_is_one (IsNarrowLine of.capacity of.report.total) of.report.lines number other is.lines.1
+        other_is.lines.1)
 at_one_test order apart of (LowLine number) (LowLine other) is other_is same =
     ap LowLine (first_is_one (IsHeavyLine of.report.threshold) of.report.lines number other is.lines.2 other_is.lines.2)
 at_one_test order apart of (NotJustified number) (NotJustified other) is other_is same =
@@ -179,7 +190,8 @@ at_one_test order apart of verdict other is other_is same = absurd (omega arith)
 
 -- a report has one verdict
 pub one_verdict : IsTotalOrder report_order
-    → ((prefix other : PrefixValue) → IsPrefix prefix → IsPrefix other → report_order prefix other ≡ Equal → prefix ≡ other)
+    → ((prefix other : PrefixValue) → IsPrefix prefix → IsPrefix other → report_order prefix other ≡ Equal → prefix
+        ≡ other)
     → (lists : List (List RecordValue)) (capacity phi : ℕ) (report : Report) (verdict other : Verdict)
     → IsVerdict lists capacity phi report verdict → IsVerdict lists capacity phi report other → verdict ≡ other
 one_verdict order apart lists capacity phi report verdict other is other_is =

@@ -65,7 +65,8 @@ verdict_from_lines lists capacity phi report (NotJustified number) head lines = 
 verdict_from_lines lists capacity phi report (LeftOut prefix weight) head lines = record { head = head; lines = lines }
 
 -- where all lines pass a test, none is the first that fails it
-pub none_fails : (Passes : Line → Type 0) (lines : List Line) (number : ℕ) → All Passes lines → IsFirstFailing Passes lines number → ⊥
+pub none_fails : (Passes : Line → Type 0) (lines : List Line) (number : ℕ) → All Passes lines → IsFirstFailing Passes
+    lines number → ⊥
 none_fails Passes lines number all first =
     first.fails (subst Passes (get_or_from_slice_get lines first.before first.line first.line first.is)
     (all first.before first.line (slice_get_within lines first.before first.line first.is)))

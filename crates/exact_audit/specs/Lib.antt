@@ -7,5 +7,7 @@ pub mod NodeSums
 pub mod Widths
 pub mod Findings
 -- the face: what contracts of other crates cite
-pub use Rattle.exact_audit.specs.Verdict.{AreHeavyLines, AreJustified, AreNarrowLines, HoldWeights, IsFirstFailing, IsFirstLeftOut, IsJustifiedAmong}
-pub use Rattle.exact_audit.specs.Verdict.{IsLeftOut, IsLineVerdict, IsTotal, IsVerdict, IsVerdictOnLines, PassesHead, TestedBy}
+pub use Rattle.exact_audit.specs.Verdict.{AreHeavyLines, AreJustified, AreNarrowLines, HoldWeights, IsFirstFailing}
+pub use Rattle.exact_audit.specs.Verdict.{IsFirstLeftOut, IsJustifiedAmong}
+pub use Rattle.exact_audit.specs.Verdict.{IsLeftOut, IsLineVerdict, IsTotal, IsVerdict, IsVerdictOnLines, PassesHead}
+pub use Rattle.exact_audit.specs.Verdict.{TestedBy}

@@ -1,4 +1,5 @@
--- The sums of a node: for each key the weight of its records, and of those that no line strictly under its prefix covers.
+-- The sums of a node: for each key the weight of its records, and of those that no line strictly under its prefix
+-- covers.
 use Rattle.std.specs.Prelude.{ℕ, ◌≡◌, ◌==◌, ◌&&◌, not, nat_eq, Bool, List, map, sum_by, All, unwrap_or, is_some, true}
 use Rattle.std.specs.Prelude.{if◌then◌else◌}
 use Rattle.std.specs.HashMap.{HashMap, get}

@@ -18,9 +18,11 @@ loop-index-preserved c =
             subst (λ i. AreLineSumsBefore (i + 1) lines records c.note_lines.new.line_sums.items) at
                 (c.note_lines.ensures.sums records sums
                 (subst (λ i. AreLineSumsBefore i lines records c.loop-index.line_sums.items) (sym at) before.0)),
-            subst (λ i. IsFirstBefore (i + 1) (prefixes_of lines) records c.args.threshold c.first_left_out-left_out.result) at
+            subst (λ i. IsFirstBefore (i + 1) (prefixes_of lines) records c.args.threshold
+                c.first_left_out-left_out.result) at
                 (c.first_left_out-left_out.ensures (prefixes_of lines) records c.requires.codes sums
-                (subst (λ i. IsFirstBefore i (prefixes_of lines) records c.args.threshold c.loop-index.left_out) (sym at) before.1)),
+                (subst (λ i. IsFirstBefore i (prefixes_of lines) records c.args.threshold c.loop-index.left_out)
+                    (sym at) before.1)),
           ),
     )
 
