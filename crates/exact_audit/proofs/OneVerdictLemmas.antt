@@ -94,7 +94,7 @@ Test of (suc (suc (suc (suc (suc (suc (suc zero))))))) =
     AreComplete of.report.threshold (prefixes_of of.report.lines) (counted of)
 Test of (suc (suc (suc (suc (suc (suc (suc (suc n)))))))) = ⊥
 
--- so many tests hold
+-- this many of the first tests hold
 abbrev HoldFirst : Audited → ℕ → Type 0
 HoldFirst of zero = Unit {0}
 HoldFirst of (suc n) = HoldFirst of n × Test of n
