@@ -43,7 +43,7 @@ pub list_any-weaker : {X : Type 0} (p q : X → Bool) (xs : List X)
 list_any-weaker p q [] weaker is = is
 list_any-weaker p q (x ∷ xs) weaker is =
     split (p x) (q x) (weaker 0 x (omega arith))
-        (list_any-weaker p q xs (λ place d within. weaker (suc place) d (omega arith))) is
+    (list_any-weaker p q xs (λ place d within. weaker (suc place) d (omega arith))) is
   where
     split : (a b : Bool) → (a ≡ true → b ≡ true) → (list_any p xs ≡ true → list_any q xs ≡ true)
         → (a || list_any p xs) ≡ true → (b || list_any q xs) ≡ true

@@ -58,7 +58,7 @@ front-of_front (x ∷ bytes) (suc m) (suc n) few_m few_n =
     ap (λ b. b && begins_with (take m bytes) (take n bytes)) (eq-eqb x x refl)
     ∙ front-of_front bytes m n (omega arith) (omega arith)
     ∙ same_truth (nat_le n m) (nat_le (suc n) (suc m))
-        (λ is. le-leb (suc n) (suc m) (let le = leb-true n m is in omega arith))
+    (λ is. le-leb (suc n) (suc m) (let le = leb-true n m is in omega arith))
     (λ is. le-leb n m (let le = leb-true (suc n) (suc m) is in omega arith))
 
 -- a list that begins with another is no shorter
@@ -74,7 +74,7 @@ pub covering_is_front : (line : PrefixValue) (rec : RecordValue) → covers line
     → prefix_at (node_of line) rec ≡ line
 covering_is_front line rec covered =
     let both = and_parts (begins_with (bytes_of rec.src) line.source) (begins_with (bytes_of rec.dst) line.dest)
-        covered in
+    covered in
     let make : List ℕ → List ℕ → PrefixValue = λ source dest. record { source = source; dest = dest } in
     ap (λ source. make source (take (length line.dest) (bytes_of rec.dst)))
     (take-begins_with (bytes_of rec.src) line.source both.0)
@@ -85,7 +85,7 @@ pub covering_few : (line : PrefixValue) (rec : RecordValue) → covers line rec 
     → (length line.source ≤ 4) × (length line.dest ≤ 4)
 covering_few line rec covered =
     let both = and_parts (begins_with (bytes_of rec.src) line.source) (begins_with (bytes_of rec.dst) line.dest)
-        covered in
+    covered in
     (begins_with-length (bytes_of rec.src) line.source both.0, begins_with-length (bytes_of rec.dst) line.dest both.1)
 
 -- which of two numbers of kept bytes is more, on both sides
@@ -112,7 +112,7 @@ pub strictly_by_lengths : (node : NodeValue) (rec : RecordValue) → IsNode node
     || (nat_le node.source_bytes (length line.source) && nat_le (node.dest_bytes + 1) (length line.dest)))
 strictly_by_lengths node rec is line covered =
     let both = and_parts (begins_with (bytes_of rec.src) line.source) (begins_with (bytes_of rec.dst) line.dest)
-        covered in
+    covered in
     let source = line_front (bytes_of rec.src) line.source node.source_bytes both.0 is.source in
     let dest = line_front (bytes_of rec.dst) line.dest node.dest_bytes both.1 is.dest in
     let shape = λ (a b c d : Bool). (a && b) && not ((a && b) && (c && d)) in
@@ -130,7 +130,7 @@ strictly_by_lengths node rec is line covered =
 pub explained_by_reaches : (lines : List PrefixValue) (node : NodeValue) (rec : RecordValue) → IsNode node
     → one_covers (lines_under (prefix_at node rec) lines) rec
     ≡ (reaches lines rec (node.source_bytes + 1) node.dest_bytes || reaches lines rec node.source_bytes
-        (node.dest_bytes + 1))
+    (node.dest_bytes + 1))
 explained_by_reaches lines node rec is =
     list_any-filter (λ line. covers line rec) (λ line. strictly_under line (prefix_at node rec)) lines
     ∙ list_any-same (λ line. strictly_under line (prefix_at node rec) && covers line rec)
@@ -195,19 +195,19 @@ reaches_none (line ∷ lines) rec s d past =
     let dest = leb-true d (length line.dest) sides.1 in
     let few = covering_few line rec both.0 in
     ⊎_elim (λ (more : 4 < s). omega (arith, few, source, more)) (λ (more : 4 < d). omega (arith, few, dest, more))
-        past))
+    past))
     (reaches_none lines rec s d past)
 
 -- where no line reaches further down, and none has the record's prefix of a node, none reaches there
 pub reaches_not : (lines : List PrefixValue) (rec : RecordValue) (s d : ℕ)
     → list_any (λ line. nat_eq (code_of (prefix_at (record { source_bytes = s; dest_bytes = d }) rec)) (code_of line))
-        lines ≡ false
+    lines ≡ false
     → reaches lines rec (s + 1) d ≡ false → reaches lines rec s (d + 1) ≡ false → reaches lines rec s d ≡ false
 reaches_not [] rec s d none source dest = refl
 reaches_not (line ∷ lines) rec s d none source dest =
     let own = prefix_at (record { source_bytes = s; dest_bytes = d }) rec in
     let nones = or_parts (nat_eq (code_of own) (code_of line))
-        (list_any (λ line. nat_eq (code_of own) (code_of line)) lines) none in
+    (list_any (λ line. nat_eq (code_of own) (code_of line)) lines) none in
     let sources = or_parts (covers line rec && (nat_le (s + 1) (length line.source) && nat_le d (length line.dest)))
     (reaches lines rec (s + 1) d) source in
     let dests = or_parts (covers line rec && (nat_le s (length line.source) && nat_le (d + 1) (length line.dest)))
@@ -292,7 +292,7 @@ has_line apart lines codes prefix coded is small has =
         (λ (there : list_any (λ line. nat_eq (code_of prefix) (code_of line)) lines ≡ true).
         Contains-tail line lines prefix
         (find lines (All-tail IsPrefix line lines are) (All-tail (λ line. key_of line < 2 ^ 64) line lines smalls)
-            there))
+        there))
         (or_cases (nat_eq (code_of prefix) (code_of line))
         (list_any (λ line. nat_eq (code_of prefix) (code_of line)) lines) has)
 

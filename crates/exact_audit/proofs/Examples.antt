@@ -1,20 +1,19 @@
 -- Worked examples of audits, most by computing: one packet of 100 bytes from 10.1.2.3 to 20.1.2.3, and its reports.
-use Rattle.std.proofs.Common.{◌≡◌, ◌≢◌, ℕ, ◌+◌, ◌<◌, ◌≤◌, zero, suc, List, [], ◌∷◌, length, take, get_or, All}
-use Rattle.std.proofs.Common.{Contains, None, Some}
-use Rattle.std.proofs.Common.{true, false, refl, sym, ap, ◌∙◌, arith}
+use Rattle.std.proofs.Common.{◌≡◌, ℕ, ◌<◌, ◌≤◌, zero, suc, List, [], ◌∷◌, get_or}
+use Rattle.std.proofs.Common.{Some}
+use Rattle.std.proofs.Common.{true, false, refl, arith}
 use Rattle.std.proofs.lemmas.List.Elements.{All-nil, All-cons}
-use Rattle.std.specs.declared.cmp.Ordering.TheVariants.{Less}
-use Rattle.prefix_lattice.specs.{RecordValue, NodeValue, PrefixValue, IsPrefix, prefix_at, one_covers, lines_under}
+use Rattle.prefix_lattice.specs.{RecordValue, NodeValue, PrefixValue, IsPrefix, one_covers, lines_under}
 use Rattle.prefix_lattice.specs.{key_of}
 use Rattle.hhh_output.specs.declared.line.Line.{Line}
 use Rattle.hhh_output.specs.declared.report.Report.{Report}
-use Rattle.hhh_output.specs.{AreLines, HoldsWeight, IsThreshold, prefixes_of}
+use Rattle.hhh_output.specs.{AreLines, HoldsWeight, IsThreshold}
 use Rattle.exact_audit.specs.declared.depths.Depths.{Depths}
 use Rattle.exact_audit.specs.declared.counted.Counted.{Counted}
 use Rattle.exact_audit.specs.declared.left_out.LeftOut.{LeftOut}
 use Rattle.exact_audit.specs.declared.verdict.Verdict.TheVariants.{BadPositions, BadTotal, BadThreshold, BadInterval}
-use Rattle.exact_audit.specs.Verdict.{IsFirstFailing, IsLeftOut, IsVerdict}
-use Rattle.exact_audit.specs.Depths.{reaches, depth_at, explained}
+use Rattle.exact_audit.specs.Verdict.{IsLeftOut, IsVerdict}
+use Rattle.exact_audit.specs.Depths.{reaches, explained}
 use Rattle.exact_audit.specs.NodeSums.{key_weight, key_left}
 use Rattle.exact_audit.specs.Findings.{first_with}
 
@@ -68,9 +67,12 @@ pub a_total_too_small : IsVerdict dealt 512 10000 (report_with 1 99 1 own (omega
 a_total_too_small = ((omega arith, tt), λ same. omega (arith, same))
 
 pub a_threshold_too_high : IsVerdict dealt 512 10000 (report_with 1 100 2 own (omega arith)) BadThreshold
-a_threshold_too_high =
-    ((omega arith, tt), refl, λ (is : IsThreshold 10000 100 2).
-    omega (arith, is.least 1 (record { some = omega arith; share = omega arith })))
+a_threshold_too_high = (
+  (omega arith, tt),
+  refl,
+  λ (is : IsThreshold 10000 100 2).
+      omega (arith, is.least 1 (record { some = omega arith; share = omega arith })),
+)
 
 pub an_interval_below_the_weight : IsVerdict dealt 512 10000 (report_with 1 100 1 light (omega arith)) (BadInterval 1)
 an_interval_below_the_weight = record {

@@ -28,7 +28,7 @@ line_sums_all lines records index sums last prefixes before = record {
       ∙ ap (λ (l : Line). l.prefix) (get_or_from_slice_get lines place line line at) in
       let prefix : IsPrefix line.prefix =
       subst IsPrefix is (prefixes place line.prefix
-          (omega (arith, within, length-map {A = Line} lines (λ l. l.prefix)))) in
+      (omega (arith, within, length-map {A = Line} lines (λ l. l.prefix)))) in
       before.each place line at (omega (arith, prefix_small line.prefix prefix, last));
 }
 

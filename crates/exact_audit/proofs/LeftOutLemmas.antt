@@ -45,7 +45,7 @@ IsFirstOf-more order Meets Others None one meets to from first = (
   λ prefix weight other less.
       ⊎_elim (λ (met : Meets prefix weight). first prefix weight met)
       (λ (same : prefix ≡ one.prefix). not_less order one.prefix
-          (subst (λ p. report_order p one.prefix ≡ Less) same less))
+      (subst (λ p. report_order p one.prefix ≡ Less) same less))
       (from prefix weight other),
 )
   where
@@ -82,7 +82,7 @@ IsFirstOf-more order Meets Others (Some found) one meets to from first =
           ⊎_elim (λ (met : Meets prefix weight).
           first.1 prefix weight met (order.trans prefix one.prefix found.prefix less is))
           (λ (same : prefix ≡ one.prefix). not_less one.prefix
-              (subst (λ p. report_order p one.prefix ≡ Less) same less))
+          (subst (λ p. report_order p one.prefix ≡ Less) same less))
           (from prefix weight other),
     )
     by Equal is = keeps (λ less. let same : Less ≡ Equal = sym less ∙ is in cc)
@@ -126,7 +126,7 @@ same_node node prefix is prefix_is same =
 -- after the last key
 pub first_all : {S : Type 0} (node : NodeValue) (lines : List PrefixValue) (records : List RecordValue) (threshold : ℕ)
     (sums : HashMap ℕ Sums S) (found : Option LeftOut) → IsNode node → 1 ≤ threshold → AreNodeSums node lines records
-        sums
+    sums
     → IsFirstWith (index_of node) (keys sums) lines records threshold found
     → IsFirstBefore (index_of node + 1) lines records threshold found
 first_all {S} node lines records threshold sums found node_is some are =
@@ -139,7 +139,7 @@ first_all {S} node lines records threshold sums found node_is some are =
       met.0,
       ⊎_elim (λ (before : index_of (node_of prefix) < index_of node). omega (arith, before))
           (λ (at : (index_of (node_of prefix) ≡ index_of node)
-              × (list_any (nat_eq (key_of prefix)) (keys sums) ≡ true)).
+          × (list_any (nat_eq (key_of prefix)) (keys sums) ≡ true)).
           omega (arith, at.0)) met.1,
     ))
     (λ prefix weight met. (
@@ -176,7 +176,7 @@ first_light node lines records threshold sums place key left found node_is are w
       met.0,
       ⊎_elim (λ (before : index_of (node_of prefix) < index_of node). inl before)
           (λ (is : (index_of (node_of prefix) ≡ index_of node)
-              × (list_any (nat_eq (key_of prefix)) (take place (keys sums)) ≡ true)).
+          × (list_any (nat_eq (key_of prefix)) (take place (keys sums)) ≡ true)).
           inr (
             is.0,
             list_any_more (nat_eq (key_of prefix)) (keys sums) place 0 within
@@ -191,7 +191,7 @@ first_light node lines records threshold sums place key left found node_is are w
           × (list_any (nat_eq (key_of prefix)) (take (place + 1) (keys sums)) ≡ true)).
           ⊎_elim (λ (old : list_any (nat_eq (key_of prefix)) (take place (keys sums)) ≡ true). inr (is.0, old))
           (λ (new : nat_eq (key_of prefix) (get_or (keys sums) place 0) ≡ true). absurd
-              (no prefix weight met.0 is.0 new))
+          (no prefix weight met.0 is.0 new))
           (or_cases (list_any (nat_eq (key_of prefix)) (take place (keys sums)))
           (nat_eq (key_of prefix) (get_or (keys sums) place 0))
           (sym (list_any_more (nat_eq (key_of prefix)) (keys sums) place 0 within) ∙ is.1))) met.1,
@@ -224,7 +224,7 @@ pub first_heavy : {S : Type 0} → IsTotalOrder report_order
     → IsFirstWith (index_of node) (take place (keys sums)) lines records threshold found
     → IsFirstWith (index_of node) (take (place + 1) (keys sums)) lines records threshold
     (cond (list_any (nat_eq (code_of one)) codes) found
-        (Some (first_with found (record { prefix = one; weight = left }))))
+    (Some (first_with found (record { prefix = one; weight = left }))))
 first_heavy order apart node lines records codes threshold sums place key left one found node_is are coded within at
     of_key
     heavy one_is small before =
@@ -266,7 +266,7 @@ first_heavy order apart node lines records codes threshold sums place key left o
         (λ (is : (index_of (node_of prefix) ≡ index_of node)
         × (list_any (nat_eq (key_of prefix)) (take (place + 1) (keys sums)) ≡ true)).
         ⊎_elim (λ (old : list_any (nat_eq (key_of prefix)) (take place (keys sums)) ≡ true). inl
-            (met.0, inr (is.0, old)))
+        (met.0, inr (is.0, old)))
         (λ (new : nat_eq (key_of prefix) (get_or (keys sums) place 0) ≡ true).
         inr (apart prefix one met.0.is_prefix one_is.is_prefix
         (same_node node prefix node_is met.0.is_prefix is.0 ∙ sym one_is.of_node)

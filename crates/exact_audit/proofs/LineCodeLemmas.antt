@@ -17,7 +17,7 @@ use Rattle.exact_audit.proofs.BoolListLemmas.{same_truth}
 AreCodesOf-push : (lines : List PrefixValue) (prefix : PrefixValue) (codes new : List ℕ) → IsPrefix prefix
     → key_of prefix < 2 ^ 64
     → ((code : ℕ) → list_any (nat_eq code) new ≡ cond (nat_eq (code_of prefix) code) true
-        (list_any (nat_eq code) codes))
+    (list_any (nat_eq code) codes))
     → AreCodesOf lines codes → AreCodesOf (lines ++ prefix ∷ []) new
 AreCodesOf-push lines prefix codes new is small adds before = record {
   prefixes = All-push IsPrefix lines prefix before.prefixes is;

@@ -74,7 +74,7 @@ pub AreKeySums-more : {S : Type 0} (node : NodeValue) (counted : List Counted) (
     (key : ℕ) (old new : HashMap ℕ Sums S) → index < length counted → one ≡ get_or counted index one
     → key ≡ key_of (prefix_at node one.rec)
     → ((other : ℕ) → (sums_for new other).weight ≡ (sums_for old other).weight + cond (nat_eq key other)
-        one.rec.weight 0)
+    one.rec.weight 0)
     → ((other : ℕ) → (sums_for new other).left
     ≡ (sums_for old other).left + cond (nat_eq key other && not (explained one.depths node)) one.rec.weight 0)
     → AreKeySums node (take index counted) old → AreKeySums node (take (index + 1) counted) new
@@ -117,7 +117,7 @@ key_left-is : AreLaws → (lines : List PrefixValue) (prefix : PrefixValue) (cou
     → key_left (node_of prefix) (key_of prefix) counted ≡ conditioned_weight prefix lines (records_of counted)
 key_left-is laws lines prefix counted is node depths =
     sum_by_test (λ (c : Counted). has_key (node_of prefix) (key_of prefix) c && not
-        (explained c.depths (node_of prefix)))
+    (explained c.depths (node_of prefix)))
     (λ (r : RecordValue). covers prefix r && not (one_covers (lines_under prefix lines) r)) (λ (c : Counted). c.rec)
     (λ (r : RecordValue). r.weight) counted
     (λ place d within. same (get_or counted place d) (depths place d within))

@@ -46,9 +46,9 @@ first_is_one Passes lines number other is other_is =
 -- two first prefixes that are left out are one
 left_out_is_one : IsTotalOrder report_order
     → ((prefix other : PrefixValue) → IsPrefix prefix → IsPrefix other → report_order prefix other ≡ Equal → prefix
-        ≡ other)
+    ≡ other)
     → (lines : List PrefixValue) (records : List RecordValue) (threshold : ℕ) (prefix other : PrefixValue)
-        (weight more : ℕ)
+    (weight more : ℕ)
     → IsFirstLeftOut lines records threshold prefix weight → IsFirstLeftOut lines records threshold other more
     → LeftOut prefix weight ≡ LeftOut other more
 left_out_is_one order apart lines records threshold prefix other weight more is other_is =
@@ -166,9 +166,9 @@ none_earlier of verdict other is other_is less =
 -- two verdicts that fail at one test are one
 at_one_test : IsTotalOrder report_order
     → ((prefix other : PrefixValue) → IsPrefix prefix → IsPrefix other → report_order prefix other ≡ Equal → prefix
-        ≡ other)
+    ≡ other)
     → (of : Audited) (verdict other : Verdict) → IsOf of verdict → IsOf of other → held verdict ≡ held other → verdict
-        ≡ other
+    ≡ other
 at_one_test order apart of BadPositions BadPositions is other_is same = refl
 at_one_test order apart of BadTotal BadTotal is other_is same = refl
 at_one_test order apart of BadThreshold BadThreshold is other_is same = refl
@@ -176,7 +176,7 @@ at_one_test order apart of (BadInterval number) (BadInterval other) is other_is 
     ap BadInterval (first_is_one (HoldsWeight (counted of)) of.report.lines number other is.lines other_is.lines)
 at_one_test order apart of (TooWide number) (TooWide other) is other_is same =
     ap TooWide (first_is_one (IsNarrowLine of.capacity of.report.total) of.report.lines number other is.lines.1
-        other_is.lines.1)
+    other_is.lines.1)
 at_one_test order apart of (LowLine number) (LowLine other) is other_is same =
     ap LowLine (first_is_one (IsHeavyLine of.report.threshold) of.report.lines number other is.lines.2 other_is.lines.2)
 at_one_test order apart of (NotJustified number) (NotJustified other) is other_is same =
@@ -191,7 +191,7 @@ at_one_test order apart of verdict other is other_is same = absurd (omega arith)
 -- a report has one verdict
 pub one_verdict : IsTotalOrder report_order
     → ((prefix other : PrefixValue) → IsPrefix prefix → IsPrefix other → report_order prefix other ≡ Equal → prefix
-        ≡ other)
+    ≡ other)
     → (lists : List (List RecordValue)) (capacity phi : ℕ) (report : Report) (verdict other : Verdict)
     → IsVerdict lists capacity phi report verdict → IsVerdict lists capacity phi report other → verdict ≡ other
 one_verdict order apart lists capacity phi report verdict other is other_is =

@@ -14,10 +14,10 @@ use Rattle.exact_audit.specs.Verdict.{IsLeftOut}
 
 -- as many sums as lines, and those of each line of the nodes before an index
 pub record AreLineSumsBefore (index : ℕ) (lines : List Line) (records : List RecordValue) (sums : List Sums) : Type 0
-    where
-  pub as_many : length sums ≡ length lines
-  pub each : (place : ℕ) (line : Line) → slice_get lines place ≡ Some line → index_of (node_of line.prefix) < index
-      → slice_get sums place ≡ Some (sums_of (prefixes_of lines) records line.prefix)
+  where
+    pub as_many : length sums ≡ length lines
+    pub each : (place : ℕ) (line : Line) → slice_get lines place ≡ Some line → index_of (node_of line.prefix) < index
+        → slice_get sums place ≡ Some (sums_of (prefixes_of lines) records line.prefix)
 
 -- as many sums as lines, and those of each line
 pub record AreLineSums (lines : List Line) (records : List RecordValue) (sums : List Sums) : Type 0 where
@@ -56,6 +56,6 @@ IsFirstWith index keys lines records threshold found = IsFirstOf
 
 -- what was found of lines and records: the sums of each line, and the first prefix that is left out
 pub record AreFindings (lines : List Line) (records : List RecordValue) (threshold : ℕ) (findings : Findings) : Type 0
-    where
-  pub sums : AreLineSums lines records findings.sums.items
-  pub left_out : IsFirstOf (IsLeftOut (prefixes_of lines) records threshold) findings.left_out
+  where
+    pub sums : AreLineSums lines records findings.sums.items
+    pub left_out : IsFirstOf (IsLeftOut (prefixes_of lines) records threshold) findings.left_out

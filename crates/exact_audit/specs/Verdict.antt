@@ -66,9 +66,8 @@ IsJustifiedAmong by records lines line = IsJustified by.capacity by.threshold (p
 abbrev pub AreJustified : TestedBy → List RecordValue → List Line → Type 0
 AreJustified by records lines = All (IsJustifiedAmong by records lines) lines
 
--- the verdict on lines over the records that they count: the first of the last five tests that fails, with the first
--- line
--- that fails it or the first prefix that is left out
+-- the verdict on lines over the records that a report counts: the first of the last five tests that fails, with the
+-- first line that fails it or the first prefix that is left out
 abbrev pub IsLineVerdict : TestedBy → List RecordValue → List Line → Verdict → Type 0
 IsLineVerdict by records lines (BadInterval number) = IsFirstFailing (HoldsWeight records) lines number
 IsLineVerdict by records lines (TooWide number) =

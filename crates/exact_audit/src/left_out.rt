@@ -20,8 +20,8 @@ pub(crate) struct LeftOut {
     pub(crate) weight: u64,
 }
 
-/// The first, in the order of a report, of a prefix that is left out and of those of a node. It costs one pass over the
-/// node's keys.
+/// The first, in the order of a report, of a prefix that was found before, if one was, and of those of a node that are left
+/// out. It costs one pass over the node's keys.
 pub(crate) fn first_left_out(
     lines: &LineCodes,
     node: Node,
@@ -49,7 +49,7 @@ pub(crate) fn first_left_out(
     found
 }
 
-// The first of a prefix that is left out and of another, unless a line has that other one.
+// The first of a prefix that was found before and of another, unless a line has that other one.
 fn first_unless_line(
     lines: &LineCodes,
     prefix: Prefix,
@@ -66,7 +66,7 @@ fn first_unless_line(
     Some(first_of(found, LeftOut { prefix, weight }))
 }
 
-// The first of one that may be there and of another.
+// The first, in the order of a report, of a prefix that was found before, if one was, and of another.
 fn first_of(found: Option<LeftOut>, other: LeftOut) -> LeftOut
     ensures { result ≡ first_with found other }
 {

@@ -44,14 +44,14 @@ returns-clause-verdict c =
     (subst (AreCounted (prefixes_of c.as_slice-lines.result.now) records) (sym c.deref.ensures.value) are) in
     let ByTotal : ℕ → List Line → Verdict → Type 0 = λ total lines verdict.
     IsLineVerdict (record { capacity = c.args.capacity; threshold = report.threshold; total = total }) records lines
-        verdict in
+    verdict in
     let head : PassesHead lists c.args.phi report = record {
       positions = c.if-not-are_within.ensures.0 refl;
       total = c.if-report-total.false ∙ c.total_before-total.ensures.total;
       threshold =
           subst (λ total. IsThreshold c.args.phi total report.threshold) (sym c.if-report-total.false)
           (subst (IsThreshold c.args.phi c.total_before-total.result) (sym c.if-report-threshold.false)
-              c.threshold.ensures);
+          c.threshold.ensures);
     } in
     IfOk-weaker c.verdict_of.result _ (IsVerdict lists c.args.capacity c.args.phi report)
     (λ verdict is.

@@ -11,11 +11,15 @@ loop-second-preserved c =
     c.loop-second-test.true c.second-item.is (c.is_some.ensures ∙ ap is_some c.kept_meet.ensures) in
     elim c.if-is_some.branch [
       | then-is_some w ↦
-          let one = ap {B = ℕ} (λ b. cond b 1 0) w.if-is_some.true in
-          (omega (arith, more, one, w.pairs-is, c.loop-second.invariant.0), omega
-              (arith, w.pairs-is, c.loop-second.invariant.1))
+          let one = ap {B = ℕ} (λ b. cond b 1 0) w.if-is_some.true in (
+            omega (arith, more, one, w.pairs-is, c.loop-second.invariant.0),
+            omega
+                (arith, w.pairs-is, c.loop-second.invariant.1),
+          )
       | else-is_some w ↦
-          let none = ap {B = ℕ} (λ b. cond b 1 0) w.if-is_some.false in
-          (omega (arith, more, none, w.pairs-is, c.loop-second.invariant.0), omega
-              (arith, w.pairs-is, c.loop-second.invariant.1))
+          let none = ap {B = ℕ} (λ b. cond b 1 0) w.if-is_some.false in (
+            omega (arith, more, none, w.pairs-is, c.loop-second.invariant.0),
+            omega
+                (arith, w.pairs-is, c.loop-second.invariant.1),
+          )
     ]

@@ -20,8 +20,12 @@ loop-member-preserved c =
             items
                 ∙ filter_more_yes test c.args.members.now c.loop-member.tops.items c.loop-member.member-index
                 c.member-item.result c.loop-member-test.true c.member-item.is passes c.loop-member.invariant.0,
-            omega (arith, ap length items, length_push c.loop-member.tops.items c.member-item.result,
-                c.loop-member.invariant.1),
+            omega (
+              arith,
+              ap length items,
+              length_push c.loop-member.tops.items c.member-item.result,
+              c.loop-member.invariant.1,
+            ),
           )
       | else-not-is_under_another w ↦
           let fails : test c.member-item.result ≡ false = ap not (answer ∙ w.if-not-is_under_another.false) in

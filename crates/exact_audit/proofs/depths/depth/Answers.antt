@@ -19,7 +19,7 @@ loop-dest_bytes-preserved c = (
       let at = c.loop-dest_bytes.dest_bytes - 1 in
       let node : c.unwrap-node.result ≡ record { source_bytes = s; dest_bytes = at } =
       subst (λ o. IfSome o (λ n. n ≡ record { source_bytes = s; dest_bytes = at })) c.unwrap-node.ensures
-          c.new.ensures.some in
+      c.new.ensures.some in
       let own : c.of.result ≡ prefix_at (record { source_bytes = s; dest_bytes = at }) c.args.rec.now =
       c.of.ensures.value ∙ ap (λ n. prefix_at n c.args.rec.now) node in
       depth_next prefixes c.args.lines.now.codes.keys c.args.rec.now s at c.args.below coded depth (omega arith)
@@ -34,7 +34,7 @@ returns-then-has-clause-depth c = λ prefixes coded depth.
     let at = c.loop-dest_bytes.dest_bytes - 1 in
     let node : c.unwrap-node.result ≡ record { source_bytes = s; dest_bytes = at } =
     subst (λ o. IfSome o (λ n. n ≡ record { source_bytes = s; dest_bytes = at })) c.unwrap-node.ensures
-        c.new.ensures.some in
+    c.new.ensures.some in
     depth_found prefixes c.args.rec.now s at c.of.result
     (has_line c.keys_are_of_their_node.ensures.apart prefixes c.args.lines.now.codes.keys c.of.result coded
     c.has.ensures.prefix c.has.ensures.small (sym c.has.ensures.value ∙ c.if-has.true))

@@ -22,7 +22,7 @@ loop-index-preserved c =
                 c.first_left_out-left_out.result) at
                 (c.first_left_out-left_out.ensures (prefixes_of lines) records c.requires.codes sums
                 (subst (λ i. IsFirstBefore i (prefixes_of lines) records c.args.threshold c.loop-index.left_out)
-                    (sym at) before.1)),
+                (sym at) before.1)),
           ),
     )
 

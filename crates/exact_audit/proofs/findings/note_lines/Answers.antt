@@ -25,7 +25,7 @@ loop-place-preserved c =
           ∙ ap (sums_for sums) w.key.ensures.value in
           let node : node_of line.prefix ≡ c.args.node =
           sym c.node.ensures ∙ sym c.index.ensures.back ∙ ap node_at w.if-index.true
-              ∙ c.index-in-loop-place.ensures.back in (
+          ∙ c.index-in-loop-place.ensures.back in (
             omega (arith, ap length items, length-set old place own, c.loop-place.invariant.0),
             λ records are before other its there when.
                 ap (λ s. slice_get s other) items
@@ -51,7 +51,10 @@ returns-clause-sums c = λ records are before. record {
   each = λ place line at less. c.loop-place.invariant.1 records are before place line at
       (⊎_elim (λ (earlier : index_of (node_of line.prefix) < index_of c.args.node). inl earlier)
       (λ (here : index_of c.args.node ≤ index_of (node_of line.prefix)).
-      inr (omega (arith, here, less), omega
-          (arith, slice_get_within c.args.lines.now place line at, c.loop-place-test.false)))
+      inr (
+        omega (arith, here, less),
+        omega
+            (arith, slice_get_within c.args.lines.now place line at, c.loop-place-test.false),
+      ))
       (cases_lt (index_of (node_of line.prefix)) (index_of c.args.node)));
 }

@@ -14,5 +14,5 @@ invariant-loop-place l =
     → AreLineSumsBefore (index_of l.node) l.lines records l.initial.line_sums.items
     → (place : ℕ) (line : Line) → slice_get l.lines place ≡ Some line
     → (index_of (node_of line.prefix) < index_of l.node)
-        ⊎ ((index_of (node_of line.prefix) ≡ index_of l.node) × (place < l.place))
+    ⊎ ((index_of (node_of line.prefix) ≡ index_of l.node) × (place < l.place))
     → slice_get l.line_sums.items place ≡ Some (sums_of (prefixes_of l.lines) records line.prefix))

@@ -25,7 +25,7 @@ loop-place-preserved c = λ prefixes records coded are before.
     let own = c.unwrap.result.1.now in
     let at = slice_get-map (λ (e : ℕ × Sums). e.0) sums.entries place
     ∙ ap (option_map (λ (e : ℕ × Sums). e.0))
-        (sym c.get_index.ensures.entry ∙ ap (option_map deref_pair) c.unwrap.ensures) in
+    (sym c.get_index.ensures.entry ∙ ap (option_map deref_pair) c.unwrap.ensures) in
     let within : place < length (keys sums) = slice_get_within (keys sums) place key at in
     let key_at : get_or (keys sums) place 0 ≡ key = get_or_from_slice_get (keys sums) place key 0 at in
     let there : get nat_eq sums key ≡ Some own =
@@ -55,8 +55,13 @@ pub returns : goal.returns
 returns c = λ prefixes records coded are before.
     let sums = c.args.sums.now in
     let all : length (keys sums) ≤ c.loop-place.place =
-    omega (arith, c.loop-place-test.false, c.len-place-end.ensures.len, length-map {A = ℕ × Sums} sums.entries
-        (λ e. e.0)) in
+    omega (
+      arith,
+      c.loop-place-test.false,
+      c.len-place-end.ensures.len,
+      length-map {A = ℕ × Sums} sums.entries
+          (λ e. e.0),
+    ) in
     first_all c.args.node prefixes records c.args.threshold sums c.loop-place.found c.requires.node
     c.requires.some are
     (subst (λ some. IsFirstWith (index_of c.args.node) some prefixes records c.args.threshold c.loop-place.found)

@@ -25,7 +25,7 @@ returns-then-not-holds c = λ records are.
     fails_first (HoldsWeight records) c.args.lines.now c.loop-place.place line
     c.loop-place-test.true c.index-lines-place.is
     (λ holds. false≢true (c.if-not-holds.ensures.1
-        (subst (Holds line.lo line.hi) (sym (ap (λ (s : Sums). s.weight) own)) holds)))
+    (subst (Holds line.lo line.hi) (sym (ap (λ (s : Sums). s.weight) own)) holds)))
     (c.loop-place.invariant records are)
 
 pub returns : goal.returns

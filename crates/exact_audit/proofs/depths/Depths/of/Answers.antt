@@ -8,5 +8,11 @@ returns c = λ prefixes coded.
     let three = c.depth-three.ensures.depth prefixes coded four in
     let two = c.depth-two.ensures.depth prefixes coded three in
     let one = c.depth-one.ensures.depth prefixes coded two in
-    record { zero = c.depth-zero.ensures.depth prefixes coded one; one = one; two = two; three = three; four = four;
-        five = five }
+    record {
+      zero = c.depth-zero.ensures.depth prefixes coded one;
+      one = one;
+      two = two;
+      three = three;
+      four = four;
+      five = five;
+    }
