@@ -18,7 +18,8 @@ use Rattle.command_words.specs.{AreLimited, AskFor, IsLimited}
 use Rattle.command_words.specs.declared.command.Command.{Command}
 use Rattle.command_words.specs.declared.command.Command.TheVariants.{Weigh, Report, Format}
 use Rattle.command_words.specs.declared.settings.Settings.{Settings}
-use Rattle.hhh_engine.specs.Answer.{IsAnswer, IsAnswerInPart, IsWeightTextInPart}
+use Rattle.std.specs.Prelude.{⊤}
+use Rattle.hhh_engine.specs.Answer.{IsAnswer, IsAnswerInPart, IsCutShort, IsWeightTextInPart, formatted_text}
 use Rattle.hhh_engine.specs.Ending.{Ends, FormatEnds, IsRefusedStore, RefusedStore, RefusesFor, RefusesStore}
 use Rattle.hhh_engine.specs.Inputs.{CanBeAnswered, HasKnownCapture, HasKnownStore, IsCapture, IsStoreOf, ReadsCapture}
 use Rattle.hhh_engine.specs.Inputs.{WasAccepted, WasRead, inputs}
@@ -189,7 +190,7 @@ never_refused_for decided opened rules (Format settings) left rest store store_n
 
 -- over known inputs in their formats and with no fault of source, sink or disk, a command is answered unless memory runs
 -- out. BadCapture comes of commands alone that read a capture
-pub answered : {K : Type 0} → NeverBoth → OpeningsAreDecided → BelongingStoresAreOpened
+answered : {K : Type 0} → NeverBoth → OpeningsAreDecided → BelongingStoresAreOpened
     → (rules : Rules) (keeping : Keeping) (command : Command) (left rest store store_now : Option (List ℕ))
     (ReadToEnd DiskRose DiskSame : Type 0) (read_before read_now : ℕ)
     (sink written : K) (old new : Option (List ℕ)) (write_before write_now : ℕ) (status : Status)
@@ -334,7 +335,7 @@ same_fault decided rules settings left rest store store_now file image fault oth
     shown (is.refused image is_store) (refused is.records is.lists is.dealt)
 
 -- a report whose store is refused, however the records are dealt, ends so, unless source or disk fail or memory runs out
-pub refuses_exactly : {K : Type 0} → NeverBoth → OpeningsAreDecided
+refuses_exactly : {K : Type 0} → NeverBoth → OpeningsAreDecided
     → (rules : Rules) (keeping : Keeping) (settings : Settings) (left rest store store_now : Option (List ℕ))
     (ReadToEnd DiskRose DiskSame : Type 0) (read_before read_now : ℕ)
     (sink written : K) (old new : Option (List ℕ)) (write_before write_now : ℕ) (status : Status)
@@ -418,3 +419,66 @@ no_store_fault (words.Bad kind) status opening.DiskFault shown is was = absurd (
 no_store_fault (words.Bad kind) status opening.OutOfMemory shown is was = absurd (shown.not_of_memory refl)
 no_store_fault words.OutOfMemory status opening.DiskFault shown is was = absurd (shown.not_of_disk refl)
 no_store_fault words.OutOfMemory status opening.OutOfMemory shown is was = absurd (shown.not_of_memory refl)
+
+-- the same of the command that was asked for
+pub answered_as : {K : Type 0} → NeverBoth → OpeningsAreDecided → BelongingStoresAreOpened
+    → (rules : Rules) (keeping : Keeping) (command read : Command) (left rest store store_now : Option (List ℕ))
+    (ReadToEnd DiskRose DiskSame : Type 0) (read_before read_now : ℕ)
+    (sink written : K) (old new : Option (List ℕ)) (write_before write_now : ℕ) (status : Status)
+    → read ≡ command → IsLimited read → CanBeAnswered rules command (inputs left rest store)
+    → (Rose read_before read_now → ⊥) → (Rose write_before write_now → ⊥) → (DiskRose → ⊥)
+    → ((fault : CaptureFault) → status ≡ BadCapture fault → ReadsCapture read)
+    → EndsAs rules keeping read left rest store store_now ReadToEnd DiskRose DiskSame read_before read_now sink written
+    old new write_before write_now status
+    → (status ≡ Done) ⊎ (status ≡ OutOfMemory)
+answered_as never_both decided opened rules keeping command read left rest store store_now ReadToEnd DiskRose DiskSame
+    read_before read_now sink written old new write_before write_now status same limited can no_read no_write no_disk reads
+    ends =
+    answered never_both decided opened rules keeping read left rest store store_now ReadToEnd DiskRose DiskSame
+    read_before read_now sink written old new write_before write_now status limited
+    (subst (λ c. CanBeAnswered rules c (inputs left rest store)) (sym same) can) no_read no_write no_disk reads ends
+
+pub refuses_as : {K : Type 0} → NeverBoth → OpeningsAreDecided
+    → (rules : Rules) (keeping : Keeping) (settings : Settings) (read : Command)
+    (left rest store store_now : Option (List ℕ))
+    (ReadToEnd DiskRose DiskSame : Type 0) (read_before read_now : ℕ)
+    (sink written : K) (old new : Option (List ℕ)) (write_before write_now : ℕ) (status : Status)
+    (file image : List ℕ) (frames : List FrameValue) (fault : OpenFault)
+    → read ≡ Report settings → IsLimited read → settings.store ≡ true
+    → left ≡ Some file → HasFrames file frames → store ≡ Some image → IsShown fault
+    → ((records : Records) (lists : List (List RecordValue)) → AreDealtFrom settings rules file records lists
+    → IsRefused (store_settings settings) lists image fault)
+    → EndsAs rules keeping read left rest store store_now ReadToEnd DiskRose DiskSame read_before read_now sink
+    written old new write_before write_now status
+    → (status ≡ status_of_opening fault)
+    ⊎ ((status ≡ ReadFault) ⊎ ((status ≡ DiskFault) ⊎ (status ≡ OutOfMemory)))
+refuses_as never_both decided rules keeping settings read left rest store store_now ReadToEnd DiskRose DiskSame
+    read_before read_now sink written old new write_before write_now status file image frames fault same limited used
+    known capture is_store shown refused ends =
+    refuses_exactly never_both decided rules keeping settings left rest store store_now ReadToEnd DiskRose DiskSame
+    read_before read_now sink written old new write_before write_now status file image frames fault
+    (subst IsLimited same limited).0 used known capture is_store shown refused
+    (subst (λ c. EndsAs rules keeping c left rest store store_now ReadToEnd DiskRose DiskSame read_before read_now sink
+    written old new write_before write_now status) same ends)
+
+-- how `format` ended, as a command
+pub format_ends : {K : Type 0} (rules : Rules) (keeping : Keeping) (command : Command) (settings : Settings)
+    (left rest store store_now : Option (List ℕ)) (DiskRose DiskSame : Type 0) (faults : ℕ)
+    (sink written : K) (old new : Option (List ℕ)) (write_before write_now : ℕ) (status : Status)
+    → command ≡ Format settings
+    → Ends (λ text. text ≡ formatted_text) (IsCutShort (λ text. text ≡ formatted_text)) ⊤ ⊤ DiskRose DiskSame
+    (λ fault. ⊥) left faults faults sink written old new write_before write_now status
+    → EndsAs rules keeping command left rest store store_now (WasRead command (inputs left rest store)) DiskRose DiskSame
+    faults faults sink written old new write_before write_now status
+format_ends rules keeping command settings left rest store store_now DiskRose DiskSame faults sink written old new
+    write_before write_now status is ends =
+    subst (λ c. EndsAs rules keeping c left rest store store_now (WasRead c (inputs left rest store)) DiskRose DiskSame
+    faults faults sink written old new write_before write_now status) (sym is) ends
+
+-- arguments that ask for a command are refused only where memory ran out
+pub ran_out : (result : Result Command WordsRefusal) (command : Command) (refusal : WordsRefusal) (status : Status)
+    → (result ≡ Ok command) ⊎ (result ≡ Err words.OutOfMemory) → result ≡ Err refusal
+    → status ≡ status_of_words refusal → status ≡ OutOfMemory
+ran_out result command refusal status (inl is) was names = cc (is, was)
+ran_out result command (words.Bad kind) status (inr is) was names = cc (is, was)
+ran_out result command words.OutOfMemory status (inr is) was names = names

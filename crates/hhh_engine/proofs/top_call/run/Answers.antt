@@ -1,8 +1,10 @@
-use Rattle.std.proofs.Common.{sym, subst}
-use Rattle.command_words.specs.{IsLimited}
-use Rattle.command_words.specs.declared.command.Command.TheVariants.{Report}
-use Rattle.hhh_engine.specs.Inputs.{CanBeAnswered, ReadsCapture}
-use Rattle.hhh_engine.proofs.StatusLemmas.{answered, only_reads, refused_as, refused_for, refuses_exactly, same_command}
+use Rattle.std.proofs.Common.{inr, refl, sym, subst}
+use Rattle.command_words.specs.declared.command.Command.TheVariants.{Report, Format}
+use Rattle.hhh_engine.specs.Ending.{FormatEnds}
+use Rattle.hhh_engine.specs.Inputs.{ReadsCapture}
+use Rattle.hhh_engine.specs.Saves.{store_settings}
+use Rattle.hhh_engine.proofs.StatusLemmas.{answered_as, only_reads, ran_out, refused_as, refused_for}
+use Rattle.hhh_engine.proofs.StatusLemmas.{refuses_as, same_command}
 use Rattle.hhh_engine.proofs.top_call.run.Goals as goal
 
 pub returns-clause-refuses : goal.returns-clause-refuses
@@ -20,15 +22,35 @@ returns-clause-refused_store g c = λ fault shown is.
 
 pub returns-clause-refuses_store : goal.returns-clause-refuses_store
 returns-clause-refuses_store g c = λ settings file image frames fault asks used known capture is_store shown refused.
-    let same = same_command c.read_words.result _ (Report settings) c.in-Ok.command
-    (c.read_words.ensures.complete (Report settings) asks) c.in-Ok.is in ?
+    refuses_as c.files_are_read_or_refused.ensures.never_both c.openings_are_decided.ensures _ _ settings c.in-Ok.command
+    _ _ _ _ _ _ _ _ _ _ _ _ _ _ _ c.answer.result file image frames fault
+    (same_command c.read_words.result _ (Report settings) c.in-Ok.command
+    (c.read_words.ensures.complete (Report settings) asks) c.in-Ok.is)
+    c.in-Ok.ensures.limited used known capture is_store shown refused c.answer.ensures.ends
 
 pub returns-clause-complete : goal.returns-clause-complete
 returns-clause-complete g c = λ command asked can no_read_fault no_write_fault no_disk_fault.
-    let same = same_command c.read_words.result _ command c.in-Ok.command
-    (c.read_words.ensures.complete command asked) c.in-Ok.is in
-    answered c.files_are_read_or_refused.ensures.never_both c.openings_are_decided.ensures
-    c.belonging_stores_are_opened.ensures _ _ c.in-Ok.command _ _ _ _ _ _ _ _ _ _ _ _ _ _ _ c.answer.result
-    c.in-Ok.ensures.limited (subst (λ command. CanBeAnswered _ command _) (sym same) can) no_read_fault no_write_fault
+    answered_as c.files_are_read_or_refused.ensures.never_both c.openings_are_decided.ensures
+    c.belonging_stores_are_opened.ensures _ _ command c.in-Ok.command _ _ _ _ _ _ _ _ _ _ _ _ _ _ _ c.answer.result
+    (same_command c.read_words.result _ command c.in-Ok.command (c.read_words.ensures.complete command asked) c.in-Ok.is)
+    c.in-Ok.ensures.limited can no_read_fault no_write_fault
     no_disk_fault (only_reads _ _ _ _ _ _ c.in-Ok.command c.answer.result c.answer.ensures.formats)
     c.answer.ensures.ends
+
+pub returns-in-Err-clause-refuses_store : goal.returns-in-Err-clause-refuses_store
+returns-in-Err-clause-refuses_store g c = λ settings file image frames fault asks used known capture is_store shown refused.
+    inr (inr (inr (ran_out c.read_words.result (Report settings) c.in-Err.refusal c.from.result
+    (c.read_words.ensures.complete (Report settings) asks) c.in-Err.is c.from.ensures)))
+
+pub returns-in-Err-clause-formats : goal.returns-in-Err-clause-formats
+returns-in-Err-clause-formats g c = λ settings asks.
+    subst (FormatEnds (store_settings settings) (g.D.Disk.reads c.args.disk.now) (g.D.Disk.image_now c.args.disk.now)
+    c.args.sink.now c.args.sink.now c.args.disk.now c.args.disk.now)
+    (sym (ran_out c.read_words.result (Format settings) c.in-Err.refusal c.from.result
+    (c.read_words.ensures.complete (Format settings) asks) c.in-Err.is c.from.ensures)) (refl, refl)
+
+pub returns-clause-formats : goal.returns-clause-formats
+returns-clause-formats g c = λ settings asks.
+    c.answer.ensures.formats settings
+    (same_command c.read_words.result _ (Format settings) c.in-Ok.command
+    (c.read_words.ensures.complete (Format settings) asks) c.in-Ok.is)
