@@ -1,5 +1,5 @@
 -- Worked examples of where a capture comes from, and of the shards that records go to.
-use Rattle.std.proofs.Common.{◌≡◌, ℕ, List, refl, ap, codes}
+use Rattle.std.proofs.Common.{◌≡◌, ℕ, List, [], refl, ap, codes}
 use Rattle.std.proofs.lemmas.Bool.{false≢true}
 use Rattle.std.specs.Str.{bytes_eq}
 use Rattle.hhh.specs.declared.input.Input.TheVariants.{Nothing, Standard, File}
@@ -13,12 +13,16 @@ use Rattle.hhh.specs.Rules.{shard_by}
 abbrev name : List ℕ
 name = codes "a.pcap"
 
--- words that ask for nothing name no capture
-pub nothing_is_read_by_no_name : (path : List ℕ) → IsInputOf path Nothing → ⊥
-nothing_is_read_by_no_name path wrong = wrong
+-- a command without a capture reads nothing
+pub nothing_is_read_without_a_name : IsInputOf [] Nothing
+nothing_is_read_without_a_name = refl
 
 pub name_is_that_of_a_file : (file : LateFile) → file.path ≡ name → IsInputOf name (File file)
-name_is_that_of_a_file file same = (λ is. false≢true (ap (λ text. bytes_eq text (codes "-")) is), same)
+name_is_that_of_a_file file same = (
+  λ is. false≢true (ap (λ text. bytes_eq text (codes "-")) is),
+  λ is. false≢true (ap (λ text. bytes_eq text []) is),
+  same,
+)
 
 pub hyphen_is_the_standard_input : (stdin : _) → IsInputOf (codes "-") (Standard stdin)
 hyphen_is_the_standard_input stdin = refl

@@ -15,7 +15,7 @@ use Rattle.hhh_engine.specs.Session.{AreReportsOf, AreSessionReports, IsShown, S
 use Rattle.hhh_engine.specs.Session.{part_text, parts_text, session_text, start_of}
 
 -- what holds of all elements holds of the last one
-all_of_last : {A : Type 0} (P : A → Type 0) (xs : List A) (x : A) → All P (xs ++ x ∷ []) → P x
+pub all_of_last : {A : Type 0} (P : A → Type 0) (xs : List A) (x : A) → All P (xs ++ x ∷ []) → P x
 all_of_last P [] x all = All-head P x [] all
 all_of_last P (first ∷ xs) x all = all_of_last P xs x (All-tail P first (xs ++ x ∷ []) all)
 

@@ -13,6 +13,7 @@ pub mod CaptureLemmas
 pub mod DealtLemmas
 pub mod WiderRulesLemmas
 pub mod LastReportLemmas
+pub mod LastStoreLemmas
 pub mod Examples
 pub mod ExamplesOfStatuses
 pub mod ExamplesOfSessions

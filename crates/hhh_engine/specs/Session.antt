@@ -20,7 +20,8 @@ use Rattle.frame_records.specs.declared.records.Records.{Records}
 use Rattle.report_text.specs.{mark_text, report_text, tail_text}
 use Rattle.report_text.specs.declared.mark.Mark.TheVariants.{Opened, Saved}
 use Rattle.command_words.specs.declared.settings.Settings.{Settings}
-use Rattle.hhh_engine.specs.Saves.{store_settings}
+use Rattle.checkpoint.specs.{SavedValue, digest_of_lists, opened_sequence}
+use Rattle.hhh_engine.specs.Saves.{saved_after, store_settings}
 
 -- what the function of each kind of dealing may answer for the index of a record, the record and the number of shards
 abbrev pub Rules : Type 1
@@ -112,6 +113,12 @@ pub record AreSessionReports (opening : List ShardValue) (settings : Settings) (
 abbrev pub saved_cuts : Bool → List ShardValue → List Reported → List CutValue
 saved_cuts store opening reports =
     if store then map (λ reported. cut_at opening reported.report.positions) reports else []
+
+-- what the cuts of a session are saved as, in a store that opened to this before
+abbrev pub session_saves : Settings → List ShardValue → Option SavedValue → SessionReports → List SavedValue
+session_saves settings opening opened reports =
+    saved_after (opened_sequence opened) (digest_of_lists (store_settings settings) (lists_of opening))
+    (saved_cuts true opening (calling_reports reports))
 
 -- the line that follows a report of the calling thread: with a store, the positions of the cut that was saved
 abbrev pub saved_text : Bool → List ℕ → List ℕ

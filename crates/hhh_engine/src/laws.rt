@@ -1,6 +1,6 @@
 //! Laws of what commands write, each the contract of a function that does nothing.
 
-ghost use Rattle.std.specs.Prelude.{◌≡◌, ℕ, ◌++◌, List, Option};
+ghost use Rattle.std.specs.Prelude.{◌≡◌, ℕ, ◌+◌, ◌++◌, List, Option, IsSomeAnd};
 ghost use Rattle.prefix_lattice.specs.{RecordValue};
 ghost use Rattle.deal_rules.specs.{dealer_of};
 ghost use Rattle.deal_rules.specs.declared.deal_kind.DealKind.{DealKind};
@@ -9,12 +9,14 @@ ghost use Rattle.hhh_engine.specs.Inputs.{InputBytes};
 ghost use Rattle.command_words.specs.declared.settings.Settings.{Settings};
 ghost use Rattle.report_text.specs.{mark_text, report_text};
 ghost use Rattle.report_text.specs.declared.mark.Mark.TheVariants.{Opened};
-ghost use Rattle.shard_state.specs.{ShardValue};
-ghost use Rattle.hhh_engine.specs.Session.{AreSessionReports, SessionReports, by_formula, new_shards, part_text, session_text, start_of};
-ghost use Rattle.hhh_engine.specs.Saves.{kept_in};
+ghost use Rattle.shard_state.specs.{AreShards, BasesRepresent, ShardValue, capacity_of, lists_of, positions_of};
+ghost use Rattle.checkpoint.specs.{Belongs, IsOfLists, SavedValue, opened_sequence};
+ghost use Rattle.hhh_engine.specs.Session.{AreSessionReports, SessionReports, by_formula, ends_of, new_shards, part_text, session_saves, session_text, start_of};
+ghost use Rattle.hhh_engine.specs.Saves.{OpensAmong, kept_in, last_saved, store_settings};
 
 use deal_rules::{Dealer, Dealers, Deals};
-use hhh_output::a_cut_has_one_report;
+use gate_workers::reported_cuts_represent;
+use hhh_output::{a_cut_has_one_report, standing_cuts_have_one_report};
 use report_text::same_reports_have_one_text;
 use slot_disk::Disk;
 
@@ -52,4 +54,39 @@ pub fn sessions_without_rounds_have_one_report()
         → AreSessionReports opening settings reports
         → session_text settings.store (start_of opening) reports tail
         ≡ mark_text Opened (start_of opening) ++ (part_text settings.store reports.last ++ tail) }
+{}
+
+/// The last reports of two sessions over the same dealt lists have one text, also where their shards went on from saved
+/// cuts, if the tables of these were those of their records: a run that was stopped and goes on ends as if it had not been.
+pub fn resumed_sessions_end_alike()
+    ensures { (opening other_opening : List ShardValue) (settings other : Settings) (reports others : SessionReports)
+        → AreShards opening → AreShards other_opening → BasesRepresent opening → BasesRepresent other_opening
+        → lists_of opening ≡ lists_of other_opening → capacity_of opening ≡ capacity_of other_opening
+        → settings.phi ≡ other.phi → AreSessionReports opening settings reports → AreSessionReports other_opening other others
+        → report_text reports.last.report ≡ report_text others.last.report }
+{
+    standing_cuts_have_one_report();
+    reported_cuts_represent();
+    same_reports_have_one_text();
+}
+
+/// What the saves of a session may leave of a store belongs to the dealt lists, if the store did before and the shards
+/// began with tables of their records.
+pub fn saves_belong()
+    ensures { (opening : List ShardValue) (settings : Settings) (reports : SessionReports) (opened : Option SavedValue) (image : List ℕ)
+        → AreShards opening → BasesRepresent opening → AreSessionReports opening settings reports
+        → IsOfLists (store_settings settings) (lists_of opening) opened
+        → OpensAmong (store_settings settings) opened (session_saves settings opening opened reports) image
+        → Belongs (store_settings settings) (lists_of opening) image }
+{
+    reported_cuts_represent();
+}
+
+/// The last save of a session, which its store opens to, is of the last report: its positions are at the ends of the lists,
+/// and its sequence has risen by one for each report of the calling thread.
+pub fn last_saves_are_at_the_ends()
+    ensures { (opening : List ShardValue) (settings : Settings) (reports : SessionReports) (opened : Option SavedValue)
+        → AreSessionReports opening settings reports
+        → IsSomeAnd (last_saved opened (session_saves settings opening opened reports)) (λ saved.
+        (positions_of saved.cut ≡ ends_of opening) × (saved.sequence ≡ opened_sequence opened + (settings.rounds + 1))) }
 {}

@@ -6,6 +6,7 @@ mod gates;
 mod refusals;
 mod reports;
 mod rounds;
+mod stores;
 mod weights;
 
 use super::*;
@@ -13,6 +14,7 @@ use deal_rules::{DealKind, Dealer, Dealers};
 use gate_workers::{Gate, OpenGate};
 use outside_io::{MemorySink, MemorySource};
 use prefix_lattice::Record;
+use slot_disk::MemoryDisk;
 use std::alloc::{AllocError, Global};
 use std::marker::Sync;
 use std::sync::Wait;
@@ -51,7 +53,7 @@ pub(crate) fn run_over<R: Threads + Wait + Sync>(
     run_gated(rt, alloc, dealers, words, bytes, outside, &OpenGate)
 }
 
-// The same with a gate.
+// The same with a gate. There is no store.
 pub(crate) fn run_gated<R: Threads + Wait + Sync, G: Gate + Sync>(
     rt: &R,
     alloc: Global,
@@ -64,7 +66,17 @@ pub(crate) fn run_gated<R: Threads + Wait + Sync, G: Gate + Sync>(
     let mut source = MemorySource::new(bytes, Vec::from_slice(alloc, outside.source_fails)?, 7);
     let fails = Vec::from_slice(alloc, outside.sink_fails)?;
     let mut sink = MemorySink::with_room(alloc, outside.room, fails)?;
-    let status = run(rt, alloc, words, &mut source, &mut sink, gate, dealers);
+    let mut disk = MemoryDisk::with_room(alloc, 0, 0, Vec::new(alloc), None, Vec::new(alloc))?;
+    let status = run(
+        rt,
+        alloc,
+        words,
+        &mut source,
+        &mut sink,
+        &mut disk,
+        gate,
+        dealers,
+    );
     let text = Vec::from_slice(alloc, sink.taken())?;
     Ok(Ended { status, text })
 }
@@ -118,6 +130,21 @@ fn answers_and_refuses(rt: HostRuntime) -> Result<(), Fail> {
     rounds::ends_at_the_first_fault(&rt, alloc, &dealers)?;
     rounds::two_workers_feed_at_once(&rt, alloc, &dealers)?;
     rounds::a_round_reads_what_was_folded(&rt, alloc, &dealers)
+}
+
+#[test]
+fn goes_on_from_stores(rt: HostRuntime) -> Result<(), Fail> {
+    let alloc = rt.alloc();
+    let dealers = Dealers {
+        round: Dealer::new(DealKind::RoundRobin, Box::new(alloc, by_place)?),
+        source: Dealer::new(DealKind::BySource, Box::new(alloc, by_source)?),
+        free: Dealer::new(DealKind::Free, Box::new(alloc, by_both)?),
+    };
+    stores::goes_on_where_it_stopped(&rt, alloc, &dealers)?;
+    stores::saves_each_round(&rt, alloc, &dealers)?;
+    stores::formats(&rt, alloc, &dealers)?;
+    stores::refuses_stores(&rt, alloc, &dealers)?;
+    stores::tells_the_faults_of_the_disk(&rt, alloc, &dealers)
 }
 
 #[test]

@@ -9,6 +9,10 @@ use Rattle.hhh_output.specs.declared.report.Report.{Report}
 use Rattle.hhh_output.specs.Lines.{prefixes_of}
 use Rattle.hhh_output.specs.Threshold.{IsThreshold}
 
+-- there are as many positions as lists, and none is past the end of its list
+abbrev pub ArePositionsWithin : List ℕ → List (List RecordValue) → Type 0
+ArePositionsWithin positions lists = AllZip (λ position list. position ≤ length list) positions lists
+
 -- the interval of a line holds the exact weight of its prefix over some records
 abbrev pub HoldsWeight : List RecordValue → Line → Type 0
 HoldsWeight records line = Holds line.lo line.hi (weight_of line.prefix records)
@@ -24,16 +28,24 @@ IsJustified capacity threshold lines records line =
     capacity * threshold ≤ capacity * conditioned_weight line.prefix lines records
     + (1 + length (closest line.prefix lines) + length (kept_pairs (closest line.prefix lines))) * total_weight records
 
+-- the high of a line is at least the threshold
+abbrev pub IsHeavyLine : ℕ → Line → Type 0
+IsHeavyLine threshold line = threshold ≤ line.hi
+
+-- each prefix that is no line has a conditioned weight below the threshold, over these prefixes of lines
+abbrev pub AreComplete : ℕ → List PrefixValue → List RecordValue → Type 0
+AreComplete threshold lines records = (prefix : PrefixValue) → IsPrefix prefix → ¬ Contains lines prefix
+    → conditioned_weight prefix lines records < threshold
+
 -- a report is sound over lists of records, for tables of this capacity: eight tests hold
 pub record IsSound (report : Report) (lists : List (List RecordValue)) (capacity phi : ℕ) : Type 0 where
-  pub positions : AllZip (λ position list. position ≤ length list) report.positions lists
+  pub positions : ArePositionsWithin report.positions lists
   pub total : report.total ≡ total_weight (records_before lists report.positions)
   pub threshold : IsThreshold phi report.total report.threshold
   pub interval : All (HoldsWeight (records_before lists report.positions)) report.lines
   pub width : All (IsNarrowLine capacity report.total) report.lines
-  pub heavy : All (λ line. report.threshold ≤ line.hi) report.lines
+  pub heavy : All (IsHeavyLine report.threshold) report.lines
   pub justified : All
       (IsJustified capacity report.threshold (prefixes_of report.lines) (records_before lists report.positions))
       report.lines
-  pub complete : (prefix : PrefixValue) → IsPrefix prefix → ¬ Contains (prefixes_of report.lines) prefix
-      → conditioned_weight prefix (prefixes_of report.lines) (records_before lists report.positions) < report.threshold
+  pub complete : AreComplete report.threshold (prefixes_of report.lines) (records_before lists report.positions)

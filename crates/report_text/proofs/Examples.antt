@@ -94,7 +94,7 @@ unfolding digits
 text_of_two_lines = refl
 
 -- what is reported of one record of one shard, where every prefix that carries weight is heavy
-abbrev report : Report
+abbrev pub report : Report
 report = record {
   positions = 1 ∷ [];
   total = 100;

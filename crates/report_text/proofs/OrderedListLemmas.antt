@@ -16,6 +16,14 @@ IsOrdered line = line.lo ≤ line.hi
 abbrev Precedes : Line → Line → Type 0
 Precedes line later = report_order line.prefix later.prefix ≡ Less
 
+-- no line is in order
+pub no_line_in_order : AreLines []
+no_line_in_order = record {
+  few = omega arith;
+  ordered = λ place other within. absurd (omega arith);
+  rising = λ place later other before within. absurd (omega arith);
+}
+
 -- one line is in order
 pub one_line_in_order : (line : Line) → line.lo ≤ line.hi → AreLines (line ∷ [])
 one_line_in_order line ordered = record {

@@ -62,11 +62,15 @@ abbrev pub mark_text : Mark → List ℕ → List ℕ
 mark_text mark positions = positions_line (mark_name mark) positions
 
 -- the last three lines: how many frames were read, and how many were skipped as not IPv4, as short and for a bad header
-abbrev pub tail_text : Records → List ℕ
-tail_text records =
-    number_line (codes "frames") records.frames
-    ++ text_line (codes "skipped" ∷ decimal records.not_ipv4 ∷ decimal records.short ∷ decimal records.bad_header ∷ [])
+abbrev pub counts_text : ℕ → ℕ → ℕ → ℕ → List ℕ
+counts_text frames not_ipv4 short bad_header =
+    number_line (codes "frames") frames
+    ++ text_line (codes "skipped" ∷ decimal not_ipv4 ∷ decimal short ∷ decimal bad_header ∷ [])
     ++ text_line (codes "end" ∷ [])
+
+-- the last three lines, with the counts of some records
+abbrev pub tail_text : Records → List ℕ
+tail_text records = counts_text records.frames records.not_ipv4 records.short records.bad_header
 
 -- the line shows a prefix, and its low and high are 64-bit numbers
 pub record IsShowableLine (line : Line) : Type 0 where

@@ -1,11 +1,16 @@
 //! Laws of texts. A caller that calls one has its contract available.
 
-ghost use Rattle.std.specs.Prelude.{◌≡◌};
+ghost use Rattle.std.specs.Prelude.{◌≡◌, ◌≤◌, List, ℕ, length, map};
+ghost use Rattle.std.specs.List.{flat_map};
 ghost use Rattle.hhh_output.specs.{AreSame};
 ghost use Rattle.hhh_output.specs.declared.report.Report.{Report};
 ghost use Rattle.report_text.specs.ReportText.{report_text, IsShowable};
+ghost use Rattle.report_text.specs.SessionText.{AreSameSessions, HasTextFault, IsSession, IsSessionText, longest_text};
+ghost use Rattle.report_text.specs.SessionText.{printed_text, report_lines, session_lines, session_text, text_of, whole_lines};
+ghost use Rattle.report_text.specs.declared.session.Session.{Session};
+ghost use Rattle.report_text.specs.declared.session_fault.TextFault.{TextFault};
 
-use prefix_lattice::prefix_texts_read_back;
+use prefix_lattice::{prefix_texts_read_back, report_order_is_total};
 
 /// A law of reports: reports with the same text show the same.
 pub fn report_texts_are_apart()
@@ -18,3 +23,26 @@ pub fn report_texts_are_apart()
 pub fn same_reports_have_one_text()
     ensures { (report other : Report) → AreSame report other → report_text report ≡ report_text other }
 {}
+
+/// A law of sessions: what is printed of a session, part by part, is its text, and is read back as that session. The text
+/// of a report is that of its lines, and the whole lines of the text of a session are its lines.
+pub fn printed_sessions_read_back()
+    ensures report { (report : Report) → flat_map text_of (report_lines report) ≡ report_text report }
+    ensures printed { (session : Session) → printed_text session ≡ session_text session }
+    ensures lines { (session : Session) → IsSession session → whole_lines (session_text session) ≡ map text_of (session_lines session) }
+    ensures read { (session other : Session) → IsSession session → IsSessionText (printed_text session) other → AreSameSessions session other }
+{
+    prefix_texts_read_back();
+    report_order_is_total();
+}
+
+/// A law of sessions: a text of at most 268,435,456 bytes is that of a session, or has a fault, and never both. It has one
+/// fault, and is the text of one session.
+pub fn session_texts_have_one_reading()
+    ensures apart { (text : List ℕ) (session other : Session) → IsSessionText text session → IsSessionText text other → AreSameSessions session other }
+    ensures one_fault { (text : List ℕ) (fault other : TextFault) → HasTextFault text fault → HasTextFault text other → fault ≡ other }
+    ensures no_fault { (text : List ℕ) (session : Session) (fault : TextFault) → IsSessionText text session → length text ≤ longest_text → ¬ HasTextFault text fault }
+{
+    prefix_texts_read_back();
+    report_order_is_total();
+}

@@ -2,13 +2,26 @@
 #![tactic(auto)]
 
 mod laws;
+mod line_cursor;
+mod line_reading;
 mod mark;
 mod printing;
 mod putting;
+mod session;
+mod session_fault;
+mod session_line;
+mod session_reading;
+mod word_cut;
 
-pub use laws::{report_texts_are_apart, same_reports_have_one_text};
+pub use laws::{
+    printed_sessions_read_back, report_texts_are_apart, same_reports_have_one_text,
+    session_texts_have_one_reading,
+};
 pub use mark::Mark;
 pub use printing::{print, print_positions, print_tail};
+pub use session::Session;
+pub use session_fault::{SessionFault, TextFault};
+pub use session_reading::read_session;
 
 #[cfg(test)]
 mod tests;

@@ -1,7 +1,9 @@
 ghost use Rattle.std.specs.Prelude.{◌≤◌, IfOk};
 ghost use Rattle.report_text.specs.ReportText.{ArePositions};
 
-use crate::{Mark, print, print_positions, print_tail};
+use crate::{
+    Mark, Session, SessionFault, TextFault, print, print_positions, print_tail, read_session,
+};
 use frame_records::Records;
 use hhh_output::{Line, Lines, Report};
 use prefix_lattice::{Prefix, RecordList};
@@ -99,5 +101,136 @@ fn prints_the_last_lines(rt: HostRuntime) -> Result<(), Fail> {
         text.as_slice(),
         b"frames 7\nskipped 2 1 0\nend\n".as_slice()
     );
+    Ok(())
+}
+
+// The text of lines, each of which ends by `|` here and by a line feed there.
+fn text_of(alloc: Global, lines: &str) -> Result<Vec<u8>, AllocError> {
+    let mut text = Vec::new(alloc);
+    for byte in lines.bytes() {
+        text.push(if byte == b'|' { b'\n' } else { byte })?;
+    }
+    Ok(text)
+}
+
+const SESSION: &str =
+    "opened 0|report|at 1|total 100|threshold 1|line 10.1.2.3/32 20.1.2.3/32 100 100|done|frames 1|skipped 0 0 0|end|";
+
+#[test]
+fn reads_a_session(rt: HostRuntime) -> Result<(), Fail> {
+    let alloc = rt.alloc();
+    let text = text_of(alloc, SESSION)?;
+    let session = read_session(alloc, text.as_slice())?;
+    assert_eq!(rt; session.opened.as_slice(), [0].as_slice());
+    assert_eq!(rt; session.reports.len(), 1);
+    let reported = session.reports.at(0);
+    assert!(rt; reported.saved.is_none());
+    assert_eq!(rt; reported.report.positions.as_slice(), [1].as_slice());
+    assert_eq!(rt; reported.report.total, 100);
+    assert_eq!(rt; reported.report.threshold, 1);
+    let line = line_of("10.1.2.3/32", "20.1.2.3/32", 100, 100)?;
+    assert_eq!(rt; reported.report.lines.as_slice(), [line].as_slice());
+    assert_eq!(rt; session.frames, 1);
+    assert_eq!(rt; session.not_ipv4, 0);
+    assert_eq!(rt; session.short, 0);
+    assert_eq!(rt; session.bad_header, 0);
+    Ok(())
+}
+
+#[test]
+fn reads_saved_positions(rt: HostRuntime) -> Result<(), Fail> {
+    let alloc = rt.alloc();
+    let text = text_of(
+        alloc,
+        "opened 0 7|report|at 3 7|total 2|threshold 1|done|report|at 4 7|total 3|threshold 1|done|saved 4 7|frames 9|skipped 3 2 1|end|",
+    )?;
+    let session = read_session(alloc, text.as_slice())?;
+    assert_eq!(rt; session.reports.len(), 2);
+    assert!(rt; session.reports.at(0).saved.is_none());
+    let saved = session.reports.at(1).saved.as_ref().ok_or("not saved")?;
+    assert_eq!(rt; saved.as_slice(), [4, 7].as_slice());
+    assert_eq!(rt; session.frames, 9);
+    assert_eq!(rt; session.not_ipv4, 3);
+    assert_eq!(rt; session.short, 2);
+    assert_eq!(rt; session.bad_header, 1);
+    Ok(())
+}
+
+// The fault of a text, if it has one.
+fn fault_of(alloc: Global, lines: &str) -> Result<Option<SessionFault>, AllocError> {
+    let text = text_of(alloc, lines)?;
+    match read_session(alloc, text.as_slice()) {
+        Ok(_) => Ok(None),
+        Err(fault) => Ok(Some(fault)),
+    }
+}
+
+#[test]
+fn refuses_texts_at_their_line(rt: HostRuntime) -> Result<(), Fail> {
+    let alloc = rt.alloc();
+    let wrong = [
+        (
+            "opened 0|report|at 0|total 00|threshold 1|done|frames 0|skipped 0 0 0|end|",
+            4,
+        ),
+        (
+            "opened 0|report|at 0|total 0|threshold 1|done|frames 0|skipped 0 0 0|end|x",
+            10,
+        ),
+        (
+            "opened 0 0|report|at 1|total 100|threshold 1|line 10.1.2.3/32 20.1.2.3/32 100 100|done|frames 1|skipped 0 0 0|end|",
+            3,
+        ),
+        (
+            "opened 0|report|at 1|total 100|threshold 0|line 10.1.2.3/32 20.1.2.3/32 100 100|done|frames 1|skipped 0 0 0|end|",
+            5,
+        ),
+        (
+            "opened 0|report|at 1|total 100|threshold 1|line 10.1.2.3/32 20.1.2.3/32 101 100|done|frames 1|skipped 0 0 0|end|",
+            6,
+        ),
+        (
+            "opened 0|report|at 1|total 100|threshold 1|line 10.1.2.3/32 20.1.2.3/32 100 100|line 10.1.2.3/32 20.1.2.3/32 100 100|done|frames 1|skipped 0 0 0|end|",
+            7,
+        ),
+        (
+            "opened 0|report|at 16777217|total 100|threshold 1|line 10.1.2.3/32 20.1.2.3/32 100 100|done|frames 1|skipped 0 0 0|end|",
+            3,
+        ),
+    ];
+    for (text, line) in wrong {
+        let fault = fault_of(alloc, text)?;
+        assert_eq!(rt;
+            fault,
+            Some(SessionFault::Text(TextFault::BadLine(line))),
+            "{text}"
+        );
+    }
+    Ok(())
+}
+
+#[test]
+fn misses_the_end(rt: HostRuntime) -> Result<(), Fail> {
+    let alloc = rt.alloc();
+    let fault = fault_of(alloc, "opened 0|report|at 0|total 0|threshold 1|done|")?;
+    assert_eq!(rt; fault, Some(SessionFault::Text(TextFault::MissingEnd(7))));
+    Ok(())
+}
+
+#[test]
+fn writes_faults_as_text(rt: HostRuntime) -> Result<(), Fail> {
+    let alloc = rt.alloc();
+    let texts = [
+        (SessionFault::Text(TextFault::BadLine(4)), "line 4"),
+        (
+            SessionFault::Text(TextFault::MissingEnd(7)),
+            "no end at line 7",
+        ),
+        (SessionFault::Text(TextFault::TooLong), "too long"),
+        (SessionFault::OutOfMemory, "out of memory"),
+    ];
+    for (fault, text) in texts {
+        assert_eq!(rt; format!(in alloc; "{fault}")?.as_str(), text);
+    }
     Ok(())
 }

@@ -3,7 +3,9 @@
 use super::captures::{ONE, capture_of};
 use super::{Outside, SOUND, run_over};
 use crate::{Opt, Status, WordsKind, fault_line};
-use deal_rules::Dealers;
+use checkpoint::StoreSettings;
+use deal_rules::{DealKind, Dealers};
+use frame_records::Weigh;
 use pcap_frames::{CaptureFault, FaultKind};
 use prefix_lattice::{PrefixFault, Side};
 use std::alloc::Global;
@@ -176,12 +178,39 @@ pub(crate) fn tells_the_faults_of_source_and_sink<R: Abort + Threads + Wait + Sy
     Ok(())
 }
 
+// The settings of a store.
+const SETTINGS: StoreSettings = StoreSettings {
+    shards: 1,
+    capacity: 2,
+    weigh: Weigh::Bytes,
+    deal: DealKind::Free,
+};
+
 pub(crate) fn tells_each_status(rt: &impl Abort, alloc: Global) -> Result<(), Fail> {
     let bad = |kind, place| Status::BadCapture(CaptureFault { kind, place });
     for (status, number, line) in [
         (Status::Done, 0, b"hhh: done\n".as_slice()),
         (Status::ReadFault, 4, b"hhh: read fault\n"),
         (Status::WriteFault, 5, b"hhh: write fault\n"),
+        (Status::DiskFault, 6, b"hhh: disk fault\n"),
+        (Status::NotFormatted, 7, b"hhh: store not formatted\n"),
+        (Status::Damaged(1), 8, b"hhh: store damaged: slot 1\n"),
+        (
+            Status::OtherSettings {
+                stored: SETTINGS,
+                asked: SETTINGS,
+            },
+            9,
+            b"hhh: store has other settings\n",
+        ),
+        (
+            Status::OtherCapture {
+                stored: [0; 32],
+                asked: [1; 32],
+            },
+            10,
+            b"hhh: store is of another capture\n",
+        ),
         (
             bad(FaultKind::ShortHeader, 23),
             3,

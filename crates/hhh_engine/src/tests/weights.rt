@@ -7,6 +7,7 @@ use deal_rules::Dealers;
 use gate_workers::OpenGate;
 use outside_io::{MemorySink, MemorySource};
 use pcap_frames::{CaptureFault, FaultKind};
+use slot_disk::MemoryDisk;
 use std::alloc::{AllocError, Global};
 use std::marker::Sync;
 use std::process::Abort;
@@ -89,6 +90,7 @@ pub(crate) fn weighs_the_longest_frame<R: Abort + Threads + Wait + Sync>(
     let words = ["weigh", "0.0.0.0/0", "0.0.0.0/0"];
     let mut source = MemorySource::new(long_capture(alloc, 262_144)?, Vec::new(alloc), 4096);
     let mut sink = MemorySink::with_room(alloc, 4096, Vec::new(alloc))?;
+    let mut disk = MemoryDisk::with_room(alloc, 0, 0, Vec::new(alloc), None, Vec::new(alloc))?;
     assert_eq!(rt;
         run(
             rt,
@@ -96,6 +98,7 @@ pub(crate) fn weighs_the_longest_frame<R: Abort + Threads + Wait + Sync>(
             &words,
             &mut source,
             &mut sink,
+            &mut disk,
             &OpenGate,
             dealers
         ),

@@ -1,0 +1,394 @@
+// The plain program to compare `audit` with: reads a capture from standard input and a session text from the file that
+// is named first, and tests every report against the records, dealt in turn. Its other arguments are the capacity and
+// the share in parts per million, 512 and 10,000 if they are missing.
+//
+// For each report it notes at which nodes a line covers each record, one bit a node. Then it sums the weights of each
+// node in a hash table, and beside them what no line strictly below the node covers. It prints what `audit` prints, and
+// its status is 0 where all reports are sound, 11 where one isn't, and 12 where the text isn't read.
+#include "capture.h"
+#include <stdio.h>
+
+#define NODES 25
+#define MOST_SHARDS 16
+#define LONGEST_LINE 512
+
+struct line {
+    uint64_t key, low, high, weight, left;
+    unsigned node;
+};
+
+struct report {
+    uint64_t positions[MOST_SHARDS], total, threshold;
+    unsigned shards;
+    struct line *lines;
+    size_t count;
+};
+
+// A slot of a hash table. One with weight 0 is free.
+struct slot {
+    uint64_t key, weight, left;
+};
+
+static struct slot *slots;
+static size_t used;
+static unsigned bits;
+
+// Where lines are by node and key: one more than their number, and 0 in a free place.
+static uint32_t *homes;
+static size_t last_home;
+
+// The records that a report counts, by their numbers, and at which nodes a line covers each.
+static uint32_t *counted, *covered;
+static size_t counted_count;
+
+// For each node those that keep no fewer bytes of either address, and itself isn't among them.
+static uint32_t below[NODES];
+
+static void *zeros(size_t number, size_t size) {
+    void *space = calloc(number ? number : 1, size);
+    if (!space)
+        exit(13);
+    return space;
+}
+
+static unsigned level_of(unsigned node) {
+    return node / 5 + node % 5;
+}
+
+static uint32_t kept(uint32_t address, unsigned bytes) {
+    return bytes ? address & 0xffffffff << (32 - 8 * bytes) : 0;
+}
+
+static uint64_t key_of(size_t i, unsigned node) {
+    return (uint64_t)kept(records[i].source, node / 5) << 32 | kept(records[i].destination, node % 5);
+}
+
+static struct slot *slot_of(uint64_t key) {
+    size_t last = ((size_t)1 << bits) - 1, place = key * 0x9e3779b97f4a7c15 >> (64 - bits);
+    while (slots[place].weight && slots[place].key != key)
+        place = (place + 1) & last;
+    return &slots[place];
+}
+
+static void empty_table(void) {
+    free(slots);
+    used = 0;
+    bits = 10;
+    slots = zeros((size_t)1 << bits, sizeof *slots);
+}
+
+static void widen(void) {
+    struct slot *old = slots, *behind = slots + ((size_t)1 << bits);
+    bits++;
+    slots = zeros((size_t)1 << bits, sizeof *slots);
+    for (struct slot *slot = old; slot < behind; slot++)
+        if (slot->weight)
+            *slot_of(slot->key) = *slot;
+    free(old);
+}
+
+static void add(uint64_t key, uint32_t weight, int explained) {
+    struct slot *slot = slot_of(key);
+    if (!slot->weight) {
+        slot->key = key;
+        used++;
+    }
+    slot->weight += weight;
+    slot->left += explained ? 0 : weight;
+    if (used > (size_t)1 << (bits - 1))
+        widen();
+}
+
+static size_t home_of(const struct report *report, unsigned node, uint64_t key) {
+    size_t home = (key * 0x9e3779b97f4a7c15 + node * 0xc2b2ae3d27d4eb4f) >> 20 & last_home;
+    while (homes[home]) {
+        const struct line *line = &report->lines[homes[home] - 1];
+        if (line->node == node && line->key == key)
+            break;
+        home = (home + 1) & last_home;
+    }
+    return home;
+}
+
+static void find_homes(const struct report *report) {
+    size_t number = 16;
+    while (number < 2 * report->count)
+        number *= 2;
+    free(homes);
+    homes = zeros(number, sizeof *homes);
+    last_home = number - 1;
+    for (size_t i = 0; i < report->count; i++)
+        homes[home_of(report, report->lines[i].node, report->lines[i].key)] = i + 1;
+}
+
+// Notes the records before the positions, of shards that are dealt to in turn.
+static void count_records(const struct report *report) {
+    counted_count = 0;
+    for (size_t i = 0; i < count; i++)
+        if (i / report->shards < report->positions[i % report->shards])
+            counted[counted_count++] = i;
+}
+
+static void note_covered(const struct report *report) {
+    int has_lines[NODES] = {0};
+    for (size_t i = 0; i < report->count; i++)
+        has_lines[report->lines[i].node] = 1;
+    for (size_t i = 0; i < counted_count; i++) {
+        covered[i] = 0;
+        for (unsigned node = 0; node < NODES; node++)
+            if (has_lines[node] && homes[home_of(report, node, key_of(counted[i], node))])
+                covered[i] |= 1u << node;
+    }
+}
+
+// A prefix as it stands in a report.
+struct place {
+    uint64_t key;
+    unsigned node;
+};
+
+static int compare(struct place one, struct place other) {
+    if (level_of(one.node) != level_of(other.node))
+        return level_of(one.node) > level_of(other.node) ? -1 : 1;
+    if (one.key >> 32 != other.key >> 32)
+        return one.key >> 32 < other.key >> 32 ? -1 : 1;
+    if (one.node != other.node)
+        return one.node / 5 < other.node / 5 ? -1 : 1;
+    return one.key < other.key ? -1 : one.key > other.key;
+}
+
+// Sums each node, notes the sums of its lines, and finds the first prefix that is left out.
+static int sum_nodes(struct report *report, struct place *first, uint64_t *left) {
+    int found = 0;
+    for (unsigned node = 0; node < NODES; node++) {
+        empty_table();
+        for (size_t i = 0; i < counted_count; i++)
+            add(key_of(counted[i], node), records[counted[i]].weight, (covered[i] & below[node]) != 0);
+        for (size_t i = 0; i < report->count; i++)
+            if (report->lines[i].node == node) {
+                struct slot *slot = slot_of(report->lines[i].key);
+                report->lines[i].weight = slot->weight;
+                report->lines[i].left = slot->left;
+            }
+        for (struct slot *slot = slots; slot < slots + ((size_t)1 << bits); slot++) {
+            struct place place = {slot->key, node};
+            if (slot->weight && slot->left >= report->threshold && !homes[home_of(report, node, slot->key)]
+                && (!found || compare(place, *first) < 0)) {
+                found = 1;
+                *first = place;
+                *left = slot->left;
+            }
+        }
+    }
+    return found;
+}
+
+static int begins(uint64_t key, unsigned node, uint64_t upper, unsigned above) {
+    return above / 5 <= node / 5 && above % 5 <= node % 5
+        && kept(key >> 32, above / 5) == upper >> 32 && kept((uint32_t)key, above % 5) == (uint32_t)upper;
+}
+
+static int under(const struct line *lower, const struct line *upper) {
+    return begins(lower->key, lower->node, upper->key, upper->node);
+}
+
+static int same(const struct line *one, const struct line *other) {
+    return one->key == other->key && one->node == other->node;
+}
+
+static int strictly_under(const struct line *lower, const struct line *upper) {
+    return under(lower, upper) && !same(lower, upper);
+}
+
+// The longer of two halves of a prefix, if it begins with the other. Answers whether it does.
+static int longer(uint32_t one, unsigned bytes, uint32_t other, unsigned other_bytes, uint32_t *half, unsigned *length) {
+    unsigned shared = bytes < other_bytes ? bytes : other_bytes;
+    *half = bytes < other_bytes ? other : one;
+    *length = bytes < other_bytes ? other_bytes : bytes;
+    return kept(one, shared) == kept(other, shared);
+}
+
+static int meet(const struct line *one, const struct line *other, struct line *lowest) {
+    uint32_t source, destination;
+    unsigned source_bytes, destination_bytes;
+    if (!longer(one->key >> 32, one->node / 5, other->key >> 32, other->node / 5, &source, &source_bytes)
+        || !longer(one->key, one->node % 5, other->key, other->node % 5, &destination, &destination_bytes))
+        return 0;
+    lowest->key = (uint64_t)source << 32 | destination;
+    lowest->node = 5 * source_bytes + destination_bytes;
+    return 1;
+}
+
+// The numbers of closest lines and of their kept pairs, added up.
+static uint64_t count_widths(const struct report *report, const struct line *line, int with_pairs) {
+    struct line *under_it = zeros(report->count, sizeof *under_it), *closest = zeros(report->count, sizeof *closest);
+    size_t number = 0, tops = 0;
+    uint64_t pairs = 0;
+    for (size_t i = 0; i < report->count; i++)
+        if (strictly_under(&report->lines[i], line))
+            under_it[number++] = report->lines[i];
+    for (size_t i = 0; i < number; i++) {
+        int top = 1;
+        for (size_t j = 0; top && j < number; j++)
+            top = !strictly_under(&under_it[i], &under_it[j]);
+        if (top)
+            closest[tops++] = under_it[i];
+    }
+    for (size_t i = 0; with_pairs && i < tops; i++)
+        for (size_t j = i + 1; j < tops; j++) {
+            struct line lowest;
+            int keeps = meet(&closest[i], &closest[j], &lowest);
+            for (size_t k = 0; keeps && k < tops; k++)
+                keeps = k == i || k == j || !under(&lowest, &closest[k]);
+            pairs += keeps;
+        }
+    free(under_it);
+    free(closest);
+    return tops + pairs;
+}
+
+static int allows(const struct report *report, uint64_t left, uint64_t widths, uint64_t capacity) {
+    return (unsigned __int128)capacity * left + (unsigned __int128)widths * report->total
+        >= (unsigned __int128)capacity * report->threshold;
+}
+
+static int is_justified(const struct report *report, const struct line *line, uint64_t capacity) {
+    return allows(report, line->left, 1, capacity)
+        || allows(report, line->left, 1 + count_widths(report, line, 0), capacity)
+        || allows(report, line->left, 1 + count_widths(report, line, 1), capacity);
+}
+
+static void print_side(uint32_t address, unsigned bytes) {
+    printf(" %u.%u.%u.%u/%u", address >> 24, address >> 16 & 255, address >> 8 & 255, address & 255, 8 * bytes);
+}
+
+static int says(const char *verdict, size_t number) {
+    printf("%s%zu\n", verdict, number + 1);
+    return 0;
+}
+
+// Tests a report, prints after its number what is wrong with it, and answers whether it is sound.
+static int test(struct report *report, size_t number, uint64_t capacity, uint64_t share) {
+    uint64_t total = 0, left = 0;
+    struct place first = {0, 0};
+    char front[64];
+    snprintf(front, sizeof front, "report %zu: ", number);
+    for (unsigned shard = 0; shard < report->shards; shard++)
+        if (report->positions[shard] > (count + report->shards - 1 - shard) / report->shards)
+            return printf("%sbad positions\n", front), 0;
+    count_records(report);
+    for (size_t i = 0; i < counted_count; i++)
+        total += records[counted[i]].weight;
+    if (total != report->total)
+        return printf("%sbad total\n", front), 0;
+    uint64_t threshold = ((unsigned __int128)total * share + 999999) / 1000000;
+    threshold += !threshold;
+    if (threshold != report->threshold)
+        return printf("%sbad threshold\n", front), 0;
+    find_homes(report);
+    note_covered(report);
+    int found = sum_nodes(report, &first, &left);
+    for (size_t i = 0; i < report->count; i++)
+        if (report->lines[i].weight < report->lines[i].low || report->lines[i].weight > report->lines[i].high)
+            return printf("%s", front), says("bad interval in line ", i);
+    for (size_t i = 0; i < report->count; i++)
+        if ((unsigned __int128)(report->lines[i].high - report->lines[i].low) * capacity > total)
+            return printf("%s", front), says("too wide in line ", i);
+    for (size_t i = 0; i < report->count; i++)
+        if (report->lines[i].high < threshold)
+            return printf("%s", front), says("below threshold in line ", i);
+    for (size_t i = 0; i < report->count; i++)
+        if (!is_justified(report, &report->lines[i], capacity))
+            return printf("%s", front), says("not justified in line ", i);
+    if (!found)
+        return 1;
+    printf("%sleft out", front);
+    print_side(first.key >> 32, first.node / 5);
+    print_side(first.key, first.node % 5);
+    printf(" %llu\n", (unsigned long long)left);
+    return 0;
+}
+
+static int read_positions(char *text, struct report *report) {
+    report->shards = 0;
+    for (char *word = strtok(text, " \n"); word; word = strtok(0, " \n")) {
+        if (report->shards == MOST_SHARDS)
+            return 0;
+        report->positions[report->shards++] = strtoull(word, 0, 10);
+    }
+    return report->shards > 0;
+}
+
+static int read_line(const char *text, struct line *line) {
+    unsigned s[5], d[5];
+    unsigned long long low, high;
+    if (sscanf(text, "line %u.%u.%u.%u/%u %u.%u.%u.%u/%u %llu %llu", &s[0], &s[1], &s[2], &s[3], &s[4], &d[0], &d[1],
+            &d[2], &d[3], &d[4], &low, &high) != 12)
+        return 0;
+    line->key = (uint64_t)(s[0] << 24 | s[1] << 16 | s[2] << 8 | s[3]) << 32 | (d[0] << 24 | d[1] << 16 | d[2] << 8 | d[3]);
+    line->node = 5 * (s[4] / 8) + d[4] / 8;
+    line->low = low;
+    line->high = high;
+    return line->node < NODES;
+}
+
+// Reads the next report of a session. Answers 1, 0 at the end of the text, and 12 for a text that isn't read.
+static int read_report(FILE *session, struct report *report) {
+    static char text[LONGEST_LINE];
+    size_t space = 0;
+    int inside = 0;
+    report->count = 0;
+    while (fgets(text, sizeof text, session)) {
+        if (!strcmp(text, "report\n"))
+            inside = 1;
+        else if (inside && !strcmp(text, "done\n"))
+            return 1;
+        else if (inside && !strncmp(text, "at ", 3)) {
+            if (!read_positions(text + 3, report))
+                return 12;
+        } else if (inside && !strncmp(text, "total ", 6))
+            report->total = strtoull(text + 6, 0, 10);
+        else if (inside && !strncmp(text, "threshold ", 10))
+            report->threshold = strtoull(text + 10, 0, 10);
+        else if (inside) {
+            if (report->count == space) {
+                space = space ? 2 * space : 64;
+                report->lines = realloc(report->lines, space * sizeof *report->lines);
+                if (!report->lines)
+                    exit(13);
+            }
+            if (!read_line(text, &report->lines[report->count++]))
+                return 12;
+        }
+    }
+    return inside ? 12 : 0;
+}
+
+int main(int number, char **arguments) {
+    uint64_t capacity = number > 2 ? strtoull(arguments[2], 0, 10) : 512;
+    uint64_t share = number > 3 ? strtoull(arguments[3], 0, 10) : 10000;
+    FILE *session = number > 1 ? fopen(arguments[1], "r") : 0;
+    if (!session)
+        return 12;
+    if (!read_capture())
+        return 3;
+    for (unsigned node = 0; node < NODES; node++)
+        for (unsigned other = 0; other < NODES; other++)
+            if (other != node && other / 5 >= node / 5 && other % 5 >= node % 5)
+                below[node] |= 1u << other;
+    counted = zeros(count, sizeof *counted);
+    covered = zeros(count, sizeof *covered);
+    size_t reports = 0;
+    for (;;) {
+        struct report report = {.lines = 0};
+        int got = read_report(session, &report);
+        if (got == 12)
+            return 12;
+        if (!got)
+            break;
+        if (!test(&report, ++reports, capacity, share))
+            return 11;
+        free(report.lines);
+    }
+    printf("good %zu\n", reports);
+}

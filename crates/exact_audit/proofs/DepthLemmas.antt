@@ -1,0 +1,368 @@
+-- Lines that cover a record, by how many bytes they keep.
+use Rattle.std.proofs.Common.{◌≡◌, ℕ, ◌+◌, ◌^◌, ◌<◌, ◌≤◌, ◌/◌, ◌%◌, nat_le, nat_lt, nat_eq, eqb, Bool, true, false}
+use Rattle.std.proofs.Common.{◌&&◌, ◌||◌, not}
+use Rattle.std.proofs.Common.{zero, suc, List, [], ◌∷◌, length, take, get_or, All, Contains, refl, sym, ap, ◌∙◌}
+use Rattle.std.proofs.Common.{subst, arith, ◌⊎◌, inl}
+use Rattle.std.proofs.Common.{⊎_elim}
+use Rattle.std.specs.List.{list_any}
+use Rattle.std.proofs.lemmas.Bool.{false≢true, eqb-true, eq-eqb, and_parts, and_from, or_parts, or_from}
+use Rattle.std.proofs.lemmas.Bool.{false_from_ne_true, lt-ltb, le-ltb, le-leb, leb-true, lt-leb, cases_lt}
+use Rattle.std.proofs.lemmas.Bool.{or_cases}
+use Rattle.std.proofs.lemmas.Bool.Decides.{nat_tests}
+use Rattle.std.proofs.lemmas.List.Elements.{All-head, All-tail}
+use Rattle.std.proofs.lemmas.List.Folds.{list_any_at}
+use Rattle.prefix_lattice.specs.{RecordValue, NodeValue, IsNode, index_of, node_at, PrefixValue, IsPrefix, covers}
+use Rattle.prefix_lattice.specs.{node_of}
+use Rattle.prefix_lattice.specs.{key_of, prefix_at, begins_with, strictly_under, lines_under, one_covers}
+use Rattle.prefix_lattice.proofs.NodePlaceLemmas.{node_at-index_of}
+use Rattle.prefix_lattice.proofs.ListLemmas.{Contains-head, Contains-tail}
+use Rattle.exact_audit.specs.declared.depths.Depths.{Depths}
+use Rattle.exact_audit.specs.LineCodes.{code_of, AreCodesOf}
+use Rattle.exact_audit.specs.Depths.{reaches, IsDepth, AreDepths, depth_at, explained}
+use Rattle.exact_audit.proofs.BoolListLemmas.{list_any-same, list_any-filter, list_any-either, list_any-weaker}
+use Rattle.exact_audit.proofs.BoolListLemmas.{same_truth}
+
+-- the four bytes of an address
+abbrev bytes_of : ℕ → List ℕ
+bytes_of a = a / 256 / 256 / 256 % 256 ∷ a / 256 / 256 % 256 ∷ a / 256 % 256 ∷ a % 256 ∷ []
+
+-- what a list begins with is its front
+pub take-begins_with : (bytes front : List ℕ) → begins_with bytes front ≡ true → take (length front) bytes ≡ front
+take-begins_with bytes [] begins = refl
+take-begins_with [] (b ∷ front) begins = absurd (false≢true begins)
+take-begins_with (x ∷ bytes) (b ∷ front) begins =
+    let both : (eqb x b ≡ true) × (begins_with bytes front ≡ true) =
+    and_parts (eqb x b) (begins_with bytes front) begins in
+    ap (λ d. d ∷ take (length front) bytes) (eqb-true x b both.0)
+    ∙ ap (λ l. b ∷ l) (take-begins_with bytes front both.1)
+
+-- a list begins with each of its fronts
+pub begins_with-take : (bytes : List ℕ) (n : ℕ) → begins_with bytes (take n bytes) ≡ true
+begins_with-take bytes zero = refl
+begins_with-take [] (suc n) = refl
+begins_with-take (x ∷ bytes) (suc n) =
+    and_from (eqb x x) (begins_with bytes (take n bytes)) (eq-eqb x x refl) (begins_with-take bytes n)
+
+pub length-front : (bytes : List ℕ) (n : ℕ) → n ≤ length bytes → length (take n bytes) ≡ n
+length-front bytes zero few = refl
+length-front [] (suc n) few = absurd (omega arith)
+length-front (x ∷ bytes) (suc n) few = let rest = length-front bytes n (omega arith) in omega arith
+
+-- of two fronts of one list, the one that is no shorter begins with the other
+pub front-of_front : (bytes : List ℕ) (m n : ℕ) → m ≤ length bytes → n ≤ length bytes
+    → begins_with (take m bytes) (take n bytes) ≡ nat_le n m
+front-of_front bytes m zero few_m few_n = sym (le-leb 0 m (omega arith))
+front-of_front [] m (suc n) few_m few_n = absurd (omega arith)
+front-of_front (x ∷ bytes) zero (suc n) few_m few_n = sym (lt-leb (suc n) 0 (omega arith))
+front-of_front (x ∷ bytes) (suc m) (suc n) few_m few_n =
+    ap (λ b. b && begins_with (take m bytes) (take n bytes)) (eq-eqb x x refl)
+    ∙ front-of_front bytes m n (omega arith) (omega arith)
+    ∙ same_truth (nat_le n m) (nat_le (suc n) (suc m))
+    (λ is. le-leb (suc n) (suc m) (let le = leb-true n m is in omega arith))
+    (λ is. le-leb n m (let le = leb-true (suc n) (suc m) is in omega arith))
+
+-- a list that begins with another is no shorter
+pub begins_with-length : (bytes front : List ℕ) → begins_with bytes front ≡ true → length front ≤ length bytes
+begins_with-length bytes [] begins = omega arith
+begins_with-length [] (b ∷ front) begins = absurd (false≢true begins)
+begins_with-length (x ∷ bytes) (b ∷ front) begins =
+    let shorter = begins_with-length bytes front (and_parts (eqb x b) (begins_with bytes front) begins).1 in
+    omega arith
+
+-- a line that covers a record is the record's prefix of its node
+pub covering_is_front : (line : PrefixValue) (rec : RecordValue) → covers line rec ≡ true
+    → prefix_at (node_of line) rec ≡ line
+covering_is_front line rec covered =
+    let both = and_parts (begins_with (bytes_of rec.src) line.source) (begins_with (bytes_of rec.dst) line.dest)
+    covered in
+    let make : List ℕ → List ℕ → PrefixValue = λ source dest. record { source = source; dest = dest } in
+    ap (λ source. make source (take (length line.dest) (bytes_of rec.dst)))
+    (take-begins_with (bytes_of rec.src) line.source both.0)
+    ∙ ap (make line.source) (take-begins_with (bytes_of rec.dst) line.dest both.1)
+
+-- it keeps at most four bytes of each address
+pub covering_few : (line : PrefixValue) (rec : RecordValue) → covers line rec ≡ true
+    → (length line.source ≤ 4) × (length line.dest ≤ 4)
+covering_few line rec covered =
+    let both = and_parts (begins_with (bytes_of rec.src) line.source) (begins_with (bytes_of rec.dst) line.dest)
+    covered in
+    (begins_with-length (bytes_of rec.src) line.source both.0, begins_with-length (bytes_of rec.dst) line.dest both.1)
+
+-- which of two numbers of kept bytes is more, on both sides
+below_by_lengths : (s d l m : ℕ)
+    → ((nat_le s l && nat_le d m) && not ((nat_le s l && nat_le d m) && (nat_le l s && nat_le m d)))
+    ≡ ((nat_le (s + 1) l && nat_le d m) || (nat_le s l && nat_le (d + 1) m))
+below_by_lengths s d l m = grind (arith, nat_tests)
+
+-- a front compared with a line's bytes, where a list begins with both
+line_front : (bytes front : List ℕ) (n : ℕ) → begins_with bytes front ≡ true → n ≤ length bytes
+    → (begins_with front (take n bytes) ≡ nat_le n (length front))
+    × (begins_with (take n bytes) front ≡ nat_le (length front) n)
+line_front bytes front n begins few =
+    let is = take-begins_with bytes front begins in
+    let short = begins_with-length bytes front begins in (
+      ap (λ l. begins_with l (take n bytes)) (sym is) ∙ front-of_front bytes (length front) n short few,
+      ap (λ l. begins_with (take n bytes) l) (sym is) ∙ front-of_front bytes n (length front) few short,
+    )
+
+-- whether a line that covers a record is strictly under the record's prefix of a node
+pub strictly_by_lengths : (node : NodeValue) (rec : RecordValue) → IsNode node → (line : PrefixValue)
+    → covers line rec ≡ true → strictly_under line (prefix_at node rec)
+    ≡ ((nat_le (node.source_bytes + 1) (length line.source) && nat_le node.dest_bytes (length line.dest))
+    || (nat_le node.source_bytes (length line.source) && nat_le (node.dest_bytes + 1) (length line.dest)))
+strictly_by_lengths node rec is line covered =
+    let both = and_parts (begins_with (bytes_of rec.src) line.source) (begins_with (bytes_of rec.dst) line.dest)
+    covered in
+    let source = line_front (bytes_of rec.src) line.source node.source_bytes both.0 is.source in
+    let dest = line_front (bytes_of rec.dst) line.dest node.dest_bytes both.1 is.dest in
+    let shape = λ (a b c d : Bool). (a && b) && not ((a && b) && (c && d)) in
+    let sides = λ (a c : Bool). shape a (begins_with line.dest (take node.dest_bytes (bytes_of rec.dst))) c
+    (begins_with (take node.dest_bytes (bytes_of rec.dst)) line.dest) in
+    ap (λ a. sides a (begins_with (take node.source_bytes (bytes_of rec.src)) line.source)) source.0
+    ∙ ap (λ c. sides (nat_le node.source_bytes (length line.source)) c) source.1
+    ∙ ap (λ b. shape (nat_le node.source_bytes (length line.source)) b (nat_le (length line.source) node.source_bytes)
+    (begins_with (take node.dest_bytes (bytes_of rec.dst)) line.dest)) dest.0
+    ∙ ap (λ d. shape (nat_le node.source_bytes (length line.source)) (nat_le node.dest_bytes (length line.dest))
+    (nat_le (length line.source) node.source_bytes) d) dest.1
+    ∙ below_by_lengths node.source_bytes node.dest_bytes (length line.source) (length line.dest)
+
+-- lines strictly under the record's prefix of a node cover it exactly where lines reach further down that cover it
+pub explained_by_reaches : (lines : List PrefixValue) (node : NodeValue) (rec : RecordValue) → IsNode node
+    → one_covers (lines_under (prefix_at node rec) lines) rec
+    ≡ (reaches lines rec (node.source_bytes + 1) node.dest_bytes || reaches lines rec node.source_bytes
+    (node.dest_bytes + 1))
+explained_by_reaches lines node rec is =
+    list_any-filter (λ line. covers line rec) (λ line. strictly_under line (prefix_at node rec)) lines
+    ∙ list_any-same (λ line. strictly_under line (prefix_at node rec) && covers line rec)
+    (λ line. more_source line || more_dest line) lines same
+    ∙ list_any-either more_source more_dest lines
+  where
+    more_source : PrefixValue → Bool
+    more_source line = covers line rec
+        && (nat_le (node.source_bytes + 1) (length line.source) && nat_le node.dest_bytes (length line.dest))
+
+    more_dest : PrefixValue → Bool
+    more_dest line = covers line rec
+        && (nat_le node.source_bytes (length line.source) && nat_le (node.dest_bytes + 1) (length line.dest))
+
+    split : (covered strict a b : Bool) → (covered ≡ true → strict ≡ (a || b))
+        → (strict && covered) ≡ ((covered && a) || (covered && b))
+    split true true a b is = is refl
+    split true false a b is = is refl
+    split false true a b is = refl
+    split false false a b is = refl
+
+    same : (line : PrefixValue) → (strictly_under line (prefix_at node rec) && covers line rec)
+        ≡ (more_source line || more_dest line)
+    same line =
+        split (covers line rec) (strictly_under line (prefix_at node rec))
+        (nat_le (node.source_bytes + 1) (length line.source) && nat_le node.dest_bytes (length line.dest))
+        (nat_le node.source_bytes (length line.source) && nat_le (node.dest_bytes + 1) (length line.dest))
+        (strictly_by_lengths node rec is line)
+
+-- lines reach no less far where less is asked
+pub reaches_less : (lines : List PrefixValue) (rec : RecordValue) (s d t e : ℕ) → t ≤ s → e ≤ d
+    → reaches lines rec s d ≡ true → reaches lines rec t e ≡ true
+reaches_less lines rec s d t e less fewer =
+    list_any-weaker (λ line. covers line rec && (nat_le s (length line.source) && nat_le d (length line.dest)))
+    (λ line. covers line rec && (nat_le t (length line.source) && nat_le e (length line.dest))) lines
+    (λ place default within. weaker (get_or lines place default))
+  where
+    le_less : (a b c : ℕ) → b ≤ a → nat_le a c ≡ true → nat_le b c ≡ true
+    le_less a b c less is = le-leb b c (let le = leb-true a c is in omega arith)
+
+    weaker : (line : PrefixValue)
+        → (covers line rec && (nat_le s (length line.source) && nat_le d (length line.dest))) ≡ true
+        → (covers line rec && (nat_le t (length line.source) && nat_le e (length line.dest))) ≡ true
+    weaker line is =
+        let both = and_parts (covers line rec) (nat_le s (length line.source) && nat_le d (length line.dest)) is in
+        let sides = and_parts (nat_le s (length line.source)) (nat_le d (length line.dest)) both.1 in
+        and_from (covers line rec) (nat_le t (length line.source) && nat_le e (length line.dest)) both.0
+        (and_from (nat_le t (length line.source)) (nat_le e (length line.dest))
+        (le_less s t (length line.source) less sides.0) (le_less d e (length line.dest) fewer sides.1))
+
+-- no line keeps more than four bytes of an address
+pub reaches_none : (lines : List PrefixValue) (rec : RecordValue) (s d : ℕ) → (4 < s) ⊎ (4 < d)
+    → reaches lines rec s d ≡ false
+reaches_none [] rec s d past = refl
+reaches_none (line ∷ lines) rec s d past =
+    or_from (covers line rec && (nat_le s (length line.source) && nat_le d (length line.dest)))
+    (reaches lines rec s d)
+    (false_from_ne_true (covers line rec && (nat_le s (length line.source) && nat_le d (length line.dest))) (λ is.
+    let both = and_parts (covers line rec) (nat_le s (length line.source) && nat_le d (length line.dest)) is in
+    let sides = and_parts (nat_le s (length line.source)) (nat_le d (length line.dest)) both.1 in
+    let source = leb-true s (length line.source) sides.0 in
+    let dest = leb-true d (length line.dest) sides.1 in
+    let few = covering_few line rec both.0 in
+    ⊎_elim (λ (more : 4 < s). omega (arith, few, source, more)) (λ (more : 4 < d). omega (arith, few, dest, more))
+    past))
+    (reaches_none lines rec s d past)
+
+-- where no line reaches further down, and none has the record's prefix of a node, none reaches there
+pub reaches_not : (lines : List PrefixValue) (rec : RecordValue) (s d : ℕ)
+    → list_any (λ line. nat_eq (code_of (prefix_at (record { source_bytes = s; dest_bytes = d }) rec)) (code_of line))
+    lines ≡ false
+    → reaches lines rec (s + 1) d ≡ false → reaches lines rec s (d + 1) ≡ false → reaches lines rec s d ≡ false
+reaches_not [] rec s d none source dest = refl
+reaches_not (line ∷ lines) rec s d none source dest =
+    let own = prefix_at (record { source_bytes = s; dest_bytes = d }) rec in
+    let nones = or_parts (nat_eq (code_of own) (code_of line))
+    (list_any (λ line. nat_eq (code_of own) (code_of line)) lines) none in
+    let sources = or_parts (covers line rec && (nat_le (s + 1) (length line.source) && nat_le d (length line.dest)))
+    (reaches lines rec (s + 1) d) source in
+    let dests = or_parts (covers line rec && (nat_le s (length line.source) && nat_le (d + 1) (length line.dest)))
+    (reaches lines rec s (d + 1)) dest in
+    or_from (covers line rec && (nat_le s (length line.source) && nat_le d (length line.dest))) (reaches lines rec s d)
+    (false_from_ne_true (covers line rec && (nat_le s (length line.source) && nat_le d (length line.dest))) (λ is.
+    let both = and_parts (covers line rec) (nat_le s (length line.source) && nat_le d (length line.dest)) is in
+    let sides = and_parts (nat_le s (length line.source)) (nat_le d (length line.dest)) both.1 in
+    let no_more_source : length line.source ≤ s = at_most line.source s (λ more.
+    and_from (covers line rec) (nat_le (s + 1) (length line.source) && nat_le d (length line.dest)) both.0
+    (and_from (nat_le (s + 1) (length line.source)) (nat_le d (length line.dest)) more sides.1)) sources.0 in
+    let no_more_dest : length line.dest ≤ d = at_most line.dest d (λ more.
+    and_from (covers line rec) (nat_le s (length line.source) && nat_le (d + 1) (length line.dest)) both.0
+    (and_from (nat_le s (length line.source)) (nat_le (d + 1) (length line.dest)) sides.0 more)) dests.0 in
+    let source_same : s ≡ length line.source = let le = leb-true s (length line.source) sides.0 in omega arith in
+    let dest_same : d ≡ length line.dest = let le = leb-true d (length line.dest) sides.1 in omega arith in
+    let make : ℕ → ℕ → PrefixValue = λ a b. prefix_at (record { source_bytes = a; dest_bytes = b }) rec in
+    let same : own ≡ line = ap (λ a. make a d) source_same ∙ ap (make (length line.source)) dest_same
+    ∙ covering_is_front line rec both.0 in
+    false≢true (sym nones.0 ∙ eq-eqb (code_of own) (code_of line) (ap code_of same))))
+    (reaches_not lines rec s d nones.1 sources.1 dests.1)
+  where
+    at_most : {b : Bool} (bytes : List ℕ) (n : ℕ) → (nat_le (n + 1) (length bytes) ≡ true → b ≡ true) → b ≡ false
+        → length bytes ≤ n
+    at_most bytes n more is =
+        ⊎_elim (λ (less : n < length bytes).
+        absurd (false≢true (sym is ∙ more (le-leb (n + 1) (length bytes) (omega arith)))))
+        (λ (at : length bytes ≤ n). at) (cases_lt n (length bytes))
+
+-- two prefixes of one code are the same
+pub same_code : ((prefix other : PrefixValue) → IsPrefix prefix → IsPrefix other
+    → node_of prefix ≡ node_of other → key_of prefix ≡ key_of other → prefix ≡ other)
+    → (prefix other : PrefixValue) → IsPrefix prefix → IsPrefix other → key_of prefix < 2 ^ 64 → key_of other < 2 ^ 64
+    → code_of prefix ≡ code_of other → prefix ≡ other
+same_code apart prefix other is other_is small other_small same =
+    let index : index_of (node_of prefix) ≡ index_of (node_of other) = omega arith in
+    let key : key_of prefix ≡ key_of other = omega arith in
+    apart prefix other is other_is
+    (sym (node_at-index_of (node_of prefix) (kept prefix is)) ∙ ap node_at index
+    ∙ node_at-index_of (node_of other) (kept other other_is)) key
+  where
+    kept : (prefix : PrefixValue) → IsPrefix prefix → IsNode (node_of prefix)
+    kept prefix is = record { source = is.source.few; dest = is.dest.few }
+
+-- where lines have codes, whether one has the code of a prefix
+none_coded : (lines : List PrefixValue) (codes : List ℕ) (prefix : PrefixValue) → AreCodesOf lines codes
+    → list_any (nat_eq (code_of prefix)) codes ≡ false
+    → list_any (λ line. nat_eq (code_of prefix) (code_of line)) lines ≡ false
+none_coded lines codes prefix coded none = sym (coded.coded (code_of prefix)) ∙ none
+
+-- one more number of destination bytes, where no line has the record's prefix there
+pub depth_next : (lines : List PrefixValue) (codes : List ℕ) (rec : RecordValue) (s dest below : ℕ)
+    → AreCodesOf lines codes → IsDepth lines rec (s + 1) below → below ≤ dest
+    → list_any (nat_eq (code_of (prefix_at (record { source_bytes = s; dest_bytes = dest }) rec))) codes ≡ false
+    → ((d : ℕ) → dest + 1 ≤ d → reaches lines rec s d ≡ false) → (d : ℕ) → dest ≤ d → reaches lines rec s d ≡ false
+depth_next lines codes rec s dest below coded depth past none before d at_least =
+    ⊎_elim (λ (same : d < dest + 1).
+    let is : dest ≡ d = omega arith in
+    subst (λ e. reaches lines rec s e ≡ false) is
+    (reaches_not lines rec s dest
+    (none_coded lines codes (prefix_at (record { source_bytes = s; dest_bytes = dest }) rec) coded none)
+    (sym (depth dest) ∙ le-ltb dest below past) (before (dest + 1) (omega arith))))
+    (λ (more : dest + 1 ≤ d). before d more) (cases_lt d (dest + 1))
+
+-- a line has a prefix of one of its codes
+pub has_line : ((prefix other : PrefixValue) → IsPrefix prefix → IsPrefix other
+    → node_of prefix ≡ node_of other → key_of prefix ≡ key_of other → prefix ≡ other)
+    → (lines : List PrefixValue) (codes : List ℕ) (prefix : PrefixValue) → AreCodesOf lines codes → IsPrefix prefix
+    → key_of prefix < 2 ^ 64 → list_any (nat_eq (code_of prefix)) codes ≡ true → Contains lines prefix
+has_line apart lines codes prefix coded is small has =
+    find lines coded.prefixes coded.small (sym (coded.coded (code_of prefix)) ∙ has)
+  where
+    find : (lines : List PrefixValue) → All IsPrefix lines → All (λ line. key_of line < 2 ^ 64) lines
+        → list_any (λ line. nat_eq (code_of prefix) (code_of line)) lines ≡ true → Contains lines prefix
+    find [] are smalls has = absurd (false≢true has)
+    find (line ∷ lines) are smalls has =
+        ⊎_elim (λ (here : nat_eq (code_of prefix) (code_of line) ≡ true).
+        subst (Contains (line ∷ lines))
+        (sym (same_code apart prefix line is (All-head IsPrefix line lines are) small
+        (All-head (λ line. key_of line < 2 ^ 64) line lines smalls) (eqb-true (code_of prefix) (code_of line) here)))
+        (Contains-head line lines))
+        (λ (there : list_any (λ line. nat_eq (code_of prefix) (code_of line)) lines ≡ true).
+        Contains-tail line lines prefix
+        (find lines (All-tail IsPrefix line lines are) (All-tail (λ line. key_of line < 2 ^ 64) line lines smalls)
+        there))
+        (or_cases (nat_eq (code_of prefix) (code_of line))
+        (list_any (λ line. nat_eq (code_of prefix) (code_of line)) lines) has)
+
+-- and no line has a prefix of no code
+pub has_no_line : (lines : List PrefixValue) (codes : List ℕ) (prefix : PrefixValue) → AreCodesOf lines codes
+    → list_any (nat_eq (code_of prefix)) codes ≡ false → ¬ Contains lines prefix
+has_no_line lines codes prefix coded none (place, within, same) =
+    false≢true (sym (none_coded lines codes prefix coded none)
+    ∙ list_any_at (λ line. nat_eq (code_of prefix) (code_of line)) lines place prefix within
+    (eq-eqb (code_of prefix) (code_of (get_or lines place prefix)) (sym (ap code_of same))))
+
+-- the depth where a line has the record's prefix, and none reaches further down
+pub depth_found : (lines : List PrefixValue) (rec : RecordValue) (s dest : ℕ) (prefix : PrefixValue)
+    → Contains lines prefix → covers prefix rec ≡ true → node_of prefix ≡ record { source_bytes = s; dest_bytes = dest }
+    → ((d : ℕ) → dest + 1 ≤ d → reaches lines rec s d ≡ false) → IsDepth lines rec s (dest + 1)
+depth_found lines rec s dest prefix (place, within, same) covered node none = λ d.
+    ⊎_elim (λ (less : d < dest + 1).
+    lt-ltb d (dest + 1) less ∙ sym (reaches_less lines rec s dest s d (omega arith) (omega arith) here))
+    (λ (more : dest + 1 ≤ d). le-ltb d (dest + 1) more ∙ sym (none d more)) (cases_lt d (dest + 1))
+  where
+    source_is : length prefix.source ≡ s
+    source_is = ap (λ n. n.source_bytes) node
+
+    dest_is : length prefix.dest ≡ dest
+    dest_is = ap (λ n. n.dest_bytes) node
+
+    Test : PrefixValue → Bool
+    Test line = covers line rec && (nat_le s (length line.source) && nat_le dest (length line.dest))
+
+    passes : Test prefix ≡ true
+    passes =
+        and_from (covers prefix rec) (nat_le s (length prefix.source) && nat_le dest (length prefix.dest)) covered
+        (and_from (nat_le s (length prefix.source)) (nat_le dest (length prefix.dest))
+        (le-leb s (length prefix.source) (omega (arith, source_is)))
+        (le-leb dest (length prefix.dest) (omega (arith, dest_is))))
+
+    here : reaches lines rec s dest ≡ true
+    here = list_any_at Test lines place prefix within (subst (λ p. Test p ≡ true) (sym same) passes)
+
+-- the depth where no line reaches further down than with one more source byte
+pub depth_end : (lines : List PrefixValue) (rec : RecordValue) (s dest below : ℕ) → IsDepth lines rec (s + 1) below
+    → dest ≤ below → ((d : ℕ) → dest ≤ d → reaches lines rec s d ≡ false) → IsDepth lines rec s below
+depth_end lines rec s dest below depth least none = λ d.
+    ⊎_elim (λ (less : d < below).
+    lt-ltb d below less
+    ∙ sym (reaches_less lines rec (s + 1) d s d (omega arith) (omega arith) (sym (depth d) ∙ lt-ltb d below less)))
+    (λ (more : below ≤ d). le-ltb d below more ∙ sym (none d (omega arith))) (cases_lt d below)
+
+-- no line reaches down with five source bytes
+pub depth_of_five : (lines : List PrefixValue) (rec : RecordValue) → IsDepth lines rec 5 0
+depth_of_five lines rec = λ d. le-ltb d 0 (omega arith) ∙ sym (reaches_none lines rec 5 d (inl (omega arith)))
+
+-- the depth for each number of source bytes
+depths_at : (lines : List PrefixValue) (rec : RecordValue) (depths : Depths) → AreDepths lines rec depths
+    → (source : ℕ) → source ≤ 5 → IsDepth lines rec source (depth_at depths source)
+depths_at lines rec depths are zero few = are.zero
+depths_at lines rec depths are (suc zero) few = are.one
+depths_at lines rec depths are (suc (suc zero)) few = are.two
+depths_at lines rec depths are (suc (suc (suc zero))) few = are.three
+depths_at lines rec depths are (suc (suc (suc (suc zero)))) few = are.four
+depths_at lines rec depths are (suc (suc (suc (suc (suc zero))))) few = are.five
+depths_at lines rec depths are (suc (suc (suc (suc (suc (suc n)))))) few = absurd (omega arith)
+
+-- depths tell at each node whether a line strictly under the record's prefix covers the record
+pub explained_is : (lines : List PrefixValue) (rec : RecordValue) (depths : Depths) (node : NodeValue)
+    → AreDepths lines rec depths → IsNode node
+    → explained depths node ≡ one_covers (lines_under (prefix_at node rec) lines) rec
+explained_is lines rec depths node are is =
+    ap (λ b. b || nat_lt (node.dest_bytes + 1) (depth_at depths node.source_bytes))
+    (depths_at lines rec depths are (node.source_bytes + 1) (omega (arith, is.source)) node.dest_bytes)
+    ∙ ap (λ b. reaches lines rec (node.source_bytes + 1) node.dest_bytes || b)
+    (depths_at lines rec depths are node.source_bytes (omega (arith, is.source)) (node.dest_bytes + 1))
+    ∙ sym (explained_by_reaches lines node rec is)

@@ -1,0 +1,12 @@
+pub mod BoolListLemmas
+pub mod DepthLemmas
+pub mod LineCodeLemmas
+pub mod CountedLemmas
+pub mod NodeSumLemmas
+pub mod LeftOutLemmas
+pub mod LineTestLemmas
+pub mod ClosestLineLemmas
+pub mod FindingLemmas
+pub mod VerdictLemmas
+pub mod OneVerdictLemmas
+pub mod Examples

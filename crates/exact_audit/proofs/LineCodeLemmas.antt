@@ -1,0 +1,54 @@
+-- The codes of lines, one line after another.
+use Rattle.std.proofs.Common.{◌≡◌, ℕ, ◌+◌, ◌^◌, ◌<◌, nat_eq, Bool, true, false, ◌||◌, cond, List, [], ◌∷◌, ◌++◌}
+use Rattle.std.proofs.Common.{length, take, get_or}
+use Rattle.std.proofs.Common.{refl, sym, ap, ◌∙◌, subst}
+use Rattle.std.specs.List.{list_any}
+use Rattle.std.proofs.lemmas.Bool.{false≢true, eqb-true, eq-eqb}
+use Rattle.std.proofs.lemmas.List.{map_more}
+use Rattle.std.proofs.lemmas.List.Elements.{All-push}
+use Rattle.std.proofs.lemmas.List.Folds.{list_any-append}
+use Rattle.prefix_lattice.specs.{PrefixValue, IsPrefix, key_of}
+use Rattle.hhh_output.specs.declared.line.Line.{Line}
+use Rattle.hhh_output.specs.{prefixes_of}
+use Rattle.exact_audit.specs.LineCodes.{code_of, AreCodesOf}
+use Rattle.exact_audit.proofs.BoolListLemmas.{same_truth}
+
+-- one more prefix
+AreCodesOf-push : (lines : List PrefixValue) (prefix : PrefixValue) (codes new : List ℕ) → IsPrefix prefix
+    → key_of prefix < 2 ^ 64
+    → ((code : ℕ) → list_any (nat_eq code) new ≡ cond (nat_eq (code_of prefix) code) true
+    (list_any (nat_eq code) codes))
+    → AreCodesOf lines codes → AreCodesOf (lines ++ prefix ∷ []) new
+AreCodesOf-push lines prefix codes new is small adds before = record {
+  prefixes = All-push IsPrefix lines prefix before.prefixes is;
+  small = All-push (λ line. key_of line < 2 ^ 64) lines prefix before.small small;
+  coded = λ code. adds code
+      ∙ ap (cond (nat_eq (code_of prefix) code) true) (before.coded code)
+      ∙ joined (nat_eq (code_of prefix) code) (nat_eq code (code_of prefix))
+      (list_any (λ line. nat_eq code (code_of line)) lines) (turned (code_of prefix) code)
+      ∙ sym (list_any-append (λ line. nat_eq code (code_of line)) lines (prefix ∷ []));
+}
+  where
+    turned : (a b : ℕ) → nat_eq a b ≡ nat_eq b a
+    turned a b = same_truth (nat_eq a b) (nat_eq b a) (λ is. eq-eqb b a (sym (eqb-true a b is)))
+        (λ is. eq-eqb a b (sym (eqb-true b a is)))
+
+    joined : (a b c : Bool) → a ≡ b → cond a true c ≡ (c || (b || false))
+    joined true true true same = refl
+    joined true true false same = refl
+    joined true false c same = absurd (false≢true (sym same))
+    joined false true c same = absurd (false≢true same)
+    joined false false true same = refl
+    joined false false false same = refl
+
+-- one more line
+pub AreCodesOf-more : (lines : List Line) (index : ℕ) (line : Line) (codes new : List ℕ) → index < length lines
+    → line ≡ get_or lines index line → IsPrefix line.prefix → key_of line.prefix < 2 ^ 64
+    → ((code : ℕ)
+    → list_any (nat_eq code) new ≡ cond (nat_eq (code_of line.prefix) code) true (list_any (nat_eq code) codes))
+    → AreCodesOf (prefixes_of (take index lines)) codes → AreCodesOf (prefixes_of (take (index + 1) lines)) new
+AreCodesOf-more lines index line codes new within at is small adds before =
+    subst (λ prefixes. AreCodesOf prefixes new)
+    (sym (map_more (λ line. line.prefix) lines index line within
+    ∙ ap (λ (l : Line). prefixes_of (take index lines) ++ l.prefix ∷ []) (sym at)))
+    (AreCodesOf-push (prefixes_of (take index lines)) line.prefix codes new is small adds before)

@@ -1,0 +1,112 @@
+//! The records that a report counts.
+
+ghost use Rattle.std.specs.Prelude.{◌≡◌, ◌≤◌, ◌<◌, ◌*◌, ◌^◌, ◌++◌, ◌↔◌, List, length, All, IsTrue, IfOk, OnOk};
+ghost use Rattle.prefix_lattice.specs.{PrefixValue, RecordValue, total_weight, total_limit, most_records};
+ghost use Rattle.shard_state.specs.{records_before};
+ghost use Rattle.hhh_output.specs.{ArePositionsWithin};
+ghost use Rattle.exact_audit.specs.LineCodes.{AreCodesOf};
+ghost use Rattle.exact_audit.specs.NodeSums.{AreCounted};
+ghost use Rattle.exact_audit.specs.Parts.{part_at};
+
+use crate::depths::Depths;
+use crate::line_codes::LineCodes;
+use deal_rules::Dealt;
+use prefix_lattice::Record;
+use shard_state::Positions;
+use std::alloc::{AllocError, Global};
+
+/// A record that is counted, with the depths that lines reach that cover it.
+#[derive(Clone, Copy, Debug, PartialEq, Eq)]
+pub(crate) struct Counted {
+    pub(crate) rec: Record,
+    pub(crate) depths: Depths,
+}
+
+/// Whether there are as many positions as shards, and none is past the end of its shard's records.
+pub(crate) fn are_within(dealt: &Dealt, positions: &Positions) -> bool
+    ensures { IsTrue result ↔ ArePositionsWithin positions.now dealt.now }
+{
+    if positions.len() != dealt.shards() as usize {
+        return false;
+    }
+    for shard in 0..dealt.shards() {
+        if positions.at(shard as usize) > dealt.list(shard).len() as u64 {
+            return false;
+        }
+    }
+    true
+}
+
+/// The weight of the records before positions.
+pub(crate) fn total_before(dealt: &Dealt, positions: &Positions) -> u64
+    requires { ArePositionsWithin positions.now dealt.now }
+    ensures total { result ≡ total_weight (records_before dealt.now positions.now) }
+    ensures bounded { result < total_limit }
+{
+    let mut total = 0;
+    for shard in 0..dealt.shards() {
+        total += total_of(part(dealt, positions, shard));
+    }
+    total
+}
+
+/// The records before positions, each with its depths under the lines.
+pub(crate) fn count_before(
+    alloc: Global,
+    dealt: &Dealt,
+    positions: &Positions,
+    lines: &LineCodes,
+) -> Result<Vec<Counted>, AllocError>
+    requires { ArePositionsWithin positions.now dealt.now }
+    ensures { IfOk result (λ counted. (prefixes : List PrefixValue) → AreCodesOf prefixes lines.now.codes.keys
+        → AreCounted prefixes (records_before dealt.now positions.now) counted.items) }
+{
+    let mut counted = Vec::new(alloc);
+    for shard in 0..dealt.shards() {
+        push_counted(&mut counted, part(dealt, positions, shard), lines)?;
+    }
+    Ok(counted)
+}
+
+// The records of a shard before its position.
+fn part<'a>(dealt: &'a Dealt, positions: &Positions, shard: u32) -> &'a [Record]
+    requires within { ArePositionsWithin positions.now dealt.now }
+    requires shard { shard < length dealt.now }
+    ensures value { result.now ≡ part_at dealt.now positions.now shard }
+    ensures few { length result.now ≤ most_records }
+    ensures light { All (λ rec. rec.weight < 2 ^ 32) result.now }
+{
+    let records = dealt.list(shard).as_slice();
+    &records[..positions.at(shard as usize) as usize]
+}
+
+// The weight of some records.
+fn total_of(records: &[Record]) -> u64
+    requires few { length records.now ≤ most_records }
+    requires light { All (λ rec. rec.weight < 2 ^ 32) records.now }
+    ensures total { result ≡ total_weight records.now }
+    ensures bounded { result ≤ length records.now * 2 ^ 32 }
+{
+    let mut total = 0;
+    for rec in records {
+        total += u64::from(rec.weight);
+    }
+    total
+}
+
+// Appends records, each with its depths under the lines.
+fn push_counted(
+    counted: &mut Vec<Counted>,
+    records: &[Record],
+    lines: &LineCodes,
+) -> Result<(), AllocError>
+    ensures { OnOk result ((prefixes : List PrefixValue) (before : List RecordValue) → AreCodesOf prefixes lines.now.codes.keys
+        → AreCounted prefixes before counted.old.items → AreCounted prefixes (before ++ records.now) counted.new.items) }
+{
+    counted.reserve(records.len())?;
+    for rec in records {
+        let depths = Depths::of(lines, rec);
+        counted.push(Counted { rec: *rec, depths })?;
+    }
+    Ok(())
+}

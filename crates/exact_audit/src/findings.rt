@@ -1,0 +1,69 @@
+//! What passes over the records find, one node at a time.
+
+ghost use Rattle.std.specs.Prelude.{◌≡◌, ◌+◌, ◌≤◌, ◌<◌, List, length, IfOk};
+ghost use Rattle.prefix_lattice.specs.{RecordValue, index_of, total_weight, total_limit};
+ghost use Rattle.hhh_output.specs.{prefixes_of};
+ghost use Rattle.exact_audit.specs.LineCodes.{AreCodesOf};
+ghost use Rattle.exact_audit.specs.NodeSums.{AreCounted, AreNodeSums, records_of};
+ghost use Rattle.exact_audit.specs.Findings.{AreFindings, AreLineSumsBefore};
+
+use crate::counted::Counted;
+use crate::left_out::{LeftOut, first_left_out};
+use crate::line_codes::LineCodes;
+use crate::node_sums::{Sums, sums_at};
+use hhh_output::Line;
+use indexmap::IndexMap;
+use prefix_lattice::Node;
+use std::alloc::{AllocError, Global};
+
+/// The sums of each line's prefix, and the first prefix that is left out.
+#[derive(Debug, Drop)]
+pub(crate) struct Findings {
+    pub(crate) sums: Vec<Sums>,
+    pub(crate) left_out: Option<LeftOut>,
+}
+
+/// What counted records show of lines, and of the prefixes that no line has. It costs one pass over the records for each
+/// of the 25 nodes, and the memory of the keys of one node.
+pub(crate) fn find(
+    alloc: Global,
+    counted: &[Counted],
+    lines: &[Line],
+    codes: &LineCodes,
+    threshold: u64,
+) -> Result<Findings, AllocError>
+    requires codes { AreCodesOf (prefixes_of lines.now) codes.now.codes.keys }
+    requires light { total_weight (records_of counted.now) < total_limit }
+    requires some { 1 ≤ threshold }
+    ensures as_many { IfOk result (λ findings. length findings.sums.items ≡ length lines.now) }
+    ensures found { IfOk result (λ findings. (records : List RecordValue)
+        → AreCounted (prefixes_of lines.now) records counted.now → AreFindings lines.now records threshold findings) }
+{
+    let mut line_sums = vec![in alloc; Sums::NONE; lines.len()]?;
+    let mut left_out = None;
+    for index in 0..25 {
+        let node = Node::from_index(index).unwrap();
+        let sums = sums_at(alloc, counted, node)?;
+        note_lines(&mut line_sums, lines, node, &sums);
+        left_out = first_left_out(codes, node, threshold, &sums, left_out);
+    }
+    Ok(Findings {
+        sums: line_sums,
+        left_out,
+    })
+}
+
+// Notes the sums of the lines of a node.
+fn note_lines(line_sums: &mut Vec<Sums>, lines: &[Line], node: Node, sums: &IndexMap<u64, Sums>)
+    requires { length line_sums.old.items ≡ length lines.now }
+    ensures as_many { length line_sums.new.items ≡ length lines.now }
+    ensures sums { (records : List RecordValue) → AreNodeSums node (prefixes_of lines.now) records sums.now
+        → AreLineSumsBefore (index_of node) lines.now records line_sums.old.items
+        → AreLineSumsBefore (index_of node + 1) lines.now records line_sums.new.items }
+{
+    for (place, line) in lines.iter().enumerate() {
+        if line.prefix.node().index() == node.index() {
+            line_sums[place] = sums.get(&line.prefix.key()).copied().unwrap_or(Sums::NONE);
+        }
+    }
+}

@@ -1,0 +1,49 @@
+//! The prefixes of lines, for look-ups.
+
+ghost use Rattle.std.specs.Prelude.{◌≡◌, ◌^◌, ◌<◌, nat_eq, IfOk};
+ghost use Rattle.std.specs.List.{list_any};
+ghost use Rattle.prefix_lattice.specs.{IsPrefix, key_of};
+ghost use Rattle.hhh_output.specs.{prefixes_of};
+ghost use Rattle.exact_audit.specs.LineCodes.{code_of, AreCodesOf};
+
+use hhh_output::Line;
+use indexmap::IndexSet;
+use prefix_lattice::Prefix;
+use std::alloc::{AllocError, Global};
+
+/// The codes of the prefixes of all lines.
+#[derive(Drop)]
+pub(crate) struct LineCodes {
+    codes: IndexSet<u128>,
+}
+
+impl LineCodes {
+    /// The codes of these lines.
+    pub(crate) fn of(alloc: Global, lines: &[Line]) -> Result<LineCodes, AllocError>
+        ensures { IfOk result (λ found. AreCodesOf (prefixes_of lines.now) found.codes.keys) }
+    {
+        let mut codes = IndexSet::new(alloc);
+        for line in lines {
+            codes.insert(code_of(&line.prefix))?;
+        }
+        Ok(LineCodes { codes })
+    }
+
+    /// Whether a line has this prefix.
+    pub(crate) fn has(&self, prefix: &Prefix) -> bool
+        ensures value { result ≡ list_any (nat_eq (code_of prefix.now)) self.now.codes.keys }
+        ensures prefix { IsPrefix prefix.now }
+        ensures small { key_of prefix.now < 2 ^ 64 }
+    {
+        self.codes.contains(&code_of(prefix))
+    }
+}
+
+// A number for each prefix, by its node and then by its key. No two prefixes share one.
+fn code_of(prefix: &Prefix) -> u128
+    ensures value { result ≡ code_of prefix.now }
+    ensures prefix { IsPrefix prefix.now }
+    ensures small { key_of prefix.now < 2 ^ 64 }
+{
+    u128::from(prefix.node().index()) << 64 | u128::from(prefix.key())
+}

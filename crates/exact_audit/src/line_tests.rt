@@ -1,0 +1,131 @@
+//! The tests of lines. Each answers the number of the first line that fails it, counted from 1.
+
+ghost use Rattle.std.specs.Prelude.{◌≡◌, ◌+◌, ◌*◌, ◌≤◌, ◌<◌, ◌^◌, ◌↔◌, List, length, All, IsTrue, IfOk};
+ghost use Rattle.prefix_lattice.specs.{RecordValue, Holds, total_weight, total_limit};
+ghost use Rattle.shard_state.specs.{most_capacity};
+ghost use Rattle.hhh_output.specs.{HoldsWeight, IsHeavyLine, IsNarrowLine, prefixes_of};
+ghost use Rattle.exact_audit.specs.Verdict.{IsFirstFailure, IsJustifiedAmong};
+ghost use Rattle.exact_audit.specs.Widths.{line_limit, tested_by, widths_of};
+ghost use Rattle.exact_audit.specs.Findings.{AreLineSums};
+
+use crate::closest_lines::{closest, count_kept_pairs};
+use crate::node_sums::Sums;
+use hhh_output::Line;
+use std::alloc::{AllocError, Global};
+
+/// The first line whose interval doesn't hold its prefix's weight.
+pub(crate) fn bad_interval(lines: &[Line], sums: &[Sums]) -> Option<u64>
+    requires { length sums.now ≡ length lines.now }
+    ensures { (records : List RecordValue) → AreLineSums lines.now records sums.now
+        → IsFirstFailure (HoldsWeight records) lines.now result }
+{
+    for (place, line) in lines.iter().enumerate() {
+        if !holds(line, sums[place].weight) {
+            return Some(place as u64 + 1);
+        }
+    }
+    None
+}
+
+// Whether the interval of a line holds a weight.
+fn holds(line: &Line, weight: u64) -> bool
+    ensures { IsTrue result ↔ Holds line.now.lo line.now.hi weight }
+{
+    line.lo <= weight && weight <= line.hi
+}
+
+/// The first line whose interval's width times the capacity is above the total.
+pub(crate) fn too_wide(lines: &[Line], capacity: u32, total: u64) -> Option<u64>
+    requires { All (λ line. line.lo ≤ line.hi) lines.now }
+    ensures { IsFirstFailure (IsNarrowLine capacity total) lines.now result }
+{
+    for (place, line) in lines.iter().enumerate() {
+        if u128::from(line.hi - line.lo) * u128::from(capacity) > u128::from(total) {
+            return Some(place as u64 + 1);
+        }
+    }
+    None
+}
+
+/// The first line whose high is below the threshold.
+pub(crate) fn low_line(lines: &[Line], threshold: u64) -> Option<u64>
+    ensures { IsFirstFailure (IsHeavyLine threshold) lines.now result }
+{
+    for (place, line) in lines.iter().enumerate() {
+        if line.hi < threshold {
+            return Some(place as u64 + 1);
+        }
+    }
+    None
+}
+
+/// What the tests of lines are made with: the capacity of the tables, and the threshold and the total of the report.
+#[derive(Clone, Copy, Debug, PartialEq, Eq)]
+pub(crate) struct Measures {
+    pub(crate) capacity: u32,
+    pub(crate) threshold: u64,
+    pub(crate) total: u64,
+}
+
+/// The first line that isn't justified.
+pub(crate) fn not_justified(
+    alloc: Global,
+    lines: &[Line],
+    sums: &[Sums],
+    by: &Measures,
+) -> Result<Option<u64>, AllocError>
+    requires few { length lines.now < line_limit }
+    requires as_many { length sums.now ≡ length lines.now }
+    requires capacity { by.now.capacity ≤ most_capacity }
+    requires total { by.now.total < total_limit }
+    ensures { IfOk result (λ found. (records : List RecordValue) → AreLineSums lines.now records sums.now
+        → total_weight records ≡ by.now.total
+        → IsFirstFailure (IsJustifiedAmong (tested_by by.now) records lines.now) lines.now found) }
+{
+    for (place, line) in lines.iter().enumerate() {
+        if !is_justified(alloc, line, lines, sums[place].left, by)? {
+            return Ok(Some(place as u64 + 1));
+        }
+    }
+    Ok(None)
+}
+
+// Whether a line is justified by this conditioned weight. Its closest lines are searched only where the width of its own
+// interval doesn't justify it, and their kept pairs only where theirs don't either.
+fn is_justified(
+    alloc: Global,
+    line: &Line,
+    lines: &[Line],
+    left: u64,
+    by: &Measures,
+) -> Result<bool, AllocError>
+    requires few { length lines.now < line_limit }
+    requires capacity { by.now.capacity ≤ most_capacity }
+    requires total { by.now.total < total_limit }
+    ensures { IfOk result (λ justified. IsTrue justified ↔ (by.now.capacity * by.now.threshold ≤ by.now.capacity * left
+        + widths_of line.now.prefix (prefixes_of lines.now) * by.now.total)) }
+{
+    if by.allows(left, 1) {
+        return Ok(true);
+    }
+    let members = closest(alloc, &line.prefix, lines)?;
+    let widths = 1 + members.len() as u64;
+    if by.allows(left, widths) {
+        return Ok(true);
+    }
+    Ok(by.allows(left, widths + count_kept_pairs(&members)))
+}
+
+impl Measures {
+    // Whether a conditioned weight is at least the threshold less this many widths, each the total over the capacity.
+    fn allows(&self, left: u64, widths: u64) -> bool
+        requires capacity { self.now.capacity ≤ most_capacity }
+        requires total { self.now.total < total_limit }
+        ensures { IsTrue result ↔ (self.now.capacity * self.now.threshold
+            ≤ self.now.capacity * left + widths * self.now.total) }
+    {
+        let capacity = u128::from(self.capacity);
+        capacity * u128::from(self.threshold)
+            <= capacity * u128::from(left) + u128::from(widths) * u128::from(self.total)
+    }
+}

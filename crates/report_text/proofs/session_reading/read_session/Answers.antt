@@ -1,0 +1,35 @@
+use Rattle.std.proofs.Common.{◌≡◌, [], refl, ap, ◌∙◌, subst}
+use Rattle.std.proofs.lemmas.Result.{err_from_is_err_and}
+use Rattle.report_text.specs.SessionText.{session_lines, HasSessionFault}
+use Rattle.report_text.specs.SessionStages.{nothing, ended}
+use Rattle.report_text.proofs.ReadSessionLemmas.{read-whole, is-session, is-session-text}
+use Rattle.report_text.proofs.session_reading.read_session.Goals as goal
+
+pub read_all-requires : goal.read_all-requires
+read_all-requires c = record { read = []; has_read = c.new-lines.ensures.start; leads = refl }
+
+pub returns-in_err-finish-clause-fault : goal.returns-in_err-finish-clause-fault
+returns-in_err-finish-clause-fault c =
+    let session = c.in_ok-session.session in
+    let old = c.new-lines.result in
+    let new = c.read_all.new.lines in
+    let reads = c.in_ok-session.ensures.read in
+    let same : new.text.now ≡ c.args.bytes.now = ap (λ t. t.now) (reads.same ∙ c.new-lines.ensures.text) in
+    let p = err_from_is_err_and c.from_residual-in_err-finish.result c.from_residual-in_err-finish.ensures.1 in
+    rw (p.1, p.2)
+    (subst (λ text. HasSessionFault text c.in_err-finish.field-0.0) same
+    (c.in_err-finish.ensures.err session
+    (read-whole old new (session_lines session) nothing ended c.new-lines.ensures.start reads)
+    (is-session c.report_order_is_total.ensures.total old new session reads)))
+
+pub returns-clause-read : goal.returns-clause-read
+returns-clause-read c =
+    let session = c.in_ok-session.session in
+    let old = c.new-lines.result in
+    let new = c.read_all.new.lines in
+    let reads = c.in_ok-session.ensures.read in
+    let same : new.text.now ≡ c.args.bytes.now = ap (λ t. t.now) (reads.same ∙ c.new-lines.ensures.text) in
+    is-session-text c.args.bytes.now new session
+    (is-session c.report_order_is_total.ensures.total old new session reads)
+    (read-whole old new (session_lines session) nothing ended c.new-lines.ensures.start reads) same
+    c.in_ok-finish.ensures.ok

@@ -1,0 +1,74 @@
+//! Reading the lines of a text, one after the other.
+
+ghost use Rattle.std.specs.Prelude.{◌≡◌, ◌≤◌, [], length, IfOk, IfErr, OnOk};
+ghost use Rattle.report_text.specs.SessionText.{HasSessionFault, IsSession, longest_text, session_lines};
+ghost use Rattle.report_text.specs.SessionStages.{Follows, IsOpen, Stage};
+ghost use Rattle.report_text.specs.Reading.{HasRead, ReadsLine, Stands};
+ghost use Rattle.report_text.specs.declared.line_cursor.LineCursor.{LineCursor as CursorValue};
+ghost use Rattle.report_text.specs.declared.session.Session.{Session as SessionValue};
+ghost use Rattle.report_text.specs.declared.session_line.SessionLine.{SessionLine as LineValue};
+
+use crate::line_cursor::LineCursor;
+use crate::line_reading::read_line;
+use crate::session_line::SessionLine;
+use crate::word_cut::place_of;
+use crate::{SessionFault, TextFault};
+use prefix_lattice::{prefix_texts_read_back, report_order_is_total};
+use std::alloc::Global;
+
+impl<'a> LineCursor<'a> {
+    /// The start of a text.
+    pub(crate) fn new(text: &'a [u8]) -> LineCursor<'a>
+        requires { length text.now ≤ longest_text }
+        ensures text { result.text ≡ text.entry }
+        ensures start { HasRead result [] }
+    {
+        LineCursor {
+            text,
+            at: 0,
+            lines: 0,
+        }
+    }
+
+    /// Reads the next line.
+    pub(crate) fn next(&mut self, alloc: Global) -> Result<SessionLine, SessionFault>
+        ensures read { IfOk result (ReadsLine self.old self.new) }
+        ensures fault { IfErr result (λ fault. (stage : Stage) → IsOpen stage → Stands self.old stage → HasSessionFault self.old.text.now fault) }
+    {
+        prefix_texts_read_back();
+        report_order_is_total();
+        let (_, rest) = self.text.split_at(self.at);
+        let Some(len) = place_of(rest, b'\n') else {
+            return Err(SessionFault::Text(TextFault::MissingEnd(self.lines + 1)));
+        };
+        let (text, _) = rest.split_at(len);
+        let Some(line) = read_line(alloc, text)? else {
+            return Err(SessionFault::Text(TextFault::BadLine(self.lines + 1)));
+        };
+        self.at += len + 1;
+        self.lines += 1;
+        Ok(line)
+    }
+
+    /// Refuses the line that was read last.
+    pub(crate) fn refuse(&self) -> SessionFault
+        ensures { (old : CursorValue) (line : LineValue) (stage : Stage) → Stands old stage → ReadsLine old self.now line
+            → ((next : Stage) → ¬ Follows stage line next) → HasSessionFault self.now.text.now result }
+    {
+        prefix_texts_read_back();
+        report_order_is_total();
+        SessionFault::Text(TextFault::BadLine(self.lines))
+    }
+
+    /// Refuses a byte after the last line of a session.
+    pub(crate) fn finish(&self) -> Result<(), SessionFault>
+        ensures ok { OnOk result (self.now.at ≡ length self.now.text.now) }
+        ensures err { IfErr result (λ fault. (session : SessionValue) → HasRead self.now (session_lines session)
+            → IsSession session → HasSessionFault self.now.text.now fault) }
+    {
+        if self.at < self.text.len() {
+            return Err(SessionFault::Text(TextFault::BadLine(self.lines + 1)));
+        }
+        Ok(())
+    }
+}
