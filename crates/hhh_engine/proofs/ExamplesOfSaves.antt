@@ -10,22 +10,26 @@ use Rattle.hhh_output.specs.{AreLines}
 use Rattle.hhh_output.specs.declared.line.Line.{Line}
 use Rattle.hhh_output.specs.declared.report.Report.{Report}
 use Rattle.hhh_output.specs.declared.reports.Reported.{Reported}
+use Rattle.pass_tokens.specs.{first_view}
 use Rattle.gate_workers.specs.{cut_at}
+use Rattle.recovery.specs.declared.fault.OpenFault.TheVariants as opening
 use Rattle.frame_records.specs.declared.records.Records.{Records}
 use Rattle.frame_records.specs.declared.weigh.Weigh.TheVariants.{Bytes}
 use Rattle.report_text.specs.{tail_text}
 use Rattle.slot_disk.specs.{Leaves-none, slots_of}
-use Rattle.checkpoint.specs.{Opens, SavedValue, SaverState, StoreHolds, header_bytes, saver_of}
+use Rattle.checkpoint.specs.{Opens, SavedValue, SaverState, StoreHolds, digest_of_lists, header_bytes, saver_of}
 use Rattle.checkpoint.specs.declared.settings.StoreSettings.{StoreSettings}
 use Rattle.command_words.specs.declared.settings.Settings.{Settings}
 use Rattle.hhh_engine.specs.Ending.{HoldsEmptyStore}
+use Rattle.hhh_engine.specs.Feed.{GoesOn, HasNoBase, IsSaverFor}
 use Rattle.hhh_engine.specs.Inputs.{IsStoreOf}
-use Rattle.hhh_engine.specs.Saves.{KeepsSaves, LeavesSaves, OpensAmong, Saves, after_saves, last_saved, saved_after}
-use Rattle.hhh_engine.specs.Saves.{store_settings}
-use Rattle.hhh_engine.specs.Session.{GoesOnFrom, SessionReports, ends_of, opening_of, part_text, resumed_shards}
-use Rattle.hhh_engine.specs.Session.{saved_cuts, session_text, start_of}
+use Rattle.hhh_engine.specs.Saves.{FitsBoard, KeepsSaves, LeavesSaves, OpensAmong, Saves, after_saves, kept_in}
+use Rattle.hhh_engine.specs.Saves.{last_saved, saved_after, store_settings}
+use Rattle.hhh_engine.specs.Session.{GoesOnFrom, SessionReports, ends_of, new_shards, opening_of, part_text}
+use Rattle.hhh_engine.specs.Session.{resumed_shards, saved_cuts, session_saves, session_text, start_of}
+use Rattle.hhh_engine.specs.declared.status.Status.TheVariants.{NotFormatted}
 use Rattle.hhh_engine.proofs.Examples.{packet}
-use Rattle.hhh_engine.proofs.ExamplesOfSessions.{last, opening, settings}
+use Rattle.hhh_engine.proofs.ExamplesOfSessions.{last, opening as four_shards, settings}
 
 -- `report --store`, with one shard and tables of two entries
 abbrev one_shard : Settings
@@ -51,7 +55,6 @@ snapshot = record { capacity = 2; position = 1; tables = no_entries }
 abbrev one_counted : CutValue
 one_counted = record { capacity = 2; shards = snapshot ∷ [] }
 
--- with a digest that no test here looks into
 abbrev saved : ℕ → CutValue → SavedValue
 saved sequence cut = record { sequence = sequence; digest = 9 ∷ []; cut = cut }
 
@@ -70,13 +73,13 @@ pub last_of_no_saves : last_saved (Some (saved 4 none_counted)) [] ≡ Some (sav
 last_of_no_saves = refl
 
 -- with a store the cut at the positions of each report is saved, and without one none
-pub cut_of_one_report : saved_cuts true opening (last ∷ []) ≡ cut_at opening (0 ∷ 0 ∷ 0 ∷ 0 ∷ []) ∷ []
+pub cut_of_one_report : saved_cuts true four_shards (last ∷ []) ≡ cut_at four_shards (0 ∷ 0 ∷ 0 ∷ 0 ∷ []) ∷ []
 cut_of_one_report = refl
 
-pub no_cuts_without_a_store : saved_cuts false opening (last ∷ last ∷ []) ≡ []
+pub no_cuts_without_a_store : saved_cuts false four_shards (last ∷ last ∷ []) ≡ []
 no_cuts_without_a_store = refl
 
--- ---- what a stop leaves
+-- ---- what a stop leaves, of stores whose digest no test here looks into
 
 -- a store whose gates are closed
 abbrev formatted : List ℕ
@@ -142,6 +145,11 @@ pub nothing_is_saved_without_a_saver :
     Saves {D = ℕ} (λ disk. None) (λ disk image. ⊤) (λ disk. disk) image_since None [] 7 8 → ⊥
 nothing_is_saved_without_a_saver same = omega (arith, same)
 
+-- where nothing is known of a disk, nothing is said of what it keeps
+pub unknown_disk_keeps_anything :
+    kept_in {D = ℕ} (λ disk. None) (λ disk image. ⊤) (λ disk. disk) image_since 7 8 one [] (none_counted ∷ [])
+unknown_disk_keeps_anything bytes told = absurd (cc told)
+
 -- what `format` leaves
 pub formatted_store_is_empty : HoldsEmptyStore (Some formatted) (λ image. image ≡ formatted) one
 formatted_store_is_empty bytes told image is =
@@ -185,6 +193,39 @@ formatted_store_has_no_base = record {
 pub no_base_without_a_store : GoesOnFrom settings lists None (Some one_counted) → ⊥
 no_base_without_a_store goes_on = let none = goes_on.unused refl in cc none
 
+-- the cut of no record may be gone on from, in tables of its capacity alone
+pub cut_to_go_on_from : GoesOn 2 lists none_counted
+unfolding no_entries
+cut_to_go_on_from = record { alike = refl; continues = (record { within = omega arith; counted = refl }, tt) }
+
+pub cut_of_another_capacity : GoesOn 4 lists none_counted → ⊥
+cut_of_another_capacity goes_on = omega (arith, goes_on.alike)
+
+-- a saver for the packet, from the start on
+pub saver_for_the_packet : IsSaverFor one_shard lists (0 ∷ [])
+    (saver_of (slots_of formatted) one (digest_of_lists one lists) None)
+saver_for_the_packet = record { settings_are = refl; digest_is = refl; early = omega arith; positions_are = refl }
+
+-- it may save what any pass reads of new shards
+pub saver_fits_new_shards : FitsBoard (new_shards 2 lists) (first_view (new_shards 2 lists)) saver
+saver_fits_new_shards = record {
+  settings = record { some = omega arith; few = omega arith; least = omega arith; most = omega arith };
+  shards = refl;
+  capacity = refl;
+  seen = (omega arith, tt);
+}
+
+-- a store that isn't formatted gives no base, and its disk didn't fail
+pub no_base_on_an_unknown_disk : HasNoBase one_shard lists None 3 3 NotFormatted
+no_base_on_an_unknown_disk = record {
+  fault = opening.NotFormatted;
+  status_is = refl;
+  used = inl refl;
+  refused = λ bytes told. absurd (cc told);
+  rose = λ same. absurd (cc same);
+  kept = λ other. refl;
+}
+
 -- ---- the text of a session with a store, over the packet
 
 abbrev line : Line
@@ -208,6 +249,11 @@ reports = record { rounds = []; callers = []; last = of_the_packet }
 
 abbrev records : Records
 records = record { list = packet ∷ []; frames = 1; not_ipv4 = 0; short = 0; bad_header = 0 }
+
+-- its only cut is saved under the sequence after that of the store
+pub saves_of_a_session : session_saves one_shard (resumed ∷ []) (Some (saved 4 one_counted)) reports
+    ≡ record { sequence = 5; digest = digest_of_lists one lists; cut = cut_at (resumed ∷ []) (1 ∷ []) } ∷ []
+saves_of_a_session = refl
 
 pub report_with_a_store : part_text true of_the_packet
     ≡ codes "report\nat 1\ntotal 100\nthreshold 1\nline 10.1.2.3/32 20.1.2.3/32 100 100\ndone\nsaved 1\n"
