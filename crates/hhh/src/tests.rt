@@ -1,6 +1,11 @@
-use super::{Input, LateFile, StdSink, StdSource};
+use super::file_disk::{read_on, write_on};
+use super::{FileDisk, Input, LateFile, StdSink, StdSource};
 use outside_io::{Failed, PathText, Sink, Source};
+use slot_disk::Disk;
+use std::cell::Cell;
+use std::fs;
 use std::io::{Error, ErrorKind, Result as IoResult, Write};
+use std::os::unix::fs::FileExt;
 use std::test::Fail;
 
 // A writer that takes all bytes, and can't be flushed.
@@ -79,5 +84,118 @@ fn writes_to_a_stream_until_it_takes_nothing(rt: HostRuntime) -> Result<(), Fail
     assert_eq!(rt; sink.write(b"e"), Err(Failed));
     let mut stuck = StdSink::new(Stuck);
     assert_eq!(rt; stuck.write(b"abc"), Err(Failed));
+    Ok(())
+}
+
+// A file of four bytes that takes and gives one byte a call. Each second call is interrupted by a signal.
+#[derive(Drop)]
+struct ByteByByte {
+    bytes: Cell<[u8; 4]>,
+    interrupted: Cell<bool>,
+}
+
+impl ByteByByte {
+    fn interrupts(&self) -> bool {
+        self.interrupted.set(!self.interrupted.get());
+        self.interrupted.get()
+    }
+}
+
+impl FileExt for ByteByByte {
+    fn read_at(&self, into: &mut [u8], place: u64) -> IoResult<usize> {
+        if self.interrupts() {
+            return Err(Error::from(ErrorKind::Interrupted));
+        }
+        let bytes = self.bytes.get();
+        match (bytes.get(place as usize), into.first_mut()) {
+            (Some(byte), Some(first)) => {
+                *first = *byte;
+                Ok(1)
+            }
+            _ => Ok(0),
+        }
+    }
+
+    fn write_at(&self, from: &[u8], place: u64) -> IoResult<usize> {
+        if self.interrupts() {
+            return Err(Error::from(ErrorKind::Interrupted));
+        }
+        let mut bytes = self.bytes.get();
+        match (bytes.get_mut(place as usize), from.first()) {
+            (Some(byte), Some(first)) => {
+                *byte = *first;
+                self.bytes.set(bytes);
+                Ok(1)
+            }
+            _ => Ok(0),
+        }
+    }
+}
+
+#[test]
+fn reads_and_writes_on_after_short_and_interrupted_calls(rt: HostRuntime) -> Result<(), Fail> {
+    let file = ByteByByte {
+        bytes: Cell::new(*b"abcd"),
+        interrupted: Cell::new(false),
+    };
+    let mut buffer = [0; 2];
+    let mut into = [9; 3];
+    assert_eq!(rt; read_on(&file, &mut buffer, 0, &mut into)?, 3);
+    assert_eq!(rt; into, *b"abc");
+    assert_eq!(rt; read_on(&file, &mut buffer, 2, &mut into)?, 2);
+    assert_eq!(rt; into, *b"cdc");
+    assert_eq!(rt; write_on(&file, 1, b"xyz")?, 3);
+    assert_eq!(rt; file.bytes.get(), *b"axyz");
+    assert!(rt; write_on(&file, 3, b"xy").is_err());
+    Ok(())
+}
+
+#[test]
+fn another_disk_reads_what_was_written(rt: HostRuntime) -> Result<(), Fail> {
+    let alloc = rt.alloc();
+    let name = "hhh_file_disk_test";
+    let _ = fs::remove_file(&rt, name);
+    let mut disk = FileDisk::new(&rt, PathText::of(alloc, name)?)?;
+    assert_eq!(rt; disk.len(), Ok(0));
+    assert_eq!(rt; disk.write_at(3, b"abcde"), Ok(()));
+    assert_eq!(rt; disk.sync(), Ok(()));
+    assert_eq!(rt; disk.write_at(4, b"x"), Ok(()));
+    assert_eq!(rt; disk.sync(), Ok(()));
+    assert_eq!(rt; disk.write_at(1 << 63, b"y"), Err(Failed));
+    let mut other = FileDisk::new(&rt, PathText::of(alloc, name)?)?;
+    let mut into = [9; 8];
+    assert_eq!(rt; other.read_at(2, &mut into), Ok(6));
+    assert_eq!(rt; into, *b"\0axcde\x09\x09");
+    assert_eq!(rt; other.read_at(8, &mut into), Ok(0));
+    assert_eq!(rt; other.len(), Ok(8));
+    fs::remove_file(&rt, name)?;
+    Ok(())
+}
+
+// A first sync fails where the file has no name by then, and so does each later one.
+#[test]
+fn a_failed_sync_is_lasting(rt: HostRuntime) -> Result<(), Fail> {
+    let alloc = rt.alloc();
+    let name = "hhh_file_disk_sync_test";
+    let mut disk = FileDisk::new(&rt, PathText::of(alloc, name)?)?;
+    assert_eq!(rt; disk.write_at(0, b"a"), Ok(()));
+    fs::remove_file(&rt, name)?;
+    assert_eq!(rt; disk.sync(), Err(Failed));
+    fs::write(&rt, name, b"a".as_slice())?;
+    assert_eq!(rt; disk.sync(), Err(Failed));
+    fs::remove_file(&rt, name)?;
+    Ok(())
+}
+
+#[test]
+fn no_call_succeeds_without_a_regular_file(rt: HostRuntime) -> Result<(), Fail> {
+    let alloc = rt.alloc();
+    for path in ["no such directory/file", ".", "/dev/full", ""] {
+        let mut disk = FileDisk::new(&rt, PathText::of(alloc, path)?)?;
+        assert_eq!(rt; disk.len(), Err(Failed));
+        assert_eq!(rt; disk.read_at(0, &mut [0; 1]), Err(Failed));
+        assert_eq!(rt; disk.write_at(0, b"a"), Err(Failed));
+        assert_eq!(rt; disk.sync(), Err(Failed));
+    }
     Ok(())
 }

@@ -1,0 +1,264 @@
+//! A file of the system as a disk.
+
+ghost use Rattle.std.specs.Prelude.{◌≡◌, ◌<◌, ◌≤◌, ◌+◌, length, vec_len, drop, ⊤, true, is_err, None, IfOk, OnOk, OnErr};
+ghost use Rattle.outside_io.specs.{FailsByFault};
+
+use outside_io::{Failed, PathText};
+use slot_disk::Disk;
+use std::alloc::AllocError;
+use std::fs;
+use std::fs::{File, OpenOptions};
+use std::io::{Error, ErrorKind, Result as IoResult};
+use std::os::unix::fs::FileExt;
+
+// How many bytes one system call reads at most.
+const ROOM: usize = 65_536;
+
+/// A regular file of the system as a disk. Its bytes are not known.
+///
+/// The first call opens the file for reading and writing, and creates it empty where it is missing. If it can't be
+/// opened, or is no regular file, the call fails, and the next call tries again.
+///
+/// The first sync also syncs the directory that the file is in, so that a crash leaves the file's name too. After a
+/// sync that failed each later sync fails, since the system may have dropped what it could not write.
+#[derive(Drop)]
+pub struct FileDisk<'a> {
+    rt: &'a HostRuntime,
+    path: PathText,
+    opened: Option<File>,
+    buffer: Vec<u8>,
+    name_synced: bool,
+    sync_failed: bool,
+    faults: u64,
+    ghost has_room: { 0 < vec_len buffer },
+}
+
+impl<'a> FileDisk<'a> {
+    /// The file at this path, not yet opened.
+    pub fn new(rt: &'a HostRuntime, path: PathText) -> Result<Self, AllocError>
+        ensures { IfOk result (λ disk. (disk.path ≡ path) × (disk.opened ≡ None) × (disk.faults ≡ 0)) }
+    {
+        Ok(FileDisk {
+            rt,
+            path,
+            opened: None,
+            buffer: vec![in rt.alloc(); 0; ROOM]?,
+            name_synced: false,
+            sync_failed: false,
+            faults: 0,
+        })
+    }
+
+    fn try_len(&mut self) -> IoResult<u64>
+        ensures same_faults { self.new.faults ≡ self.old.faults }
+        ensures same_syncs { self.new.sync_failed ≡ self.old.sync_failed }
+    {
+        let file = opened(&mut self.opened, self.rt, self.path.as_str())?;
+        Ok(file.metadata()?.len())
+    }
+
+    fn try_read(&mut self, place: u64, into: &mut [u8]) -> IoResult<usize>
+        ensures fits { IfOk result (λ count. count ≤ length into.old) }
+        ensures later_places { IfOk result (λ count. drop count into.new ≡ drop count into.old) }
+        ensures same_faults { self.new.faults ≡ self.old.faults }
+        ensures same_syncs { self.new.sync_failed ≡ self.old.sync_failed }
+    {
+        let file = opened(&mut self.opened, self.rt, self.path.as_str())?;
+        read_on(file, &mut self.buffer, place, into)
+    }
+
+    fn try_write(&mut self, place: u64, bytes: &[u8]) -> IoResult<usize>
+        ensures all { IfOk result (λ count. count ≡ length bytes.now) }
+        ensures same_faults { self.new.faults ≡ self.old.faults }
+        ensures same_syncs { self.new.sync_failed ≡ self.old.sync_failed }
+    {
+        let file = opened(&mut self.opened, self.rt, self.path.as_str())?;
+        write_on(file, place, bytes)
+    }
+
+    fn try_sync(&mut self) -> IoResult<()>
+        ensures same_faults { self.new.faults ≡ self.old.faults }
+        ensures after_failed { self.old.sync_failed ≡ true → is_err result ≡ true }
+        ensures failed { is_err result ≡ self.new.sync_failed }
+        ensures named { OnOk result (self.new.name_synced ≡ true) }
+    {
+        if self.sync_failed {
+            return Err(Error::from(ErrorKind::Other));
+        }
+        self.sync_failed = true;
+        let file = opened(&mut self.opened, self.rt, self.path.as_str())?;
+        file.sync_all()?;
+        if !self.name_synced {
+            sync_directory(self.rt, self.path.as_str())?;
+            self.name_synced = true;
+        }
+        self.sync_failed = false;
+        Ok(())
+    }
+
+    // Fails, and counts that.
+    fn fail<T>(&mut self) -> Result<T, Failed>
+        ensures failed { is_err result ≡ true }
+        ensures cause { FailsByFault self.old.faults self.new.faults result }
+        ensures same_syncs { self.new.sync_failed ≡ self.old.sync_failed }
+    {
+        self.faults = self.faults.saturating_add(1);
+        Err(Failed)
+    }
+}
+
+impl Disk for FileDisk<'_> {
+    ghost reads = { λ _. None };
+
+    ghost image_now = { λ _ _. ⊤ };
+
+    ghost moment = { λ _. 0 };
+
+    ghost image_since = { λ _ _ _. ⊤ };
+
+    ghost faults = { λ s. s.faults };
+
+    ghost reading_is_image = { λ _ _ _. tt };
+
+    ghost now_is_since = { λ _ _ _ _ _. tt };
+
+    ghost only_now = { λ _ _ _. tt };
+
+    fn len(&mut self) -> Result<u64, Failed> {
+        match self.try_len() {
+            Ok(count) => Ok(count),
+            Err(_) => self.fail(),
+        }
+    }
+
+    fn read_at(&mut self, place: u64, into: &mut [u8]) -> Result<usize, Failed> {
+        match self.try_read(place, into) {
+            Ok(count) => Ok(count),
+            Err(_) => self.fail(),
+        }
+    }
+
+    fn write_at(&mut self, place: u64, bytes: &[u8]) -> Result<(), Failed> {
+        match self.try_write(place, bytes) {
+            Ok(_) => Ok(()),
+            Err(_) => self.fail(),
+        }
+    }
+
+    fn sync(&mut self) -> Result<(), Failed> {
+        match self.try_sync() {
+            Ok(()) => Ok(()),
+            Err(_) => self.fail(),
+        }
+    }
+}
+
+// The file, which the first call opens.
+fn opened<'f>(slot: &'f mut Option<File>, rt: &HostRuntime, path: &str) -> IoResult<&'f File> {
+    let file = match slot.take() {
+        Some(file) => file,
+        None => open(rt, path)?,
+    };
+    Ok(slot.insert(file))
+}
+
+// Opens the regular file at this path, and creates it where it is missing.
+fn open(rt: &HostRuntime, path: &str) -> IoResult<File> {
+    let file = OpenOptions::new()
+        .read(true)
+        .write(true)
+        .create(true)
+        .open(rt, path)?;
+    if !file.metadata()?.is_file() {
+        return Err(Error::from(ErrorKind::InvalidInput));
+    }
+    Ok(file)
+}
+
+// Syncs the directory that has the file's name: where the path leads through links, that of the file itself.
+fn sync_directory(rt: &HostRuntime, path: &str) -> IoResult<()> {
+    let whole = fs::canonicalize(rt, path)?;
+    match whole.parent() {
+        Some(directory) => File::open(rt, directory)?.sync_all(),
+        None => Err(Error::from(ErrorKind::NotFound)),
+    }
+}
+
+// Reads up to the file's end or the room. A call interrupted by a signal is made again.
+pub(crate) fn read_on<F: FileExt>(
+    file: &F,
+    buffer: &mut [u8],
+    place: u64,
+    into: &mut [u8],
+) -> IoResult<usize>
+    requires { 0 < length buffer.old }
+    ensures same_room { length buffer.new ≡ length buffer.old }
+    ensures fits { IfOk result (λ count. count ≤ length into.old) }
+    ensures later_places { IfOk result (λ count. drop count into.new ≡ drop count into.old) }
+{
+    let mut at = 0;
+    for _ in 0..u64::MAX {
+        if at == into.len() {
+            return Ok(at);
+        }
+        match read_by(file, buffer, place_after(place, at)?, into, at) {
+            Ok(0) => return Ok(at),
+            Ok(count) => at += count,
+            Err(error) if error.kind() == ErrorKind::Interrupted => {}
+            Err(error) => return Err(error),
+        }
+    }
+    Err(Error::from(ErrorKind::Other))
+}
+
+// Reads once through a buffer into the places from `at` on. After them, `into` is unchanged.
+fn read_by<F: FileExt>(
+    file: &F,
+    buffer: &mut [u8],
+    place: u64,
+    into: &mut [u8],
+    at: usize,
+) -> IoResult<usize>
+    requires room { 0 < length buffer.old }
+    requires within { at ≤ length into.old }
+    ensures same_room { length buffer.new ≡ length buffer.old }
+    ensures same_length { length into.new ≡ length into.old }
+    ensures fits { IfOk result (λ count. at + count ≤ length into.old) }
+    ensures later_places { IfOk result (λ count. drop (at + count) into.new ≡ drop (at + count) into.old) }
+    ensures failed { OnErr result (into.new ≡ into.old) }
+{
+    let room = (into.len() - at).min(buffer.len());
+    let piece = &mut buffer[..room];
+    let count = file.read_at(piece, place)?;
+    into[at..at + count].copy_from_slice(&piece[..count]);
+    Ok(count)
+}
+
+// Writes all the bytes, and returns how many the file took. A call interrupted by a signal is made again.
+pub(crate) fn write_on<F: FileExt>(file: &F, place: u64, bytes: &[u8]) -> IoResult<usize>
+    ensures { IfOk result (λ count. count ≡ length bytes.now) }
+{
+    let mut at = 0;
+    for _ in 0..u64::MAX {
+        if at == bytes.len() {
+            return Ok(at);
+        }
+        match file.write_at(&bytes[at..], place_after(place, at)?) {
+            Ok(0) => return Err(Error::from(ErrorKind::WriteZero)),
+            Ok(count) => at += count,
+            Err(error) if error.kind() == ErrorKind::Interrupted => {}
+            Err(error) => return Err(error),
+        }
+    }
+    Err(Error::from(ErrorKind::Other))
+}
+
+// The offset that is this many bytes after another.
+fn place_after(place: u64, count: usize) -> IoResult<u64>
+    ensures { IfOk result (λ after. after ≡ place + count) }
+{
+    match place.checked_add(count as u64) {
+        Some(after) => Ok(after),
+        None => Err(Error::from(ErrorKind::InvalidInput)),
+    }
+}
