@@ -121,9 +121,12 @@ pub report_ends : {K : Type 0} (settings : Settings) (rules : Rules) (keeping : 
     ReadToEnd (IfSome left IsCapture) (Rose disk_before disk_now) DiskSame (RefusesStore settings rules (inputs left rest store) store_now) left
     read_before read_now sink written old new write_before write_now status
 report_ends settings rules keeping left rest store store_now lists tail ReadToEnd DiskSame read_before read_now sink
-    written old new write_before write_now disk_before disk_now Done dealt read same ends =
-    (read, writes_session settings rules keeping left store lists tail old new dealt ends.0, same,
-    ap (λ (f : Faults). f.sink) ends.1)
+    written old new write_before write_now disk_before disk_now Done dealt read same ends = (
+      read,
+      writes_session settings rules keeping left store lists tail old new dealt ends.0,
+      same,
+      ap (λ (f : Faults). f.sink) ends.1,
+    )
 report_ends settings rules keeping left rest store store_now lists tail ReadToEnd DiskSame read_before read_now sink
     written old new write_before write_now disk_before disk_now WriteFault dealt read same ends =
     (read, writes_in_part settings rules left store lists tail old new dealt ends.0, ends.1.rose, same)

@@ -151,13 +151,17 @@ session_ends settings lists tail keeping store store_now base sink written old n
       fault,
     )
 session_ends settings lists tail keeping store store_now base sink written old new before now DiskFault begins represents
-    taken part fault =
-    (⊎_elim (λ same. inl same)
-    (λ some. inr (part_dealt settings lists tail store base sink written old new begins represents some)) part, fault)
+    taken part fault = (
+      ⊎_elim (λ same. inl same)
+          (λ some. inr (part_dealt settings lists tail store base sink written old new begins represents some)) part,
+      fault,
+    )
 session_ends settings lists tail keeping store store_now base sink written old new before now OutOfMemory begins
-    represents taken part fault =
-    (⊎_elim (λ same. inl same)
-    (λ some. inr (part_dealt settings lists tail store base sink written old new begins represents some)) part, fault)
+    represents taken part fault = (
+      ⊎_elim (λ same. inl same)
+          (λ some. inr (part_dealt settings lists tail store base sink written old new begins represents some)) part,
+      fault,
+    )
 session_ends settings lists tail keeping store store_now base sink written old new before now Done begins
     represents taken part fault = absurd fault
 session_ends settings lists tail keeping store store_now base sink written old new before now (BadWords kind) begins

@@ -121,8 +121,7 @@ last_at_ends opening settings reports opened are =
     subst (λ held. IsSomeAnd held (λ (saved : SavedValue). (positions_of saved.cut ≡ ends_of opening)
     × (saved.sequence ≡ opened_sequence opened + (settings.rounds + 1))))
     (sym (ap (λ cuts. last_saved opened (saved_after (opened_sequence opened) digest cuts)) parted
-    ∙ last_is opened (opened_sequence opened) digest (map f reports.rounds) (f reports.last)))
-    (
+    ∙ last_is opened (opened_sequence opened) digest (map f reports.rounds) (f reports.last))) (
       cut_at_positions opening reports.last.report.positions first.is_report.as_many ∙ are.at_ends,
       omega (arith, many, all, last_one),
     )

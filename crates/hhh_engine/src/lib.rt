@@ -12,8 +12,8 @@ pub use command_words::{
 };
 pub use commands::LiveRounds;
 pub use laws::{
-    answers_follow_formulas, last_reports_are_one, last_saves_are_at_the_ends, resumed_sessions_end_alike,
-    saves_belong, sessions_without_rounds_have_one_report,
+    answers_follow_formulas, last_reports_are_one, last_saves_are_at_the_ends,
+    resumed_sessions_end_alike, saves_belong, sessions_without_rounds_have_one_report,
 };
 pub use status::{Status, fault_line};
 pub use top_call::run;

@@ -57,9 +57,15 @@ impl<K: Sink, D: Disk, G: Gate> Rounds for LiveRounds<'_, K, D, G> {
         × (rounds.stop ≡ None)
         × IfSome rounds.saver.now (CanSave (D.reads rounds.disk.now) (D.image_now rounds.disk.now) board.opening view rounds.rounds) };
 
-    ghost stays = { λ rounds board before now later ready. (ready.0, ready.1, ready.2, ready.3, ready.4,
-        CanSave-later (D.reads rounds.disk.now) (D.image_now rounds.disk.now) board.opening before now rounds.rounds
-        rounds.saver.now later ready.5) };
+    ghost stays = { λ rounds board before now later ready. (
+      ready.0,
+      ready.1,
+      ready.2,
+      ready.3,
+      ready.4,
+      CanSave-later (D.reads rounds.disk.now) (D.image_now rounds.disk.now) board.opening before now rounds.rounds
+          rounds.saver.now later ready.5,
+    ) };
 
     ghost does = { λ before view after later. (after.sink.ghost_name ≡ before.sink.ghost_name)
         × (after.disk.ghost_name ≡ before.disk.ghost_name)

@@ -96,16 +96,13 @@ pub(crate) fn write_session<R: Threads + Wait + Sync, K: Sink, D: Disk, G: Gate 
     openings_stand(&dealt, &cut, settings.capacity);
     let line = opened_line(alloc, &positions)?;
     let opened = open(alloc, dealt, cut, settings.capacity)?;
-    write_feed(rt, alloc, opened, saver, &line, tail, settings, sink, disk, gate)
+    write_feed(
+        rt, alloc, opened, saver, &line, tail, settings, sink, disk, gate,
+    )
 }
 
 // Puts the shards of dealt lists on a board, from the base on.
-fn open(
-    alloc: Global,
-    dealt: Dealt,
-    base: Option<Cut>,
-    capacity: u32,
-) -> Result<Opened, AllocError>
+fn open(alloc: Global, dealt: Dealt, base: Option<Cut>, capacity: u32) -> Result<Opened, AllocError>
     requires least { least_capacity ≤ capacity }
     requires most { capacity ≤ most_capacity }
     requires fits { IfSome base (GoesOn capacity dealt) }

@@ -1,7 +1,7 @@
 //! Reports that go on from a store.
 
-use super::captures::{HEADER, ONE, Packet, capture_of};
 use super::Ended;
+use super::captures::{HEADER, ONE, Packet, capture_of};
 use crate::{Status, run};
 use checkpoint::StoreSettings;
 use deal_rules::{DealKind, Dealers};
@@ -24,9 +24,11 @@ const FORMAT: [&str; 4] = ["format", "--store=s", "--shards=1", "--deal=round"];
 const REPORT: [&str; 3] = ["report", "--store=s", "--shards=1"];
 
 // The session over one packet, and the one that goes on from its store.
-const FIRST: &str = "opened 0\nreport\nat 1\ntotal 100\nthreshold 1\nline 10.1.2.3/32 20.1.2.3/32 100 100\ndone\nsaved 1\nframes 1\nskipped 0 0 0\nend\n";
+const FIRST: &str =
+    "opened 0\nreport\nat 1\ntotal 100\nthreshold 1\nline 10.1.2.3/32 20.1.2.3/32 100 100\ndone\nsaved 1\nframes 1\nskipped 0 0 0\nend\n";
 
-const SECOND: &str = "opened 1\nreport\nat 1\ntotal 100\nthreshold 1\nline 10.1.2.3/32 20.1.2.3/32 100 100\ndone\nsaved 1\nframes 1\nskipped 0 0 0\nend\n";
+const SECOND: &str =
+    "opened 1\nreport\nat 1\ntotal 100\nthreshold 1\nline 10.1.2.3/32 20.1.2.3/32 100 100\ndone\nsaved 1\nframes 1\nskipped 0 0 0\nend\n";
 
 // A disk with these bytes, whose calls with these numbers fail.
 fn disk_of(alloc: Global, bytes: &[u8], fails: &[u64]) -> Result<MemoryDisk, AllocError> {
