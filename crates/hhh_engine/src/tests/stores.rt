@@ -32,12 +32,10 @@ const SECOND: &str =
 
 // A disk with these bytes, whose calls with these numbers fail.
 fn disk_of(alloc: Global, bytes: &[u8], fails: &[u64]) -> Result<MemoryDisk, AllocError> {
-    let mut held = Vec::new(alloc);
-    for byte in bytes.iter().take(ROOM) {
-        held.push(*byte)?;
-    }
+    let held = Vec::from_slice(alloc, bytes)?;
+    let room = ROOM.max(held.len());
     let fails = Vec::from_slice(alloc, fails)?;
-    MemoryDisk::with_room(alloc, ROOM, 1_048_576, held, None, fails)
+    MemoryDisk::with_room(alloc, room, 1_048_576, held, None, fails)
 }
 
 // Runs over a capture of these packets, with a store on this disk.
