@@ -1,5 +1,5 @@
 -- What a run goes on from.
-use Rattle.std.proofs.Common.{◌≡◌, ◌∙◌, ◌≤◌, ◌+◌, ◌^◌, ◌-◌, ℕ, Bool, true, false, List, [], ◌∷◌, Option, None, Some, All}
+use Rattle.std.proofs.Common.{◌≡◌, ◌∙◌, ◌≤◌, ◌+◌, ℕ, true, false, List, Option, None, Some}
 use Rattle.std.proofs.Common.{refl, sym, ap, subst, arith, length, map, replicate, inr}
 use Rattle.std.proofs.lemmas.Bool.{false≢true}
 use Rattle.slot_disk.specs.{IfKnown, IsStore, closed_slots}
@@ -7,25 +7,20 @@ use Rattle.checkpoint.specs.declared.settings.StoreSettings.{StoreSettings}
 use Rattle.recovery.specs.declared.fault.OpenFault.TheVariants as opening
 use Rattle.recovery.specs.declared.opened.Opened.{Opened}
 use Rattle.command_words.specs.{AreLimited}
-use Rattle.std.specs.Prelude.{IfSome, is_some, slice_index}
-use Rattle.std.specs.List.{AllZip}
-use Rattle.std.proofs.lemmas.List.{length-map, length-replicate}
+use Rattle.std.specs.Prelude.{IfSome, is_some}
 use Rattle.prefix_lattice.specs.{RecordValue}
-use Rattle.deal_rules.specs.{AreShardLists}
-use Rattle.shard_state.specs.{AreNotPast, AreShards, CutValue, ShardValue, SnapshotValue, capacity_of, positions_of}
+use Rattle.shard_state.specs.{AreNotPast, CutValue, ShardValue, capacity_of}
 use Rattle.pass_tokens.specs.{first_view}
-use Rattle.report_text.specs.{ArePositions}
 use Rattle.checkpoint.specs.{AreSettings, FormattedStoresAreEmpty, Opens, SaverState, StandsFor, header_bytes}
-use Rattle.checkpoint.specs.{last_sequence}
 use Rattle.recovery.specs.{CanGoOn, IsBase, OpensToBase, base_positions, last_opened_sequence}
 use Rattle.command_words.specs.declared.settings.Settings.{Settings}
 use Rattle.hhh_engine.specs.Feed.{GoesOn, HasNoBase, IsBaseOf, IsSaverFor}
 use Rattle.hhh_engine.specs.Saves.{CanSave, store_settings}
-use Rattle.hhh_engine.specs.Session.{ends_of, new_shards, opening_of, resumed_shards, start_of}
+use Rattle.hhh_engine.specs.Session.{opening_of, start_of}
 use Rattle.hhh_engine.specs.declared.commands.base.Base.{Base}
 use Rattle.hhh_engine.specs.declared.status.Status.{Status}
 use Rattle.hhh_engine.specs.declared.status.Status.TheVariants.{OutOfMemory}
-use Rattle.hhh_engine.proofs.OpeningLemmas.{resumed_starts, starts_are_zeros, zeros_are_positions}
+use Rattle.hhh_engine.proofs.OpeningLemmas.{resumed_starts, starts_are_zeros}
 use Rattle.hhh_engine.proofs.SeenLemmas.{not_past_self}
 use Rattle.hhh_engine.proofs.SessionLemmas.{first_has_seen_starts}
 

@@ -1,21 +1,16 @@
 -- The session over a capture, by the dealt lists over which it was written.
-use Rattle.std.proofs.Common.{◌≡◌, ◌∙◌, ◌⊎◌, inl, inr, ⊎_elim, ℕ, Bool, true, List, [], Option, None, Some, IfSome, refl, sym, ap, subst}
-use Rattle.std.specs.Io.KnownBytes.{Appends}
+use Rattle.std.proofs.Common.{◌≡◌, ◌⊎◌, inl, inr, ⊎_elim, ℕ, true, List, Option, None, Some, IfSome, refl, ap, subst}
 use Rattle.outside_io.specs.{Rose}
 use Rattle.prefix_lattice.specs.{RecordValue}
-use Rattle.shard_state.specs.{CutValue}
-use Rattle.slot_disk.specs.{IfKnown}
-use Rattle.recovery.specs.{IsRefused}
 use Rattle.recovery.specs.declared.fault.OpenFault.{OpenFault}
 use Rattle.recovery.specs.declared.fault.OpenFault.TheVariants as opening
 use Rattle.command_words.specs.declared.settings.Settings.{Settings}
-use Rattle.report_text.specs.{tail_text}
 use Rattle.hhh_engine.specs.Answer.{Writes}
 use Rattle.hhh_engine.specs.Ending.{Ends, IsRefusedStore, RefusesStore}
-use Rattle.hhh_engine.specs.Feed.{EndsDealt, HasNoBase, IsDealtCapture, IsFault, RefusesLists, WritesDealt}
+use Rattle.hhh_engine.specs.Feed.{EndsDealt, IsDealtCapture, RefusesLists, WritesDealt}
 use Rattle.hhh_engine.specs.Feed.{WritesDealtInPart}
 use Rattle.hhh_engine.specs.Inputs.{IsCapture, inputs}
-use Rattle.hhh_engine.specs.Rounds.{DiskFailed, Faults, SinkFailed}
+use Rattle.hhh_engine.specs.Rounds.{Faults}
 use Rattle.hhh_engine.specs.Saves.{store_settings}
 use Rattle.hhh_engine.specs.Session.{BeginsSession, IsSession, IsSessionInPart, Keeping, Rules, SpellsSession, opening_of}
 use Rattle.hhh_engine.specs.declared.status.Status.{Status}

@@ -1,5 +1,5 @@
 -- How a session broke off, step by step.
-use Rattle.std.proofs.Common.{◌≡◌, ◌∙◌, ℕ, refl, sym, ap, ap₂, subst}
+use Rattle.std.proofs.Common.{◌≡◌, ℕ, sym, ap₂, subst}
 use Rattle.outside_io.specs.{Rose}
 use Rattle.hhh_engine.specs.Feed.{IsFault, IsSaveFault}
 use Rattle.hhh_engine.specs.Rounds.{Faults}

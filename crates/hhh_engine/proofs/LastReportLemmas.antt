@@ -2,16 +2,14 @@
 use Rattle.std.proofs.Common.{◌≡◌, ◌∙◌, ◌+◌, ℕ, List, [], ◌∷◌, ◌++◌, All, refl, sym, ap, ap₂, subst, arith, length}
 use Rattle.std.proofs.lemmas.List.Elements.{All-head, All-tail}
 use Rattle.shard_state.specs.{CutValue, ShardValue}
-use Rattle.prefix_lattice.specs.{RecordValue}
 use Rattle.hhh_output.specs.{AreLines, AreSame, IsReportOf}
-use Rattle.hhh_output.specs.declared.line.Line.{Line}
 use Rattle.hhh_output.specs.declared.report.Report.{Report}
 use Rattle.hhh_output.specs.declared.reports.Reported.{Reported}
 use Rattle.gate_workers.specs.{cut_at}
 use Rattle.command_words.specs.declared.settings.Settings.{Settings}
 use Rattle.report_text.specs.{mark_text, report_text}
 use Rattle.report_text.specs.declared.mark.Mark.TheVariants.{Opened}
-use Rattle.hhh_engine.specs.Session.{AreReportsOf, AreSessionReports, IsShown, SessionReports, callers_text, ends_of}
+use Rattle.hhh_engine.specs.Session.{AreReportsOf, AreSessionReports, IsShown, SessionReports, callers_text}
 use Rattle.hhh_engine.specs.Session.{part_text, parts_text, session_text, start_of}
 
 -- what holds of all elements holds of the last one

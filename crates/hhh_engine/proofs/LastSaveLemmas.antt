@@ -1,7 +1,7 @@
 -- The last save of a session, and all of its saves together.
-use Rattle.std.proofs.Common.{◌≡◌, ◌∙◌, ◌≤◌, ◌<◌, ◌+◌, ℕ, Bool, true, false, List, [], ◌∷◌, ◌++◌, Option, None, Some}
-use Rattle.std.proofs.Common.{refl, sym, ap, subst, arith, length, map, All}
-use Rattle.std.specs.Prelude.{IfSome, is_some, option_map, slice_index}
+use Rattle.std.proofs.Common.{◌≡◌, ◌∙◌, ◌≤◌, ◌+◌, ℕ, Bool, true, List, [], ◌∷◌, ◌++◌, Option, None, Some}
+use Rattle.std.proofs.Common.{sym, ap, subst, arith, length, map, All}
+use Rattle.std.specs.Prelude.{IfSome, is_some, slice_index}
 use Rattle.std.proofs.lemmas.List.{length-map, map-append}
 use Rattle.std.proofs.lemmas.List.Elements.{All-head, All-tail}
 use Rattle.shard_state.specs.{AreNotPast, CutValue, HasShape, ShardValue, capacity_of, positions_of}
@@ -9,7 +9,7 @@ use Rattle.hhh_output.specs.declared.reports.Reported.{Reported}
 use Rattle.pass_tokens.specs.{WordsValue, first_view}
 use Rattle.gate_workers.specs.{IsReportAt, View, cut_at}
 use Rattle.gate_workers.specs.declared.gathered.Called.{Called}
-use Rattle.checkpoint.specs.{AreSettings, SaverState, StandsFor, after_save, last_sequence}
+use Rattle.checkpoint.specs.{AreSettings, SaverState, after_save, last_sequence}
 use Rattle.command_words.specs.declared.settings.Settings.{Settings}
 use Rattle.hhh_engine.specs.Feed.{CanSaveCut, IsRest, StartsBeforeEnds}
 use Rattle.hhh_engine.specs.Saves.{CanSave, Saves, SavesInTurn, after_saves}

@@ -1,5 +1,5 @@
 -- What the saves of a session leave of its store, and the last reports of runs that went on.
-use Rattle.std.proofs.Common.{◌≡◌, ◌∙◌, ◌≤◌, ◌+◌, ◌⊎◌, ⊎_elim, inl, inr, ℕ, Bool, true, List, [], ◌∷◌, ◌++◌, Option, None, Some}
+use Rattle.std.proofs.Common.{◌≡◌, ◌∙◌, ◌+◌, inl, inr, ℕ, true, List, [], ◌∷◌, ◌++◌, Option, Some}
 use Rattle.std.proofs.Common.{refl, sym, ap, subst, arith, length, map, All}
 use Rattle.std.specs.Prelude.{IsSomeAnd}
 use Rattle.std.proofs.lemmas.List.{length-append, length-map, map-append}
@@ -11,7 +11,7 @@ use Rattle.hhh_output.specs.{AreLines, AreSame, IsReportOf}
 use Rattle.hhh_output.specs.declared.report.Report.{Report}
 use Rattle.hhh_output.specs.declared.reports.Reported.{Reported}
 use Rattle.gate_workers.specs.{IsReportAt, cut_at}
-use Rattle.checkpoint.specs.{Belongs, IsOfLists, Opens, SavedValue, digest_of_lists, opened_sequence}
+use Rattle.checkpoint.specs.{Belongs, IsOfLists, SavedValue, digest_of_lists, opened_sequence}
 use Rattle.checkpoint.specs.declared.settings.StoreSettings.{StoreSettings}
 use Rattle.command_words.specs.declared.settings.Settings.{Settings}
 use Rattle.report_text.specs.{report_text}

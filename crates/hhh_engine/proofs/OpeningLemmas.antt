@@ -1,6 +1,6 @@
 -- Shards before any record is counted.
-use Rattle.std.proofs.Common.{◌≡◌, ◌∙◌, ◌≤◌, ◌^◌, ℕ, zero, suc, List, [], ◌∷◌, ◌++◌, All, refl, sym, ap, subst, arith, length, map}
-use Rattle.std.proofs.Common.{append-nil, append_assoc, replicate}
+use Rattle.std.proofs.Common.{◌≡◌, ◌∙◌, ◌≤◌, ℕ, zero, suc, List, [], ◌∷◌, ◌++◌, All, refl, sym, ap, subst, arith, length, map}
+use Rattle.std.proofs.Common.{append_assoc, replicate}
 use Rattle.std.specs.List.{sum_by}
 use Rattle.std.proofs.lemmas.List.{length-map, map-append, length-replicate}
 use Rattle.std.proofs.lemmas.List.Elements.{All-map, All-replicate}
@@ -8,14 +8,14 @@ use Rattle.std.proofs.lemmas.List.Sums.{get_or-le-sum_by}
 use Rattle.prefix_lattice.specs.{RecordValue, most_records}
 use Rattle.deal_rules.specs.{AreShardLists}
 use Rattle.std.proofs.Common.{Option, None, Some}
-use Rattle.std.specs.Prelude.{IfSome, slice_index}
+use Rattle.std.specs.Prelude.{IfSome}
 use Rattle.std.specs.List.{AllZip}
 use Rattle.std.proofs.lemmas.List.Elements.{All-cons, All-head, All-nil, All-tail}
-use Rattle.shard_state.specs.{AreShards, BasesRepresent, CutRepresents, CutValue, IsCut, ShardValue, SnapshotRepresents}
+use Rattle.shard_state.specs.{AreShards, BasesRepresent, CutValue, IsCut, ShardValue, SnapshotRepresents}
 use Rattle.shard_state.specs.{IsSnapshot, SnapshotValue, capacity_of, empty_snapshot, positions_of}
 use Rattle.shard_state.specs.{lists_of}
 use Rattle.report_text.specs.{ArePositions}
-use Rattle.recovery.specs.{ContinuesList, ContinuesLists}
+use Rattle.recovery.specs.{ContinuesList}
 use Rattle.hhh_engine.specs.Feed.{GoesOn, StartsBeforeEnds}
 use Rattle.hhh_engine.specs.Session.{RepresentsWhere, new_shards, opening_of, resumed_shards, start_of}
 

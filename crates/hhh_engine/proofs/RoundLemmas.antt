@@ -1,6 +1,6 @@
 -- The rounds of the calling thread, and the texts of their reports.
 use Rattle.std.proofs.Common.{◌≡◌, ◌∙◌, ◌≤◌, ◌<◌, ◌+◌, ℕ, List, [], ◌∷◌, ◌++◌, Option, None, Some, All, refl, sym, ap, subst, arith}
-use Rattle.std.proofs.Common.{Bool, true, false, ◌⊎◌, inl, inr, ap₂}
+use Rattle.std.proofs.Common.{Bool, true, false, inr, ap₂}
 use Rattle.std.specs.Prelude.{⊤, is_some, option_map}
 use Rattle.std.proofs.lemmas.List.{length-append}
 use Rattle.outside_io.specs.{AppendsBeginning, Rose}
@@ -14,8 +14,8 @@ use Rattle.prefix_lattice.specs.{most_records}
 use Rattle.hhh_output.specs.{IsSound}
 use Rattle.hhh_output.specs.declared.report.Report.{Report}
 use Rattle.hhh_output.specs.declared.reports.Reported.{Reported}
-use Rattle.gate_workers.specs.{AreSound, Calls, IsReportAt, View, states_at}
-use Rattle.report_text.specs.{ArePositions, report_text}
+use Rattle.gate_workers.specs.{Calls, IsReportAt, View, states_at}
+use Rattle.report_text.specs.{ArePositions}
 use Rattle.hhh_engine.specs.Feed.{IsSaveFault}
 use Rattle.hhh_engine.specs.Rounds.{BreakOff, BreaksRound, EndRounds, Faults, WritesRoundInPart, WritesRounds, WritesUnsaved}
 use Rattle.hhh_engine.specs.Session.{part_text, parts_text, saved_cuts}

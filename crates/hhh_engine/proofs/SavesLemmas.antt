@@ -1,17 +1,17 @@
 -- Saves into a store, one after the other.
-use Rattle.std.proofs.Common.{◌≡◌, ◌∙◌, ◌≤◌, ◌+◌, ◌⊎◌, inl, inr, ⊎_elim, ℕ, Bool, true, false, List, [], ◌∷◌, ◌++◌, Option, None, Some}
-use Rattle.std.proofs.Common.{refl, sym, ap, ap₂, subst, arith, length, map, fold}
-use Rattle.std.specs.Prelude.{IfSome, option_map, is_some}
+use Rattle.std.proofs.Common.{◌≡◌, ◌∙◌, ◌+◌, ◌⊎◌, inl, inr, ⊎_elim, ℕ, Bool, true, false, List, [], ◌∷◌, ◌++◌, Option, None, Some}
+use Rattle.std.proofs.Common.{refl, sym, ap, subst, arith, length, fold}
+use Rattle.std.specs.Prelude.{IfSome, is_some}
 use Rattle.std.proofs.lemmas.List.{map-append}
-use Rattle.shard_state.specs.{CutValue, HasShape, ShardValue, positions_of}
+use Rattle.shard_state.specs.{CutValue, ShardValue}
 use Rattle.hhh_output.specs.declared.report.Report.{Report}
 use Rattle.hhh_output.specs.declared.reports.Reported.{Reported}
 use Rattle.gate_workers.specs.{cut_at}
 use Rattle.slot_disk.specs.{IfKnown, Leaves, Leaves-none, Leaves-trans, Leaves-weaker}
-use Rattle.checkpoint.specs.{AreSettings, OldOrNew, OpenAlike, Opens, SavedValue, SaverState, StandsFor, StoresOpenToOne}
+use Rattle.checkpoint.specs.{AreSettings, OldOrNew, Opens, SavedValue, SaverState, StandsFor, StoresOpenToOne}
 use Rattle.checkpoint.specs.{after_save, newest, next_saved, opened_sequence}
 use Rattle.checkpoint.specs.declared.settings.StoreSettings.{StoreSettings}
-use Rattle.hhh_engine.specs.Saves.{KeepsSaves, LeavesSaves, OpensAmong, Saves, SavesCuts, SavesInTurn, after_saves}
+use Rattle.hhh_engine.specs.Saves.{KeepsSaves, OpensAmong, SavesCuts, SavesInTurn, after_saves}
 use Rattle.hhh_engine.specs.Saves.{last_saved, saved_after}
 use Rattle.hhh_engine.specs.Session.{saved_cuts}
 

@@ -1,20 +1,20 @@
 -- What a view has seen after a round, and the positions that a saver may save then.
-use Rattle.std.proofs.Common.{◌≡◌, ◌∙◌, ◌≤◌, ◌<◌, ◌+◌, ℕ, zero, suc, List, [], ◌∷◌, Option, None, Some, refl, sym, ap, ap₂, subst, arith}
-use Rattle.std.proofs.Common.{length, map, fold, All, get_or, Bool, true, false}
+use Rattle.std.proofs.Common.{◌≡◌, ◌∙◌, ◌≤◌, ◌<◌, ◌+◌, ℕ, zero, suc, List, [], ◌∷◌, Option, None, Some, refl, sym, ap, subst, arith}
+use Rattle.std.proofs.Common.{length, map, fold, get_or, true}
 use Rattle.std.specs.Prelude.{IfSome, is_some, option_map, slice_index}
 use Rattle.std.specs.List.Sorted.{IsNonDecreasing}
 use Rattle.std.proofs.lemmas.List.{length-map}
-use Rattle.shard_state.specs.{AreNotPast, CutValue, HasShape, ShardValue, SnapshotValue, capacity_of, positions_of, snapshot_of}
+use Rattle.shard_state.specs.{AreNotPast, CutValue, HasShape, ShardValue, capacity_of, positions_of, snapshot_of}
 use Rattle.hhh_output.specs.declared.report.Report.{Report}
 use Rattle.hhh_output.specs.declared.reports.Reported.{Reported}
 use Rattle.pass_tokens.specs.{ShardRead, after_reads, seen_of}
-use Rattle.gate_workers.specs.{Calls, IsReportAt, Trail, View, cut_at, states_at}
-use Rattle.checkpoint.specs.{AreSettings, SaverState, StandsFor, after_save, last_sequence}
+use Rattle.gate_workers.specs.{Calls, Trail, View, cut_at, states_at}
+use Rattle.checkpoint.specs.{AreSettings, SaverState, StandsFor, last_sequence}
 use Rattle.hhh_engine.specs.Feed.{CanSaveCut}
 use Rattle.hhh_engine.specs.Saves.{CanSave, FitsBoard, SavesInTurn, after_saves}
 use Rattle.hhh_engine.specs.Session.{saved_cuts}
 use Rattle.hhh_engine.proofs.RoundLemmas.{report_of_call}
-use Rattle.hhh_engine.proofs.SavesLemmas.{sequence_rises, settings_stay}
+use Rattle.hhh_engine.proofs.SavesLemmas.{sequence_rises}
 
 -- the positions of the cut of the pure core
 pub cut_at_positions : (opening : List ShardValue) (positions : List ℕ) → length positions ≡ length opening

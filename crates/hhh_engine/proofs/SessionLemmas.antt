@@ -4,20 +4,19 @@ use Rattle.std.proofs.Common.{◌≡◌, ◌∙◌, ◌≤◌, ◌<◌, ◌+◌,
 use Rattle.std.proofs.Common.{Ok, Err, All, refl, sym, ap, ap₂, subst, arith, length, map, append_assoc, append-nil, get_or, take, zero, suc, slice_get}
 use Rattle.std.specs.Prelude.{slice_index}
 use Rattle.std.specs.Result.{IfErr, IfOk, OnErr, OnOk}
-use Rattle.std.specs.List.{flat_map}
 use Rattle.std.specs.List.Sorted.{IsNonDecreasing}
 use Rattle.std.specs.declared.result.Result.{Result}
 use Rattle.std.specs.Io.KnownBytes.{Appends}
 use Rattle.std.proofs.KnownBytes.{Appends-trans, Appends-nil}
-use Rattle.std.proofs.lemmas.List.{length-map, length-append, take_more}
+use Rattle.std.proofs.lemmas.List.{length-map, take_more}
 use Rattle.std.proofs.lemmas.List.Elements.{All-map, All-append, All-cons, All-head, All-nil, All-tail}
 use Rattle.std.proofs.lemmas.List.Sorted.{IsNonDecreasingBy-short}
-use Rattle.outside_io.specs.{AppendsBeginning, IsBeginning, Rose}
+use Rattle.outside_io.specs.{IsBeginning}
 use Rattle.shard_state.specs.{BasesRepresent, CutValue, IsShard, ShardValue, capacity_of, lists_of, state_at}
 use Rattle.hhh_output.specs.{IsSound}
 use Rattle.hhh_output.specs.declared.report.Report.{Report}
 use Rattle.hhh_output.specs.declared.reports.Reported.{Reported}
-use Rattle.pass_tokens.specs.{ShardRead, first_view, newcomer, seen_of, view as view_of}
+use Rattle.pass_tokens.specs.{first_view, newcomer, seen_of, view as view_of}
 use Rattle.gate_workers.specs.{AreSound, Calls, Gathers, GoesOnce, HasSeenEnds, View, states_at}
 use Rattle.gate_workers.specs.declared.gathered.Called.{Called}
 use Rattle.gate_workers.specs.declared.gathered.Gathered.{Gathered}

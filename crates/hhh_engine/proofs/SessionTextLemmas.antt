@@ -1,5 +1,5 @@
 -- The bytes of a session, as they are written.
-use Rattle.std.proofs.Common.{◌≡◌, ◌∙◌, ◌≤◌, ◌<◌, ◌+◌, ◌-◌, inl, inr, ℕ, zero, suc, List, [], ◌∷◌, ◌++◌, Option, None, All}
+use Rattle.std.proofs.Common.{◌≡◌, ◌∙◌, ◌≤◌, ◌<◌, ◌+◌, ◌-◌, inl, inr, ℕ, zero, suc, List, [], ◌∷◌, ◌++◌, Option, All}
 use Rattle.std.proofs.Common.{refl, sym, ap, ap₂, subst, arith, length, map, append_assoc, append-nil, get_or}
 use Rattle.std.specs.Prelude.{slice_index}
 use Rattle.std.specs.List.Sorted.{IsNonDecreasing}
@@ -13,7 +13,7 @@ use Rattle.std.proofs.Common.{Bool}
 use Rattle.std.specs.Prelude.{⊤}
 use Rattle.shard_state.specs.{CutValue, IsShard, ShardValue, state_at}
 use Rattle.hhh_output.specs.declared.reports.Reported.{Reported}
-use Rattle.gate_workers.specs.{IsReportAt, states_at}
+use Rattle.gate_workers.specs.{states_at}
 use Rattle.pass_tokens.specs.{WordsValue}
 use Rattle.command_words.specs.declared.settings.Settings.{Settings}
 use Rattle.report_text.specs.{mark_text, report_text}

@@ -1,13 +1,11 @@
 -- How a command can end.
-use Rattle.std.proofs.Common.{◌≡◌, ◌∙◌, ◌⊎◌, ◌≤◌, ℕ, Bool, true, List, [], Option, None, Some, IfSome, inl, inr, refl, sym, ap, subst}
+use Rattle.std.proofs.Common.{◌≡◌, ◌⊎◌, ℕ, true, List, [], Option, Some, IfSome, inl, inr, refl, sym, ap, subst}
 use Rattle.outside_io.specs.{Rose}
 use Rattle.prefix_lattice.specs.{RecordValue}
 use Rattle.pcap_frames.specs.{FrameValue}
 use Rattle.frame_records.specs.{HasFrames, IsRefusedFor}
 use Rattle.frame_records.specs.declared.records.Records.{Records}
 use Rattle.pcap_frames.specs.declared.fault.CaptureFault.{CaptureFault}
-use Rattle.slot_disk.specs.{IfKnown}
-use Rattle.checkpoint.specs.declared.settings.StoreSettings.{StoreSettings}
 use Rattle.recovery.specs.{BelongingStoresAreOpened, IsRefused, IsShown, OpeningsAreDecided}
 use Rattle.recovery.specs.declared.fault.OpenFault.{OpenFault}
 use Rattle.recovery.specs.declared.fault.OpenFault.TheVariants as opening
@@ -21,7 +19,7 @@ use Rattle.command_words.specs.declared.settings.Settings.{Settings}
 use Rattle.std.specs.Prelude.{⊤}
 use Rattle.hhh_engine.specs.Answer.{IsAnswer, IsAnswerInPart, IsCutShort, IsWeightTextInPart, formatted_text}
 use Rattle.hhh_engine.specs.Ending.{Ends, FormatEnds, IsRefusedStore, RefusedStore, RefusesFor, RefusesStore}
-use Rattle.hhh_engine.specs.Inputs.{CanBeAnswered, HasKnownCapture, HasKnownStore, IsCapture, IsStoreOf, ReadsCapture}
+use Rattle.hhh_engine.specs.Inputs.{CanBeAnswered, HasKnownCapture, HasKnownStore, IsCapture, ReadsCapture}
 use Rattle.hhh_engine.specs.Inputs.{WasAccepted, WasRead, inputs}
 use Rattle.hhh_engine.specs.Saves.{store_settings}
 use Rattle.hhh_engine.specs.Session.{AreDealtFrom, GoesOnFrom, IsSession, IsSessionInPart, Keeping, Rules}

@@ -1,5 +1,5 @@
 -- Answers under rules of dealing that allow more.
-use Rattle.std.proofs.Common.{ℕ, List, Option, None, Some, IfSome}
+use Rattle.std.proofs.Common.{ℕ, List, Option}
 use Rattle.prefix_lattice.specs.{RecordValue}
 use Rattle.deal_rules.specs.declared.deal_kind.DealKind.{DealKind}
 use Rattle.deal_rules.specs.{IsDealing}

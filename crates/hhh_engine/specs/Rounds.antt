@@ -1,5 +1,5 @@
 -- What the rounds of the calling thread write, and what they save.
-use Rattle.std.specs.Prelude.{ℕ, ◌≡◌, ◌≤◌, ◌<◌, ◌⊎◌, ⊤, Bool, true, List, [], ◌∷◌, Option, None, Some}
+use Rattle.std.specs.Prelude.{ℕ, ◌≡◌, ◌<◌, ◌⊎◌, ⊤, Bool, true, List, [], ◌∷◌, Option, None, Some}
 use Rattle.std.specs.Io.KnownBytes.{Appends}
 use Rattle.outside_io.specs.{AppendsBeginning, Rose}
 use Rattle.shard_state.specs.{BasesRepresent, CutValue, ShardValue, capacity_of, lists_of}

@@ -1,8 +1,8 @@
 -- The saves of a run into its store, and what a stop may leave of the store.
-use Rattle.std.specs.Prelude.{ℕ, zero, suc, ◌≡◌, ◌+◌, ◌≤◌, ◌⊎◌, List, [], ◌∷◌, fold, length, map, slice_get}
+use Rattle.std.specs.Prelude.{ℕ, suc, ◌≡◌, ◌+◌, ◌≤◌, ◌⊎◌, List, [], ◌∷◌, fold, length, map, slice_get}
 use Rattle.std.specs.Prelude.{Option, None, Some, IfSome, option_map, is_some, refl}
 use Rattle.std.proofs.Common.{arith}
-use Rattle.shard_state.specs.{AreNotPast, CutValue, HasShape, ShardValue, capacity_of}
+use Rattle.shard_state.specs.{AreNotPast, CutValue, ShardValue, capacity_of}
 use Rattle.gate_workers.specs.{IsLaterView, View}
 use Rattle.slot_disk.specs.{IfKnown, Leaves}
 use Rattle.checkpoint.specs.{AreSettings, Opens, SavedValue, SaverState, StandsFor, after_save, digest_of_lists}

@@ -1,4 +1,4 @@
-use Rattle.std.proofs.Common.{◌≡◌, subst}
+use Rattle.std.proofs.Common.{subst}
 use Rattle.slot_disk.specs.{IfKnown}
 use Rattle.recovery.specs.{CanGoOn, OpensToBase}
 use Rattle.hhh_engine.proofs.BaseLemmas.{opened_base}

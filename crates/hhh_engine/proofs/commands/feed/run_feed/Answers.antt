@@ -1,5 +1,4 @@
-use Rattle.std.proofs.Common.{◌≡◌, ◌∙◌, ap}
-use Rattle.std.specs.Prelude.{is_some}
+use Rattle.std.proofs.Common.{ap}
 use Rattle.gate_workers.specs.declared.plan.ThreadPlan.{ThreadPlan}
 use Rattle.pass_tokens.specs.{view}
 use Rattle.hhh_engine.proofs.SessionLemmas.{ended_as_set, ended_whole, feed_in_part, gathered_whole, on_err, once_or_not}

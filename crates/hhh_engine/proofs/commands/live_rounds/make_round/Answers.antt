@@ -1,9 +1,8 @@
-use Rattle.std.proofs.Common.{◌≡◌, ◌∙◌, ◌++◌, [], ◌∷◌, ap, sym, subst, refl}
+use Rattle.std.proofs.Common.{◌∙◌, ◌++◌, ap, subst, refl}
 use Rattle.std.specs.Prelude.{is_some}
 use Rattle.std.specs.Io.KnownBytes.{Appends}
 use Rattle.std.proofs.KnownBytes.{Appends-trans}
 use Rattle.outside_io.specs.{AppendsBeginning}
-use Rattle.pass_tokens.specs.{view}
 use Rattle.report_text.specs.{report_text}
 use Rattle.hhh_engine.specs.Saves.{SavesInTurn}
 use Rattle.hhh_engine.specs.Session.{saved_text}

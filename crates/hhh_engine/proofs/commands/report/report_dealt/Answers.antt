@@ -1,8 +1,8 @@
 use Rattle.std.proofs.Common.{◌≡◌, ◌∙◌, ◌⊎◌, ap, ap₂, sym, subst}
 use Rattle.hhh_engine.specs.Answer.{Writes}
-use Rattle.hhh_engine.specs.Feed.{IsBaseOf, IsFault}
+use Rattle.hhh_engine.specs.Feed.{IsBaseOf}
 use Rattle.hhh_engine.specs.Session.{BeginsSession, SpellsSession, opening_of}
-use Rattle.hhh_engine.specs.Saves.{Saves, kept_in, store_settings}
+use Rattle.hhh_engine.specs.Saves.{Saves}
 use Rattle.hhh_engine.proofs.BaseLemmas.{base_goes_on}
 use Rattle.hhh_engine.proofs.DealtLemmas.{no_base_ends, run_keeps, session_ends, writes_dealt}
 use Rattle.hhh_engine.proofs.FaultLemmas.{fault_after}

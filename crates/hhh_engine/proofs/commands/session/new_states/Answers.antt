@@ -1,4 +1,4 @@
-use Rattle.std.proofs.Common.{refl, sym, ◌≤◌, ◌^◌, ◌++◌, [], ◌∷◌, ◌∙◌, ap, ap₂, subst, length, append-nil, append_assoc}
+use Rattle.std.proofs.Common.{sym, ◌≤◌, ◌^◌, ◌++◌, [], ◌∷◌, ◌∙◌, ap, ap₂, subst, length, append-nil, append_assoc}
 use Rattle.std.specs.List.{All}
 use Rattle.std.specs.Vec.Iter.{into_iter_items}
 use Rattle.std.proofs.lemmas.List.{nil_from_length}

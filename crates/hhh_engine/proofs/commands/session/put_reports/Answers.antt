@@ -1,4 +1,4 @@
-use Rattle.std.proofs.Common.{false, ◌≡◌, ◌∙◌, ◌≤◌, ◌++◌, length, take, sym, ap, subst, arith, append-nil, append_assoc}
+use Rattle.std.proofs.Common.{false, ◌∙◌, ◌++◌, take, sym, ap, subst, arith, append-nil, append_assoc}
 use Rattle.std.specs.List.{All}
 use Rattle.std.proofs.lemmas.List.{take_all}
 use Rattle.hhh_output.specs.declared.reports.Reported.{Reported}

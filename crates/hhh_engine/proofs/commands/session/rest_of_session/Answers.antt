@@ -1,4 +1,4 @@
-use Rattle.std.proofs.Common.{◌≡◌, ◌∙◌, ◌++◌, None, sym, ap}
+use Rattle.std.proofs.Common.{◌∙◌, ◌++◌, None, ap}
 use Rattle.report_text.specs.{report_text}
 use Rattle.pass_tokens.specs.{view}
 use Rattle.hhh_engine.specs.Feed.{reports_of}

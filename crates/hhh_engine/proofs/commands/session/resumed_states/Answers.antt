@@ -1,4 +1,4 @@
-use Rattle.std.proofs.Common.{◌≡◌, ◌∙◌, ◌≤◌, ◌^◌, ◌++◌, [], ◌∷◌, ap, ap₂, sym, subst, length}
+use Rattle.std.proofs.Common.{◌∙◌, ◌≤◌, ◌^◌, ◌++◌, ◌∷◌, ap, ap₂, sym, subst, length}
 use Rattle.std.specs.List.{All, AllZip}
 use Rattle.std.specs.Vec.Iter.{into_iter_items}
 use Rattle.std.specs.Iterator.Adapters.{zip_first, zip_second}

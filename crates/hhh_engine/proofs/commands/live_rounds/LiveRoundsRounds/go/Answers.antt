@@ -1,4 +1,4 @@
-use Rattle.std.proofs.Common.{◌≡◌, ◌∙◌, ◌≤◌, length, refl, sym, ap₂, subst, arith}
+use Rattle.std.proofs.Common.{◌∙◌, ◌≤◌, length, refl, sym, ap₂, subst, arith}
 use Rattle.std.specs.Prelude.{is_some}
 use Rattle.hhh_output.specs.{IsWideShare, million}
 use Rattle.shard_state.specs.{HasShape, capacity_of}

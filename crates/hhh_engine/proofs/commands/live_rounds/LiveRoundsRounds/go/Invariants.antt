@@ -1,4 +1,4 @@
-use Rattle.std.proofs.Common.{◌≡◌, length, None, Some}
+use Rattle.std.proofs.Common.{◌≡◌, length, None}
 use Rattle.std.specs.Prelude.{IfSome, is_some}
 use Rattle.shard_state.specs.{HasShape, capacity_of}
 use Rattle.pass_tokens.specs.{IsPassOf, view}
