@@ -9,10 +9,14 @@ use std::alloc::AllocError;
 use std::fs;
 use std::fs::{File, OpenOptions};
 use std::io::{Error, ErrorKind, Result as IoResult};
+use std::os::fd::AsRawFd;
 use std::os::unix::fs::FileExt;
 
 // How many bytes one system call reads at most.
 const ROOM: usize = 65_536;
+
+// Standard input, standard output and standard error have the numbers below this one.
+const STANDARD_STREAMS: i32 = 3;
 
 /// A regular file of the system as a disk. Its bytes are not known.
 ///
@@ -162,8 +166,22 @@ fn opened<'f>(slot: &'f mut Option<File>, rt: &HostRuntime, path: &str) -> IoRes
     Ok(slot.insert(file))
 }
 
-// Opens the regular file at this path, and creates it where it is missing.
+// Opens the file under a number that no standard stream has. Where one of these is closed, the system gives its number to
+// the file that is opened next, and what is written to the stream would be written into the store.
 fn open(rt: &HostRuntime, path: &str) -> IoResult<File> {
+    let mut holders = Vec::new(rt.alloc());
+    for _ in 0..STANDARD_STREAMS {
+        let file = open_once(rt, path)?;
+        if file.as_raw_fd() >= STANDARD_STREAMS {
+            return Ok(file);
+        }
+        holders.push(file)?;
+    }
+    open_once(rt, path)
+}
+
+// Opens the regular file at this path, and creates it where it is missing.
+fn open_once(rt: &HostRuntime, path: &str) -> IoResult<File> {
     let file = OpenOptions::new()
         .read(true)
         .write(true)
