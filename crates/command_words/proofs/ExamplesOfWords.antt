@@ -14,13 +14,13 @@ use Rattle.command_words.specs.Arguments.{Text, Argument, positional, option, Sp
 use Rattle.command_words.specs.Forms.{word_of, form_of, AreWordsOf}
 use Rattle.command_words.specs.Paths.{NamesPaths}
 use Rattle.command_words.specs.Settings.{values_in}
-use Rattle.command_words.specs.Words.{HasSides, AskToWeigh, AskToReport, AskToFormat, AskFor, IsLimited}
+use Rattle.command_words.specs.Words.{HasSides, AskToWeigh, AskToReport, AskToFormat, AskToAudit, AskFor, IsLimited}
 use Rattle.command_words.specs.Words.{HasGoodPositionals, IsBounded}
 use Rattle.command_words.specs.Words.{HasBadPrefix, HasBadValue, IsTooNarrow, HasWordsFault}
 use Rattle.command_words.specs.Options.{place_of, IsGood}
 use Rattle.command_words.specs.declared.command.Command.TheVariants as command
 use Rattle.command_words.specs.declared.command_word.CommandWord.{CommandWord}
-use Rattle.command_words.specs.declared.command_word.CommandWord.TheVariants.{Weigh, Report, Format}
+use Rattle.command_words.specs.declared.command_word.CommandWord.TheVariants.{Weigh, Report, Format, Audit}
 use Rattle.command_words.specs.declared.opt.Opt.{Opt}
 use Rattle.command_words.specs.declared.opt.Opt.TheVariants as opt
 use Rattle.command_words.specs.declared.settings.Settings.{Settings}
@@ -260,6 +260,86 @@ lacks_a_store given well_formed =
 pub store_is_lacking : HasWordsFault (codes "format" ∷ []) Refused
 store_is_lacking = (Format, [], refl, lacks_a_store)
 
+-- `audit --report R`
+abbrev audit_words : List Text
+audit_words = codes "--report" ∷ codes "R" ∷ []
+
+abbrev audit_arguments : List Argument
+audit_arguments = option (codes "report") (codes "R") ∷ []
+
+words_of_audit : AreWordsOf (codes "audit" ∷ audit_words) Audit audit_arguments
+words_of_audit = record {
+  behind = audit_words;
+  begun = refl;
+  well_formed = record {
+    spelled = (
+      [],
+      record {
+        front = audit_words;
+        parted = refl;
+        spelled = (no_equals_sign_in (codes "report") refl, λ same. omega (arith, same), inl refl);
+      },
+      refl,
+    );
+    of_form = record {
+      as_many = refl;
+      known =
+          All-cons (λ name. Contains (form_of Audit).options name) (codes "report") []
+          (option_of Audit (codes "report") refl) (All-nil (λ name. Contains (form_of Audit).options name));
+      once = λ i j d before within. absurd (omega (arith, before, within));
+      complete =
+          All-cons (λ name. Contains (names_in audit_arguments) name) (codes "report") []
+          ((among (names_in audit_arguments) (codes "report")).0 refl)
+          (All-nil (λ name. Contains (names_in audit_arguments) name));
+    };
+  };
+}
+
+pub asks_for_an_audit : AskToAudit (codes "audit" ∷ audit_words) defaults
+asks_for_an_audit = record {
+  arguments = audit_arguments;
+  are_words = words_of_audit;
+  set = record {
+    weigh = refl;
+    shards = refl;
+    capacity = refl;
+    phi = refl;
+    deal = refl;
+    block = refl;
+    workers = refl;
+    callers = refl;
+    rounds = refl;
+    store = refl;
+  };
+  wide = defaults_are_wide;
+}
+
+pub asks_for_the_audit_by_its_command : AskFor (codes "audit" ∷ audit_words) (command.Audit defaults)
+asks_for_the_audit_by_its_command = asks_for_an_audit
+
+-- `audit` compares a text with a capture, which the standard input is by default, and has no store
+pub text_that_is_named : NamesPaths (codes "audit" ∷ audit_words)
+    (record { capture = codes "-"; report = codes "R"; store = [] })
+text_that_is_named = record {
+  command = Audit;
+  arguments = audit_arguments;
+  are_words = words_of_audit;
+  capture = record { given = λ has. refl; absent = λ lacks. absurd (lacks (option_of Audit (codes "capture") refl)) };
+  report = record { given = λ has. refl; absent = λ lacks. absurd (lacks (option_of Audit (codes "report") refl)) };
+  store = record { given = λ has. refl; absent = λ lacks. refl };
+}
+
+-- `audit` alone lacks the text that it requires
+lacks_a_text : (given : List Argument) → AreWellFormed (form_of Audit) [] given → ⊥
+lacks_a_text given well_formed =
+    let none : given ≡ [] = one_reading [] given [] well_formed.spelled refl in
+    let same = subst (λ list. AreWellFormed (form_of Audit) [] list) none well_formed in
+    let within = All-head (Contains []) (codes "report") [] same.of_form.complete in
+    omega (arith, within.1)
+
+pub text_is_lacking : HasWordsFault (codes "audit" ∷ []) Refused
+text_is_lacking = (Audit, [], refl, lacks_a_text)
+
 -- an empty command line
 pub no_command : HasWordsFault [] NoCommand
 no_command = refl
@@ -269,6 +349,7 @@ way_is_no_command : (command : CommandWord) → codes "way" ≢ word_of command
 way_is_no_command Weigh = apart (codes "way") (codes "weigh") refl
 way_is_no_command Report = apart (codes "way") (codes "report") refl
 way_is_no_command Format = apart (codes "way") (codes "format") refl
+way_is_no_command Audit = apart (codes "way") (codes "audit") refl
 
 pub unknown_command : HasWordsFault (codes "way" ∷ []) UnknownCommand
 unknown_command = (codes "way", [], refl, way_is_no_command)

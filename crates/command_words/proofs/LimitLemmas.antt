@@ -5,7 +5,7 @@ use Rattle.command_words.specs.Options.{Kind, number, kind_of, IsAllowed}
 use Rattle.command_words.specs.Settings.{Values, SetsNumber, SetsSettings, AreLimited}
 use Rattle.command_words.specs.Words.{AskFor, IsLimited}
 use Rattle.command_words.specs.declared.command.Command.{Command}
-use Rattle.command_words.specs.declared.command.Command.TheVariants.{Weigh, Report, Format}
+use Rattle.command_words.specs.declared.command.Command.TheVariants.{Weigh, Report, Format, Audit}
 use Rattle.command_words.specs.declared.opt.Opt.{Opt}
 use Rattle.command_words.specs.declared.opt.Opt.TheVariants.{Shards, Capacity, Phi, Block, Workers, Callers, Rounds}
 use Rattle.command_words.specs.declared.settings.Settings.{Settings}
@@ -56,3 +56,4 @@ pub asked_is_limited : (words : List Text) (command : Command) → AskFor words 
 asked_is_limited words (Weigh prefix settings) asked = set_is_limited _ _ settings asked.set
 asked_is_limited words (Report settings) asked = (set_is_limited _ _ settings asked.set, asked.wide)
 asked_is_limited words (Format settings) asked = set_is_limited _ _ settings asked.set
+asked_is_limited words (Audit settings) asked = (set_is_limited _ _ settings asked.set, asked.wide)

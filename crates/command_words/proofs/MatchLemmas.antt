@@ -14,7 +14,7 @@ use Rattle.command_words.specs.Matches.{AreMatchesOf, AreMatchesOfWords, values_
 use Rattle.command_words.specs.Paths.{NamesPath}
 use Rattle.command_words.specs.Words.{HasSides, HasGoodPositionals, HasValueFault, HasWordsFault}
 use Rattle.command_words.specs.declared.command_word.CommandWord.{CommandWord}
-use Rattle.command_words.specs.declared.command_word.CommandWord.TheVariants.{Weigh, Report, Format}
+use Rattle.command_words.specs.declared.command_word.CommandWord.TheVariants.{Weigh, Report, Format, Audit}
 use Rattle.command_words.specs.declared.opt.Opt.{Opt}
 use Rattle.command_words.specs.declared.settings.Settings.{Settings}
 use Rattle.command_words.specs.declared.words_kind.WordsKind.{WordsKind}
@@ -36,6 +36,7 @@ no_positional Weigh name small has = go has.0 has.1 has.2
     go (suc (suc place)) below same = omega arith
 no_positional Report name small has = omega (arith, has.1)
 no_positional Format name small has = omega (arith, has.1)
+no_positional Audit name small has = omega (arith, has.1)
 
 -- the name of an option begins with a small letter
 small_name : (at : Opt) → 90 < first_byte (name_of at)

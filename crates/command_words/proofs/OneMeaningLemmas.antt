@@ -11,7 +11,7 @@ use Rattle.command_words.specs.Words.{AskFor, HasSides, HasGoodPositionals, HasV
 use Rattle.command_words.specs.Words.{IsBounded}
 use Rattle.command_words.specs.declared.command.Command.{Command}
 use Rattle.command_words.specs.declared.command_word.CommandWord.{CommandWord}
-use Rattle.command_words.specs.declared.command_word.CommandWord.TheVariants.{Weigh, Report, Format}
+use Rattle.command_words.specs.declared.command_word.CommandWord.TheVariants.{Weigh, Report, Format, Audit}
 use Rattle.command_words.specs.declared.settings.Settings.{Settings}
 use Rattle.command_words.specs.declared.words_kind.WordsKind.{WordsKind}
 use Rattle.command_words.specs.declared.words_kind.WordsKind.TheVariants.{NoCommand, UnknownCommand, Refused}
@@ -39,12 +39,14 @@ Outcome = Result Command WordsKind
 -- the command whose word begins with a byte
 abbrev command_at : Text → CommandWord
 command_at [] = Report
-command_at (first ∷ rest) = cond (first == 119) Weigh (cond (first == 102) Format Report)
+command_at (first ∷ rest) =
+    cond (first == 119) Weigh (cond (first == 102) Format (cond (first == 97) Audit Report))
 
 at_word : (word : CommandWord) → command_at (word_of word) ≡ word
 at_word Weigh = refl
 at_word Report = refl
 at_word Format = refl
+at_word Audit = refl
 
 -- commands of one word are one command
 same_command : (word other : CommandWord) → word_of word ≡ word_of other → word ≡ other
@@ -132,32 +134,32 @@ weigh_tells_once reading arguments outcome other (well source dest prefix read s
     (at_sides (λ s d. SpellsPrefix s d prefix') arguments source dest source' dest' sides sides' spelled') in
     is ∙ ap₂ weighing same (options_tell_once arguments read read' told told') ∙ sym is'
 
--- what `report` comes to, once its values are read
-abbrev ReportComesTo : Result Settings WordsKind → Outcome → Type 0
-ReportComesTo (Ok settings) outcome =
-    (IsWide settings × (outcome ≡ Ok (command.Report settings))) ⊎ ((IsWide settings → ⊥) × (outcome ≡ Err Bound))
-ReportComesTo (Err kind) outcome = outcome ≡ Err kind
+-- what a command whose share is bounded comes to, once its values are read
+abbrev BoundedComesTo : (Settings → Command) → Result Settings WordsKind → Outcome → Type 0
+BoundedComesTo asked (Ok settings) outcome =
+    (IsWide settings × (outcome ≡ Ok (asked settings))) ⊎ ((IsWide settings → ⊥) × (outcome ≡ Err Bound))
+BoundedComesTo asked (Err kind) outcome = outcome ≡ Err kind
 
-report_comes_to_one : (read : Result Settings WordsKind) (outcome other : Outcome) → ReportComesTo read outcome
-    → ReportComesTo read other → outcome ≡ other
-report_comes_to_one (Ok settings) outcome other (inl one) (inl two) = one.1 ∙ sym two.1
-report_comes_to_one (Ok settings) outcome other (inl one) (inr two) = absurd (two.0 one.0)
-report_comes_to_one (Ok settings) outcome other (inr one) (inl two) = absurd (one.0 two.0)
-report_comes_to_one (Ok settings) outcome other (inr one) (inr two) = one.1 ∙ sym two.1
-report_comes_to_one (Err kind) outcome other one two = one ∙ sym two
+bounded_comes_to_one : (asked : Settings → Command) (read : Result Settings WordsKind) (outcome other : Outcome)
+    → BoundedComesTo asked read outcome → BoundedComesTo asked read other → outcome ≡ other
+bounded_comes_to_one asked (Ok settings) outcome other (inl one) (inl two) = one.1 ∙ sym two.1
+bounded_comes_to_one asked (Ok settings) outcome other (inl one) (inr two) = absurd (two.0 one.0)
+bounded_comes_to_one asked (Ok settings) outcome other (inr one) (inl two) = absurd (one.0 two.0)
+bounded_comes_to_one asked (Ok settings) outcome other (inr one) (inr two) = one.1 ∙ sym two.1
+bounded_comes_to_one asked (Err kind) outcome other one two = one ∙ sym two
 
--- what the arguments of `report` come to
-record ReportTells (arguments : List Argument) (outcome : Outcome) : Type 0 where
+-- what the arguments of a command whose share is bounded come to
+record BoundedTells (asked : Settings → Command) (arguments : List Argument) (outcome : Outcome) : Type 0 where
   read : Result Settings WordsKind
   told : OptionsTell arguments read
-  comes_to : ReportComesTo read outcome
+  comes_to : BoundedComesTo asked read outcome
 
--- the arguments of `report` come to one thing
-report_tells_once : (arguments : List Argument) (outcome other : Outcome) → ReportTells arguments outcome
-    → ReportTells arguments other → outcome ≡ other
-report_tells_once arguments outcome other one two =
-    report_comes_to_one one.read outcome other one.comes_to
-    (subst (λ read. ReportComesTo read other)
+-- the arguments of a command whose share is bounded come to one thing
+bounded_tells_once : (asked : Settings → Command) (arguments : List Argument) (outcome other : Outcome)
+    → BoundedTells asked arguments outcome → BoundedTells asked arguments other → outcome ≡ other
+bounded_tells_once asked arguments outcome other one two =
+    bounded_comes_to_one asked one.read outcome other one.comes_to
+    (subst (λ read. BoundedComesTo asked read other)
     (sym (options_tell_once arguments one.read two.read one.told two.told)) two.comes_to)
 
 -- what `format` comes to, once its values are read
@@ -180,16 +182,20 @@ format_tells_once arguments outcome other one two =
 -- what the arguments of a command come to
 abbrev ArgumentsTell : CommandWord → List Argument → Outcome → Type 0
 ArgumentsTell Weigh arguments outcome = WeighTells arguments outcome
-ArgumentsTell Report arguments outcome = ReportTells arguments outcome
+ArgumentsTell Report arguments outcome = BoundedTells command.Report arguments outcome
 ArgumentsTell Format arguments outcome = FormatTells arguments outcome
+ArgumentsTell Audit arguments outcome = BoundedTells command.Audit arguments outcome
 
 arguments_tell_once : HasOneReading → (word : CommandWord) (arguments : List Argument) (outcome other : Outcome)
     → ArgumentsTell word arguments outcome → ArgumentsTell word arguments other
     → outcome ≡ other
 arguments_tell_once reading Weigh arguments outcome other one two =
     weigh_tells_once reading arguments outcome other one two
-arguments_tell_once reading Report arguments outcome other one two = report_tells_once arguments outcome other one two
+arguments_tell_once reading Report arguments outcome other one two =
+    bounded_tells_once command.Report arguments outcome other one two
 arguments_tell_once reading Format arguments outcome other one two = format_tells_once arguments outcome other one two
+arguments_tell_once reading Audit arguments outcome other one two =
+    bounded_tells_once command.Audit arguments outcome other one two
 
 -- what words come to, by the first thing that settles it
 data Story (words : List Text) (outcome : Outcome) : Type 0 where
@@ -275,6 +281,9 @@ asked_story words (command.Report settings) asks =
     { read = Ok settings; told = asks.set; comes_to = inl (asks.wide, refl) }
 asked_story words (command.Format settings) asks =
     told Format asks.arguments asks.are_words record { read = Ok settings; told = asks.set; comes_to = refl }
+asked_story words (command.Audit settings) asks =
+    told Audit asks.arguments asks.are_words record
+    { read = Ok settings; told = asks.set; comes_to = inl (asks.wide, refl) }
 
 -- a bad value is what arguments come to
 bad_value_tells : (word : CommandWord) (arguments : List Argument) (kind : WordsKind)
@@ -283,6 +292,7 @@ bad_value_tells : (word : CommandWord) (arguments : List Argument) (kind : Words
 bad_value_tells Weigh arguments kind good has = well good.0 good.1 good.3.0 (Err kind) good.2 good.3.1 has refl
 bad_value_tells Report arguments kind good has = record { read = Err kind; told = has; comes_to = refl }
 bad_value_tells Format arguments kind good has = record { read = Err kind; told = has; comes_to = refl }
+bad_value_tells Audit arguments kind good has = record { read = Err kind; told = has; comes_to = refl }
 
 bad_value_story : (words : List Text) (kind : WordsKind) → HasBadValue words kind → Story words (Err kind)
 bad_value_story words kind has =
@@ -297,6 +307,8 @@ narrow_tells Weigh arguments settings bounded set narrow = absurd bounded
 narrow_tells Report arguments settings bounded set narrow =
     record { read = Ok settings; told = set; comes_to = inr (narrow, refl) }
 narrow_tells Format arguments settings bounded set narrow = absurd bounded
+narrow_tells Audit arguments settings bounded set narrow =
+    record { read = Ok settings; told = set; comes_to = inr (narrow, refl) }
 
 -- the fault of words is what they come to
 fault_story : (words : List Text) (kind : WordsKind) → HasWordsFault words kind → Story words (Err kind)

@@ -21,7 +21,7 @@ use Rattle.command_words.specs.Forms.{form_of, word_of}
 use Rattle.command_words.specs.Matches.{AreMatchesOf}
 use Rattle.command_words.specs.Parser.{parser_for}
 use Rattle.command_words.specs.declared.command_word.CommandWord.{CommandWord}
-use Rattle.command_words.specs.declared.command_word.CommandWord.TheVariants.{Weigh, Report, Format}
+use Rattle.command_words.specs.declared.command_word.CommandWord.TheVariants.{Weigh, Report, Format, Audit}
 use Rattle.command_words.proofs.ParserNameLemmas.{AreNoOptions, IsNoOption, Places, fit}
 use Rattle.command_words.proofs.OneReadingLemmas.{no_list}
 use Rattle.command_words.proofs.MatchRowLemmas.{at_place, same_text, told, told_option, told_positional}
@@ -81,6 +81,7 @@ optional : (command : CommandWord) → IsOptional (shape command)
 optional Weigh = record { empty = refl; passes = refl; valid = λ rows. refl }
 optional Report = record { empty = refl; passes = refl; valid = λ rows. refl }
 optional Format = record { empty = refl; passes = refl; valid = λ rows. refl }
+optional Audit = record { empty = refl; passes = refl; valid = λ rows. refl }
 
 -- two texts that differ in a byte
 apart_by : (text other : Text) → bytes_eq text other ≡ false → text ≢ other
@@ -125,11 +126,21 @@ each_known Format =
     let k = known_by (shape Format) in
     All-from_recursion (Knows (shape Format)) (form_of Format).options
     (k _ _ refl refl, (k _ _ refl refl, (k _ _ refl refl, (k _ _ refl refl, (k _ _ refl refl, tt)))))
+each_known Audit =
+    let k = known_by (shape Audit) in
+    All-from_recursion (Knows (shape Audit)) (form_of Audit).options (
+      k _ _ refl refl,
+      (
+        k _ _ refl refl,
+        (k _ _ refl refl, (k _ _ refl refl, (k _ _ refl refl, (k _ _ refl refl, (k _ _ refl refl, tt))))),
+      ),
+    )
 
 places : (command : CommandWord) → Places (shape command) 1 (form_of command).positionals
 places Weigh = (record { placed = refl; known = refl }, (record { placed = refl; known = refl }, tt))
 places Report = tt
 places Format = tt
+places Audit = tt
 
 -- a positional of `weigh` is none of its options
 no_option : (id : Text) → bytes_eq id (codes "capture") ≡ false → bytes_eq id (codes "weigh") ≡ false
@@ -145,6 +156,7 @@ no_options Weigh =
     (no_option _ refl refl, (no_option _ refl refl, tt))
 no_options Report = All-nil (IsNoOption (form_of Report).options)
 no_options Format = All-nil (IsNoOption (form_of Format).options)
+no_options Audit = All-nil (IsNoOption (form_of Audit).options)
 
 none_apart : AllPairs {X = Text} (λ a b. a ≢ b) []
 none_apart = λ earlier later default before within. absurd (omega arith)
@@ -156,6 +168,7 @@ are_apart Weigh = AllPairs-cons (λ a b. a ≢ b) (codes "SRC") (codes "DST" ∷
     (AllPairs-cons (λ a b. a ≢ b) (codes "DST") [] (All-nil (λ b. codes "DST" ≢ b)) none_apart)
 are_apart Report = none_apart
 are_apart Format = none_apart
+are_apart Audit = none_apart
 
 -- well-formed words bring the walk to the rows of their arguments
 module _ (command : CommandWord) (words : List Text) (arguments : List Argument)
@@ -188,6 +201,10 @@ well_formed_taken Format words arguments well_formed =
     let reached = form_reached Format words arguments well_formed in
     rw (never_stopped (shape Format) (optional Format) words _ _ reached)
     (level_reached (shape Format) (optional Format) words _ _ reached)
+well_formed_taken Audit words arguments well_formed =
+    let reached = form_reached Audit words arguments well_formed in
+    rw (never_stopped (shape Audit) (optional Audit) words _ _ reached)
+    (level_reached (shape Audit) (optional Audit) words _ _ reached)
 
 -- and finds the rows of their arguments
 pub well_formed_found : (command : CommandWord) (words : List Text) (arguments : List Argument)
@@ -199,12 +216,15 @@ well_formed_found Report words arguments well_formed =
     rows_reached (shape Report) (optional Report) words _ _ (form_reached Report words arguments well_formed)
 well_formed_found Format words arguments well_formed =
     rows_reached (shape Format) (optional Format) words _ _ (form_reached Format words arguments well_formed)
+well_formed_found Audit words arguments well_formed =
+    rows_reached (shape Audit) (optional Audit) words _ _ (form_reached Audit words arguments well_formed)
 
 -- the parser is one of which `clap` says what it finds
 pub simple_parser : (command : CommandWord) → is_simple (parser command) ≡ true
 simple_parser Weigh = refl
 simple_parser Report = refl
 simple_parser Format = refl
+simple_parser Audit = refl
 
 -- ---- what the matches tell
 

@@ -2,13 +2,14 @@
 use Rattle.std.specs.Prelude.{◌≡◌, List, [], ◌∷◌, codes}
 use Rattle.command_words.specs.Arguments.{Text, Argument, Form, AreWellFormed}
 use Rattle.command_words.specs.declared.command_word.CommandWord.{CommandWord}
-use Rattle.command_words.specs.declared.command_word.CommandWord.TheVariants.{Weigh, Report, Format}
+use Rattle.command_words.specs.declared.command_word.CommandWord.TheVariants.{Weigh, Report, Format, Audit}
 
 -- the name of a command, which is the first word of the command line
 abbrev pub word_of : CommandWord → Text
 word_of Weigh = codes "weigh"
 word_of Report = codes "report"
 word_of Format = codes "format"
+word_of Audit = codes "audit"
 
 -- the positionals and options that each command takes
 abbrev pub form_of : CommandWord → Form
@@ -28,6 +29,13 @@ form_of Format = record {
   positionals = [];
   options = codes "weigh" ∷ codes "shards" ∷ codes "capacity" ∷ codes "deal" ∷ codes "store" ∷ [];
   required = codes "store" ∷ [];
+}
+form_of Audit = record {
+  positionals = [];
+  options =
+      codes "capture" ∷ codes "weigh" ∷ codes "shards" ∷ codes "capacity" ∷ codes "phi" ∷ codes "deal"
+      ∷ codes "report" ∷ [];
+  required = codes "report" ∷ [];
 }
 
 -- the words are a command's name followed by well-formed words that spell these arguments

@@ -10,7 +10,7 @@ use Rattle.command_words.specs.Settings.{Values, values_in, store_in, SetsSettin
 use Rattle.command_words.specs.declared.command.Command.{Command}
 use Rattle.command_words.specs.declared.command.Command.TheVariants as command
 use Rattle.command_words.specs.declared.command_word.CommandWord.{CommandWord}
-use Rattle.command_words.specs.declared.command_word.CommandWord.TheVariants.{Weigh, Report, Format}
+use Rattle.command_words.specs.declared.command_word.CommandWord.TheVariants.{Weigh, Report, Format, Audit}
 use Rattle.command_words.specs.declared.opt.Opt.{Opt}
 use Rattle.command_words.specs.declared.settings.Settings.{Settings}
 use Rattle.command_words.specs.declared.words_kind.WordsKind.{WordsKind}
@@ -49,17 +49,27 @@ pub record AskToFormat (words : List Text) (settings : Settings) : Type 0 where
   pub are_words : AreWordsOf words Format arguments
   pub set : SetsSettings (values_in arguments) (store_in arguments) settings
 
+-- the command line asks for the verdict on each report of a text
+pub record AskToAudit (words : List Text) (settings : Settings) : Type 0 where
+  pub arguments : List Argument
+  pub are_words : AreWordsOf words Audit arguments
+  pub set : SetsSettings (values_in arguments) (store_in arguments) settings
+  pub wide : IsWide settings
+
 -- which command the arguments of a command line ask for
 abbrev pub AskFor : List Text → Command → Type 0
 AskFor words (command.Weigh prefix settings) = AskToWeigh words prefix settings
 AskFor words (command.Report settings) = AskToReport words settings
 AskFor words (command.Format settings) = AskToFormat words settings
+AskFor words (command.Audit settings) = AskToAudit words settings
 
--- the settings of the command are within their limits, and the tables of a report are large enough for its share
+-- the settings of the command are within their limits, and the tables of a report or an audit are large enough for
+-- its share
 abbrev pub IsLimited : Command → Type 0
 IsLimited (command.Weigh prefix settings) = AreLimited settings
 IsLimited (command.Report settings) = AreLimited settings × IsWide settings
 IsLimited (command.Format settings) = AreLimited settings
+IsLimited (command.Audit settings) = AreLimited settings × IsWide settings
 
 -- the positionals of the command are good: those of `weigh` spell a prefix
 abbrev pub HasGoodPositionals : CommandWord → List Argument → Type 0
@@ -68,12 +78,14 @@ HasGoodPositionals Weigh arguments =
     × ((prefix : PrefixValue) × SpellsPrefix source dest prefix)
 HasGoodPositionals Report arguments = ⊤
 HasGoodPositionals Format arguments = ⊤
+HasGoodPositionals Audit arguments = ⊤
 
 -- the tables of the command must be large enough for its share
 abbrev pub IsBounded : CommandWord → Type 0
 IsBounded Weigh = ⊥
 IsBounded Report = ⊤
 IsBounded Format = ⊥
+IsBounded Audit = ⊤
 
 -- the positionals of `weigh` have this fault
 pub record HasBadPrefix (words : List Text) (fault : PrefixFault) : Type 0 where

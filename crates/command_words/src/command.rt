@@ -12,4 +12,6 @@ pub enum Command {
     Report(Settings),
     /// `format`: an empty store for reports with these settings.
     Format(Settings),
+    /// `audit`: the verdict on each report of a session's text, against the plain records.
+    Audit(Settings),
 }

@@ -13,6 +13,7 @@ pub enum CommandWord {
     Weigh,
     Report,
     Format,
+    Audit,
 }
 
 static NONE: [&str; 0] = [];
@@ -30,6 +31,12 @@ static FORMAT_OPTIONS: [&str; 5] = ["weigh", "shards", "capacity", "deal", "stor
 
 static FORMAT_REQUIRED: [&str; 1] = ["store"];
 
+static AUDIT_OPTIONS: [&str; 7] = [
+    "capture", "weigh", "shards", "capacity", "phi", "deal", "report",
+];
+
+static AUDIT_REQUIRED: [&str; 1] = ["report"];
+
 impl CommandWord {
     /// The command of this name, if there is one.
     pub fn of(word: &str) -> Option<CommandWord>
@@ -40,6 +47,7 @@ impl CommandWord {
             "weigh" => Some(CommandWord::Weigh),
             "report" => Some(CommandWord::Report),
             "format" => Some(CommandWord::Format),
+            "audit" => Some(CommandWord::Audit),
             _ => None,
         }
     }
@@ -52,6 +60,7 @@ impl CommandWord {
             CommandWord::Weigh => "weigh",
             CommandWord::Report => "report",
             CommandWord::Format => "format",
+            CommandWord::Audit => "audit",
         }
     }
 
@@ -74,6 +83,11 @@ impl CommandWord {
                 positionals: NONE.as_slice(),
                 options: FORMAT_OPTIONS.as_slice(),
                 required: FORMAT_REQUIRED.as_slice(),
+            },
+            CommandWord::Audit => FormNames {
+                positionals: NONE.as_slice(),
+                options: AUDIT_OPTIONS.as_slice(),
+                required: AUDIT_REQUIRED.as_slice(),
             },
         }
     }

@@ -6,7 +6,7 @@ ghost use Rattle.command_words.specs.Matches.{AreMatchesOfWords};
 ghost use Rattle.command_words.specs.Words.{texts, AskFor, HasWordsFault, IsLimited};
 ghost use Rattle.command_words.specs.declared.command.Command.{Command};
 ghost use Rattle.command_words.specs.declared.command_word.CommandWord.{CommandWord};
-ghost use Rattle.command_words.specs.declared.command_word.CommandWord.TheVariants.{Weigh, Report, Format};
+ghost use Rattle.command_words.specs.declared.command_word.CommandWord.TheVariants.{Weigh, Report, Format, Audit};
 ghost use Rattle.command_words.specs.declared.words_kind.WordsKind.{WordsKind};
 ghost use Rattle.command_words.specs.declared.words_kind.WordsRefusal.TheVariants.{Bad, OutOfMemory};
 
@@ -33,7 +33,7 @@ pub(crate) struct CommandLine<'a> {
 ///
 /// Arguments that ask for no command are refused for their first fault: the command, then the form of the
 /// arguments, then the prefix, then the values in the order of `Opt`, each as a number before its limits, then
-/// for `report` the bound on `phi` times the capacity.
+/// for `report` and `audit` the bound on `phi` times the capacity.
 pub fn read_words(alloc: Global, words: &[&str]) -> Result<Command, WordsRefusal>
     ensures ok { IfOk result (AskFor (texts words.now)) }
     ensures limited { IfOk result IsLimited }
@@ -89,6 +89,7 @@ fn command_of(word: CommandWord, matches: &ArgMatches<'_>) -> Result<Command, Wo
         CommandWord::Weigh => weigh_command(matches),
         CommandWord::Report => report_command(matches),
         CommandWord::Format => format_command(matches),
+        CommandWord::Audit => audit_command(matches),
     }
 }
 
@@ -126,4 +127,16 @@ fn format_command(matches: &ArgMatches<'_>) -> Result<Command, WordsKind>
     ensures err { (words : List Text) → AreMatchesOfWords words Format matches.now → IfErr result (HasWordsFault words) }
 {
     Ok(Command::Format(settings_of(matches)?))
+}
+
+// The command asked for by arguments that begin with `audit`.
+fn audit_command(matches: &ArgMatches<'_>) -> Result<Command, WordsKind>
+    ensures ok { (words : List Text) → AreMatchesOfWords words Audit matches.now → IfOk result (AskFor words) }
+    ensures err { (words : List Text) → AreMatchesOfWords words Audit matches.now → IfErr result (HasWordsFault words) }
+{
+    let settings = settings_of(matches)?;
+    if !is_wide(&settings) {
+        return Err(WordsKind::Bound);
+    }
+    Ok(Command::Audit(settings))
 }

@@ -18,7 +18,7 @@ const DEFAULTS: Settings = Settings {
 };
 
 // Arguments joined by single spaces, and what is wrong with them.
-const BAD_WORDS: [(&str, WordsKind); 51] = [
+const BAD_WORDS: [(&str, WordsKind); 55] = [
     ("", WordsKind::NoCommand),
     ("way", WordsKind::UnknownCommand),
     ("Report", WordsKind::UnknownCommand),
@@ -39,6 +39,9 @@ const BAD_WORDS: [(&str, WordsKind); 51] = [
     ("format --capacity 2", WordsKind::Refused),
     ("format --store S --capture C", WordsKind::Refused),
     ("format --store S --phi 1", WordsKind::Refused),
+    ("audit", WordsKind::Refused),
+    ("audit --report R --store S", WordsKind::Refused),
+    ("audit --report R --block 1", WordsKind::Refused),
     ("report --shards", WordsKind::Refused),
     ("report --shards --phi", WordsKind::Refused),
     ("report --shards=", WordsKind::Refused),
@@ -117,6 +120,10 @@ const BAD_WORDS: [(&str, WordsKind); 51] = [
     ),
     // the bound
     ("report --capacity 17 --phi 117647", WordsKind::Bound),
+    (
+        "audit --capacity 17 --report R --phi 117647",
+        WordsKind::Bound,
+    ),
 ];
 
 #[test]
@@ -160,35 +167,56 @@ fn reads_words(rt: HostRuntime) -> Result<(), Fail> {
         store: true,
         ..DEFAULTS
     };
-    // The arguments, what they ask for, and the capture and the store that they name.
+    let by_packets = Settings {
+        weigh: Weigh::Packets,
+        ..DEFAULTS
+    };
+    // The arguments, what they ask for, and the capture, the text of reports and the store that they name.
     let cases = [
-        ("report", Command::Report(DEFAULTS), "-", ""),
-        ("report --capture=a=b", Command::Report(DEFAULTS), "a=b", ""),
+        ("report", Command::Report(DEFAULTS), "-", "", ""),
+        (
+            "report --capture=a=b",
+            Command::Report(DEFAULTS),
+            "a=b",
+            "",
+            "",
+        ),
         (
             "report --capacity 16 --phi 125000",
             Command::Report(least),
             "-",
+            "",
             "",
         ),
         (
             "report --phi=117648 --rounds 32 --deal free --capacity 17 --block 1 --shards=16 --store s --workers=16 --weigh packets --callers 8 --capture c",
             Command::Report(all),
             "c",
+            "",
             "s",
         ),
         (
             "format --store=s --capacity 2",
             Command::Format(small),
             "",
+            "",
             "s",
         ),
+        ("audit --report R", Command::Audit(DEFAULTS), "-", "R", ""),
+        (
+            "audit --weigh packets --report=r --capture c",
+            Command::Audit(by_packets),
+            "c",
+            "r",
+            "",
+        ),
     ];
-    for (line, command, capture, store) in cases {
+    for (line, command, capture, report, store) in cases {
         let words: Vec<&str> = line.split_whitespace().collect(alloc)?;
         assert_eq!(rt; read_words(alloc, words.as_slice()), Ok(command), "{line}");
         let named = paths(alloc, words.as_slice())?;
         assert_eq!(rt; named.capture.as_str(), capture, "{line}");
-        assert_eq!(rt; named.report.as_str(), "", "{line}");
+        assert_eq!(rt; named.report.as_str(), report, "{line}");
         assert_eq!(rt; named.store.as_str(), store, "{line}");
     }
     Ok(())
