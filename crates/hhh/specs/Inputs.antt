@@ -1,9 +1,9 @@
--- The source of a capture's bytes, by its path.
+-- The source of the bytes of an input, by its path.
 use Rattle.std.specs.Prelude.{ℕ, ◌≡◌, ◌≢◌, List, [], codes}
 use Rattle.hhh.specs.declared.input.Input.{Input}
 use Rattle.hhh.specs.declared.input.Input.TheVariants.{Nothing, Standard, File}
 
--- the path `-` means standard input, the empty path no capture, and any other path the file at that path
+-- the path `-` means standard input, the empty path no input, and any other path the file at that path
 abbrev pub IsInputOf : List ℕ → Input → Type 0
 IsInputOf path Nothing = path ≡ []
 IsInputOf path (Standard stdin) = path ≡ codes "-"

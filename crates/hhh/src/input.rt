@@ -1,4 +1,4 @@
-//! The source of the capture's bytes.
+//! The source of an input's bytes.
 
 ghost use Rattle.std.specs.Prelude.{◌≡◌};
 
@@ -6,10 +6,10 @@ use outside_io::PathText;
 use std::fs::File;
 use std::io::{Read, Result as IoResult, Stdin};
 
-/// The bytes of a capture: those of standard input or of a file.
+/// The bytes of a capture or of a text: those of standard input or of a file.
 #[derive(Drop)]
 pub enum Input<'a> {
-    /// No bytes, for arguments that ask for no command.
+    /// No bytes, for an input that the command doesn't read.
     Nothing,
     /// The contents of standard input.
     Standard(Stdin),

@@ -6,17 +6,17 @@ use Rattle.recovery.specs.declared.fault.OpenFault.{OpenFault}
 use Rattle.recovery.specs.declared.fault.OpenFault.TheVariants as opening
 use Rattle.command_words.specs.declared.settings.Settings.{Settings}
 use Rattle.hhh_engine.specs.Answer.{Writes}
-use Rattle.hhh_engine.specs.Ending.{Ends, IsRefusedStore, RefusesStore}
+use Rattle.hhh_engine.specs.Ending.{Ends, IsRefusedStore, RefusesStore, SourceFaults}
 use Rattle.hhh_engine.specs.Feed.{EndsDealt, IsDealtCapture, RefusesLists, WritesDealt}
 use Rattle.hhh_engine.specs.Feed.{WritesDealtInPart}
-use Rattle.hhh_engine.specs.Inputs.{IsCapture, inputs}
+use Rattle.hhh_engine.specs.Inputs.{IsCapture}
 use Rattle.hhh_engine.specs.Rounds.{Faults}
 use Rattle.hhh_engine.specs.Saves.{store_settings}
 use Rattle.hhh_engine.specs.Session.{BeginsSession, IsSession, IsSessionInPart, Keeping, Rules, SpellsSession, opening_of}
 use Rattle.hhh_engine.specs.declared.status.Status.{Status}
 use Rattle.hhh_engine.specs.declared.status.Status.TheVariants.{Done, BadWords, BadCapture, ReadFault, WriteFault}
 use Rattle.hhh_engine.specs.declared.status.Status.TheVariants.{DiskFault, NotFormatted, Damaged, OtherSettings}
-use Rattle.hhh_engine.specs.declared.status.Status.TheVariants.{OtherCapture, OutOfMemory}
+use Rattle.hhh_engine.specs.declared.status.Status.TheVariants.{OtherCapture, AuditNo, BadReport, OutOfMemory}
 
 -- what follows of each capture that may be known follows of the one that is
 pub if_known : (left : Option (List ℕ)) (P Q : List ℕ → Type 0) → ((file : List ℕ) → P file → Q file) → IfSome left P
@@ -74,12 +74,12 @@ writes_in_part settings rules left store lists tail old new dealt writes = recor
 }
 
 -- the store is refused over the dealt lists of a capture
-refuses_store : (settings : Settings) (rules : Rules) (left rest store store_now : Option (List ℕ))
+refuses_store : (settings : Settings) (rules : Rules) (left store store_now : Option (List ℕ))
     (lists : List (List RecordValue)) (tail : List ℕ) (fault : OpenFault)
     → IfSome left (λ file. IsDealtCapture settings rules file lists tail)
     → RefusesLists settings lists store store_now fault
-    → RefusesStore settings rules (inputs left rest store) store_now fault
-refuses_store settings rules left rest store store_now lists tail fault dealt refuses = (
+    → RefusesStore settings rules left store store_now fault
+refuses_store settings rules left store store_now lists tail fault dealt refuses = (
   refuses.used,
   refuses.reads,
   if_known left (λ file. IsDealtCapture settings rules file lists tail)
@@ -105,27 +105,27 @@ nothing_or_part settings rules left store lists tail ReadToEnd sink written old 
 
 -- how a report over a capture ended, from how it ended over its dealt lists
 pub report_ends : {K : Type 0} (settings : Settings) (rules : Rules) (keeping : Keeping)
-    (left rest store store_now : Option (List ℕ)) (lists : List (List RecordValue)) (tail : List ℕ)
-    (ReadToEnd DiskSame : Type 0) (read_before read_now : ℕ) (sink written : K) (old new : Option (List ℕ))
+    (left store store_now : Option (List ℕ)) (lists : List (List RecordValue)) (tail : List ℕ)
+    (ReadToEnd DiskSame : Type 0) (read_before read_now : SourceFaults) (sink written : K) (old new : Option (List ℕ))
     (write_before write_now disk_before disk_now : ℕ) (status : Status)
     → IfSome left (λ file. IsDealtCapture settings rules file lists tail) → ReadToEnd → read_now ≡ read_before
     → EndsDealt settings lists tail keeping store store_now sink written old new
     (record { sink = write_before; disk = disk_before }) (record { sink = write_now; disk = disk_now }) status
     → Ends (λ text. IfSome left (λ file. IsSession settings rules keeping store file text))
     (λ front. IfSome left (λ file. IsSessionInPart settings rules store file front))
-    ReadToEnd (IfSome left IsCapture) (Rose disk_before disk_now) DiskSame (RefusesStore settings rules (inputs left rest store) store_now) left
-    read_before read_now sink written old new write_before write_now status
-report_ends settings rules keeping left rest store store_now lists tail ReadToEnd DiskSame read_before read_now sink
+    ReadToEnd (IfSome left IsCapture) (Rose disk_before disk_now) DiskSame (RefusesStore settings rules left store store_now)
+    (λ status. ⊥) left read_before read_now sink written old new write_before write_now status
+report_ends settings rules keeping left store store_now lists tail ReadToEnd DiskSame read_before read_now sink
     written old new write_before write_now disk_before disk_now Done dealt read same ends = (
       read,
       writes_session settings rules keeping left store lists tail old new dealt ends.0,
       same,
       ap (λ (f : Faults). f.sink) ends.1,
     )
-report_ends settings rules keeping left rest store store_now lists tail ReadToEnd DiskSame read_before read_now sink
+report_ends settings rules keeping left store store_now lists tail ReadToEnd DiskSame read_before read_now sink
     written old new write_before write_now disk_before disk_now WriteFault dealt read same ends =
     (read, writes_in_part settings rules left store lists tail old new dealt ends.0, ends.1.rose, same)
-report_ends settings rules keeping left rest store store_now lists tail ReadToEnd DiskSame read_before read_now sink
+report_ends settings rules keeping left store store_now lists tail ReadToEnd DiskSame read_before read_now sink
     written old new write_before write_now disk_before disk_now DiskFault dealt read same ends = (
       read,
       if_known left (λ file. IsDealtCapture settings rules file lists tail) IsCapture
@@ -136,50 +136,55 @@ report_ends settings rules keeping left rest store store_now lists tail ReadToEn
       same,
       ends.1.sink,
     )
-report_ends settings rules keeping left rest store store_now lists tail ReadToEnd DiskSame read_before read_now sink
+report_ends settings rules keeping left store store_now lists tail ReadToEnd DiskSame read_before read_now sink
     written old new write_before write_now disk_before disk_now NotFormatted dealt read same ends = (
-      refuses_store settings rules left rest store store_now lists tail opening.NotFormatted dealt ends.0,
+      refuses_store settings rules left store store_now lists tail opening.NotFormatted dealt ends.0,
       read,
       ends.1,
       same,
       ap (λ (f : Faults). f.sink) ends.2,
     )
-report_ends settings rules keeping left rest store store_now lists tail ReadToEnd DiskSame read_before read_now sink
+report_ends settings rules keeping left store store_now lists tail ReadToEnd DiskSame read_before read_now sink
     written old new write_before write_now disk_before disk_now (Damaged slot) dealt read same ends = (
-      refuses_store settings rules left rest store store_now lists tail (opening.Damaged slot) dealt ends.0,
+      refuses_store settings rules left store store_now lists tail (opening.Damaged slot) dealt ends.0,
       read,
       ends.1,
       same,
       ap (λ (f : Faults). f.sink) ends.2,
     )
-report_ends settings rules keeping left rest store store_now lists tail ReadToEnd DiskSame read_before read_now sink
+report_ends settings rules keeping left store store_now lists tail ReadToEnd DiskSame read_before read_now sink
     written old new write_before write_now disk_before disk_now (OtherSettings stored asked) dealt read same ends = (
-      refuses_store settings rules left rest store store_now lists tail (opening.OtherSettings stored asked) dealt ends.0,
+      refuses_store settings rules left store store_now lists tail (opening.OtherSettings stored asked) dealt ends.0,
       read,
       ends.1,
       same,
       ap (λ (f : Faults). f.sink) ends.2,
     )
-report_ends settings rules keeping left rest store store_now lists tail ReadToEnd DiskSame read_before read_now sink
+report_ends settings rules keeping left store store_now lists tail ReadToEnd DiskSame read_before read_now sink
     written old new write_before write_now disk_before disk_now (OtherCapture stored asked) dealt read same ends = (
-      refuses_store settings rules left rest store store_now lists tail (opening.OtherCapture stored asked) dealt ends.0,
+      refuses_store settings rules left store store_now lists tail (opening.OtherCapture stored asked) dealt ends.0,
       read,
       ends.1,
       same,
       ap (λ (f : Faults). f.sink) ends.2,
     )
-report_ends settings rules keeping left rest store store_now lists tail ReadToEnd DiskSame read_before read_now sink
+report_ends settings rules keeping left store store_now lists tail ReadToEnd DiskSame read_before read_now sink
     written old new write_before write_now disk_before disk_now OutOfMemory dealt read same ends = (
       nothing_or_part settings rules left store lists tail ReadToEnd sink written old new dealt read ends.0,
       same,
       ap (λ (f : Faults). f.sink) ends.1,
     )
-report_ends settings rules keeping left rest store store_now lists tail ReadToEnd DiskSame read_before read_now sink
+report_ends settings rules keeping left store store_now lists tail ReadToEnd DiskSame read_before read_now sink
     written old new write_before write_now disk_before disk_now (BadWords kind) dealt read same ends = absurd ends
-report_ends settings rules keeping left rest store store_now lists tail ReadToEnd DiskSame read_before read_now sink
+report_ends settings rules keeping left store store_now lists tail ReadToEnd DiskSame read_before read_now sink
     written old new write_before write_now disk_before disk_now (BadCapture fault) dealt read same ends = absurd ends
-report_ends settings rules keeping left rest store store_now lists tail ReadToEnd DiskSame read_before read_now sink
+report_ends settings rules keeping left store store_now lists tail ReadToEnd DiskSame read_before read_now sink
     written old new write_before write_now disk_before disk_now ReadFault dealt read same ends = absurd ends
+report_ends settings rules keeping left store store_now lists tail ReadToEnd DiskSame read_before read_now sink
+    written old new write_before write_now disk_before disk_now (AuditNo report verdict) dealt read same ends =
+    absurd ends
+report_ends settings rules keeping left store store_now lists tail ReadToEnd DiskSame read_before read_now sink
+    written old new write_before write_now disk_before disk_now (BadReport fault) dealt read same ends = absurd ends
 
 -- the disk's count of faults rose only where the status says so
 pub dealt_told : {K : Type 0} (settings : Settings) (lists : List (List RecordValue)) (tail : List ℕ)
@@ -208,4 +213,8 @@ dealt_told settings lists tail keeping store store_now sink written old new befo
 dealt_told settings lists tail keeping store store_now sink written old new before now (BadCapture fault) ends other =
     absurd ends
 dealt_told settings lists tail keeping store store_now sink written old new before now ReadFault ends other =
+    absurd ends
+dealt_told settings lists tail keeping store store_now sink written old new before now (AuditNo report verdict) ends other =
+    absurd ends
+dealt_told settings lists tail keeping store store_now sink written old new before now (BadReport fault) ends other =
     absurd ends

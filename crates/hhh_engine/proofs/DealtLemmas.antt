@@ -21,7 +21,7 @@ use Rattle.hhh_engine.specs.Status.{status_of_opening}
 use Rattle.hhh_engine.specs.declared.status.Status.{Status}
 use Rattle.hhh_engine.specs.declared.status.Status.TheVariants.{Done, BadWords, BadCapture, ReadFault, WriteFault}
 use Rattle.hhh_engine.specs.declared.status.Status.TheVariants.{DiskFault, NotFormatted, Damaged, OtherSettings}
-use Rattle.hhh_engine.specs.declared.status.Status.TheVariants.{OtherCapture, OutOfMemory}
+use Rattle.hhh_engine.specs.declared.status.Status.TheVariants.{OtherCapture, AuditNo, BadReport, OutOfMemory}
 use Rattle.hhh_engine.proofs.SessionTextLemmas.{nothing_in_part, spells_weaker}
 
 -- what a run keeps of its store, from the opening of the store and the saves after it
@@ -177,6 +177,10 @@ session_ends settings lists tail keeping store store_now base sink written old n
 session_ends settings lists tail keeping store store_now base sink written old new before now (OtherSettings stored asked) begins
     represents taken part fault = absurd fault
 session_ends settings lists tail keeping store store_now base sink written old new before now (OtherCapture stored asked) begins
+    represents taken part fault = absurd fault
+session_ends settings lists tail keeping store store_now base sink written old new before now (AuditNo report verdict) begins
+    represents taken part fault = absurd fault
+session_ends settings lists tail keeping store store_now base sink written old new before now (BadReport wrong) begins
     represents taken part fault = absurd fault
 
 -- the session was written whole

@@ -1,5 +1,5 @@
 -- Worked examples of what commands write and read, of what comes in its place, and of what each status says.
-use Rattle.std.proofs.Common.{◌≡◌, ℕ, List, [], ◌∷◌, ◌++◌, Some, None, inl, inr, refl, ap}
+use Rattle.std.proofs.Common.{◌≡◌, ℕ, List, [], ◌∷◌, ◌++◌, Some, None, inl, inr, ⊎_elim, refl, ap}
 use Rattle.std.proofs.Common.{codes, arith, get_or, length, true}
 use Rattle.std.specs.Prelude.{⊤}
 use Rattle.std.proofs.lemmas.List.Elements.{All-nil}
@@ -8,14 +8,15 @@ use Rattle.pcap_frames.specs.{header_fault, fault_at}
 use Rattle.frame_records.specs.declared.weigh.Weigh.TheVariants.{Bytes}
 use Rattle.command_words.specs.{AskFor}
 use Rattle.command_words.specs.declared.command.Command.{Command}
-use Rattle.command_words.specs.declared.command.Command.TheVariants.{Weigh, Report as report_command, Format}
+use Rattle.command_words.specs.declared.command.Command.TheVariants.{Weigh, Report as report_command, Format, Audit}
 use Rattle.command_words.specs.declared.words_kind.WordsKind.TheVariants.{NoCommand}
 use Rattle.hhh_engine.specs.Answer.{Answers, AnswersInPart, IsAnswer, IsAnswerInPart, IsWeightTextInPart, Writes}
 use Rattle.hhh_engine.specs.Answer.{IsCutShort, formatted_text}
-use Rattle.hhh_engine.specs.Inputs.{AskForNoStore, AskToRead, CanBeAnswered, HasKnownCapture, ReadsCapture, UsesStore}
-use Rattle.hhh_engine.specs.Inputs.{WasAccepted, WasRead, inputs}
+use Rattle.hhh_engine.specs.Inputs.{AskNotToUse, AskToUse, CanBeAnswered, HasKnownCapture, ReadsCapture, ReadsSession}
+use Rattle.hhh_engine.specs.Inputs.{UsesStore, WasAccepted, WasRead, inputs}
 use Rattle.hhh_engine.specs.Ending.{Ends, FailedDisk, FailedToRead, FailedToWrite, FormatEnds, RefusedCapture}
-use Rattle.hhh_engine.specs.Ending.{RefusedWords, RefusesFor, RefusesStore, WroteInPart}
+use Rattle.hhh_engine.specs.Ending.{OfDisk, OneRose, RefusedWords, RefusesFor, RefusesStore, WasAnswered, WroteInPart}
+use Rattle.hhh_engine.specs.Ending.{source_faults}
 use Rattle.recovery.specs.declared.fault.OpenFault.{OpenFault}
 use Rattle.recovery.specs.declared.fault.OpenFault.TheVariants as opening
 use Rattle.hhh_engine.specs.Saves.{store_settings}
@@ -23,7 +24,9 @@ use Rattle.hhh_engine.specs.NoText.{HasNoText}
 use Rattle.hhh_engine.specs.declared.status.Status.{Status}
 use Rattle.hhh_engine.specs.declared.status.Status.TheVariants.{Done, BadCapture, BadWords, ReadFault}
 use Rattle.hhh_engine.specs.declared.status.Status.TheVariants.{WriteFault, DiskFault, NotFormatted, Damaged}
-use Rattle.hhh_engine.specs.declared.status.Status.TheVariants.{OutOfMemory}
+use Rattle.hhh_engine.specs.declared.status.Status.TheVariants.{AuditNo, BadReport, OutOfMemory}
+use Rattle.exact_audit.specs.declared.verdict.Verdict.TheVariants.{BadTotal}
+use Rattle.report_text.specs.declared.session_fault.TextFault.TheVariants.{TooLong}
 use Rattle.hhh_engine.proofs.Examples.{file, header, prefix, weight_of_the_file}
 use Rattle.hhh_engine.proofs.ExamplesOfSessions.{header_is_a_capture, in_turn, keeps_nothing, session_in_part}
 use Rattle.hhh_engine.proofs.ExamplesOfSessions.{session_over_the_header, settings, text}
@@ -32,7 +35,7 @@ abbrev words : List (List ℕ)
 words = codes "report" ∷ []
 
 pub session_is_the_answer :
-    IsAnswer in_turn keeps_nothing (report_command settings) (inputs (Some header) (Some []) None) text
+    IsAnswer in_turn keeps_nothing (report_command settings) (inputs (Some header) (Some []) None None None) text
 session_is_the_answer = session_over_the_header
 
 asks_for_a_report : AskFor words (report_command settings)
@@ -66,15 +69,16 @@ asks_for_a_report = record {
   wide = omega arith;
 }
 
-pub report_asks_to_read : AskToRead words
-report_asks_to_read = record { command = report_command settings; asked = asks_for_a_report; reads = tt }
+pub report_asks_to_read : AskToUse ReadsCapture words
+report_asks_to_read = record { command = report_command settings; asked = asks_for_a_report; uses = tt }
 
 no_words_ask : (command : Command) → AskFor [] command → ⊥
 no_words_ask (Weigh prefix settings) asked = let begun = asked.are_words.begun in cc
 no_words_ask (report_command settings) asked = let begun = asked.are_words.begun in cc
 no_words_ask (Format settings) asked = let begun = asked.are_words.begun in cc
+no_words_ask (Audit settings) asked = let begun = asked.are_words.begun in cc
 
-pub no_words_ask_to_read : AskToRead [] → ⊥
+pub no_words_ask_to_read : AskToUse ReadsCapture [] → ⊥
 no_words_ask_to_read asks = no_words_ask asks.command asks.asked
 
 pub report_reads_a_capture : ReadsCapture (report_command settings)
@@ -83,6 +87,13 @@ report_reads_a_capture = tt
 pub format_reads_no_capture : ReadsCapture (Format settings) → ⊥
 format_reads_no_capture reads = reads
 
+-- an audit reads two inputs, and a report one
+pub audit_reads_a_session : ReadsSession (Audit settings)
+audit_reads_a_session = tt
+
+pub report_reads_no_session : ReadsSession (report_command settings) → ⊥
+report_reads_no_session reads = reads
+
 -- the settings ask for no store
 pub report_without_a_store : UsesStore (report_command settings) → ⊥
 report_without_a_store uses = cc uses
@@ -90,7 +101,7 @@ report_without_a_store uses = cc uses
 pub report_with_a_store : UsesStore (report_command (record settings { store = true }))
 report_with_a_store = refl
 
-pub report_asks_for_no_store : AskForNoStore words
+pub report_asks_for_no_store : AskNotToUse UsesStore words
 report_asks_for_no_store = record {
   command = report_command settings;
   asked = asks_for_a_report;
@@ -105,24 +116,24 @@ silent_source_tells_no_capture tells = let told = tells.told in cc
 
 -- of the disk nothing needs to be known
 pub report_over_a_header_can_be_answered :
-    CanBeAnswered in_turn (report_command settings) (inputs (Some header) (Some []) None)
+    CanBeAnswered in_turn (report_command settings) (inputs (Some header) (Some []) None None None)
 report_over_a_header_can_be_answered = (source_of_a_header, λ used. absurd (cc used))
 
 -- but it does with a store
 pub report_over_an_unknown_store :
-    CanBeAnswered in_turn (report_command (record settings { store = true })) (inputs (Some header) (Some []) None) → ⊥
+    CanBeAnswered in_turn (report_command (record settings { store = true })) (inputs (Some header) (Some []) None None None) → ⊥
 report_over_an_unknown_store can = let store = can.1 refl in cc store.told
 
-pub header_was_accepted : WasAccepted (report_command settings) (inputs (Some header) (Some []) None)
+pub header_was_accepted : WasAccepted (report_command settings) (inputs (Some header) (Some []) None None None)
 header_was_accepted = ([], header_is_a_capture)
 
 -- a source with a byte left was not read to its end
-pub one_byte_left : WasRead (report_command settings) (inputs (Some header) (Some (1 ∷ [])) None) → ⊥
+pub one_byte_left : WasRead (report_command settings) (inputs (Some header) (Some (1 ∷ [])) None None None) → ⊥
 one_byte_left read = cc read
 
 -- the text stands behind what the sink held
 pub session_was_written :
-    Answers in_turn keeps_nothing words (inputs (Some header) (Some []) None) (Some (codes "# "))
+    Answers in_turn keeps_nothing words (inputs (Some header) (Some []) None None None) (Some (codes "# "))
     (Some (codes "# " ++ text))
 session_was_written = record {
   command = report_command settings;
@@ -133,7 +144,7 @@ session_was_written = record {
 
 -- a sink with room for 12 bytes took a part of the first line
 pub session_was_written_in_part :
-    AnswersInPart in_turn words (inputs (Some header) (Some []) None) (Some []) (Some (codes "opened 0 0 0"))
+    AnswersInPart in_turn words (inputs (Some header) (Some []) None None None) (Some []) (Some (codes "opened 0 0 0"))
 session_was_written_in_part = record {
   command = report_command settings;
   asked = asks_for_a_report;
@@ -158,7 +169,7 @@ weight_in_part = record {
 }
 
 pub weight_in_part_is_an_answer_in_part :
-    IsAnswerInPart in_turn (Weigh prefix settings) (inputs (Some file) (Some []) None) (codes "low 10")
+    IsAnswerInPart in_turn (Weigh prefix settings) (inputs (Some file) (Some []) None None None) (codes "low 10")
 weight_in_part_is_an_answer_in_part = weight_in_part
 
 -- `format` writes one line, whatever its inputs are
@@ -166,10 +177,10 @@ pub text_of_format : formatted_text ≡ codes "formatted\n"
 text_of_format = refl
 
 pub format_answers_in_a_line :
-    IsAnswer in_turn keeps_nothing (Format settings) (inputs None None None) (codes "formatted\n")
+    IsAnswer in_turn keeps_nothing (Format settings) (inputs None None None None None) (codes "formatted\n")
 format_answers_in_a_line = refl
 
-pub format_is_cut_short : IsAnswerInPart in_turn (Format settings) (inputs None None None) (codes "format")
+pub format_is_cut_short : IsAnswerInPart in_turn (Format settings) (inputs None None None None None) (codes "format")
 format_is_cut_short = record {
   text = formatted_text;
   is_text = refl;
@@ -204,13 +215,15 @@ success_has_a_text no_text = no_text
 
 -- the first byte was read before the missing command was seen
 pub no_command_before_a_read :
-    RefusedWords {S = List ℕ} {K = List ℕ} {D = List ℕ} [] NoCommand (1 ∷ 2 ∷ []) (2 ∷ []) [] [] [] [] → ⊥
+    RefusedWords {S = List ℕ} {T = List ℕ} {K = List ℕ} {D = List ℕ} [] NoCommand (1 ∷ 2 ∷ []) (2 ∷ []) [] [] [] []
+    [] [] → ⊥
 no_command_before_a_read refused =
     let same : 2 ≡ 1 = ap (λ bytes. get_or bytes 0 0) refused.unread in omega (arith, same)
 
 pub no_command :
-    RefusedWords {S = List ℕ} {K = List ℕ} {D = List ℕ} [] NoCommand (1 ∷ 2 ∷ []) (1 ∷ 2 ∷ []) [] [] (7 ∷ []) (7 ∷ [])
-no_command = record { first_fault = refl; unread = refl; unwritten = refl; untouched = refl }
+    RefusedWords {S = List ℕ} {T = List ℕ} {K = List ℕ} {D = List ℕ} [] NoCommand (1 ∷ 2 ∷ []) (1 ∷ 2 ∷ []) (3 ∷ [])
+    (3 ∷ []) [] [] (7 ∷ []) (7 ∷ [])
+no_command = record { first_fault = refl; unread = refl; text_unread = refl; unwritten = refl; untouched = refl }
 
 pub empty_file_is_refused :
     RefusedCapture {K = List ℕ} {D = List ℕ} (Some []) (fault_at ShortHeader 0) [] [] (7 ∷ []) (7 ∷ [])
@@ -222,29 +235,36 @@ pub capture_refused_after_a_save :
 capture_refused_after_a_save refused =
     let same : 8 ≡ 7 = ap (λ bytes. get_or bytes 0 0) refused.untouched in omega (arith, same)
 
-pub source_failed : FailedToRead {K = List ℕ} {D = List ℕ} 3 4 [] [] (7 ∷ []) (7 ∷ [])
-source_failed = record { rose = omega arith; unwritten = refl; untouched = refl }
+pub source_failed : FailedToRead {K = List ℕ} {D = List ℕ} (source_faults 3 0) (source_faults 4 0) [] [] (7 ∷ []) (7 ∷ [])
+source_failed = record { rose = inl (omega arith); unwritten = refl; untouched = refl }
+
+-- the text of a session may fail instead, and its count alone tells
+pub text_failed : OneRose (source_faults 3 0) (source_faults 3 1)
+text_failed = inr (omega arith)
+
+pub no_source_failed : OneRose (source_faults 3 0) (source_faults 3 0) → ⊥
+no_source_failed rose = ⊎_elim (λ capture. omega (arith, capture)) (λ text. omega (arith, text)) rose
 
 pub sink_failed_in_the_session :
-    FailedToWrite in_turn words (inputs (Some header) (Some []) None) (Some []) (Some (codes "opened 0 0 0")) 3 4
+    FailedToWrite in_turn words (inputs (Some header) (Some []) None None None) (Some []) (Some (codes "opened 0 0 0")) 3 4
 sink_failed_in_the_session = record { rose = omega arith; in_part = session_was_written_in_part }
 
 -- a disk fails before anything is written, or after a part
-pub nothing_was_written_in_part : WroteInPart {K = List ℕ} in_turn [] (inputs None None None) [] [] (Some []) (Some [])
+pub nothing_was_written_in_part : WroteInPart {K = List ℕ} in_turn [] (inputs None None None None None) [] [] (Some []) (Some [])
 nothing_was_written_in_part = inl refl
 
 pub disk_failed_in_the_session :
-    FailedDisk {K = List ℕ} in_turn words (inputs (Some header) (Some []) None) [] (codes "opened 0 0 0") (Some [])
+    FailedDisk {K = List ℕ} in_turn words (inputs (Some header) (Some []) None None None) [] (codes "opened 0 0 0") (Some [])
     (Some (codes "opened 0 0 0")) 3 4
 disk_failed_in_the_session = record { rose = omega arith; in_part = inr session_was_written_in_part }
 
 -- where no store is asked for, none is refused
 pub no_store_is_refused : (fault : OpenFault)
-    → RefusesStore settings in_turn (inputs (Some header) (Some []) None) None fault → ⊥
+    → RefusesStore settings in_turn (Some header) None None fault → ⊥
 no_store_is_refused fault refuses = cc refuses.0
 
 pub format_refuses_no_store : (fault : OpenFault)
-    → RefusesFor (Format settings) in_turn (inputs None None None) None fault → ⊥
+    → RefusesFor (Format settings) in_turn (inputs None None None None None) None fault → ⊥
 format_refuses_no_store fault refuses = refuses
 
 -- where the disk fails, `format` writes nothing; where memory runs out, the disk is as before too
@@ -276,11 +296,20 @@ part text = text ≡ codes "ye"
 abbrev unformatted : OpenFault → Type 0
 unformatted fault = fault ≡ opening.NotFormatted
 
--- how it ended with these counts of faults, and these bytes in the sink
+-- the number of the report that an audit found
+abbrev report_number : Status → ℕ
+report_number (AuditNo report verdict) = report
+report_number status = 0
+
+-- its audit found that the second report isn't sound
+abbrev audited : Status → Type 0
+audited status = status ≡ AuditNo 2 BadTotal
+
+-- how it ended with these counts of faults of its capture and its sink, and these bytes in the sink
 abbrev ends_with : (read_before read_now : ℕ) → List ℕ → (write_before write_now : ℕ) → Status → Type 0
 ends_with read_before read_now written write_before write_now status =
-    Ends {K = List ℕ} yes part ⊤ ⊤ ⊤ ⊤ unformatted (Some []) read_before read_now [] written (Some []) (Some written)
-    write_before write_now status
+    Ends {K = List ℕ} yes part ⊤ ⊤ ⊤ ⊤ unformatted audited (Some []) (source_faults read_before 0)
+    (source_faults read_now 0) [] written (Some []) (Some written) write_before write_now status
 
 pub command_that_wrote_its_text :
     ends_with 0 0 (codes "yes") 0 0 Done
@@ -292,12 +321,13 @@ command_that_wrote_a_part =
     (tt, record { text = codes "ye"; is_text = refl; written = refl }, omega arith, refl)
 
 pub command_whose_source_failed : ends_with 3 4 [] 0 0 ReadFault
-command_whose_source_failed = (omega arith, refl, tt, refl)
+command_whose_source_failed = (inl (omega arith), refl, tt, refl)
 
 -- the count of faults stayed
 pub source_that_did_not_fail :
     ends_with 3 3 [] 0 0 ReadFault → ⊥
-source_that_did_not_fail ended = omega (arith, ended.0)
+source_that_did_not_fail ended =
+    ⊎_elim (λ capture. omega (arith, capture)) (λ text. omega (arith, text)) ended.0
 
 -- arguments are told bad before anything is read
 pub bad_words_end_no_command :
@@ -320,3 +350,29 @@ command_whose_store_is_refused = (refl, tt, refl, refl, refl)
 -- a store that isn't formatted has no damaged body
 pub command_whose_store_has_another_fault : ends_with 0 0 [] 0 0 (Damaged 1) → ⊥
 command_whose_store_has_another_fault ended = cc ended.0
+
+-- an audit names the first report that isn't sound, and no other
+pub command_that_found_a_report : ends_with 0 0 (codes "ye") 0 0 (AuditNo 2 BadTotal)
+command_that_found_a_report = (tt, refl, refl, refl)
+
+pub command_that_found_another_report : ends_with 0 0 (codes "ye") 0 0 (AuditNo 1 BadTotal) → ⊥
+command_that_found_another_report ended =
+    let same : 1 ≡ 2 = ap report_number ended.1 in omega (arith, same)
+
+-- with a text that is none of a session this command ends never so
+pub command_whose_text_is_refused : ends_with 0 0 [] 0 0 (BadReport TooLong) → ⊥
+command_whose_text_is_refused ended = cc ended.0
+
+-- a command that found a report that isn't sound was answered if it is an audit
+pub audit_that_found_a_report : WasAnswered (Audit settings) (AuditNo 2 BadTotal)
+audit_that_found_a_report = inr (2, BadTotal, refl)
+
+pub report_that_found_a_report : WasAnswered (report_command settings) (AuditNo 2 BadTotal) → ⊥
+report_that_found_a_report answered = cc answered
+
+-- of the commands, only those with a store tell of its disk
+pub audit_uses_no_disk : OfDisk (Audit settings) ⊤ → ⊥
+audit_uses_no_disk happened = happened
+
+pub report_may_use_a_disk : OfDisk (report_command settings) ⊤
+report_may_use_a_disk = tt

@@ -8,10 +8,13 @@ use Rattle.command_words.specs.declared.opt.Opt.TheVariants.{Shards}
 use Rattle.command_words.specs.declared.words_kind.WordsKind.TheVariants.{Refused, OutOfLimits, Bound}
 use Rattle.command_words.specs.declared.words_kind.WordsRefusal.TheVariants as words
 use Rattle.hhh_engine.specs.Status.{fault_text, line_of, number_of, status_of, status_of_opening, status_of_words}
-use Rattle.hhh_engine.specs.Status.{status_text, words_text}
+use Rattle.hhh_engine.specs.Status.{session_fault_text, status_of_session, status_text, words_text}
 use Rattle.hhh_engine.specs.declared.status.Status.TheVariants.{Done, BadWords, BadCapture, WriteFault}
 use Rattle.hhh_engine.specs.declared.status.Status.TheVariants.{DiskFault, NotFormatted, Damaged, OtherSettings}
-use Rattle.hhh_engine.specs.declared.status.Status.TheVariants.{OtherCapture}
+use Rattle.hhh_engine.specs.declared.status.Status.TheVariants.{OtherCapture, AuditNo, BadReport}
+use Rattle.exact_audit.specs.declared.verdict.Verdict.TheVariants.{BadTotal}
+use Rattle.report_text.specs.declared.session_fault.SessionFault.TheVariants as session
+use Rattle.report_text.specs.declared.session_fault.TextFault.TheVariants.{BadLine, MissingEnd, TooLong}
 use Rattle.checkpoint.specs.declared.settings.StoreSettings.{StoreSettings}
 use Rattle.recovery.specs.declared.fault.OpenFault.TheVariants as opening
 
@@ -103,3 +106,29 @@ status_of_a_damaged_store = refl
 -- want of memory is told alike, whether a store was being opened or words were being read
 pub want_of_memory_for_a_store : status_of_opening opening.OutOfMemory ≡ status_of_words words.OutOfMemory
 want_of_memory_for_a_store = refl
+
+-- ---- statuses of audits
+
+pub number_of_an_unsound_report : number_of (AuditNo 2 BadTotal) ≡ 11
+number_of_an_unsound_report = refl
+
+-- the line on standard error doesn't tell the verdict, which was written
+pub text_of_an_unsound_report : status_text (AuditNo 2 BadTotal) ≡ codes "audit: no"
+text_of_an_unsound_report = refl
+
+pub line_of_a_bad_line : line_of (BadReport (BadLine 4)) ≡ codes "hhh: bad report: line 4\n"
+unfolding digits
+line_of_a_bad_line = refl
+
+pub line_of_a_missing_end : line_of (BadReport (MissingEnd 7)) ≡ codes "hhh: bad report: no end at line 7\n"
+unfolding digits
+line_of_a_missing_end = refl
+
+pub text_of_a_long_text : session_fault_text TooLong ≡ codes "too long"
+text_of_a_long_text = refl
+
+pub status_of_a_bad_line : status_of_session (session.Text (BadLine 4)) ≡ BadReport (BadLine 4)
+status_of_a_bad_line = refl
+
+pub number_of_a_bad_line : number_of (BadReport (BadLine 4)) ≡ 12
+number_of_a_bad_line = refl

@@ -6,7 +6,7 @@ use Rattle.hhh_engine.specs.Rounds.{Faults}
 use Rattle.hhh_engine.specs.declared.status.Status.{Status}
 use Rattle.hhh_engine.specs.declared.status.Status.TheVariants.{Done, BadWords, BadCapture, ReadFault, WriteFault}
 use Rattle.hhh_engine.specs.declared.status.Status.TheVariants.{DiskFault, NotFormatted, Damaged, OtherSettings}
-use Rattle.hhh_engine.specs.declared.status.Status.TheVariants.{OtherCapture, OutOfMemory}
+use Rattle.hhh_engine.specs.declared.status.Status.TheVariants.{OtherCapture, AuditNo, BadReport, OutOfMemory}
 
 -- the sink failed
 pub fault_of_sink : (sink_before sink_between sink_now disk_before disk_now : ℕ) (status : Status)
@@ -32,6 +32,8 @@ fault_of_save sink_before sink_now disk_before disk_now NotFormatted fault same 
 fault_of_save sink_before sink_now disk_before disk_now (Damaged slot) fault same = absurd fault
 fault_of_save sink_before sink_now disk_before disk_now (OtherSettings stored asked) fault same = absurd fault
 fault_of_save sink_before sink_now disk_before disk_now (OtherCapture stored asked) fault same = absurd fault
+fault_of_save sink_before sink_now disk_before disk_now (AuditNo report verdict) fault same = absurd fault
+fault_of_save sink_before sink_now disk_before disk_now (BadReport wrong) fault same = absurd fault
 
 -- a fault after steps without one
 pub fault_after : (before between now : Faults) (status : Status) → between ≡ before → IsFault between now status

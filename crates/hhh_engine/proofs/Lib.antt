@@ -8,12 +8,16 @@ pub mod OpeningLemmas
 pub mod SessionLemmas
 pub mod SessionTextLemmas
 pub mod LastSaveLemmas
+pub mod AppendLemmas
 pub mod BaseLemmas
 pub mod CaptureLemmas
 pub mod DealtLemmas
+pub mod AuditLemmas
+pub mod AuditEndLemmas
 pub mod WiderRulesLemmas
 pub mod LastReportLemmas
 pub mod LastStoreLemmas
+pub mod OwnReportLemmas
 pub mod Examples
 pub mod ExamplesOfStatuses
 pub mod ExamplesOfSessions

@@ -22,7 +22,7 @@ use Rattle.hhh_engine.specs.Session.{part_text, parts_text, saved_cuts}
 use Rattle.hhh_engine.specs.declared.status.Status.{Status}
 use Rattle.hhh_engine.specs.declared.status.Status.TheVariants.{Done, BadWords, BadCapture, ReadFault, WriteFault}
 use Rattle.hhh_engine.specs.declared.status.Status.TheVariants.{DiskFault, NotFormatted, Damaged, OtherSettings}
-use Rattle.hhh_engine.specs.declared.status.Status.TheVariants.{OtherCapture, OutOfMemory}
+use Rattle.hhh_engine.specs.declared.status.Status.TheVariants.{OtherCapture, AuditNo, BadReport, OutOfMemory}
 use Rattle.hhh_engine.proofs.SavesLemmas.{saved_cuts-append}
 
 -- positions within the lists of shards are positions that a text can show
@@ -253,6 +253,10 @@ save_broke opening phi before now store old new sink_before sink_now disk_before
     used fault same unsaved = absurd fault
 save_broke opening phi before now store old new sink_before sink_now disk_before disk_now (OtherCapture stored asked)
     used fault same unsaved = absurd fault
+save_broke opening phi before now store old new sink_before sink_now disk_before disk_now (AuditNo report verdict) used
+    fault same unsaved = absurd fault
+save_broke opening phi before now store old new sink_before sink_now disk_before disk_now (BadReport wrong) used fault
+    same unsaved = absurd fault
 
 -- a saver stays, or none does
 pub same_store : {A : Type 0} (before after : Option A) (f : A → A) → after ≡ option_map f before

@@ -30,7 +30,7 @@ use Rattle.hhh_engine.specs.Session.{saved_text, start_of}
 use Rattle.hhh_engine.specs.declared.status.Status.{Status}
 use Rattle.hhh_engine.specs.declared.status.Status.TheVariants.{Done, BadWords, BadCapture, ReadFault, WriteFault}
 use Rattle.hhh_engine.specs.declared.status.Status.TheVariants.{DiskFault, NotFormatted, Damaged, OtherSettings}
-use Rattle.hhh_engine.specs.declared.status.Status.TheVariants.{OtherCapture, OutOfMemory}
+use Rattle.hhh_engine.specs.declared.status.Status.TheVariants.{OtherCapture, AuditNo, BadReport, OutOfMemory}
 use Rattle.hhh_engine.proofs.RoundLemmas.{CallsFollow, flat_map-append, one_part, report_of_call}
 use Rattle.hhh_engine.proofs.SeenLemmas.{calls_many, one_read}
 
@@ -191,6 +191,10 @@ broken_in_part opening settings before now old new faults_before faults_now (Oth
     follow off = absurd off.broken
 broken_in_part opening settings before now old new faults_before faults_now (OtherCapture stored asked) alike seen
     follow off = absurd off.broken
+broken_in_part opening settings before now old new faults_before faults_now (AuditNo report verdict) alike seen
+    follow off = absurd off.broken
+broken_in_part opening settings before now old new faults_before faults_now (BadReport fault) alike seen follow off =
+    absurd off.broken
 
 -- rounds that ended, whole or not
 ended_in_part : (opening : List ShardValue) (settings : Settings) (before now : View)

@@ -1,5 +1,5 @@
 -- How a command can end.
-use Rattle.std.proofs.Common.{◌≡◌, ◌⊎◌, ℕ, true, List, [], Option, Some, IfSome, inl, inr, refl, sym, ap, subst}
+use Rattle.std.proofs.Common.{◌≡◌, ◌⊎◌, ◌≤◌, ℕ, true, List, [], length, Option, Some, IfSome, inl, inr, refl, sym, ap, subst}
 use Rattle.outside_io.specs.{Rose}
 use Rattle.prefix_lattice.specs.{RecordValue}
 use Rattle.pcap_frames.specs.{FrameValue}
@@ -14,13 +14,19 @@ use Rattle.std.proofs.Common.{Ok, Err}
 use Rattle.shard_state.specs.{CutValue}
 use Rattle.command_words.specs.{AreLimited, AskFor, IsLimited}
 use Rattle.command_words.specs.declared.command.Command.{Command}
-use Rattle.command_words.specs.declared.command.Command.TheVariants.{Weigh, Report, Format}
+use Rattle.command_words.specs.declared.command.Command.TheVariants.{Weigh, Report, Format, Audit}
 use Rattle.command_words.specs.declared.settings.Settings.{Settings}
 use Rattle.std.specs.Prelude.{⊤}
+use Rattle.report_text.specs.{HasTextFault, IsSessionText, longest_text}
+use Rattle.report_text.specs.declared.session.Session.{Session}
+use Rattle.report_text.specs.declared.session_fault.TextFault.{TextFault}
+use Rattle.exact_audit.specs.declared.verdict.Verdict.{Verdict}
+use Rattle.hhh_engine.specs.Audit.{IsAuditText, IsSoundSession, IsUnsoundSession}
 use Rattle.hhh_engine.specs.Answer.{IsAnswer, IsAnswerInPart, IsCutShort, IsWeightTextInPart, formatted_text}
-use Rattle.hhh_engine.specs.Ending.{Ends, FormatEnds, IsRefusedStore, RefusedStore, RefusesFor, RefusesStore}
+use Rattle.hhh_engine.specs.Ending.{Ends, FindsFor, FormatEnds, IsRefusedStore, OfDisk, OneRose, RefusedStore, RefusesFor}
+use Rattle.hhh_engine.specs.Ending.{RefusesStore, SourceFaults, WasAnswered}
 use Rattle.hhh_engine.specs.Inputs.{CanBeAnswered, HasKnownCapture, HasKnownStore, IsCapture, ReadsCapture}
-use Rattle.hhh_engine.specs.Inputs.{WasAccepted, WasRead, inputs}
+use Rattle.hhh_engine.specs.Inputs.{InputBytes, WasAccepted, WasRead}
 use Rattle.hhh_engine.specs.Saves.{store_settings}
 use Rattle.hhh_engine.specs.Session.{AreDealtFrom, GoesOnFrom, IsSession, IsSessionInPart, Keeping, Rules}
 use Rattle.command_words.specs.declared.words_kind.WordsRefusal.{WordsRefusal}
@@ -30,7 +36,7 @@ use Rattle.hhh_engine.specs.WeightText.{IsWeightText}
 use Rattle.hhh_engine.specs.declared.status.Status.{Status}
 use Rattle.hhh_engine.specs.declared.status.Status.TheVariants.{Done, BadWords, BadCapture, ReadFault, WriteFault}
 use Rattle.hhh_engine.specs.declared.status.Status.TheVariants.{DiskFault, NotFormatted, Damaged, OtherSettings}
-use Rattle.hhh_engine.specs.declared.status.Status.TheVariants.{OtherCapture, OutOfMemory}
+use Rattle.hhh_engine.specs.declared.status.Status.TheVariants.{OtherCapture, AuditNo, BadReport, OutOfMemory}
 use Rattle.hhh_engine.proofs.BaseLemmas.{allowed_settings}
 
 -- no file is both a capture and a file with a fault
@@ -45,194 +51,277 @@ OneFault =
     (file : List ℕ) (fault other : CaptureFault) → IsRefusedFor file fault → IsRefusedFor file other → other ≡ fault
 
 -- what is known of a source with this file
-of_file : (left : Option (List ℕ)) (file : List ℕ) (P : List ℕ → Type 0) → left ≡ Some file → IfSome left P → P file
+pub of_file : (left : Option (List ℕ)) (file : List ℕ) (P : List ℕ → Type 0) → left ≡ Some file → IfSome left P → P file
 of_file left file P known holds = subst (λ o. IfSome o P) known holds
 
 -- a command that reads a capture has a text over captures alone
-captured : (rules : Rules) (keeping : Keeping) (command : Command) (left rest store : Option (List ℕ))
-    (file text : List ℕ) → ReadsCapture command → left ≡ Some file
-    → IsAnswer rules keeping command (inputs left rest store) text → IsCapture file
-captured rules keeping (Weigh prefix settings) left rest store file text reads known answer =
-    let is = of_file left file (λ f. IsWeightText prefix settings.weigh f text) known answer in
+captured : (rules : Rules) (keeping : Keeping) (command : Command) (given : InputBytes)
+    (file text : List ℕ) → ReadsCapture command → given.capture ≡ Some file
+    → IsAnswer rules keeping command given text → IsCapture file
+captured rules keeping (Weigh prefix settings) given file text reads known answer =
+    let is = of_file given.capture file (λ f. IsWeightText prefix settings.weigh f text) known answer in
     (is.frames, is.capture)
-captured rules keeping (Report settings) left rest store file text reads known answer =
-    let is = of_file left file (λ f. IsSession settings rules keeping store f text) known answer in
+captured rules keeping (Report settings) given file text reads known answer =
+    let is = of_file given.capture file (λ f. IsSession settings rules keeping given.store f text) known answer in
     (is.dealt.frames, is.dealt.capture)
-captured rules keeping (Format settings) left rest store file text reads known answer = absurd reads
+captured rules keeping (Format settings) given file text reads known answer = absurd reads
+captured rules keeping (Audit settings) given file text reads known answer =
+    (of_file given.capture file (λ f. IsCapture f × IfSome given.text (λ session. IsSoundSession settings rules f session text))
+    known answer).0
 
 -- and a part of a text
-captured_in_part : (rules : Rules) (command : Command) (left rest store : Option (List ℕ)) (file front : List ℕ)
-    → ReadsCapture command → left ≡ Some file → IsAnswerInPart rules command (inputs left rest store) front
+captured_in_part : (rules : Rules) (command : Command) (given : InputBytes) (file front : List ℕ)
+    → ReadsCapture command → given.capture ≡ Some file → IsAnswerInPart rules command given front
     → IsCapture file
-captured_in_part rules (Weigh prefix settings) left rest store file front reads known answer =
-    let is = of_file left file (λ f. IsWeightTextInPart prefix settings.weigh f front) known answer in
+captured_in_part rules (Weigh prefix settings) given file front reads known answer =
+    let is = of_file given.capture file (λ f. IsWeightTextInPart prefix settings.weigh f front) known answer in
     (is.is_text.frames, is.is_text.capture)
-captured_in_part rules (Report settings) left rest store file front reads known answer =
-    let is = of_file left file (λ f. IsSessionInPart settings rules store f front) known answer in
+captured_in_part rules (Report settings) given file front reads known answer =
+    let is = of_file given.capture file (λ f. IsSessionInPart settings rules given.store f front) known answer in
     (is.dealt.frames, is.dealt.capture)
-captured_in_part rules (Format settings) left rest store file front reads known answer = absurd reads
+captured_in_part rules (Format settings) given file front reads known answer = absurd reads
+captured_in_part rules (Audit settings) given file front reads known answer =
+    (of_file given.capture file
+    (λ f. IsCapture f × IfSome given.text (λ session. IsCutShort (IsAuditText settings rules f session) front))
+    known answer).0
 
 -- and a store is refused over captures alone
-captured_refused : (rules : Rules) (command : Command) (left rest store store_now : Option (List ℕ)) (file : List ℕ)
-    (fault : OpenFault) → left ≡ Some file → RefusesFor command rules (inputs left rest store) store_now fault
+captured_refused : (rules : Rules) (command : Command) (given : InputBytes) (store_now : Option (List ℕ)) (file : List ℕ)
+    (fault : OpenFault) → given.capture ≡ Some file → RefusesFor command rules given store_now fault
     → IsCapture file
-captured_refused rules (Weigh prefix settings) left rest store store_now file fault known refuses = absurd refuses
-captured_refused rules (Report settings) left rest store store_now file fault known refuses =
-    let is = of_file left file (λ f. IsRefusedStore settings rules store f fault) known refuses.2 in
+captured_refused rules (Weigh prefix settings) given store_now file fault known refuses = absurd refuses
+captured_refused rules (Report settings) given store_now file fault known refuses =
+    let is = of_file given.capture file (λ f. IsRefusedStore settings rules given.store f fault) known refuses.2 in
     (is.dealt.frames, is.dealt.capture)
-captured_refused rules (Format settings) left rest store store_now file fault known refuses = absurd refuses
+captured_refused rules (Format settings) given store_now file fault known refuses = absurd refuses
+captured_refused rules (Audit settings) given store_now file fault known refuses = absurd refuses
+
+-- and an audit that ends by what it found read a capture
+captured_found : (rules : Rules) (command : Command) (given : InputBytes) (old new : Option (List ℕ)) (file : List ℕ)
+    (report : ℕ) (verdict : Verdict) → given.capture ≡ Some file
+    → FindsFor command rules given old new (AuditNo report verdict) → IsCapture file
+captured_found rules (Weigh prefix settings) given old new file report verdict known finds = absurd finds
+captured_found rules (Report settings) given old new file report verdict known finds = absurd finds
+captured_found rules (Format settings) given old new file report verdict known finds = absurd finds
+captured_found rules (Audit settings) given old new file report verdict known finds =
+    (of_file given.capture file
+    (λ f. IsCapture f × IfSome given.text (λ text. IsUnsoundSession settings rules f text report verdict))
+    known finds.0).0
+
+captured_before : (rules : Rules) (command : Command) (given : InputBytes) (old new : Option (List ℕ)) (file : List ℕ)
+    (fault : TextFault) → given.capture ≡ Some file → FindsFor command rules given old new (BadReport fault)
+    → IsCapture file
+captured_before rules (Weigh prefix settings) given old new file fault known finds = absurd finds
+captured_before rules (Report settings) given old new file fault known finds = absurd finds
+captured_before rules (Format settings) given old new file fault known finds = absurd finds
+captured_before rules (Audit settings) given old new file fault known finds =
+    of_file given.capture file IsCapture known finds.1
 
 -- an accepted capture is one
-accepted : (command : Command) (left rest store : Option (List ℕ)) (file : List ℕ) → ReadsCapture command
-    → left ≡ Some file → WasAccepted command (inputs left rest store) → IsCapture file
-accepted (Weigh prefix settings) left rest store file reads known was = of_file left file IsCapture known was
-accepted (Report settings) left rest store file reads known was = of_file left file IsCapture known was
-accepted (Format settings) left rest store file reads known was = absurd reads
+accepted : (command : Command) (given : InputBytes) (file : List ℕ) → ReadsCapture command
+    → given.capture ≡ Some file → WasAccepted command given → IsCapture file
+accepted (Weigh prefix settings) given file reads known was = of_file given.capture file IsCapture known was
+accepted (Report settings) given file reads known was = of_file given.capture file IsCapture known was
+accepted (Format settings) given file reads known was = absurd reads
+accepted (Audit settings) given file reads known was = of_file given.capture file IsCapture known was
 
 -- how a command over these inputs ended
-abbrev pub EndsAs : {K : Type 0} → Rules → Keeping → Command → (left rest store store_now : Option (List ℕ))
-    → (ReadToEnd DiskRose DiskSame : Type 0) → (read_before read_now : ℕ) → (sink written : K)
+abbrev pub EndsAs : {K : Type 0} → Rules → Keeping → Command → (given : InputBytes) (store_now : Option (List ℕ))
+    → (ReadToEnd DiskRose DiskSame : Type 0) → (read_before read_now : SourceFaults) → (sink written : K)
     → (old new : Option (List ℕ)) → (write_before write_now : ℕ) → Status → Type 0
-EndsAs rules keeping command left rest store store_now ReadToEnd DiskRose DiskSame read_before read_now sink written old
+EndsAs rules keeping command given store_now ReadToEnd DiskRose DiskSame read_before read_now sink written old
     new write_before write_now status =
-    Ends (IsAnswer rules keeping command (inputs left rest store)) (IsAnswerInPart rules command (inputs left rest store))
-    ReadToEnd (WasAccepted command (inputs left rest store)) DiskRose DiskSame
-    (RefusesFor command rules (inputs left rest store) store_now) left read_before read_now
+    Ends (IsAnswer rules keeping command given) (IsAnswerInPart rules command given)
+    ReadToEnd (WasAccepted command given) DiskRose DiskSame
+    (RefusesFor command rules given store_now) (FindsFor command rules given old new) given.capture read_before read_now
     sink written old new write_before write_now status
 
 -- a command that reads a capture over a file with a fault is refused for it, unless the source fails or memory runs out
 pub refused_for : {K : Type 0} → NeverBoth → OneFault
-    → (rules : Rules) (keeping : Keeping) (command : Command) (left rest store store_now : Option (List ℕ))
-    (ReadToEnd DiskRose DiskSame : Type 0) (read_before read_now : ℕ)
+    → (rules : Rules) (keeping : Keeping) (command : Command) (given : InputBytes) (store_now : Option (List ℕ))
+    (ReadToEnd DiskRose DiskSame : Type 0) (read_before read_now : SourceFaults)
     (sink written : K) (old new : Option (List ℕ)) (write_before write_now : ℕ) (status : Status) (file : List ℕ)
-    (fault : CaptureFault) → ReadsCapture command → left ≡ Some file → IsRefusedFor file fault
-    → EndsAs rules keeping command left rest store store_now ReadToEnd DiskRose DiskSame read_before read_now sink written
+    (fault : CaptureFault) → ReadsCapture command → given.capture ≡ Some file → IsRefusedFor file fault
+    → EndsAs rules keeping command given store_now ReadToEnd DiskRose DiskSame read_before read_now sink written
     old new write_before write_now status
     → (status ≡ BadCapture fault) ⊎ ((status ≡ ReadFault) ⊎ (status ≡ OutOfMemory))
-refused_for never_both one_fault rules keeping command left rest store store_now ReadToEnd DiskRose DiskSame read_before
+refused_for never_both one_fault rules keeping command given store_now ReadToEnd DiskRose DiskSame read_before
     read_now sink written old new write_before write_now Done file fault reads known has ends =
-    let capture = captured rules keeping command left rest store file ends.1.text reads known ends.1.is_text in
+    let capture = captured rules keeping command given file ends.1.text reads known ends.1.is_text in
     absurd (never_both file capture.0 fault capture.1 has)
-refused_for never_both one_fault rules keeping command left rest store store_now ReadToEnd DiskRose DiskSame read_before
+refused_for never_both one_fault rules keeping command given store_now ReadToEnd DiskRose DiskSame read_before
     read_now sink written old new write_before write_now (BadWords kind) file fault reads known has ends =
     absurd ends
-refused_for never_both one_fault rules keeping command left rest store store_now ReadToEnd DiskRose DiskSame read_before
+refused_for never_both one_fault rules keeping command given store_now ReadToEnd DiskRose DiskSame read_before
     read_now sink written old new write_before write_now (BadCapture other) file fault reads known has ends =
-    inl (ap BadCapture (one_fault file fault other has (of_file left file (λ f. IsRefusedFor f other) known ends.0)))
-refused_for never_both one_fault rules keeping command left rest store store_now ReadToEnd DiskRose DiskSame read_before
+    inl (ap BadCapture (one_fault file fault other has (of_file given.capture file (λ f. IsRefusedFor f other) known ends.0)))
+refused_for never_both one_fault rules keeping command given store_now ReadToEnd DiskRose DiskSame read_before
     read_now sink written old new write_before write_now ReadFault file fault reads known has ends =
     inr (inl refl)
-refused_for never_both one_fault rules keeping command left rest store store_now ReadToEnd DiskRose DiskSame read_before
+refused_for never_both one_fault rules keeping command given store_now ReadToEnd DiskRose DiskSame read_before
     read_now sink written old new write_before write_now WriteFault file fault reads known has ends =
-    let capture = captured_in_part rules command left rest store file ends.1.text reads known ends.1.is_text in
+    let capture = captured_in_part rules command given file ends.1.text reads known ends.1.is_text in
     absurd (never_both file capture.0 fault capture.1 has)
-refused_for never_both one_fault rules keeping command left rest store store_now ReadToEnd DiskRose DiskSame read_before
+refused_for never_both one_fault rules keeping command given store_now ReadToEnd DiskRose DiskSame read_before
     read_now sink written old new write_before write_now DiskFault file fault reads known has ends =
-    let capture = accepted command left rest store file reads known ends.1 in
+    let capture = accepted command given file reads known ends.1 in
     absurd (never_both file capture.0 fault capture.1 has)
-refused_for never_both one_fault rules keeping command left rest store store_now ReadToEnd DiskRose DiskSame read_before
+refused_for never_both one_fault rules keeping command given store_now ReadToEnd DiskRose DiskSame read_before
     read_now sink written old new write_before write_now NotFormatted file fault reads known has ends =
-    let capture = captured_refused rules command left rest store store_now file opening.NotFormatted known ends.0 in
+    let capture = captured_refused rules command given store_now file opening.NotFormatted known ends.0 in
     absurd (never_both file capture.0 fault capture.1 has)
-refused_for never_both one_fault rules keeping command left rest store store_now ReadToEnd DiskRose DiskSame read_before
+refused_for never_both one_fault rules keeping command given store_now ReadToEnd DiskRose DiskSame read_before
     read_now sink written old new write_before write_now (Damaged slot) file fault reads known has ends =
-    let capture = captured_refused rules command left rest store store_now file (opening.Damaged slot) known ends.0 in
+    let capture = captured_refused rules command given store_now file (opening.Damaged slot) known ends.0 in
     absurd (never_both file capture.0 fault capture.1 has)
-refused_for never_both one_fault rules keeping command left rest store store_now ReadToEnd DiskRose DiskSame read_before
+refused_for never_both one_fault rules keeping command given store_now ReadToEnd DiskRose DiskSame read_before
     read_now sink written old new write_before write_now (OtherSettings stored asked) file fault reads known has ends =
-    let capture = captured_refused rules command left rest store store_now file (opening.OtherSettings stored asked) known ends.0 in
+    let capture = captured_refused rules command given store_now file (opening.OtherSettings stored asked) known ends.0 in
     absurd (never_both file capture.0 fault capture.1 has)
-refused_for never_both one_fault rules keeping command left rest store store_now ReadToEnd DiskRose DiskSame read_before
+refused_for never_both one_fault rules keeping command given store_now ReadToEnd DiskRose DiskSame read_before
     read_now sink written old new write_before write_now (OtherCapture stored asked) file fault reads known has ends =
-    let capture = captured_refused rules command left rest store store_now file (opening.OtherCapture stored asked) known ends.0 in
+    let capture = captured_refused rules command given store_now file (opening.OtherCapture stored asked) known ends.0 in
     absurd (never_both file capture.0 fault capture.1 has)
-refused_for never_both one_fault rules keeping command left rest store store_now ReadToEnd DiskRose DiskSame read_before
+refused_for never_both one_fault rules keeping command given store_now ReadToEnd DiskRose DiskSame read_before
+    read_now sink written old new write_before write_now (AuditNo report verdict) file fault reads known has ends =
+    let capture = captured_found rules command given old new file report verdict known ends.1 in
+    absurd (never_both file capture.0 fault capture.1 has)
+refused_for never_both one_fault rules keeping command given store_now ReadToEnd DiskRose DiskSame read_before
+    read_now sink written old new write_before write_now (BadReport wrong) file fault reads known has ends =
+    let capture = captured_before rules command given old new file wrong known ends.0 in
+    absurd (never_both file capture.0 fault capture.1 has)
+refused_for never_both one_fault rules keeping command given store_now ReadToEnd DiskRose DiskSame read_before
     read_now sink written old new write_before write_now OutOfMemory file fault reads known has ends =
     inr (inr refl)
 
 -- what each command that reads a capture needs of it
-known_capture : (rules : Rules) (command : Command) (left rest store : Option (List ℕ)) (file : List ℕ)
-    (fault : CaptureFault) → NeverBoth → ReadsCapture command → CanBeAnswered rules command (inputs left rest store)
-    → IfSome left (λ f. IsRefusedFor f fault) → ⊥
-known_capture rules (Weigh prefix settings) left rest store file fault never_both reads can has =
-    never_both can.file can.frames fault can.capture (of_file left can.file (λ f. IsRefusedFor f fault) can.told has)
-known_capture rules (Report settings) left rest store file fault never_both reads can has =
+known_capture : (rules : Rules) (command : Command) (given : InputBytes) (file : List ℕ)
+    (fault : CaptureFault) → NeverBoth → ReadsCapture command → CanBeAnswered rules command given
+    → IfSome given.capture (λ f. IsRefusedFor f fault) → ⊥
+known_capture rules (Weigh prefix settings) given file fault never_both reads can has =
+    never_both can.file can.frames fault can.capture (of_file given.capture can.file (λ f. IsRefusedFor f fault) can.told has)
+known_capture rules (Report settings) given file fault never_both reads can has =
     let capture = can.0 in
     never_both capture.file capture.frames fault capture.capture
-    (of_file left capture.file (λ f. IsRefusedFor f fault) capture.told has)
-known_capture rules (Format settings) left rest store file fault never_both reads can has = absurd reads
+    (of_file given.capture capture.file (λ f. IsRefusedFor f fault) capture.told has)
+known_capture rules (Format settings) given file fault never_both reads can has = absurd reads
+known_capture rules (Audit settings) given file fault never_both reads can has =
+    let capture = can.0 in
+    never_both capture.file capture.frames fault capture.capture
+    (of_file given.capture capture.file (λ f. IsRefusedFor f fault) capture.told has)
 
 -- a store of the records isn't refused
 never_refused : OpeningsAreDecided → BelongingStoresAreOpened → (rules : Rules) (settings : Settings)
-    (left rest store store_now : Option (List ℕ)) (fault : OpenFault) → AreLimited settings
-    → HasKnownCapture left → (settings.store ≡ true → HasKnownStore settings rules (inputs left rest store))
-    → IsShown fault → RefusesStore settings rules (inputs left rest store) store_now fault → ⊥
-never_refused decided opened rules settings left rest store store_now fault limited capture can shown refuses =
+    (given : InputBytes) (store_now : Option (List ℕ)) (fault : OpenFault) → AreLimited settings
+    → HasKnownCapture given.capture → (settings.store ≡ true → HasKnownStore settings rules given)
+    → IsShown fault → RefusesStore settings rules given.capture given.store store_now fault → ⊥
+never_refused decided opened rules settings given store_now fault limited capture can shown refuses =
     let is_store = can refuses.0 in
-    let is = of_file left capture.file (λ f. IsRefusedStore settings rules store f fault) capture.told refuses.2 in
+    let is = of_file given.capture capture.file (λ f. IsRefusedStore settings rules given.store f fault) capture.told refuses.2 in
     let belongs = is_store.belongs capture.file is.records is.lists capture.told is.dealt in
     (decided (store_settings settings) is.lists is_store.image (allowed_settings settings limited)).not_both _ fault
     (opened (store_settings settings) is.lists is_store.image belongs.0 belongs.1 belongs.2 belongs.3) shown
     (is.refused is_store.image is_store.told)
 
 never_refused_for : OpeningsAreDecided → BelongingStoresAreOpened → (rules : Rules) (command : Command)
-    (left rest store store_now : Option (List ℕ)) (fault : OpenFault) → IsLimited command
-    → CanBeAnswered rules command (inputs left rest store) → IsShown fault
-    → RefusesFor command rules (inputs left rest store) store_now fault → ⊥
-never_refused_for decided opened rules (Weigh prefix settings) left rest store store_now fault limited can shown refuses =
+    (given : InputBytes) (store_now : Option (List ℕ)) (fault : OpenFault) → IsLimited command
+    → CanBeAnswered rules command given → IsShown fault
+    → RefusesFor command rules given store_now fault → ⊥
+never_refused_for decided opened rules (Weigh prefix settings) given store_now fault limited can shown refuses =
     refuses
-never_refused_for decided opened rules (Report settings) left rest store store_now fault limited can shown refuses =
-    never_refused decided opened rules settings left rest store store_now fault limited.0 can.0 can.1 shown refuses
-never_refused_for decided opened rules (Format settings) left rest store store_now fault limited can shown refuses =
+never_refused_for decided opened rules (Report settings) given store_now fault limited can shown refuses =
+    never_refused decided opened rules settings given store_now fault limited.0 can.0 can.1 shown refuses
+never_refused_for decided opened rules (Format settings) given store_now fault limited can shown refuses =
     refuses
+never_refused_for decided opened rules (Audit settings) given store_now fault limited can shown refuses =
+    refuses
+
+-- no text of a session that is not too long has a fault
+abbrev pub NoFault : Type 0
+NoFault =
+    (text : List ℕ) (session : Session) (fault : TextFault) → IsSessionText text session → length text ≤ longest_text
+    → ¬ HasTextFault text fault
+
+-- the text of a session is not refused
+never_faulty : NoFault → (rules : Rules) (command : Command) (given : InputBytes) (old new : Option (List ℕ))
+    (fault : TextFault) → CanBeAnswered rules command given → FindsFor command rules given old new (BadReport fault) → ⊥
+never_faulty no_fault rules (Weigh prefix settings) given old new fault can finds = finds
+never_faulty no_fault rules (Report settings) given old new fault can finds = finds
+never_faulty no_fault rules (Format settings) given old new fault can finds = finds
+never_faulty no_fault rules (Audit settings) given old new fault can finds =
+    let known = can.1 in
+    no_fault known.text known.session fault known.is_session known.not_long
+    (of_file given.text known.text (λ t. HasTextFault t fault) known.told finds.2)
+
+-- a command whose text was written was answered
+done_answers : (command : Command) → WasAnswered command Done
+done_answers (Weigh prefix settings) = refl
+done_answers (Report settings) = refl
+done_answers (Format settings) = refl
+done_answers (Audit settings) = inl refl
+
+-- and so was one that found a report that is not sound
+found_answers : (rules : Rules) (command : Command) (given : InputBytes) (old new : Option (List ℕ)) (report : ℕ)
+    (verdict : Verdict) → FindsFor command rules given old new (AuditNo report verdict)
+    → WasAnswered command (AuditNo report verdict)
+found_answers rules (Weigh prefix settings) given old new report verdict finds = absurd finds
+found_answers rules (Report settings) given old new report verdict finds = absurd finds
+found_answers rules (Format settings) given old new report verdict finds = absurd finds
+found_answers rules (Audit settings) given old new report verdict finds = inr (report, verdict, refl)
 
 -- over known inputs in their formats and with no fault of source, sink or disk, a command is answered unless memory runs
 -- out. BadCapture comes of commands alone that read a capture
-answered : {K : Type 0} → NeverBoth → OpeningsAreDecided → BelongingStoresAreOpened
-    → (rules : Rules) (keeping : Keeping) (command : Command) (left rest store store_now : Option (List ℕ))
-    (ReadToEnd DiskRose DiskSame : Type 0) (read_before read_now : ℕ)
+answered : {K : Type 0} → NeverBoth → OpeningsAreDecided → BelongingStoresAreOpened → NoFault
+    → (rules : Rules) (keeping : Keeping) (command : Command) (given : InputBytes) (store_now : Option (List ℕ))
+    (ReadToEnd DiskRose DiskSame : Type 0) (read_before read_now : SourceFaults)
     (sink written : K) (old new : Option (List ℕ)) (write_before write_now : ℕ) (status : Status)
-    → IsLimited command → CanBeAnswered rules command (inputs left rest store) → (Rose read_before read_now → ⊥)
+    → IsLimited command → CanBeAnswered rules command given → (OneRose read_before read_now → ⊥)
     → (Rose write_before write_now → ⊥) → (DiskRose → ⊥)
     → ((fault : CaptureFault) → status ≡ BadCapture fault → ReadsCapture command)
-    → EndsAs rules keeping command left rest store store_now ReadToEnd DiskRose DiskSame read_before read_now sink written
+    → EndsAs rules keeping command given store_now ReadToEnd DiskRose DiskSame read_before read_now sink written
     old new write_before write_now status
-    → (status ≡ Done) ⊎ (status ≡ OutOfMemory)
-answered never_both decided opened rules keeping command left rest store store_now ReadToEnd DiskRose DiskSame
+    → WasAnswered command status ⊎ (status ≡ OutOfMemory)
+answered never_both decided opened no_fault rules keeping command given store_now ReadToEnd DiskRose DiskSame
     read_before read_now sink written old new write_before write_now Done limited can no_read no_write no_disk reads ends =
-    inl refl
-answered never_both decided opened rules keeping command left rest store store_now ReadToEnd DiskRose DiskSame
+    inl (done_answers command)
+answered never_both decided opened no_fault rules keeping command given store_now ReadToEnd DiskRose DiskSame
     read_before read_now sink written old new write_before write_now (BadWords kind) limited can no_read no_write no_disk reads ends =
     absurd ends
-answered never_both decided opened rules keeping command left rest store store_now ReadToEnd DiskRose DiskSame
+answered never_both decided opened no_fault rules keeping command given store_now ReadToEnd DiskRose DiskSame
     read_before read_now sink written old new write_before write_now (BadCapture fault) limited can no_read no_write no_disk reads ends =
-    absurd (known_capture rules command left rest store [] fault never_both (reads fault refl) can ends.0)
-answered never_both decided opened rules keeping command left rest store store_now ReadToEnd DiskRose DiskSame
+    absurd (known_capture rules command given [] fault never_both (reads fault refl) can ends.0)
+answered never_both decided opened no_fault rules keeping command given store_now ReadToEnd DiskRose DiskSame
     read_before read_now sink written old new write_before write_now ReadFault limited can no_read no_write no_disk reads ends =
     absurd (no_read ends.0)
-answered never_both decided opened rules keeping command left rest store store_now ReadToEnd DiskRose DiskSame
+answered never_both decided opened no_fault rules keeping command given store_now ReadToEnd DiskRose DiskSame
     read_before read_now sink written old new write_before write_now WriteFault limited can no_read no_write no_disk reads ends =
     absurd (no_write ends.2)
-answered never_both decided opened rules keeping command left rest store store_now ReadToEnd DiskRose DiskSame
+answered never_both decided opened no_fault rules keeping command given store_now ReadToEnd DiskRose DiskSame
     read_before read_now sink written old new write_before write_now DiskFault limited can no_read no_write no_disk reads ends =
     absurd (no_disk ends.3)
-answered never_both decided opened rules keeping command left rest store store_now ReadToEnd DiskRose DiskSame
+answered never_both decided opened no_fault rules keeping command given store_now ReadToEnd DiskRose DiskSame
     read_before read_now sink written old new write_before write_now NotFormatted limited can no_read no_write no_disk reads ends =
-    absurd (never_refused_for decided opened rules command left rest store store_now opening.NotFormatted limited can
+    absurd (never_refused_for decided opened rules command given store_now opening.NotFormatted limited can
     (record { not_of_disk = λ is. cc is; not_of_memory = λ is. cc is }) ends.0)
-answered never_both decided opened rules keeping command left rest store store_now ReadToEnd DiskRose DiskSame
+answered never_both decided opened no_fault rules keeping command given store_now ReadToEnd DiskRose DiskSame
     read_before read_now sink written old new write_before write_now (Damaged slot) limited can no_read no_write no_disk reads ends =
-    absurd (never_refused_for decided opened rules command left rest store store_now (opening.Damaged slot) limited can
+    absurd (never_refused_for decided opened rules command given store_now (opening.Damaged slot) limited can
     (record { not_of_disk = λ is. cc is; not_of_memory = λ is. cc is }) ends.0)
-answered never_both decided opened rules keeping command left rest store store_now ReadToEnd DiskRose DiskSame
+answered never_both decided opened no_fault rules keeping command given store_now ReadToEnd DiskRose DiskSame
     read_before read_now sink written old new write_before write_now (OtherSettings stored asked) limited can no_read no_write no_disk reads ends =
-    absurd (never_refused_for decided opened rules command left rest store store_now (opening.OtherSettings stored asked) limited can
+    absurd (never_refused_for decided opened rules command given store_now (opening.OtherSettings stored asked) limited can
     (record { not_of_disk = λ is. cc is; not_of_memory = λ is. cc is }) ends.0)
-answered never_both decided opened rules keeping command left rest store store_now ReadToEnd DiskRose DiskSame
+answered never_both decided opened no_fault rules keeping command given store_now ReadToEnd DiskRose DiskSame
     read_before read_now sink written old new write_before write_now (OtherCapture stored asked) limited can no_read no_write no_disk reads ends =
-    absurd (never_refused_for decided opened rules command left rest store store_now (opening.OtherCapture stored asked) limited can
+    absurd (never_refused_for decided opened rules command given store_now (opening.OtherCapture stored asked) limited can
     (record { not_of_disk = λ is. cc is; not_of_memory = λ is. cc is }) ends.0)
-answered never_both decided opened rules keeping command left rest store store_now ReadToEnd DiskRose DiskSame
+answered never_both decided opened no_fault rules keeping command given store_now ReadToEnd DiskRose DiskSame
+    read_before read_now sink written old new write_before write_now (AuditNo report verdict) limited can no_read no_write no_disk reads ends =
+    inl (found_answers rules command given old new report verdict ends.1)
+answered never_both decided opened no_fault rules keeping command given store_now ReadToEnd DiskRose DiskSame
+    read_before read_now sink written old new write_before write_now (BadReport fault) limited can no_read no_write no_disk reads ends =
+    absurd (never_faulty no_fault rules command given old new fault can ends.0)
+answered never_both decided opened no_fault rules keeping command given store_now ReadToEnd DiskRose DiskSame
     read_before read_now sink written old new write_before write_now OutOfMemory limited can no_read no_write no_disk reads ends =
     inr refl
 
@@ -244,6 +333,7 @@ pub only_reads : {K D : Type 0} (reads : Option (List ℕ)) (possible : List ℕ
     → (fault : CaptureFault) → status ≡ BadCapture fault → ReadsCapture command
 only_reads reads possible sink written disk stands (Weigh prefix settings) status formats fault is = tt
 only_reads reads possible sink written disk stands (Report settings) status formats fault is = tt
+only_reads reads possible sink written disk stands (Audit settings) status formats fault is = tt
 only_reads reads possible sink written disk stands (Format settings) status formats fault is =
     absurd (subst (FormatEnds (store_settings settings) reads possible sink written disk stands) is (formats settings refl))
 
@@ -255,12 +345,12 @@ same_command result error command read (inr is) was = cc (is, was)
 
 -- a report whose store is refused
 report_refused : {K : Type 0} (rules : Rules) (words : List (List ℕ)) (command : Command)
-    (left rest store store_now : Option (List ℕ)) (fault : OpenFault) (sink written : K) → AskFor words command
-    → WasRead command (inputs left rest store) → RefusesFor command rules (inputs left rest store) store_now fault
-    → written ≡ sink → RefusedStore rules words (inputs left rest store) fault sink written store_now
-report_refused rules words (Weigh prefix settings) left rest store store_now fault sink written asked read refuses same =
+    (given : InputBytes) (store_now : Option (List ℕ)) (fault : OpenFault) (sink written : K) → AskFor words command
+    → WasRead command given → RefusesFor command rules given store_now fault
+    → written ≡ sink → RefusedStore rules words given fault sink written store_now
+report_refused rules words (Weigh prefix settings) given store_now fault sink written asked read refuses same =
     absurd refuses
-report_refused rules words (Report settings) left rest store store_now fault sink written asked read refuses same = record {
+report_refused rules words (Report settings) given store_now fault sink written asked read refuses same = record {
   settings = settings;
   asked = asked;
   used = refuses.0;
@@ -269,41 +359,43 @@ report_refused rules words (Report settings) left rest store store_now fault sin
   unwritten = same;
   reads = refuses.1;
 }
-report_refused rules words (Format settings) left rest store store_now fault sink written asked read refuses same =
+report_refused rules words (Format settings) given store_now fault sink written asked read refuses same =
+    absurd refuses
+report_refused rules words (Audit settings) given store_now fault sink written asked read refuses same =
     absurd refuses
 
 -- what a status that names a fault of a store says
 pub refused_as : {K : Type 0} (rules : Rules) (keeping : Keeping) (words : List (List ℕ)) (command : Command)
-    (left rest store store_now : Option (List ℕ)) (DiskRose DiskSame : Type 0) (read_before read_now : ℕ)
+    (given : InputBytes) (store_now : Option (List ℕ)) (DiskRose DiskSame : Type 0) (read_before read_now : SourceFaults)
     (sink written : K) (old new : Option (List ℕ)) (write_before write_now : ℕ) (status : Status) (fault : OpenFault)
     → AskFor words command → IsShown fault → status ≡ status_of_opening fault
-    → EndsAs rules keeping command left rest store store_now (WasRead command (inputs left rest store)) DiskRose DiskSame
+    → EndsAs rules keeping command given store_now (WasRead command given) DiskRose DiskSame
     read_before read_now sink written old new write_before write_now status
-    → RefusedStore rules words (inputs left rest store) fault sink written store_now
-refused_as rules keeping words command left rest store store_now DiskRose DiskSame read_before read_now sink written old
+    → RefusedStore rules words given fault sink written store_now
+refused_as rules keeping words command given store_now DiskRose DiskSame read_before read_now sink written old
     new write_before write_now status opening.NotFormatted asked shown is ends =
-    let now = subst (EndsAs rules keeping command left rest store store_now (WasRead command (inputs left rest store))
+    let now = subst (EndsAs rules keeping command given store_now (WasRead command given)
     DiskRose DiskSame read_before read_now sink written old new write_before write_now) is ends in
-    report_refused rules words command left rest store store_now opening.NotFormatted sink written asked now.1 now.0 now.2
-refused_as rules keeping words command left rest store store_now DiskRose DiskSame read_before read_now sink written old
+    report_refused rules words command given store_now opening.NotFormatted sink written asked now.1 now.0 now.2
+refused_as rules keeping words command given store_now DiskRose DiskSame read_before read_now sink written old
     new write_before write_now status (opening.Damaged slot) asked shown is ends =
-    let now = subst (EndsAs rules keeping command left rest store store_now (WasRead command (inputs left rest store))
+    let now = subst (EndsAs rules keeping command given store_now (WasRead command given)
     DiskRose DiskSame read_before read_now sink written old new write_before write_now) is ends in
-    report_refused rules words command left rest store store_now (opening.Damaged slot) sink written asked now.1 now.0 now.2
-refused_as rules keeping words command left rest store store_now DiskRose DiskSame read_before read_now sink written old
+    report_refused rules words command given store_now (opening.Damaged slot) sink written asked now.1 now.0 now.2
+refused_as rules keeping words command given store_now DiskRose DiskSame read_before read_now sink written old
     new write_before write_now status (opening.OtherSettings stored asked_for) asked shown is ends =
-    let now = subst (EndsAs rules keeping command left rest store store_now (WasRead command (inputs left rest store))
+    let now = subst (EndsAs rules keeping command given store_now (WasRead command given)
     DiskRose DiskSame read_before read_now sink written old new write_before write_now) is ends in
-    report_refused rules words command left rest store store_now (opening.OtherSettings stored asked_for) sink written asked now.1 now.0 now.2
-refused_as rules keeping words command left rest store store_now DiskRose DiskSame read_before read_now sink written old
+    report_refused rules words command given store_now (opening.OtherSettings stored asked_for) sink written asked now.1 now.0 now.2
+refused_as rules keeping words command given store_now DiskRose DiskSame read_before read_now sink written old
     new write_before write_now status (opening.OtherCapture stored asked_for) asked shown is ends =
-    let now = subst (EndsAs rules keeping command left rest store store_now (WasRead command (inputs left rest store))
+    let now = subst (EndsAs rules keeping command given store_now (WasRead command given)
     DiskRose DiskSame read_before read_now sink written old new write_before write_now) is ends in
-    report_refused rules words command left rest store store_now (opening.OtherCapture stored asked_for) sink written asked now.1 now.0 now.2
-refused_as rules keeping words command left rest store store_now DiskRose DiskSame read_before read_now sink written old
+    report_refused rules words command given store_now (opening.OtherCapture stored asked_for) sink written asked now.1 now.0 now.2
+refused_as rules keeping words command given store_now DiskRose DiskSame read_before read_now sink written old
     new write_before write_now status opening.DiskFault asked shown is ends =
     absurd (shown.not_of_disk refl)
-refused_as rules keeping words command left rest store store_now DiskRose DiskSame read_before read_now sink written old
+refused_as rules keeping words command given store_now DiskRose DiskSame read_before read_now sink written old
     new write_before write_now status opening.OutOfMemory asked shown is ends =
     absurd (shown.not_of_memory refl)
 
@@ -320,85 +412,93 @@ never_begun decided rules settings store file image fault records lists base lim
     (begins.opens used image known) shown (refused records lists dealt)
 
 -- the fault for which such a store is refused
-same_fault : OpeningsAreDecided → (rules : Rules) (settings : Settings) (left rest store store_now : Option (List ℕ))
-    (file image : List ℕ) (fault other : OpenFault) → AreLimited settings → left ≡ Some file → store ≡ Some image
+same_fault : OpeningsAreDecided → (rules : Rules) (settings : Settings) (given : InputBytes) (store_now : Option (List ℕ))
+    (file image : List ℕ) (fault other : OpenFault) → AreLimited settings → given.capture ≡ Some file → given.store ≡ Some image
     → IsShown fault → IsShown other
     → ((records : Records) (lists : List (List RecordValue)) → AreDealtFrom settings rules file records lists
     → IsRefused (store_settings settings) lists image fault)
-    → RefusesStore settings rules (inputs left rest store) store_now other → other ≡ fault
-same_fault decided rules settings left rest store store_now file image fault other limited known is_store shown is_shown
+    → RefusesStore settings rules given.capture given.store store_now other → other ≡ fault
+same_fault decided rules settings given store_now file image fault other limited known is_store shown is_shown
     refused refuses =
-    let is = of_file left file (λ f. IsRefusedStore settings rules store f other) known refuses.2 in
+    let is = of_file given.capture file (λ f. IsRefusedStore settings rules given.store f other) known refuses.2 in
     (decided (store_settings settings) is.lists image (allowed_settings settings limited)).one_fault other fault is_shown
     shown (is.refused image is_store) (refused is.records is.lists is.dealt)
 
 -- a report whose store is refused, however the records are dealt, ends so, unless source or disk fail or memory runs out
 refuses_exactly : {K : Type 0} → NeverBoth → OpeningsAreDecided
-    → (rules : Rules) (keeping : Keeping) (settings : Settings) (left rest store store_now : Option (List ℕ))
-    (ReadToEnd DiskRose DiskSame : Type 0) (read_before read_now : ℕ)
+    → (rules : Rules) (keeping : Keeping) (settings : Settings) (given : InputBytes) (store_now : Option (List ℕ))
+    (ReadToEnd DiskRose DiskSame : Type 0) (read_before read_now : SourceFaults)
     (sink written : K) (old new : Option (List ℕ)) (write_before write_now : ℕ) (status : Status)
     (file image : List ℕ) (frames : List FrameValue) (fault : OpenFault) → AreLimited settings → settings.store ≡ true
-    → left ≡ Some file → HasFrames file frames → store ≡ Some image → IsShown fault
+    → given.capture ≡ Some file → HasFrames file frames → given.store ≡ Some image → IsShown fault
     → ((records : Records) (lists : List (List RecordValue)) → AreDealtFrom settings rules file records lists
     → IsRefused (store_settings settings) lists image fault)
-    → EndsAs rules keeping (Report settings) left rest store store_now ReadToEnd DiskRose DiskSame read_before read_now sink
+    → EndsAs rules keeping (Report settings) given store_now ReadToEnd DiskRose DiskSame read_before read_now sink
     written old new write_before write_now status
     → (status ≡ status_of_opening fault)
     ⊎ ((status ≡ ReadFault) ⊎ ((status ≡ DiskFault) ⊎ (status ≡ OutOfMemory)))
-refuses_exactly never_both decided rules keeping settings left rest store store_now ReadToEnd DiskRose DiskSame
+refuses_exactly never_both decided rules keeping settings given store_now ReadToEnd DiskRose DiskSame
     read_before read_now sink written old new write_before write_now Done file image frames fault limited used known
     capture is_store shown refused ends =
-    let is = of_file left file (λ f. IsSession settings rules keeping store f ends.1.text) known ends.1.is_text in
-    absurd (never_begun decided rules settings store file image fault is.records is.lists is.base limited used is_store
+    let is = of_file given.capture file (λ f. IsSession settings rules keeping given.store f ends.1.text) known ends.1.is_text in
+    absurd (never_begun decided rules settings given.store file image fault is.records is.lists is.base limited used is_store
     shown refused is.dealt is.begins)
-refuses_exactly never_both decided rules keeping settings left rest store store_now ReadToEnd DiskRose DiskSame
+refuses_exactly never_both decided rules keeping settings given store_now ReadToEnd DiskRose DiskSame
     read_before read_now sink written old new write_before write_now (BadWords kind) file image frames fault limited used known
     capture is_store shown refused ends =
     absurd ends
-refuses_exactly never_both decided rules keeping settings left rest store store_now ReadToEnd DiskRose DiskSame
+refuses_exactly never_both decided rules keeping settings given store_now ReadToEnd DiskRose DiskSame
     read_before read_now sink written old new write_before write_now (BadCapture other) file image frames fault limited used known
     capture is_store shown refused ends =
-    absurd (never_both file frames other capture (of_file left file (λ f. IsRefusedFor f other) known ends.0))
-refuses_exactly never_both decided rules keeping settings left rest store store_now ReadToEnd DiskRose DiskSame
+    absurd (never_both file frames other capture (of_file given.capture file (λ f. IsRefusedFor f other) known ends.0))
+refuses_exactly never_both decided rules keeping settings given store_now ReadToEnd DiskRose DiskSame
     read_before read_now sink written old new write_before write_now ReadFault file image frames fault limited used known
     capture is_store shown refused ends =
     inr (inl refl)
-refuses_exactly never_both decided rules keeping settings left rest store store_now ReadToEnd DiskRose DiskSame
+refuses_exactly never_both decided rules keeping settings given store_now ReadToEnd DiskRose DiskSame
     read_before read_now sink written old new write_before write_now WriteFault file image frames fault limited used known
     capture is_store shown refused ends =
-    let is = of_file left file (λ f. IsSessionInPart settings rules store f ends.1.text) known ends.1.is_text in
-    absurd (never_begun decided rules settings store file image fault is.records is.lists is.base limited used is_store
+    let is = of_file given.capture file (λ f. IsSessionInPart settings rules given.store f ends.1.text) known ends.1.is_text in
+    absurd (never_begun decided rules settings given.store file image fault is.records is.lists is.base limited used is_store
     shown refused is.dealt is.begins)
-refuses_exactly never_both decided rules keeping settings left rest store store_now ReadToEnd DiskRose DiskSame
+refuses_exactly never_both decided rules keeping settings given store_now ReadToEnd DiskRose DiskSame
     read_before read_now sink written old new write_before write_now DiskFault file image frames fault limited used known
     capture is_store shown refused ends =
     inr (inr (inl refl))
-refuses_exactly never_both decided rules keeping settings left rest store store_now ReadToEnd DiskRose DiskSame
+refuses_exactly never_both decided rules keeping settings given store_now ReadToEnd DiskRose DiskSame
+    read_before read_now sink written old new write_before write_now (AuditNo report verdict) file image frames fault limited used known
+    capture is_store shown refused ends =
+    absurd ends.1
+refuses_exactly never_both decided rules keeping settings given store_now ReadToEnd DiskRose DiskSame
+    read_before read_now sink written old new write_before write_now (BadReport wrong) file image frames fault limited used known
+    capture is_store shown refused ends =
+    absurd ends.0
+refuses_exactly never_both decided rules keeping settings given store_now ReadToEnd DiskRose DiskSame
     read_before read_now sink written old new write_before write_now OutOfMemory file image frames fault limited used known
     capture is_store shown refused ends =
     inr (inr (inr refl))
-refuses_exactly never_both decided rules keeping settings left rest store store_now ReadToEnd DiskRose DiskSame
+refuses_exactly never_both decided rules keeping settings given store_now ReadToEnd DiskRose DiskSame
     read_before read_now sink written old new write_before write_now NotFormatted file image frames fault limited used known
     capture is_store shown refused ends =
-    inl (ap status_of_opening (same_fault decided rules settings left rest store store_now file image fault
+    inl (ap status_of_opening (same_fault decided rules settings given store_now file image fault
     opening.NotFormatted limited known is_store shown
     (record { not_of_disk = λ is. cc is; not_of_memory = λ is. cc is }) refused ends.0))
-refuses_exactly never_both decided rules keeping settings left rest store store_now ReadToEnd DiskRose DiskSame
+refuses_exactly never_both decided rules keeping settings given store_now ReadToEnd DiskRose DiskSame
     read_before read_now sink written old new write_before write_now (Damaged slot) file image frames fault limited used known
     capture is_store shown refused ends =
-    inl (ap status_of_opening (same_fault decided rules settings left rest store store_now file image fault
+    inl (ap status_of_opening (same_fault decided rules settings given store_now file image fault
     (opening.Damaged slot) limited known is_store shown
     (record { not_of_disk = λ is. cc is; not_of_memory = λ is. cc is }) refused ends.0))
-refuses_exactly never_both decided rules keeping settings left rest store store_now ReadToEnd DiskRose DiskSame
+refuses_exactly never_both decided rules keeping settings given store_now ReadToEnd DiskRose DiskSame
     read_before read_now sink written old new write_before write_now (OtherSettings stored asked) file image frames fault limited used known
     capture is_store shown refused ends =
-    inl (ap status_of_opening (same_fault decided rules settings left rest store store_now file image fault
+    inl (ap status_of_opening (same_fault decided rules settings given store_now file image fault
     (opening.OtherSettings stored asked) limited known is_store shown
     (record { not_of_disk = λ is. cc is; not_of_memory = λ is. cc is }) refused ends.0))
-refuses_exactly never_both decided rules keeping settings left rest store store_now ReadToEnd DiskRose DiskSame
+refuses_exactly never_both decided rules keeping settings given store_now ReadToEnd DiskRose DiskSame
     read_before read_now sink written old new write_before write_now (OtherCapture stored asked) file image frames fault limited used known
     capture is_store shown refused ends =
-    inl (ap status_of_opening (same_fault decided rules settings left rest store store_now file image fault
+    inl (ap status_of_opening (same_fault decided rules settings given store_now file image fault
     (opening.OtherCapture stored asked) limited known is_store shown
     (record { not_of_disk = λ is. cc is; not_of_memory = λ is. cc is }) refused ends.0))
 
@@ -419,59 +519,102 @@ no_store_fault words.OutOfMemory status opening.DiskFault shown is was = absurd 
 no_store_fault words.OutOfMemory status opening.OutOfMemory shown is was = absurd (shown.not_of_memory refl)
 
 -- the same of the command that was asked for
-pub answered_as : {K : Type 0} → NeverBoth → OpeningsAreDecided → BelongingStoresAreOpened
-    → (rules : Rules) (keeping : Keeping) (command read : Command) (left rest store store_now : Option (List ℕ))
-    (ReadToEnd DiskRose DiskSame : Type 0) (read_before read_now : ℕ)
+pub answered_as : {K : Type 0} → NeverBoth → OpeningsAreDecided → BelongingStoresAreOpened → NoFault
+    → (rules : Rules) (keeping : Keeping) (command read : Command) (given : InputBytes) (store_now : Option (List ℕ))
+    (ReadToEnd DiskRose DiskSame : Type 0) (read_before read_now : SourceFaults)
     (sink written : K) (old new : Option (List ℕ)) (write_before write_now : ℕ) (status : Status)
-    → read ≡ command → IsLimited read → CanBeAnswered rules command (inputs left rest store)
-    → (Rose read_before read_now → ⊥) → (Rose write_before write_now → ⊥) → (DiskRose → ⊥)
+    → read ≡ command → IsLimited read → CanBeAnswered rules command given
+    → (OneRose read_before read_now → ⊥) → (Rose write_before write_now → ⊥) → (DiskRose → ⊥)
     → ((fault : CaptureFault) → status ≡ BadCapture fault → ReadsCapture read)
-    → EndsAs rules keeping read left rest store store_now ReadToEnd DiskRose DiskSame read_before read_now sink written
+    → EndsAs rules keeping read given store_now ReadToEnd DiskRose DiskSame read_before read_now sink written
     old new write_before write_now status
-    → (status ≡ Done) ⊎ (status ≡ OutOfMemory)
-answered_as never_both decided opened rules keeping command read left rest store store_now ReadToEnd DiskRose DiskSame
+    → WasAnswered command status ⊎ (status ≡ OutOfMemory)
+answered_as never_both decided opened no_fault rules keeping command read given store_now ReadToEnd DiskRose DiskSame
     read_before read_now sink written old new write_before write_now status same limited can no_read no_write no_disk reads
     ends =
-    answered never_both decided opened rules keeping read left rest store store_now ReadToEnd DiskRose DiskSame
+    subst (λ c. WasAnswered c status ⊎ (status ≡ OutOfMemory)) same
+    (answered never_both decided opened no_fault rules keeping read given store_now ReadToEnd DiskRose DiskSame
     read_before read_now sink written old new write_before write_now status limited
-    (subst (λ c. CanBeAnswered rules c (inputs left rest store)) (sym same) can) no_read no_write no_disk reads ends
+    (subst (λ c. CanBeAnswered rules c given) (sym same) can) no_read no_write no_disk reads ends)
 
 pub refuses_as : {K : Type 0} → NeverBoth → OpeningsAreDecided
     → (rules : Rules) (keeping : Keeping) (settings : Settings) (read : Command)
-    (left rest store store_now : Option (List ℕ))
-    (ReadToEnd DiskRose DiskSame : Type 0) (read_before read_now : ℕ)
+    (given : InputBytes) (store_now : Option (List ℕ))
+    (ReadToEnd DiskRose DiskSame : Type 0) (read_before read_now : SourceFaults)
     (sink written : K) (old new : Option (List ℕ)) (write_before write_now : ℕ) (status : Status)
     (file image : List ℕ) (frames : List FrameValue) (fault : OpenFault)
     → read ≡ Report settings → IsLimited read → settings.store ≡ true
-    → left ≡ Some file → HasFrames file frames → store ≡ Some image → IsShown fault
+    → given.capture ≡ Some file → HasFrames file frames → given.store ≡ Some image → IsShown fault
     → ((records : Records) (lists : List (List RecordValue)) → AreDealtFrom settings rules file records lists
     → IsRefused (store_settings settings) lists image fault)
-    → EndsAs rules keeping read left rest store store_now ReadToEnd DiskRose DiskSame read_before read_now sink
+    → EndsAs rules keeping read given store_now ReadToEnd DiskRose DiskSame read_before read_now sink
     written old new write_before write_now status
     → (status ≡ status_of_opening fault)
     ⊎ ((status ≡ ReadFault) ⊎ ((status ≡ DiskFault) ⊎ (status ≡ OutOfMemory)))
-refuses_as never_both decided rules keeping settings read left rest store store_now ReadToEnd DiskRose DiskSame
+refuses_as never_both decided rules keeping settings read given store_now ReadToEnd DiskRose DiskSame
     read_before read_now sink written old new write_before write_now status file image frames fault same limited used
     known capture is_store shown refused ends =
-    refuses_exactly never_both decided rules keeping settings left rest store store_now ReadToEnd DiskRose DiskSame
+    refuses_exactly never_both decided rules keeping settings given store_now ReadToEnd DiskRose DiskSame
     read_before read_now sink written old new write_before write_now status file image frames fault
     (subst IsLimited same limited).0 used known capture is_store shown refused
-    (subst (λ c. EndsAs rules keeping c left rest store store_now ReadToEnd DiskRose DiskSame read_before read_now sink
+    (subst (λ c. EndsAs rules keeping c given store_now ReadToEnd DiskRose DiskSame read_before read_now sink
     written old new write_before write_now status) same ends)
 
--- how `format` ended, as a command
-pub format_ends : {K : Type 0} (rules : Rules) (keeping : Keeping) (command : Command) (settings : Settings)
-    (left rest store store_now : Option (List ℕ)) (DiskRose DiskSame : Type 0) (faults : ℕ)
-    (sink written : K) (old new : Option (List ℕ)) (write_before write_now : ℕ) (status : Status)
-    → command ≡ Format settings
-    → Ends (λ text. text ≡ formatted_text) (IsCutShort (λ text. text ≡ formatted_text)) ⊤ ⊤ DiskRose DiskSame
-    (λ fault. ⊥) left faults faults sink written old new write_before write_now status
-    → EndsAs rules keeping command left rest store store_now (WasRead command (inputs left rest store)) DiskRose DiskSame
-    faults faults sink written old new write_before write_now status
-format_ends rules keeping command settings left rest store store_now DiskRose DiskSame faults sink written old new
+-- how a command ended that uses no disk, beside one
+pub ends_beside : {K : Type 0} (IsText IsPart : List ℕ → Type 0) (ReadToEnd Accepted DiskSame : Type 0)
+    (Refused : OpenFault → Type 0) (Audited : Status → Type 0) (capture : Option (List ℕ))
+    (read_before read_now : SourceFaults) (sink written : K) (old new : Option (List ℕ)) (write_before write_now : ℕ)
+    (status : Status) → DiskSame
+    → Ends IsText IsPart ReadToEnd Accepted ⊥ ⊤ Refused Audited capture read_before read_now sink written old new
+    write_before write_now status
+    → Ends IsText IsPart ReadToEnd Accepted ⊥ DiskSame Refused Audited capture read_before read_now sink written old new
+    write_before write_now status
+ends_beside IsText IsPart ReadToEnd Accepted DiskSame Refused Audited capture read_before read_now sink written old new
+    write_before write_now Done same ends = ends
+ends_beside IsText IsPart ReadToEnd Accepted DiskSame Refused Audited capture read_before read_now sink written old new
+    write_before write_now (BadWords kind) same ends = ends
+ends_beside IsText IsPart ReadToEnd Accepted DiskSame Refused Audited capture read_before read_now sink written old new
+    write_before write_now (BadCapture fault) same ends = (ends.0, ends.1, same, ends.3, ends.4)
+ends_beside IsText IsPart ReadToEnd Accepted DiskSame Refused Audited capture read_before read_now sink written old new
+    write_before write_now ReadFault same ends = (ends.0, ends.1, same, ends.3)
+ends_beside IsText IsPart ReadToEnd Accepted DiskSame Refused Audited capture read_before read_now sink written old new
+    write_before write_now WriteFault same ends = ends
+ends_beside IsText IsPart ReadToEnd Accepted DiskSame Refused Audited capture read_before read_now sink written old new
+    write_before write_now DiskFault same ends = ends
+ends_beside IsText IsPart ReadToEnd Accepted DiskSame Refused Audited capture read_before read_now sink written old new
+    write_before write_now NotFormatted same ends = ends
+ends_beside IsText IsPart ReadToEnd Accepted DiskSame Refused Audited capture read_before read_now sink written old new
+    write_before write_now (Damaged slot) same ends = ends
+ends_beside IsText IsPart ReadToEnd Accepted DiskSame Refused Audited capture read_before read_now sink written old new
+    write_before write_now (OtherSettings stored asked) same ends = ends
+ends_beside IsText IsPart ReadToEnd Accepted DiskSame Refused Audited capture read_before read_now sink written old new
+    write_before write_now (OtherCapture stored asked) same ends = ends
+ends_beside IsText IsPart ReadToEnd Accepted DiskSame Refused Audited capture read_before read_now sink written old new
+    write_before write_now (AuditNo report verdict) same ends = ends
+ends_beside IsText IsPart ReadToEnd Accepted DiskSame Refused Audited capture read_before read_now sink written old new
+    write_before write_now (BadReport fault) same ends = (ends.0, ends.1, same, ends.3, ends.4)
+ends_beside IsText IsPart ReadToEnd Accepted DiskSame Refused Audited capture read_before read_now sink written old new
+    write_before write_now OutOfMemory same ends = ends
+
+-- how the command ended that this one is
+pub ends_as : {K : Type 0} (rules : Rules) (keeping : Keeping) (command named : Command) (given : InputBytes)
+    (store_now : Option (List ℕ)) (DiskRose DiskSame : Type 0) (read_before read_now : SourceFaults)
+    (sink written : K) (old new : Option (List ℕ)) (write_before write_now : ℕ) (status : Status) → command ≡ named
+    → EndsAs rules keeping named given store_now (WasRead named given) (OfDisk named DiskRose) DiskSame read_before
+    read_now sink written old new write_before write_now status
+    → EndsAs rules keeping command given store_now (WasRead command given) (OfDisk command DiskRose) DiskSame read_before
+    read_now sink written old new write_before write_now status
+ends_as rules keeping command named given store_now DiskRose DiskSame read_before read_now sink written old new
     write_before write_now status is ends =
-    subst (λ c. EndsAs rules keeping c left rest store store_now (WasRead c (inputs left rest store)) DiskRose DiskSame
-    faults faults sink written old new write_before write_now status) (sym is) ends
+    subst (λ c. EndsAs rules keeping c given store_now (WasRead c given) (OfDisk c DiskRose) DiskSame read_before
+    read_now sink written old new write_before write_now status) (sym is) ends
+
+-- what happened to the disk of a command happened
+pub happened_to_disk : (command : Command) (Happened : Type 0) → OfDisk command Happened → Happened
+happened_to_disk (Weigh prefix settings) Happened none = absurd none
+happened_to_disk (Report settings) Happened happened = happened
+happened_to_disk (Format settings) Happened happened = happened
+happened_to_disk (Audit settings) Happened none = absurd none
 
 -- arguments that ask for a command are refused only where memory ran out
 pub ran_out : (result : Result Command WordsRefusal) (command : Command) (refusal : WordsRefusal) (status : Status)

@@ -1,14 +1,19 @@
 -- Answers under rules of dealing that allow more.
-use Rattle.std.proofs.Common.{ℕ, List, Option}
+use Rattle.std.proofs.Common.{◌⊎◌, ⊎_elim, inl, inr, ℕ, List, Option, IfSome}
+use Rattle.report_text.specs.declared.session.Session.{Session}
+use Rattle.exact_audit.specs.declared.verdict.Verdict.{Verdict}
 use Rattle.prefix_lattice.specs.{RecordValue}
 use Rattle.deal_rules.specs.declared.deal_kind.DealKind.{DealKind}
 use Rattle.deal_rules.specs.{IsDealing}
 use Rattle.command_words.specs.declared.command.Command.{Command}
-use Rattle.command_words.specs.declared.command.Command.TheVariants.{Weigh, Report, Format}
-use Rattle.hhh_engine.specs.Answer.{IsAnswer, IsAnswerInPart, Answers, AnswersInPart}
+use Rattle.command_words.specs.declared.command.Command.TheVariants.{Weigh, Report, Format, Audit}
+use Rattle.hhh_engine.specs.Answer.{IsAnswer, IsAnswerInPart, IsCutShort, Answers, AnswersInPart}
 use Rattle.frame_records.specs.declared.records.Records.{Records}
 use Rattle.hhh_engine.specs.Session.{AreDealtFrom, IsSession, IsSessionInPart, Keeping, Rules}
-use Rattle.hhh_engine.specs.Inputs.{InputBytes}
+use Rattle.hhh_engine.specs.Audit.{AreAudited, IsAuditText, IsSoundSession, IsUnsoundSession}
+use Rattle.hhh_engine.specs.Ending.{FoundUnsound}
+use Rattle.hhh_engine.specs.Inputs.{InputBytes, OfAudited}
+use Rattle.hhh_engine.proofs.AuditEndLemmas.{of_audited_more}
 use Rattle.hhh_engine.proofs.CaptureLemmas.{if_known}
 use Rattle.command_words.specs.declared.settings.Settings.{Settings}
 
@@ -72,6 +77,55 @@ wider_part narrow wide settings store file front widen session = record {
   begun = session.begun;
 }
 
+wider_audited : (narrow wide : Rules) (settings : Settings) (file text : List ℕ) (lists : List (List RecordValue))
+    (session : Session)
+    → ((kind : DealKind) (place : ℕ) (rec : RecordValue) (shards number : ℕ) → narrow kind place rec shards number
+    → wide kind place rec shards number)
+    → AreAudited settings narrow file text lists session → AreAudited settings wide file text lists session
+wider_audited narrow wide settings file text lists session widen audited = record {
+  records = audited.records;
+  dealt = wider_records narrow wide settings file audited.records lists widen audited.dealt;
+  is_session = audited.is_session;
+  not_long = audited.not_long;
+}
+
+wider_sound : (narrow wide : Rules) (settings : Settings) (file text answer : List ℕ)
+    → ((kind : DealKind) (place : ℕ) (rec : RecordValue) (shards number : ℕ) → narrow kind place rec shards number
+    → wide kind place rec shards number)
+    → IsSoundSession settings narrow file text answer → IsSoundSession settings wide file text answer
+wider_sound narrow wide settings file text answer widen is = record {
+  lists = is.lists;
+  session = is.session;
+  audited = wider_audited narrow wide settings file text is.lists is.session widen is.audited;
+  sound = is.sound;
+  spelled = is.spelled;
+}
+
+wider_unsound : (narrow wide : Rules) (settings : Settings) (file text : List ℕ) (report : ℕ) (verdict : Verdict)
+    → ((kind : DealKind) (place : ℕ) (rec : RecordValue) (shards number : ℕ) → narrow kind place rec shards number
+    → wide kind place rec shards number)
+    → IsUnsoundSession settings narrow file text report verdict
+    → IsUnsoundSession settings wide file text report verdict
+wider_unsound narrow wide settings file text report verdict widen is = record {
+  lists = is.lists;
+  session = is.session;
+  audited = wider_audited narrow wide settings file text is.lists is.session widen is.audited;
+  first = is.first;
+}
+
+wider_audit_in_part : (narrow wide : Rules) (settings : Settings) (file text front : List ℕ)
+    → ((kind : DealKind) (place : ℕ) (rec : RecordValue) (shards number : ℕ) → narrow kind place rec shards number
+    → wide kind place rec shards number)
+    → IsCutShort (IsAuditText settings narrow file text) front → IsCutShort (IsAuditText settings wide file text) front
+wider_audit_in_part narrow wide settings file text front widen short = record {
+  text = short.text;
+  is_text = ⊎_elim
+      (λ is. inl (wider_sound narrow wide settings file text short.text widen is))
+      (λ is. inr (is.0, is.1, wider_unsound narrow wide settings file text is.0 is.1 widen is.2, is.3)) short.is_text;
+  begins = short.begins;
+  cut = short.cut;
+}
+
 wider_answer : (narrow wide : Rules) (keeping : Keeping) (command : Command) (read : InputBytes) (text : List ℕ)
     → ((kind : DealKind) (place : ℕ) (rec : RecordValue) (shards number : ℕ) → narrow kind place rec shards number
     → wide kind place rec shards number)
@@ -82,6 +136,10 @@ wider_answer narrow wide keeping (Report settings) read text widen answer =
     (λ file. IsSession settings wide keeping read.store file text)
     (λ file session. wider_session narrow wide keeping settings read.store file text widen session) answer
 wider_answer narrow wide keeping (Format settings) read text widen answer = answer
+wider_answer narrow wide keeping (Audit settings) read text widen answer =
+    of_audited_more read (λ file session. IsSoundSession settings narrow file session text)
+    (λ file session. IsSoundSession settings wide file session text)
+    (λ file session is. wider_sound narrow wide settings file session text widen is) answer
 
 wider_answer_in_part : (narrow wide : Rules) (command : Command) (read : InputBytes) (front : List ℕ)
     → ((kind : DealKind) (place : ℕ) (rec : RecordValue) (shards number : ℕ) → narrow kind place rec shards number
@@ -93,6 +151,10 @@ wider_answer_in_part narrow wide (Report settings) read front widen answer =
     (λ file. IsSessionInPart settings wide read.store file front)
     (λ file session. wider_part narrow wide settings read.store file front widen session) answer
 wider_answer_in_part narrow wide (Format settings) read front widen answer = answer
+wider_answer_in_part narrow wide (Audit settings) read front widen answer =
+    of_audited_more read (λ file session. IsCutShort (IsAuditText settings narrow file session) front)
+    (λ file session. IsCutShort (IsAuditText settings wide file session) front)
+    (λ file session is. wider_audit_in_part narrow wide settings file session front widen is) answer
 
 pub wider_answers : (narrow wide : Rules) (keeping : Keeping) (words : List (List ℕ)) (read : InputBytes)
     (old new : Option (List ℕ))
@@ -123,4 +185,19 @@ wider_answers_in_part narrow wide words read old new widen answers = record {
     is_text = wider_answer_in_part narrow wide answers.command read answers.answer.text widen answers.answer.is_text;
     written = answers.answer.written;
   };
+}
+
+pub wider_found : (narrow wide : Rules) (words : List (List ℕ)) (read : InputBytes) (report : ℕ) (verdict : Verdict)
+    (old new : Option (List ℕ))
+    → ((kind : DealKind) (place : ℕ) (rec : RecordValue) (shards number : ℕ) → narrow kind place rec shards number
+    → wide kind place rec shards number)
+    → FoundUnsound narrow words read report verdict old new → FoundUnsound wide words read report verdict old new
+wider_found narrow wide words read report verdict old new widen found = record {
+  settings = found.settings;
+  asked = found.asked;
+  read_to_end = found.read_to_end;
+  found = of_audited_more read (λ file text. IsUnsoundSession found.settings narrow file text report verdict)
+      (λ file text. IsUnsoundSession found.settings wide file text report verdict)
+      (λ file text is. wider_unsound narrow wide found.settings file text report verdict widen is) found.found;
+  written = found.written;
 }

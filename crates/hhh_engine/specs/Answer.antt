@@ -4,10 +4,11 @@ use Rattle.command_words.specs.{AskFor}
 use Rattle.command_words.specs.declared.command.Command.{Command}
 use Rattle.std.specs.Io.KnownBytes.{Appends}
 use Rattle.outside_io.specs.{IsBeginning}
-use Rattle.command_words.specs.declared.command.Command.TheVariants.{Weigh, Report, Format}
+use Rattle.command_words.specs.declared.command.Command.TheVariants.{Weigh, Report, Format, Audit}
 use Rattle.frame_records.specs.declared.weigh.Weigh.{Weigh as Weighing}
 use Rattle.prefix_lattice.specs.{PrefixValue}
-use Rattle.hhh_engine.specs.Inputs.{InputBytes, WasRead}
+use Rattle.hhh_engine.specs.Audit.{IsAuditText, IsSoundSession}
+use Rattle.hhh_engine.specs.Inputs.{InputBytes, OfAudited, WasRead}
 use Rattle.hhh_engine.specs.WeightText.{IsWeightText}
 use Rattle.hhh_engine.specs.Session.{Keeping, Rules, IsSession, IsSessionInPart}
 
@@ -22,6 +23,8 @@ IsAnswer rules keeping (Weigh prefix settings) read text =
 IsAnswer rules keeping (Report settings) read text =
     IfSome read.capture (λ file. IsSession settings rules keeping read.store file text)
 IsAnswer rules keeping (Format settings) read text = text ≡ formatted_text
+IsAnswer rules keeping (Audit settings) read text =
+    OfAudited read (λ file session. IsSoundSession settings rules file session text)
 
 -- bytes of a text, not all of them
 pub record IsCutShort (IsText : List ℕ → Type 0) (front : List ℕ) : Type 0 where
@@ -41,6 +44,8 @@ IsAnswerInPart rules (Weigh prefix settings) read front =
 IsAnswerInPart rules (Report settings) read front =
     IfSome read.capture (λ file. IsSessionInPart settings rules read.store file front)
 IsAnswerInPart rules (Format settings) read front = IsCutShort (λ text. text ≡ formatted_text) front
+IsAnswerInPart rules (Audit settings) read front =
+    OfAudited read (λ file session. IsCutShort (IsAuditText settings rules file session) front)
 
 -- bytes of this kind were appended to what the sink held
 pub record Writes (IsText : List ℕ → Type 0) (old new : Option (List ℕ)) : Type 0 where

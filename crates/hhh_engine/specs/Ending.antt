@@ -1,6 +1,6 @@
 -- What each status says of the arguments, of the source, of the sink and of the disk.
 use Rattle.std.specs.Prelude.{ℕ, ◌≡◌, ◌⊎◌, true, List, Option, None, IfSome}
-use Rattle.std.specs.Io.KnownBytes.{IsAtEnd}
+use Rattle.std.specs.Io.KnownBytes.{Appends, IsAtEnd}
 use Rattle.outside_io.specs.{Rose}
 use Rattle.prefix_lattice.specs.{RecordValue}
 use Rattle.frame_records.specs.{IsRefusedFor}
@@ -12,25 +12,30 @@ use Rattle.checkpoint.specs.declared.settings.StoreSettings.{StoreSettings}
 use Rattle.recovery.specs.{IsRefused}
 use Rattle.recovery.specs.declared.fault.OpenFault.{OpenFault}
 use Rattle.recovery.specs.declared.fault.OpenFault.TheVariants as opening
+use Rattle.report_text.specs.{HasTextFault}
+use Rattle.report_text.specs.declared.session_fault.TextFault.{TextFault}
+use Rattle.exact_audit.specs.declared.verdict.Verdict.{Verdict}
 use Rattle.command_words.specs.{AskFor, HasWordsFault}
 use Rattle.command_words.specs.declared.command.Command.{Command}
 use Rattle.command_words.specs.declared.command.Command.TheVariants as command
 use Rattle.command_words.specs.declared.settings.Settings.{Settings}
 use Rattle.command_words.specs.declared.words_kind.WordsKind.{WordsKind}
 use Rattle.hhh_engine.specs.Answer.{AnswersInPart, Writes}
-use Rattle.hhh_engine.specs.Inputs.{InputBytes}
+use Rattle.hhh_engine.specs.Audit.{IsUnsoundSession, WasReadToLimit, unsound_text}
+use Rattle.hhh_engine.specs.Inputs.{InputBytes, IsCapture, OfAudited, WasRead}
 use Rattle.hhh_engine.specs.Saves.{store_settings}
 use Rattle.hhh_engine.specs.Session.{AreDealtFrom, Rules}
 use Rattle.hhh_engine.specs.declared.status.Status.{Status}
 use Rattle.hhh_engine.specs.declared.status.Status.TheVariants.{Done, BadWords, BadCapture, ReadFault, WriteFault}
 use Rattle.hhh_engine.specs.declared.status.Status.TheVariants.{DiskFault, NotFormatted, Damaged, OtherSettings}
-use Rattle.hhh_engine.specs.declared.status.Status.TheVariants.{OtherCapture, OutOfMemory}
+use Rattle.hhh_engine.specs.declared.status.Status.TheVariants.{OtherCapture, AuditNo, BadReport, OutOfMemory}
 
 -- BadWords: this is the first fault of the arguments, and nothing was read or written
-pub record RefusedWords {S K D : Type 0} (words : List (List ℕ)) (kind : WordsKind) (source read : S)
-    (sink written : K) (disk left : D) : Type 0 where
+pub record RefusedWords {S T K D : Type 0} (words : List (List ℕ)) (kind : WordsKind) (capture read : S)
+    (text text_read : T) (sink written : K) (disk left : D) : Type 0 where
   pub first_fault : HasWordsFault words kind
-  pub unread : read ≡ source
+  pub unread : read ≡ capture
+  pub text_unread : text_read ≡ text
   pub unwritten : written ≡ sink
   pub untouched : left ≡ disk
 
@@ -41,9 +46,22 @@ pub record RefusedCapture {K D : Type 0} (left : Option (List ℕ)) (fault : Cap
   pub unwritten : written ≡ sink
   pub untouched : stands ≡ disk
 
--- ReadFault: the source's count of faults rose, and nothing was written
-pub record FailedToRead {K D : Type 0} (before now : ℕ) (sink written : K) (disk stands : D) : Type 0 where
-  pub rose : Rose before now
+-- the counts of faults of the two sources: that of the capture, and that of the text of a session
+pub record SourceFaults : Type 0 where
+  pub capture : ℕ
+  pub text : ℕ
+
+-- the sources with these counts of faults
+abbrev pub source_faults : ℕ → ℕ → SourceFaults
+source_faults capture text = record { capture = capture; text = text }
+
+-- the count of faults of one of the sources rose
+abbrev pub OneRose : SourceFaults → SourceFaults → Type 0
+OneRose before now = Rose before.capture now.capture ⊎ Rose before.text now.text
+
+-- ReadFault: the count of faults of a source rose, and nothing was written
+pub record FailedToRead {K D : Type 0} (before now : SourceFaults) (sink written : K) (disk stands : D) : Type 0 where
+  pub rose : OneRose before now
   pub unwritten : written ≡ sink
   pub untouched : stands ≡ disk
 
@@ -84,6 +102,37 @@ pub record RefusedStore {K : Type 0} (rules : Rules) (words : List (List ℕ)) (
   pub unwritten : written ≡ sink
   pub reads : store_now ≡ read.store
 
+-- AuditNo: an audit was asked for, and the inputs were read to their ends; this report is the first of the session that
+-- is not sound, by this verdict, and the line that says so was written in full
+pub record FoundUnsound (rules : Rules) (words : List (List ℕ)) (read : InputBytes) (report : ℕ) (verdict : Verdict)
+    (old new : Option (List ℕ)) : Type 0 where
+  pub settings : Settings
+  pub asked : AskFor words (command.Audit settings)
+  pub read_to_end : WasRead (command.Audit settings) read
+  pub found : OfAudited read (λ file text. IsUnsoundSession settings rules file text report verdict)
+  pub written : Appends old new (unsound_text report verdict)
+
+-- BadReport: an audit was asked for; the capture is one and was read to its end; this is the first fault of the text,
+-- where its bytes are known, of which at most one byte was read past the longest one; and nothing was written
+pub record RefusedText {K D : Type 0} (words : List (List ℕ)) (read : InputBytes) (fault : TextFault)
+    (sink written : K) (disk stands : D) : Type 0 where
+  pub settings : Settings
+  pub asked : AskFor words (command.Audit settings)
+  pub read_to_end : IsAtEnd read.capture_left
+  pub accepted : IfSome read.capture IsCapture
+  pub first_fault : IfSome read.text (λ text. HasTextFault text fault)
+  pub read_to_limit : WasReadToLimit read.text read.text_left
+  pub unwritten : written ≡ sink
+  pub untouched : stands ≡ disk
+
+-- the command was answered: its text was written, or an audit found a report that is not sound
+abbrev pub WasAnswered : Command → Status → Type 0
+WasAnswered (command.Audit settings) status =
+    (status ≡ Done) ⊎ ((report : ℕ) × (verdict : Verdict) × (status ≡ AuditNo report verdict))
+WasAnswered (command.Weigh prefix settings) status = status ≡ Done
+WasAnswered (command.Report settings) status = status ≡ Done
+WasAnswered (command.Format settings) status = status ≡ Done
+
 -- the disk holds a store with no gate open, whatever a crash now leaves, where its bytes are known
 abbrev pub HoldsEmptyStore : Option (List ℕ) → (List ℕ → Type 0) → StoreSettings → Type 0
 HoldsEmptyStore reads possible settings =
@@ -100,58 +149,91 @@ FormatEnds settings reads possible sink written disk stands OutOfMemory = (writt
 FormatEnds settings reads possible sink written disk stands _ = ⊥
 
 -- within the crate: a report with a store was asked for, the store is refused for this fault, and the disk reads as before
-abbrev pub RefusesStore : Settings → Rules → InputBytes → (store_now : Option (List ℕ)) → OpenFault → Type 0
-RefusesStore settings rules read store_now fault =
-    (settings.store ≡ true) × (store_now ≡ read.store)
-    × IfSome read.capture (λ file. IsRefusedStore settings rules read.store file fault)
+abbrev pub RefusesStore : Settings → Rules → (capture store store_now : Option (List ℕ)) → OpenFault → Type 0
+RefusesStore settings rules capture store store_now fault =
+    (settings.store ≡ true) × (store_now ≡ store)
+    × IfSome capture (λ file. IsRefusedStore settings rules store file fault)
 
 -- within the crate: the same of any command: only a report opens a store
 abbrev pub RefusesFor : Command → Rules → InputBytes → (store_now : Option (List ℕ)) → OpenFault → Type 0
 RefusesFor (command.Weigh prefix settings) rules read store_now fault = ⊥
-RefusesFor (command.Report settings) rules read store_now fault = RefusesStore settings rules read store_now fault
+RefusesFor (command.Report settings) rules read store_now fault =
+    RefusesStore settings rules read.capture read.store store_now fault
 RefusesFor (command.Format settings) rules read store_now fault = ⊥
+RefusesFor (command.Audit settings) rules read store_now fault = ⊥
+
+-- within the crate: this happened to the disk, which the command may use
+abbrev pub OfDisk : Command → Type 0 → Type 0
+OfDisk (command.Weigh prefix settings) happened = ⊥
+OfDisk (command.Report settings) happened = happened
+OfDisk (command.Format settings) happened = happened
+OfDisk (command.Audit settings) happened = ⊥
+
+-- within the crate: what an audit found that ended so, and what it wrote of it
+abbrev pub AuditFinds : Settings → Rules → InputBytes → (old new : Option (List ℕ)) → Status → Type 0
+AuditFinds settings rules read old new (AuditNo report verdict) =
+    OfAudited read (λ file text. IsUnsoundSession settings rules file text report verdict)
+    × Appends old new (unsound_text report verdict)
+AuditFinds settings rules read old new (BadReport fault) =
+    IsAtEnd read.capture_left × IfSome read.capture IsCapture × IfSome read.text (λ text. HasTextFault text fault)
+    × WasReadToLimit read.text read.text_left
+AuditFinds settings rules read old new _ = ⊥
+
+-- within the crate: the same of any command: only `audit` audits
+abbrev pub FindsFor : Command → Rules → InputBytes → (old new : Option (List ℕ)) → Status → Type 0
+FindsFor (command.Weigh prefix settings) rules read old new status = ⊥
+FindsFor (command.Report settings) rules read old new status = ⊥
+FindsFor (command.Format settings) rules read old new status = ⊥
+FindsFor (command.Audit settings) rules read old new status = AuditFinds settings rules read old new status
 
 -- within the crate: how a command ended. IsText says what is its text, IsPart which bytes begin it, ReadToEnd that its
--- inputs were read to their ends, Accepted that they are in their formats, DiskRose that the disk's count of faults rose, DiskSame that the disk is as before, and
--- Refused that its store is refused for a fault
+-- inputs were read to their ends, Accepted that they are in their formats, DiskRose that the disk's count of faults rose,
+-- DiskSame that the disk is as before, Refused that its store is refused for a fault, and Audited what an audit found
 abbrev pub Ends : {K : Type 0} → (IsText IsPart : List ℕ → Type 0) → (ReadToEnd Accepted DiskRose DiskSame : Type 0)
-    → (Refused : OpenFault → Type 0) → (capture : Option (List ℕ)) → (read_before read_now : ℕ) → (sink written : K)
-    → (old new : Option (List ℕ)) → (write_before write_now : ℕ) → Status → Type 0
-Ends IsText IsPart ReadToEnd Accepted DiskRose DiskSame Refused capture read_before read_now sink written old new write_before write_now
+    → (Refused : OpenFault → Type 0) → (Audited : Status → Type 0) → (capture : Option (List ℕ))
+    → (read_before read_now : SourceFaults) → (sink written : K) → (old new : Option (List ℕ))
+    → (write_before write_now : ℕ) → Status → Type 0
+Ends IsText IsPart ReadToEnd Accepted DiskRose DiskSame Refused Audited capture read_before read_now sink written old new write_before write_now
     Done =
     ReadToEnd × Writes IsText old new × (read_now ≡ read_before) × (write_now ≡ write_before)
-Ends IsText IsPart ReadToEnd Accepted DiskRose DiskSame Refused capture read_before read_now sink written old new write_before write_now
+Ends IsText IsPart ReadToEnd Accepted DiskRose DiskSame Refused Audited capture read_before read_now sink written old new write_before write_now
     (BadWords kind) = ⊥
-Ends IsText IsPart ReadToEnd Accepted DiskRose DiskSame Refused capture read_before read_now sink written old new write_before write_now
+Ends IsText IsPart ReadToEnd Accepted DiskRose DiskSame Refused Audited capture read_before read_now sink written old new write_before write_now
     (BadCapture fault) =
     IfSome capture (λ file. IsRefusedFor file fault) × (written ≡ sink) × DiskSame × (read_now ≡ read_before)
     × (write_now ≡ write_before)
-Ends IsText IsPart ReadToEnd Accepted DiskRose DiskSame Refused capture read_before read_now sink written old new write_before write_now
+Ends IsText IsPart ReadToEnd Accepted DiskRose DiskSame Refused Audited capture read_before read_now sink written old new write_before write_now
     ReadFault =
-    Rose read_before read_now × (written ≡ sink) × DiskSame × (write_now ≡ write_before)
-Ends IsText IsPart ReadToEnd Accepted DiskRose DiskSame Refused capture read_before read_now sink written old new write_before write_now
+    OneRose read_before read_now × (written ≡ sink) × DiskSame × (write_now ≡ write_before)
+Ends IsText IsPart ReadToEnd Accepted DiskRose DiskSame Refused Audited capture read_before read_now sink written old new write_before write_now
     WriteFault =
     ReadToEnd × Writes IsPart old new × Rose write_before write_now × (read_now ≡ read_before)
-Ends IsText IsPart ReadToEnd Accepted DiskRose DiskSame Refused capture read_before read_now sink written old new write_before write_now
+Ends IsText IsPart ReadToEnd Accepted DiskRose DiskSame Refused Audited capture read_before read_now sink written old new write_before write_now
     DiskFault =
     ReadToEnd × Accepted × ((written ≡ sink) ⊎ Writes IsPart old new) × DiskRose × (read_now ≡ read_before)
     × (write_now ≡ write_before)
-Ends IsText IsPart ReadToEnd Accepted DiskRose DiskSame Refused capture read_before read_now sink written old new write_before write_now
+Ends IsText IsPart ReadToEnd Accepted DiskRose DiskSame Refused Audited capture read_before read_now sink written old new write_before write_now
     NotFormatted =
     Refused opening.NotFormatted × ReadToEnd × (written ≡ sink) × (read_now ≡ read_before) × (write_now ≡ write_before)
-Ends IsText IsPart ReadToEnd Accepted DiskRose DiskSame Refused capture read_before read_now sink written old new write_before write_now
+Ends IsText IsPart ReadToEnd Accepted DiskRose DiskSame Refused Audited capture read_before read_now sink written old new write_before write_now
     (Damaged slot) =
     Refused (opening.Damaged slot) × ReadToEnd × (written ≡ sink) × (read_now ≡ read_before)
     × (write_now ≡ write_before)
-Ends IsText IsPart ReadToEnd Accepted DiskRose DiskSame Refused capture read_before read_now sink written old new write_before write_now
+Ends IsText IsPart ReadToEnd Accepted DiskRose DiskSame Refused Audited capture read_before read_now sink written old new write_before write_now
     (OtherSettings stored asked) =
     Refused (opening.OtherSettings stored asked) × ReadToEnd × (written ≡ sink) × (read_now ≡ read_before)
     × (write_now ≡ write_before)
-Ends IsText IsPart ReadToEnd Accepted DiskRose DiskSame Refused capture read_before read_now sink written old new write_before write_now
+Ends IsText IsPart ReadToEnd Accepted DiskRose DiskSame Refused Audited capture read_before read_now sink written old new write_before write_now
     (OtherCapture stored asked) =
     Refused (opening.OtherCapture stored asked) × ReadToEnd × (written ≡ sink) × (read_now ≡ read_before)
     × (write_now ≡ write_before)
-Ends IsText IsPart ReadToEnd Accepted DiskRose DiskSame Refused capture read_before read_now sink written old new write_before write_now
+Ends IsText IsPart ReadToEnd Accepted DiskRose DiskSame Refused Audited capture read_before read_now sink written old new write_before write_now
+    (AuditNo report verdict) =
+    ReadToEnd × Audited (AuditNo report verdict) × (read_now ≡ read_before) × (write_now ≡ write_before)
+Ends IsText IsPart ReadToEnd Accepted DiskRose DiskSame Refused Audited capture read_before read_now sink written old new write_before write_now
+    (BadReport fault) =
+    Audited (BadReport fault) × (written ≡ sink) × DiskSame × (read_now ≡ read_before) × (write_now ≡ write_before)
+Ends IsText IsPart ReadToEnd Accepted DiskRose DiskSame Refused Audited capture read_before read_now sink written old new write_before write_now
     OutOfMemory =
     ((written ≡ sink) ⊎ (ReadToEnd × Writes IsPart old new)) × (read_now ≡ read_before)
     × (write_now ≡ write_before)

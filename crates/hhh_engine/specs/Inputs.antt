@@ -1,5 +1,5 @@
 -- What a command reads.
-use Rattle.std.specs.Prelude.{⊤, ℕ, ◌≡◌, ◌≤◌, true, List, Option, Some, IfSome}
+use Rattle.std.specs.Prelude.{⊤, ℕ, ◌≡◌, ◌≤◌, true, List, length, Option, Some, IfSome}
 use Rattle.std.specs.Io.KnownBytes.{IsAtEnd}
 use Rattle.prefix_lattice.specs.{RecordValue}
 use Rattle.pcap_frames.specs.{FrameValue}
@@ -8,51 +8,77 @@ use Rattle.frame_records.specs.declared.records.Records.{Records}
 use Rattle.checkpoint.specs.{IsOfLists, Opens, SavedValue, opened_sequence}
 use Rattle.checkpoint.specs.declared.settings.StoreSettings.{StoreSettings}
 use Rattle.recovery.specs.{last_opened_sequence}
+use Rattle.report_text.specs.{IsSessionText, longest_text}
+use Rattle.report_text.specs.declared.session.Session.{Session}
 use Rattle.command_words.specs.{AskFor}
 use Rattle.command_words.specs.declared.command.Command.{Command}
-use Rattle.command_words.specs.declared.command.Command.TheVariants.{Weigh, Report, Format}
+use Rattle.command_words.specs.declared.command.Command.TheVariants.{Weigh, Report, Format, Audit}
 use Rattle.command_words.specs.declared.settings.Settings.{Settings}
 use Rattle.hhh_engine.specs.Saves.{store_settings}
 use Rattle.hhh_engine.specs.Session.{AreDealtFrom, Rules}
 
--- the bytes of the inputs as a command began, and what is left of them, where they are known: the capture, and the disk
--- of the store
+-- the bytes of the inputs as a command began, and what is left of them, where they are known: the capture, the text of
+-- a session, and the disk of the store
 pub record InputBytes : Type 0 where
   pub capture : Option (List ℕ)
   pub capture_left : Option (List ℕ)
+  pub text : Option (List ℕ)
+  pub text_left : Option (List ℕ)
   pub store : Option (List ℕ)
 
--- the inputs whose capture had these bytes, of which these are left, and whose disk had these
-abbrev pub inputs : Option (List ℕ) → Option (List ℕ) → Option (List ℕ) → InputBytes
-inputs capture left store = record { capture = capture; capture_left = left; store = store }
+-- the inputs whose capture had these bytes, of which these are left, whose text had these, of which these are left, and
+-- whose disk had these
+abbrev pub inputs : (capture capture_left text text_left store : Option (List ℕ)) → InputBytes
+inputs capture capture_left text text_left store = record {
+  capture = capture;
+  capture_left = capture_left;
+  text = text;
+  text_left = text_left;
+  store = store;
+}
 
 -- this command reads a capture
 abbrev pub ReadsCapture : Command → Type 0
 ReadsCapture (Weigh prefix settings) = ⊤
 ReadsCapture (Report settings) = ⊤
 ReadsCapture (Format settings) = ⊥
+ReadsCapture (Audit settings) = ⊤
+
+-- this command reads the text of a session
+abbrev pub ReadsSession : Command → Type 0
+ReadsSession (Weigh prefix settings) = ⊥
+ReadsSession (Report settings) = ⊥
+ReadsSession (Format settings) = ⊥
+ReadsSession (Audit settings) = ⊤
 
 -- this command uses the disk of a store
 abbrev pub UsesStore : Command → Type 0
 UsesStore (Weigh prefix settings) = ⊥
 UsesStore (Report settings) = settings.store ≡ true
 UsesStore (Format settings) = ⊤
+UsesStore (Audit settings) = ⊥
 
 -- what a command reads was read to its end
 abbrev pub WasRead : Command → InputBytes → Type 0
 WasRead (Weigh prefix settings) read = IsAtEnd read.capture_left
 WasRead (Report settings) read = IsAtEnd read.capture_left
 WasRead (Format settings) read = ⊤
+WasRead (Audit settings) read = IsAtEnd read.capture_left × IsAtEnd read.text_left
 
 -- the file is a capture of some frames
 abbrev pub IsCapture : List ℕ → Type 0
 IsCapture file = (frames : List FrameValue) × HasFrames file frames
+
+-- what holds of the capture and the text of an audit, where their bytes are known; the capture is one in any case
+abbrev pub OfAudited : InputBytes → (List ℕ → List ℕ → Type 0) → Type 0
+OfAudited read Holds = IfSome read.capture (λ file. IsCapture file × IfSome read.text (Holds file))
 
 -- what a command reads was accepted: its capture is one, where its bytes are known
 abbrev pub WasAccepted : Command → InputBytes → Type 0
 WasAccepted (Weigh prefix settings) read = IfSome read.capture IsCapture
 WasAccepted (Report settings) read = IfSome read.capture IsCapture
 WasAccepted (Format settings) read = ⊤
+WasAccepted (Audit settings) read = IfSome read.capture IsCapture
 
 -- the bytes of a source are known, and they are a capture of some frames
 pub record HasKnownCapture (bytes : Option (List ℕ)) : Type 0 where
@@ -60,6 +86,14 @@ pub record HasKnownCapture (bytes : Option (List ℕ)) : Type 0 where
   pub told : bytes ≡ Some file
   pub frames : List FrameValue
   pub capture : HasFrames file frames
+
+-- the bytes of a text are known, and they are those of a session, and not too many
+pub record HasKnownSession (bytes : Option (List ℕ)) : Type 0 where
+  pub text : List ℕ
+  pub told : bytes ≡ Some text
+  pub session : Session
+  pub is_session : IsSessionText text session
+  pub not_long : length text ≤ longest_text
 
 -- the bytes are a sound store that belongs to these dealt lists, and its sequence leaves room for the saves of a run
 abbrev pub IsStoreOf : StoreSettings → List (List RecordValue) → List ℕ → Type 0
@@ -80,15 +114,16 @@ CanBeAnswered rules (Weigh prefix settings) read = HasKnownCapture read.capture
 CanBeAnswered rules (Report settings) read =
     HasKnownCapture read.capture × (settings.store ≡ true → HasKnownStore settings rules read)
 CanBeAnswered rules (Format settings) read = ⊤
+CanBeAnswered rules (Audit settings) read = HasKnownCapture read.capture × HasKnownSession read.text
 
--- the arguments ask for a command that reads a capture
-pub record AskToRead (words : List (List ℕ)) : Type 0 where
+-- the arguments ask for a command that uses something
+pub record AskToUse (Uses : Command → Type 0) (words : List (List ℕ)) : Type 0 where
   pub command : Command
   pub asked : AskFor words command
-  pub reads : ReadsCapture command
+  pub uses : Uses command
 
--- the arguments ask for a command that uses no store
-pub record AskForNoStore (words : List (List ℕ)) : Type 0 where
+-- the arguments ask for a command that doesn't use something
+pub record AskNotToUse (Uses : Command → Type 0) (words : List (List ℕ)) : Type 0 where
   pub command : Command
   pub asked : AskFor words command
-  pub unused : UsesStore command → ⊥
+  pub unused : Uses command → ⊥

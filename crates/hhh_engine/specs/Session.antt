@@ -100,6 +100,10 @@ pub record SessionReports : Type 0 where
 abbrev pub calling_reports : SessionReports → List Reported
 calling_reports reports = reports.rounds ++ reports.last ∷ []
 
+-- all reports of a session: those of the calling thread, and those of the other callers
+abbrev pub reports_in : SessionReports → List Reported
+reports_in reports = calling_reports reports ++ flat_map (λ made. made) reports.callers
+
 -- the reports that the settings ask for: the calling thread makes its rounds and the last report, which counts all
 -- records, and each other caller makes as many rounds
 pub record AreSessionReports (opening : List ShardValue) (settings : Settings) (reports : SessionReports)

@@ -5,7 +5,7 @@ use Rattle.command_words.specs.declared.words_kind.WordsRefusal.{WordsRefusal}
 use Rattle.hhh_engine.specs.declared.status.Status.{Status}
 use Rattle.hhh_engine.specs.declared.status.Status.TheVariants.{Done, BadWords, BadCapture, ReadFault, WriteFault}
 use Rattle.hhh_engine.specs.declared.status.Status.TheVariants.{DiskFault, NotFormatted, Damaged, OtherSettings}
-use Rattle.hhh_engine.specs.declared.status.Status.TheVariants.{OtherCapture, OutOfMemory}
+use Rattle.hhh_engine.specs.declared.status.Status.TheVariants.{OtherCapture, AuditNo, BadReport, OutOfMemory}
 use Rattle.recovery.specs.declared.fault.OpenFault.{OpenFault}
 use Rattle.recovery.specs.declared.fault.OpenFault.TheVariants as opening
 use Rattle.pcap_frames.specs.declared.fault.FaultKind.{FaultKind}
@@ -17,6 +17,10 @@ use Rattle.command_words.specs.declared.words_kind.WordsKind.TheVariants.{BadPre
 use Rattle.command_words.specs.declared.words_kind.WordsKind.TheVariants.{BadChoice, Bound}
 use Rattle.pcap_frames.specs.declared.fault.ReadRefusal.TheVariants as refusals
 use Rattle.command_words.specs.declared.words_kind.WordsRefusal.TheVariants as words
+use Rattle.report_text.specs.declared.session_fault.SessionFault.{SessionFault}
+use Rattle.report_text.specs.declared.session_fault.SessionFault.TheVariants as session
+use Rattle.report_text.specs.declared.session_fault.TextFault.{TextFault}
+use Rattle.report_text.specs.declared.session_fault.TextFault.TheVariants.{BadLine, MissingEnd, TooLong}
 
 -- the exit status for how a command ended
 abbrev pub number_of : Status → ℕ
@@ -30,6 +34,8 @@ number_of NotFormatted = 7
 number_of (Damaged slot) = 8
 number_of (OtherSettings stored asked) = 9
 number_of (OtherCapture stored asked) = 10
+number_of (AuditNo report verdict) = 11
+number_of (BadReport fault) = 12
 number_of OutOfMemory = 13
 
 -- the status of a command whose capture was refused
@@ -52,6 +58,11 @@ status_of_opening (opening.Damaged slot) = Damaged slot
 status_of_opening (opening.OtherCapture stored asked) = OtherCapture stored asked
 status_of_opening opening.OutOfMemory = OutOfMemory
 
+-- the status of a command whose session text was not read
+abbrev pub status_of_session : SessionFault → Status
+status_of_session (session.Text fault) = BadReport fault
+status_of_session session.OutOfMemory = OutOfMemory
+
 -- what is wrong with the arguments, in a word or two
 abbrev pub words_text : WordsKind → List ℕ
 words_text NoCommand = codes "no command"
@@ -73,6 +84,12 @@ fault_text LongFrame = codes "long frame"
 fault_text CutFrame = codes "cut frame"
 fault_text TooManyFrames = codes "too many frames"
 
+-- what is wrong with the text of a session, in a few words
+abbrev pub session_fault_text : TextFault → List ℕ
+session_fault_text (BadLine line) = codes "line " ++ decimal line
+session_fault_text (MissingEnd line) = codes "no end at line " ++ decimal line
+session_fault_text TooLong = codes "too long"
+
 -- how a command ended, as text
 abbrev pub status_text : Status → List ℕ
 status_text Done = codes "done"
@@ -85,6 +102,8 @@ status_text NotFormatted = codes "store not formatted"
 status_text (Damaged slot) = codes "store damaged: slot " ++ decimal slot
 status_text (OtherSettings stored asked) = codes "store has other settings"
 status_text (OtherCapture stored asked) = codes "store is of another capture"
+status_text (AuditNo report verdict) = codes "audit: no"
+status_text (BadReport fault) = codes "bad report: " ++ session_fault_text fault
 status_text OutOfMemory = codes "out of memory"
 
 -- the line that reports on standard error how a command ended

@@ -1,9 +1,12 @@
 //! What each command makes of its inputs, one file for each command.
 
+pub(crate) mod audit;
 mod base;
+mod dealing;
 mod feed;
 pub(crate) mod format;
 mod live_rounds;
+mod reading_text;
 pub(crate) mod report;
 mod saving;
 mod session;

@@ -1,20 +1,25 @@
 //! Laws of what commands write, each the contract of a function that does nothing.
 
-ghost use Rattle.std.specs.Prelude.{◌≡◌, ℕ, ◌+◌, ◌++◌, List, Option, IsSomeAnd};
+ghost use Rattle.std.specs.Prelude.{◌≡◌, ℕ, ◌+◌, ◌++◌, List, All, Option, IfSome, IsSomeAnd};
 ghost use Rattle.prefix_lattice.specs.{RecordValue};
 ghost use Rattle.deal_rules.specs.{dealer_of};
 ghost use Rattle.deal_rules.specs.declared.deal_kind.DealKind.{DealKind};
 ghost use Rattle.hhh_engine.specs.Answer.{Answers, AnswersInPart};
+ghost use Rattle.hhh_engine.specs.Ending.{FoundUnsound};
 ghost use Rattle.hhh_engine.specs.Inputs.{InputBytes};
+ghost use Rattle.exact_audit.specs.{IsVerdict};
+ghost use Rattle.exact_audit.specs.declared.verdict.Verdict.{Verdict};
+ghost use Rattle.exact_audit.specs.declared.verdict.Verdict.TheVariants.{Good};
 ghost use Rattle.command_words.specs.declared.settings.Settings.{Settings};
 ghost use Rattle.report_text.specs.{mark_text, report_text};
 ghost use Rattle.report_text.specs.declared.mark.Mark.TheVariants.{Opened};
-ghost use Rattle.shard_state.specs.{AreShards, BasesRepresent, ShardValue, capacity_of, lists_of, positions_of};
+ghost use Rattle.shard_state.specs.{AreShards, BasesRepresent, CutRepresents, ShardValue, capacity_of, lists_of, positions_of};
 ghost use Rattle.checkpoint.specs.{Belongs, IsOfLists, SavedValue, opened_sequence};
-ghost use Rattle.hhh_engine.specs.Session.{AreSessionReports, SessionReports, by_formula, ends_of, new_shards, part_text, session_saves, session_text, start_of};
+ghost use Rattle.hhh_engine.specs.Session.{AreSessionReports, IsSession, SessionReports, by_formula, ends_of, new_shards, part_text, reports_in, session_saves, session_text, start_of};
 ghost use Rattle.hhh_engine.specs.Saves.{OpensAmong, kept_in, last_saved, store_settings};
 
 use deal_rules::{Dealer, Dealers, Deals};
+use exact_audit::a_report_has_one_verdict;
 use gate_workers::reported_cuts_represent;
 use hhh_output::{a_cut_has_one_report, standing_cuts_have_one_report};
 use report_text::same_reports_have_one_text;
@@ -34,6 +39,12 @@ pub fn answers_follow_formulas<D: Disk>(dealers: &Dealers)
         → ⟦<Dealer as Deals>⟧.may_answer (dealer_of kind dealers.now) place rec shards number → number ≡ formula kind place rec shards)
         → AnswersInPart (λ kind. ⟦<Dealer as Deals>⟧.may_answer (dealer_of kind dealers.now)) words read old new
         → AnswersInPart (by_formula formula) words read old new }
+    ensures found { (formula : DealKind → ℕ → RecordValue → ℕ → ℕ) (words : List (List ℕ)) (read : InputBytes) (report : ℕ) (verdict : Verdict)
+        (old new : Option (List ℕ))
+        → ((kind : DealKind) (place : ℕ) (rec : RecordValue) (shards number : ℕ)
+        → ⟦<Dealer as Deals>⟧.may_answer (dealer_of kind dealers.now) place rec shards number → number ≡ formula kind place rec shards)
+        → FoundUnsound (λ kind. ⟦<Dealer as Deals>⟧.may_answer (dealer_of kind dealers.now)) words read report verdict old new
+        → FoundUnsound (by_formula formula) words read report verdict old new }
 {}
 
 /// The text of the last report of a session depends on the dealt lists, the capacity and the share alone: whatever the
@@ -90,3 +101,14 @@ pub fn last_saves_are_at_the_ends()
         → IsSomeAnd (last_saved opened (session_saves settings opening opened reports)) (λ saved.
         (positions_of saved.cut ≡ ends_of opening) × (saved.sequence ≡ opened_sequence opened + (settings.rounds + 1))) }
 {}
+
+/// An audit of a session's reports over the dealt records finds each of them good, for the capacity and the share of the
+/// session, also where the session went on from a saved cut, if the tables of this were those of its records.
+pub fn own_reports_are_good<D: Disk>()
+    ensures { (formula : DealKind → ℕ → RecordValue → ℕ → ℕ) (before now : D) (settings : Settings) (store : Option (List ℕ)) (file text : List ℕ)
+        (is : IsSession settings (by_formula formula) (kept_in D.reads D.image_now D.moment D.image_since before now) store file text)
+        (verdict : Verdict) → IfSome is.base (λ cut. CutRepresents cut is.lists)
+        → All (λ reported. IsVerdict is.lists settings.capacity settings.phi reported.report verdict → verdict ≡ Good) (reports_in is.spelled.reports) }
+{
+    a_report_has_one_verdict();
+}

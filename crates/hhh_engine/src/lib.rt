@@ -11,9 +11,10 @@ pub use command_words::{
     Command, Opt, PathTexts, Settings, WordsKind, WordsRefusal, paths, read_words,
 };
 pub use commands::LiveRounds;
+pub use exact_audit::Verdict;
 pub use laws::{
     answers_follow_formulas, last_reports_are_one, last_saves_are_at_the_ends,
-    resumed_sessions_end_alike, saves_belong, sessions_without_rounds_have_one_report,
+    own_reports_are_good, resumed_sessions_end_alike, saves_belong, sessions_without_rounds_have_one_report,
 };
 pub use status::{Status, fault_line};
 pub use top_call::run;

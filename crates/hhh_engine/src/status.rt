@@ -3,13 +3,15 @@
 mod line;
 
 ghost use Rattle.std.specs.Prelude.{◌≡◌};
-ghost use Rattle.hhh_engine.specs.Status.{status_of, status_of_opening, status_of_words, number_of};
+ghost use Rattle.hhh_engine.specs.Status.{status_of, status_of_opening, status_of_session, status_of_words, number_of};
 
 use checkpoint::StoreSettings;
 use command_words::{WordsKind, WordsRefusal};
+use exact_audit::Verdict;
 pub use line::fault_line;
 use pcap_frames::{CaptureFault, ReadRefusal};
 use recovery::OpenFault;
+use report_text::{SessionFault, TextFault};
 use std::alloc::AllocError;
 
 /// How a command ended.
@@ -45,6 +47,15 @@ pub enum Status {
         /// The digest of the capture's dealt records.
         asked: [u8; 32],
     },
+    /// A report of the session is not sound. The line that says why was written in full.
+    AuditNo {
+        /// The number of the report in the session, from 1. The reports before it are sound.
+        report: u64,
+        /// The first test that it fails.
+        verdict: Verdict,
+    },
+    /// The text to audit is not that of a session. Nothing was written.
+    BadReport(TextFault),
     /// Memory ran out. Nothing was written, or the text was written in part.
     OutOfMemory,
 }
@@ -65,6 +76,8 @@ impl Status {
             Status::Damaged(_) => 8,
             Status::OtherSettings { .. } => 9,
             Status::OtherCapture { .. } => 10,
+            Status::AuditNo { .. } => 11,
+            Status::BadReport(_) => 12,
             Status::OutOfMemory => 13,
         }
     }
@@ -104,6 +117,17 @@ impl From<OpenFault> for Status {
             OpenFault::Damaged(slot) => Status::Damaged(slot),
             OpenFault::OtherCapture { stored, asked } => Status::OtherCapture { stored, asked },
             OpenFault::OutOfMemory => Status::OutOfMemory,
+        }
+    }
+}
+
+impl From<SessionFault> for Status {
+    ghost from_gives = { λ fault status. status ≡ status_of_session fault };
+
+    fn from(fault: SessionFault) -> Status {
+        match fault {
+            SessionFault::Text(fault) => Status::BadReport(fault),
+            SessionFault::OutOfMemory => Status::OutOfMemory,
         }
     }
 }

@@ -1,6 +1,7 @@
 ghost use Rattle.std.specs.Prelude.{◌≡◌, ◌%◌, bit_xor};
 ghost use Rattle.deal_rules.specs.{IsAsked};
 
+mod audits;
 mod captures;
 mod gates;
 mod refusals;
@@ -64,6 +65,7 @@ pub(crate) fn run_gated<R: Threads + Wait + Sync, G: Gate + Sync>(
     gate: &G,
 ) -> Result<Ended, AllocError> {
     let mut source = MemorySource::new(bytes, Vec::from_slice(alloc, outside.source_fails)?, 7);
+    let mut text = MemorySource::new(Vec::new(alloc), Vec::new(alloc), 7);
     let fails = Vec::from_slice(alloc, outside.sink_fails)?;
     let mut sink = MemorySink::with_room(alloc, outside.room, fails)?;
     let mut disk = MemoryDisk::with_room(alloc, 0, 0, Vec::new(alloc), None, Vec::new(alloc))?;
@@ -72,6 +74,7 @@ pub(crate) fn run_gated<R: Threads + Wait + Sync, G: Gate + Sync>(
         alloc,
         words,
         &mut source,
+        &mut text,
         &mut sink,
         &mut disk,
         gate,
@@ -145,6 +148,21 @@ fn goes_on_from_stores(rt: HostRuntime) -> Result<(), Fail> {
     stores::formats(&rt, alloc, &dealers)?;
     stores::refuses_stores(&rt, alloc, &dealers)?;
     stores::tells_the_faults_of_the_disk(&rt, alloc, &dealers)
+}
+
+#[test]
+fn audits_sessions(rt: HostRuntime) -> Result<(), Fail> {
+    let alloc = rt.alloc();
+    let dealers = Dealers {
+        round: Dealer::new(DealKind::RoundRobin, Box::new(alloc, by_place)?),
+        source: Dealer::new(DealKind::BySource, Box::new(alloc, by_source)?),
+        free: Dealer::new(DealKind::Free, Box::new(alloc, by_both)?),
+    };
+    audits::audits(&rt, alloc, &dealers)?;
+    audits::finds_each_change(&rt, alloc, &dealers)?;
+    audits::refuses_texts(&rt, alloc, &dealers)?;
+    audits::tells_the_faults_of_its_inputs(&rt, alloc, &dealers)?;
+    audits::own_reports_are_good(&rt, alloc, &dealers)
 }
 
 #[test]

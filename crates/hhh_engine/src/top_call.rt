@@ -1,6 +1,6 @@
 //! The top call: from arguments, a capture and the disk of a store to an output text and a status.
 
-ghost use Rattle.std.specs.Prelude.{◌≡◌, ◌⊎◌, ℕ, List, Some, true};
+ghost use Rattle.std.specs.Prelude.{◌≡◌, ◌⊎◌, ◌≤◌, ℕ, List, length, Some, true};
 ghost use Rattle.outside_io.specs.{Rose};
 ghost use Rattle.prefix_lattice.specs.{RecordValue};
 ghost use Rattle.pcap_frames.specs.{FrameValue};
@@ -10,29 +10,37 @@ ghost use Rattle.pcap_frames.specs.declared.fault.CaptureFault.{CaptureFault};
 ghost use Rattle.deal_rules.specs.{dealer_of};
 ghost use Rattle.recovery.specs.{IsRefused, IsShown};
 ghost use Rattle.recovery.specs.declared.fault.OpenFault.{OpenFault};
+ghost use Rattle.report_text.specs.{HasTextFault, IsSessionText, longest_text};
+ghost use Rattle.report_text.specs.declared.session.Session.{Session};
+ghost use Rattle.report_text.specs.declared.session_fault.TextFault.{TextFault};
+ghost use Rattle.exact_audit.specs.declared.verdict.Verdict.{Verdict};
 ghost use Rattle.command_words.specs.{texts, AskFor, HasWordsFault, IsLimited};
 ghost use Rattle.command_words.specs.declared.command.Command.{Command};
-ghost use Rattle.command_words.specs.declared.command.Command.TheVariants.{Report, Format};
+ghost use Rattle.command_words.specs.declared.command.Command.TheVariants.{Report, Format, Audit};
 ghost use Rattle.command_words.specs.declared.settings.Settings.{Settings};
 ghost use Rattle.command_words.specs.declared.words_kind.WordsKind.{WordsKind};
 ghost use Rattle.hhh_engine.specs.Answer.{Answers, AnswersInPart, IsAnswer, IsAnswerInPart};
-ghost use Rattle.hhh_engine.specs.Ending.{Ends, FailedDisk, FailedToRead, FailedToWrite, FormatEnds, RefusedCapture, RefusedStore, RefusedWords, RefusesFor, WroteInPart};
-ghost use Rattle.hhh_engine.specs.Inputs.{AskForNoStore, AskToRead, CanBeAnswered, UsesStore, WasAccepted, WasRead, inputs};
+ghost use Rattle.hhh_engine.specs.Ending.{Ends, FailedDisk, FailedToRead, FailedToWrite, FindsFor, FormatEnds, FoundUnsound, OfDisk, OneRose, RefusedCapture, RefusedStore, RefusedText, RefusedWords, RefusesFor, WasAnswered, WroteInPart, source_faults};
+ghost use Rattle.hhh_engine.specs.Audit.{AreAudited, IsFirstUnsound};
+ghost use Rattle.hhh_engine.specs.Inputs.{AskNotToUse, AskToUse, CanBeAnswered, ReadsCapture, ReadsSession, UsesStore, WasAccepted, WasRead, inputs};
 ghost use Rattle.hhh_engine.specs.Saves.{kept_in, store_settings};
 ghost use Rattle.hhh_engine.specs.Session.{AreDealtFrom};
 ghost use Rattle.hhh_engine.specs.Status.{status_of_opening};
-ghost use Rattle.hhh_engine.specs.declared.status.Status.TheVariants.{Done, BadWords, BadCapture, ReadFault, WriteFault, DiskFault, OutOfMemory};
+ghost use Rattle.hhh_engine.specs.declared.status.Status.TheVariants.{Done, BadWords, BadCapture, ReadFault, WriteFault, DiskFault, AuditNo, BadReport, OutOfMemory};
 
 use crate::Status;
+use crate::commands::audit::audit;
 use crate::commands::format::format;
 use crate::commands::report::report;
 use crate::commands::weigh::weigh;
 use command_words::{Command, read_words};
 use deal_rules::{Dealer, Dealers, Deals};
+use exact_audit::a_report_has_one_verdict;
 use frame_records::files_are_read_or_refused;
 use gate_workers::Gate;
 use outside_io::{Sink, Source};
 use recovery::{belonging_stores_are_opened, openings_are_decided};
+use report_text::session_texts_have_one_reading;
 use slot_disk::Disk;
 use std::alloc::Global;
 use std::marker::Sync;
@@ -52,12 +60,17 @@ use std::thread::Threads;
 ///
 /// `format` makes an empty store on the disk, and writes one line.
 ///
+/// `audit` reads a capture and the text of a session to their ends, deals the records, and audits each report of the
+/// session by these records alone. It writes one line: how many reports there are, if all are sound, else what is wrong
+/// with the first that is not.
+///
 /// `gate` is called around each fold and each read, and changes nothing of what is written.
-pub fn run<R: Threads + Wait + Sync, S: Source, K: Sink, D: Disk, G: Gate + Sync>(
+pub fn run<R: Threads + Wait + Sync, S: Source, T: Source, K: Sink, D: Disk, G: Gate + Sync>(
     rt: &R,
     alloc: Global,
     words: &[&str],
     capture: &mut S,
+    text: &mut T,
     sink: &mut K,
     disk: &mut D,
     gate: &G,
@@ -67,22 +80,22 @@ pub fn run<R: Threads + Wait + Sync, S: Source, K: Sink, D: Disk, G: Gate + Sync
     // holds for the records themselves. What a report saved stands in its store, whatever a crash leaves.
     ensures done { result ≡ Done → Answers (λ kind. ⟦<Dealer as Deals>⟧.may_answer (dealer_of kind dealers.now))
         (kept_in D.reads D.image_now D.moment D.image_since disk.old disk.new) (texts words.now)
-        (inputs (S.left capture.old) (S.left capture.new) (D.reads disk.old)) (K.taken sink.old) (K.taken sink.new) }
+        (inputs (S.left capture.old) (S.left capture.new) (T.left text.old) (T.left text.new) (D.reads disk.old)) (K.taken sink.old) (K.taken sink.new) }
 
     // The arguments are checked first, before anything is read.
-    ensures bad_words { (kind : WordsKind) → result ≡ BadWords kind → RefusedWords (texts words.now) kind capture.old capture.new sink.old sink.new
+    ensures bad_words { (kind : WordsKind) → result ≡ BadWords kind → RefusedWords (texts words.now) kind capture.old capture.new text.old text.new sink.old sink.new
         disk.old disk.new }
     ensures refuses_words { (kind : WordsKind) → HasWordsFault (texts words.now) kind → (result ≡ BadWords kind) ⊎ (result ≡ OutOfMemory) }
 
     // A capture with a fault is refused for it, unless the source fails or memory runs out first.
     ensures bad_capture { (fault : CaptureFault) → result ≡ BadCapture fault → RefusedCapture (S.left capture.old) fault sink.old sink.new disk.old disk.new }
-    ensures refuses { (file : List ℕ) (fault : CaptureFault) → AskToRead (texts words.now) → S.left capture.old ≡ Some file → IsRefusedFor file fault
+    ensures refuses { (file : List ℕ) (fault : CaptureFault) → AskToUse ReadsCapture (texts words.now) → S.left capture.old ≡ Some file → IsRefusedFor file fault
         → (result ≡ BadCapture fault) ⊎ ((result ≡ ReadFault) ⊎ (result ≡ OutOfMemory)) }
 
     // A store that is refused over the dealt records is refused for its first fault, unless the source or the disk fails or
     // memory runs out first.
     ensures refused_store { (fault : OpenFault) → IsShown fault → result ≡ status_of_opening fault
-        → RefusedStore (λ kind. ⟦<Dealer as Deals>⟧.may_answer (dealer_of kind dealers.now)) (texts words.now) (inputs (S.left capture.old) (S.left capture.new) (D.reads disk.old))
+        → RefusedStore (λ kind. ⟦<Dealer as Deals>⟧.may_answer (dealer_of kind dealers.now)) (texts words.now) (inputs (S.left capture.old) (S.left capture.new) (T.left text.old) (T.left text.new) (D.reads disk.old))
         fault sink.old sink.new (D.reads disk.new) }
     ensures refuses_store { (settings : Settings) (file image : List ℕ) (frames : List FrameValue) (fault : OpenFault)
         → AskFor (texts words.now) (Report settings) → settings.store ≡ true → S.left capture.old ≡ Some file → HasFrames file frames
@@ -92,50 +105,81 @@ pub fn run<R: Threads + Wait + Sync, S: Source, K: Sink, D: Disk, G: Gate + Sync
         → IsRefused (store_settings settings) lists image fault)
         → (result ≡ status_of_opening fault) ⊎ ((result ≡ ReadFault) ⊎ ((result ≡ DiskFault) ⊎ (result ≡ OutOfMemory))) }
 
-    // A fault of the source, the sink or the disk is reported only where it had one in this call. It is never ignored, nor
+    // A text that is not that of a session is refused for its first fault, after the capture was read, and before anything is
+    // audited, unless a source fails or memory runs out first.
+    ensures bad_report { (fault : TextFault) → result ≡ BadReport fault → RefusedText (texts words.now)
+        (inputs (S.left capture.old) (S.left capture.new) (T.left text.old) (T.left text.new) (D.reads disk.old)) fault sink.old sink.new disk.old disk.new }
+    ensures refuses_report { (settings : Settings) (file bytes : List ℕ) (frames : List FrameValue) (fault : TextFault)
+        → AskFor (texts words.now) (Audit settings) → S.left capture.old ≡ Some file → HasFrames file frames → T.left text.old ≡ Some bytes
+        → HasTextFault bytes fault → (result ≡ BadReport fault) ⊎ ((result ≡ ReadFault) ⊎ (result ≡ OutOfMemory)) }
+
+    // A session with a report that is not sound is found so at the first one, unless a source or the sink fails or memory
+    // runs out first.
+    ensures audit_no { (report : ℕ) (verdict : Verdict) → result ≡ AuditNo report verdict
+        → FoundUnsound (λ kind. ⟦<Dealer as Deals>⟧.may_answer (dealer_of kind dealers.now)) (texts words.now)
+        (inputs (S.left capture.old) (S.left capture.new) (T.left text.old) (T.left text.new) (D.reads disk.old)) report verdict (K.taken sink.old) (K.taken sink.new) }
+    ensures finds_unsound { (settings : Settings) (file bytes : List ℕ) (frames : List FrameValue) (known : Session) (report : ℕ) (verdict : Verdict)
+        → AskFor (texts words.now) (Audit settings) → S.left capture.old ≡ Some file → HasFrames file frames → T.left text.old ≡ Some bytes
+        → IsSessionText bytes known → length bytes ≤ longest_text
+        → ((lists : List (List RecordValue)) (session : Session)
+        → AreAudited settings (λ kind. ⟦<Dealer as Deals>⟧.may_answer (dealer_of kind dealers.now)) file bytes lists session
+        → IsFirstUnsound settings lists session.reports report verdict)
+        → (result ≡ AuditNo report verdict) ⊎ ((result ≡ ReadFault) ⊎ ((result ≡ WriteFault) ⊎ (result ≡ OutOfMemory))) }
+
+    // A fault of a source, the sink or the disk is reported only where it had one in this call. It is never ignored, nor
     // reported as anything else.
-    ensures read_fault { result ≡ ReadFault → FailedToRead (S.faults capture.old) (S.faults capture.new) sink.old sink.new disk.old disk.new }
-    ensures read_fault_told { (result ≡ ReadFault → ⊥) → S.faults capture.new ≡ S.faults capture.old }
+    ensures read_fault { result ≡ ReadFault → FailedToRead (source_faults (S.faults capture.old) (T.faults text.old))
+        (source_faults (S.faults capture.new) (T.faults text.new)) sink.old sink.new disk.old disk.new }
+    ensures read_fault_told { (result ≡ ReadFault → ⊥) → source_faults (S.faults capture.new) (T.faults text.new) ≡ source_faults (S.faults capture.old) (T.faults text.old) }
     ensures write_fault { result ≡ WriteFault → FailedToWrite (λ kind. ⟦<Dealer as Deals>⟧.may_answer (dealer_of kind dealers.now)) (texts words.now)
-        (inputs (S.left capture.old) (S.left capture.new) (D.reads disk.old)) (K.taken sink.old) (K.taken sink.new) (K.faults sink.old) (K.faults sink.new) }
+        (inputs (S.left capture.old) (S.left capture.new) (T.left text.old) (T.left text.new) (D.reads disk.old)) (K.taken sink.old) (K.taken sink.new) (K.faults sink.old) (K.faults sink.new) }
     ensures write_fault_told { (result ≡ WriteFault → ⊥) → K.faults sink.new ≡ K.faults sink.old }
     ensures disk_fault { result ≡ DiskFault → FailedDisk (λ kind. ⟦<Dealer as Deals>⟧.may_answer (dealer_of kind dealers.now)) (texts words.now)
-        (inputs (S.left capture.old) (S.left capture.new) (D.reads disk.old)) sink.old sink.new (K.taken sink.old) (K.taken sink.new)
+        (inputs (S.left capture.old) (S.left capture.new) (T.left text.old) (T.left text.new) (D.reads disk.old)) sink.old sink.new (K.taken sink.old) (K.taken sink.new)
         (D.faults disk.old) (D.faults disk.new) }
     ensures disk_fault_told { (result ≡ DiskFault → ⊥) → D.faults disk.new ≡ D.faults disk.old }
 
-    // A store is formatted where its line was written, or began to be. A disk that the command doesn't use is untouched.
+    // A store is formatted where its line was written, or began to be. A source or disk that the command doesn't use is
+    // untouched.
     ensures formats { (settings : Settings) → AskFor (texts words.now) (Format settings) → FormatEnds (store_settings settings)
         (D.reads disk.new) (D.image_now disk.new) sink.old sink.new disk.old disk.new result }
-    ensures unused_disk { AskForNoStore (texts words.now) → disk.new ≡ disk.old }
+    ensures unused_disk { AskNotToUse UsesStore (texts words.now) → disk.new ≡ disk.old }
+    ensures unused_capture { AskNotToUse ReadsCapture (texts words.now) → capture.new ≡ capture.old }
+    ensures unused_text { AskNotToUse ReadsSession (texts words.now) → text.new ≡ text.old }
 
     // Memory may run out at any time: nothing was written then, or a part of the text.
     ensures out_of_memory { result ≡ OutOfMemory → WroteInPart (λ kind. ⟦<Dealer as Deals>⟧.may_answer (dealer_of kind dealers.now)) (texts words.now)
-        (inputs (S.left capture.old) (S.left capture.new) (D.reads disk.old)) sink.old sink.new (K.taken sink.old) (K.taken sink.new) }
+        (inputs (S.left capture.old) (S.left capture.new) (T.left text.old) (T.left text.new) (D.reads disk.old)) sink.old sink.new (K.taken sink.old) (K.taken sink.new) }
 
-    // With arguments that ask for a command, inputs in their formats and no fault of source, sink or disk, the run ends in
-    // Done unless memory runs out.
+    // With arguments that ask for a command, inputs in their formats and no fault of source, sink or disk, the command is
+    // answered unless memory runs out.
     ensures complete { (command : Command) → AskFor (texts words.now) command
-        → CanBeAnswered (λ kind. ⟦<Dealer as Deals>⟧.may_answer (dealer_of kind dealers.now)) command (inputs (S.left capture.old) (S.left capture.new) (D.reads disk.old))
-        → (Rose (S.faults capture.old) (S.faults capture.new) → ⊥) → (Rose (K.faults sink.old) (K.faults sink.new) → ⊥)
-        → (Rose (D.faults disk.old) (D.faults disk.new) → ⊥) → (result ≡ Done) ⊎ (result ≡ OutOfMemory) }
+        → CanBeAnswered (λ kind. ⟦<Dealer as Deals>⟧.may_answer (dealer_of kind dealers.now)) command (inputs (S.left capture.old) (S.left capture.new) (T.left text.old) (T.left text.new) (D.reads disk.old))
+        → (OneRose (source_faults (S.faults capture.old) (T.faults text.old)) (source_faults (S.faults capture.new) (T.faults text.new)) → ⊥)
+        → (Rose (K.faults sink.old) (K.faults sink.new) → ⊥) → (Rose (D.faults disk.old) (D.faults disk.new) → ⊥)
+        → WasAnswered command result ⊎ (result ≡ OutOfMemory) }
 {
     files_are_read_or_refused();
     openings_are_decided();
+    session_texts_have_one_reading();
+    a_report_has_one_verdict();
     belonging_stores_are_opened();
     let command = match read_words(alloc, words) {
         Ok(command) => command,
         Err(refusal) => return Status::from(refusal),
     };
-    answer(rt, alloc, &command, capture, sink, disk, gate, dealers)
+    answer(
+        rt, alloc, &command, capture, text, sink, disk, gate, dealers,
+    )
 }
 
 // Runs the command.
-fn answer<R: Threads + Wait + Sync, S: Source, K: Sink, D: Disk, G: Gate + Sync>(
+fn answer<R: Threads + Wait + Sync, S: Source, T: Source, K: Sink, D: Disk, G: Gate + Sync>(
     rt: &R,
     alloc: Global,
     command: &Command,
     capture: &mut S,
+    text: &mut T,
     sink: &mut K,
     disk: &mut D,
     gate: &G,
@@ -143,16 +187,20 @@ fn answer<R: Threads + Wait + Sync, S: Source, K: Sink, D: Disk, G: Gate + Sync>
 ) -> Status
     requires { IsLimited command.now }
     ensures ends { Ends (IsAnswer (λ kind. ⟦<Dealer as Deals>⟧.may_answer (dealer_of kind dealers.now)) (kept_in D.reads D.image_now D.moment D.image_since disk.old disk.new)
-        command.now (inputs (S.left capture.old) (S.left capture.new) (D.reads disk.old)))
-        (IsAnswerInPart (λ kind. ⟦<Dealer as Deals>⟧.may_answer (dealer_of kind dealers.now)) command.now (inputs (S.left capture.old) (S.left capture.new) (D.reads disk.old)))
-        (WasRead command.now (inputs (S.left capture.old) (S.left capture.new) (D.reads disk.old)))
-        (WasAccepted command.now (inputs (S.left capture.old) (S.left capture.new) (D.reads disk.old)))
-        (Rose (D.faults disk.old) (D.faults disk.new)) (disk.new ≡ disk.old)
-        (RefusesFor command.now (λ kind. ⟦<Dealer as Deals>⟧.may_answer (dealer_of kind dealers.now)) (inputs (S.left capture.old) (S.left capture.new) (D.reads disk.old)) (D.reads disk.new))
-        (S.left capture.old) (S.faults capture.old) (S.faults capture.new)
+        command.now (inputs (S.left capture.old) (S.left capture.new) (T.left text.old) (T.left text.new) (D.reads disk.old)))
+        (IsAnswerInPart (λ kind. ⟦<Dealer as Deals>⟧.may_answer (dealer_of kind dealers.now)) command.now (inputs (S.left capture.old) (S.left capture.new) (T.left text.old) (T.left text.new) (D.reads disk.old)))
+        (WasRead command.now (inputs (S.left capture.old) (S.left capture.new) (T.left text.old) (T.left text.new) (D.reads disk.old)))
+        (WasAccepted command.now (inputs (S.left capture.old) (S.left capture.new) (T.left text.old) (T.left text.new) (D.reads disk.old)))
+        (OfDisk command.now (Rose (D.faults disk.old) (D.faults disk.new))) (disk.new ≡ disk.old)
+        (RefusesFor command.now (λ kind. ⟦<Dealer as Deals>⟧.may_answer (dealer_of kind dealers.now)) (inputs (S.left capture.old) (S.left capture.new) (T.left text.old) (T.left text.new) (D.reads disk.old)) (D.reads disk.new))
+        (FindsFor command.now (λ kind. ⟦<Dealer as Deals>⟧.may_answer (dealer_of kind dealers.now))
+        (inputs (S.left capture.old) (S.left capture.new) (T.left text.old) (T.left text.new) (D.reads disk.old)) (K.taken sink.old) (K.taken sink.new))
+        (S.left capture.old) (source_faults (S.faults capture.old) (T.faults text.old)) (source_faults (S.faults capture.new) (T.faults text.new))
         sink.old sink.new (K.taken sink.old) (K.taken sink.new) (K.faults sink.old) (K.faults sink.new) result }
     ensures told { (result ≡ DiskFault → ⊥) → D.faults disk.new ≡ D.faults disk.old }
     ensures unused { (UsesStore command.now → ⊥) → disk.new ≡ disk.old }
+    ensures unread { (ReadsCapture command.now → ⊥) → capture.new ≡ capture.old }
+    ensures text_unread { (ReadsSession command.now → ⊥) → text.new ≡ text.old }
     ensures formats { (settings : Settings) → command.now ≡ Format settings → FormatEnds (store_settings settings)
         (D.reads disk.new) (D.image_now disk.new) sink.old sink.new disk.old disk.new result }
 {
@@ -162,5 +210,6 @@ fn answer<R: Threads + Wait + Sync, S: Source, K: Sink, D: Disk, G: Gate + Sync>
             report(rt, alloc, settings, capture, sink, disk, gate, dealers)
         }
         Command::Format(settings) => format(settings, sink, disk),
+        Command::Audit(settings) => audit(alloc, settings, capture, text, sink, dealers),
     }
 }

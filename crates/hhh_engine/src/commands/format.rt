@@ -4,7 +4,7 @@ ghost use Rattle.std.specs.Prelude.{⊤, ℕ, ◌≡◌, List, Option};
 ghost use Rattle.outside_io.specs.{Rose};
 ghost use Rattle.command_words.specs.{AreLimited};
 ghost use Rattle.hhh_engine.specs.Answer.{IsCutShort, formatted_text};
-ghost use Rattle.hhh_engine.specs.Ending.{Ends, FormatEnds};
+ghost use Rattle.hhh_engine.specs.Ending.{Ends, FormatEnds, SourceFaults};
 ghost use Rattle.hhh_engine.specs.Saves.{store_settings};
 ghost use Rattle.hhh_engine.specs.declared.status.Status.TheVariants.{DiskFault};
 
@@ -18,8 +18,8 @@ use slot_disk::Disk;
 /// nothing was written, and the store is formatted again before it is used.
 pub(crate) fn format<K: Sink, D: Disk>(settings: &Settings, sink: &mut K, disk: &mut D) -> Status
     requires { AreLimited settings.now }
-    ensures ends { (capture : Option (List ℕ)) (faults : ℕ) → Ends (λ text. text ≡ formatted_text) (IsCutShort (λ text. text ≡ formatted_text)) ⊤ ⊤
-        (Rose (D.faults disk.old) (D.faults disk.new)) (disk.new ≡ disk.old) (λ fault. ⊥) capture faults faults
+    ensures ends { (capture : Option (List ℕ)) (faults : SourceFaults) → Ends (λ text. text ≡ formatted_text) (IsCutShort (λ text. text ≡ formatted_text)) ⊤ ⊤
+        (Rose (D.faults disk.old) (D.faults disk.new)) (disk.new ≡ disk.old) (λ fault. ⊥) (λ status. ⊥) capture faults faults
         sink.old sink.new (K.taken sink.old) (K.taken sink.new) (K.faults sink.old) (K.faults sink.new) result }
     ensures store { FormatEnds (store_settings settings.now) (D.reads disk.new) (D.image_now disk.new)
         sink.old sink.new disk.old disk.new result }

@@ -1,30 +1,29 @@
 //! The session that `report` writes.
 
-ghost use Rattle.std.specs.Prelude.{◌≡◌, ◌≤◌, ◌<◌, false, length, IfOk, IfErr, IfSome, OnOk, IsErrOf};
+ghost use Rattle.std.specs.Prelude.{ℕ, ◌≡◌, ◌<◌, false, length, IfOk, IfErr, IfSome, OnOk, IsErrOf};
 ghost use Rattle.std.specs.Io.KnownBytes.{IsAtEnd};
-ghost use Rattle.deal_rules.specs.{IsDealing, dealer_of};
-ghost use Rattle.prefix_lattice.specs.{most_records};
+ghost use Rattle.deal_rules.specs.{dealer_of};
 ghost use Rattle.command_words.specs.{AreLimited, IsWide};
 ghost use Rattle.outside_io.specs.{Rose};
-ghost use Rattle.hhh_engine.specs.Ending.{Ends, RefusesStore};
+ghost use Rattle.hhh_engine.specs.Ending.{Ends, RefusesStore, source_faults};
 ghost use Rattle.hhh_engine.specs.Feed.{EndsDealt, IsDealtCapture};
-ghost use Rattle.hhh_engine.specs.Inputs.{IsCapture, inputs};
+ghost use Rattle.hhh_engine.specs.Inputs.{IsCapture};
 ghost use Rattle.hhh_engine.specs.NoText.{HasNoText};
 ghost use Rattle.hhh_engine.specs.Saves.{kept_in};
 ghost use Rattle.hhh_engine.specs.Session.{IsSession, IsSessionInPart};
 ghost use Rattle.hhh_engine.specs.declared.status.Status.TheVariants.{DiskFault};
 
 use crate::commands::base::open_base;
+use crate::commands::dealing::deal_records;
 use crate::commands::session::{openings_stand, write_session};
 use crate::{Settings, Status};
-use deal_rules::{Dealer, Dealers, Deals, Dealt, deal};
+use deal_rules::{Dealer, Dealers, Deals, Dealt};
 use frame_records::read_records;
 use gate_workers::Gate;
 use outside_io::{Sink, Source};
-use prefix_lattice::RecordList;
 use report_text::print_tail;
 use slot_disk::Disk;
-use std::alloc::{AllocError, Global};
+use std::alloc::Global;
 use std::marker::Sync;
 use std::sync::Wait;
 use std::thread::Threads;
@@ -51,15 +50,14 @@ pub(crate) fn report<R: Threads + Wait + Sync, S: Source, K: Sink, D: Disk, G: G
 ) -> Status
     requires limited { AreLimited settings.now }
     requires wide { IsWide settings.now }
-    ensures ends { Ends (λ text. IfSome (S.left capture.old) (λ file. IsSession settings.now
+    ensures ends { (other : ℕ) → Ends (λ text. IfSome (S.left capture.old) (λ file. IsSession settings.now
         (λ kind. ⟦<Dealer as Deals>⟧.may_answer (dealer_of kind dealers.now))
         (kept_in D.reads D.image_now D.moment D.image_since disk.old disk.new) (D.reads disk.old) file text))
         (λ front. IfSome (S.left capture.old) (λ file. IsSessionInPart settings.now
         (λ kind. ⟦<Dealer as Deals>⟧.may_answer (dealer_of kind dealers.now)) (D.reads disk.old) file front))
         (IsAtEnd (S.left capture.new)) (IfSome (S.left capture.old) IsCapture) (Rose (D.faults disk.old) (D.faults disk.new)) (disk.new ≡ disk.old)
-        (RefusesStore settings.now (λ kind. ⟦<Dealer as Deals>⟧.may_answer (dealer_of kind dealers.now))
-        (inputs (S.left capture.old) (S.left capture.new) (D.reads disk.old)) (D.reads disk.new))
-        (S.left capture.old) (S.faults capture.old) (S.faults capture.new)
+        (RefusesStore settings.now (λ kind. ⟦<Dealer as Deals>⟧.may_answer (dealer_of kind dealers.now)) (S.left capture.old) (D.reads disk.old) (D.reads disk.new))
+        (λ status. ⊥) (S.left capture.old) (source_faults (S.faults capture.old) other) (source_faults (S.faults capture.new) other)
         sink.old sink.new (K.taken sink.old) (K.taken sink.new) (K.faults sink.old) (K.faults sink.new) result }
     ensures told { (result ≡ DiskFault → ⊥) → D.faults disk.new ≡ D.faults disk.old }
     ensures unused { settings.now.store ≡ false → disk.new ≡ disk.old }
@@ -124,19 +122,4 @@ fn read_dealt<S: Source>(
     print_tail(&records, &mut tail)?;
     let dealt = deal_records(alloc, &records.list, settings, dealers)?;
     Ok(DealtCapture { dealt, tail })
-}
-
-// Deals records as the settings specify.
-fn deal_records(
-    alloc: Global,
-    list: &RecordList,
-    settings: &Settings,
-    dealers: &Dealers,
-) -> Result<Dealt, AllocError>
-    requires limited { AreLimited settings.now }
-    requires small { length list.now ≤ most_records }
-    ensures { IfOk result (IsDealing settings.now.deal (⟦<Dealer as Deals>⟧.may_answer (dealer_of settings.now.deal dealers.now))
-        settings.now.shards list.now) }
-{
-    deal(alloc, list, dealers.of(settings.deal), settings.shards)
 }

@@ -1,11 +1,12 @@
 //! The weight of one prefix, from a Space-Saving table.
 
-ghost use Rattle.std.specs.Prelude.{⊤, ◌≡◌, ◌≤◌, List, length, All, IfOk, IfErr, IfSome, OnOk, IsErrOf};
+ghost use Rattle.std.specs.Prelude.{⊤, ℕ, ◌≡◌, ◌≤◌, List, length, All, IfOk, IfErr, IfSome, OnOk, IsErrOf};
 ghost use Rattle.std.specs.Io.KnownBytes.{IsAtEnd};
 ghost use Rattle.prefix_lattice.specs.{RecordValue, most_records};
 ghost use Rattle.shard_state.specs.{records_table, HoldsWeightOver};
 ghost use Rattle.hhh_engine.specs.Answer.{IsWeightTextInPart};
-ghost use Rattle.hhh_engine.specs.Ending.{Ends};
+ghost use Rattle.hhh_engine.specs.Ending.{Ends, source_faults};
+ghost use Rattle.hhh_engine.specs.Inputs.{IsCapture};
 ghost use Rattle.hhh_engine.specs.NoText.{HasNoText};
 ghost use Rattle.hhh_engine.specs.WeightText.{text_for, weigh_capacity, weigh_text, IsWeightText};
 
@@ -29,9 +30,9 @@ pub(crate) fn weigh<S: Source, K: Sink>(
     capture: &mut S,
     sink: &mut K,
 ) -> Status
-    ensures { Ends (λ text. IfSome (S.left capture.old) (λ file. IsWeightText prefix.now settings.now.weigh file text))
+    ensures { (other : ℕ) → Ends (λ text. IfSome (S.left capture.old) (λ file. IsWeightText prefix.now settings.now.weigh file text))
         (λ front. IfSome (S.left capture.old) (λ file. IsWeightTextInPart prefix.now settings.now.weigh file front))
-        (IsAtEnd (S.left capture.new)) ⊤ ⊥ ⊤ (λ fault. ⊥) (S.left capture.old) (S.faults capture.old) (S.faults capture.new)
+        (IsAtEnd (S.left capture.new)) (IfSome (S.left capture.old) IsCapture) ⊥ ⊤ (λ fault. ⊥) (λ status. ⊥) (S.left capture.old) (source_faults (S.faults capture.old) other) (source_faults (S.faults capture.new) other)
         sink.old sink.new (K.taken sink.old) (K.taken sink.new) (K.faults sink.old) (K.faults sink.new) result }
 {
     let text = match read_weight(alloc, prefix, settings, capture) {

@@ -1,11 +1,12 @@
 //! The line that reports how a command ended.
 
 ghost use Rattle.std.specs.Prelude.{◌≡◌, ◌++◌, codes, decimal, IfOk, OnOk};
-ghost use Rattle.hhh_engine.specs.Status.{line_of, status_text, words_text, fault_text};
+ghost use Rattle.hhh_engine.specs.Status.{line_of, status_text, words_text, fault_text, session_fault_text};
 
 use crate::decimal_text::push_number;
 use crate::{Status, WordsKind};
 use pcap_frames::{CaptureFault, FaultKind};
+use report_text::TextFault;
 use std::alloc::{AllocError, Global};
 
 /// The line for standard error: `hhh: `, how the command ended, and a line feed.
@@ -32,6 +33,8 @@ fn push_status(line: &mut Vec<u8>, status: &Status) -> Result<(), AllocError>
         Status::Damaged(slot) => push_number(line, b"store damaged: slot ", u64::from(*slot)),
         Status::OtherSettings { .. } => line.extend_from_slice(b"store has other settings"),
         Status::OtherCapture { .. } => line.extend_from_slice(b"store is of another capture"),
+        Status::AuditNo { .. } => line.extend_from_slice(b"audit: no"),
+        Status::BadReport(fault) => push_text_fault(line, fault),
         Status::OutOfMemory => line.extend_from_slice(b"out of memory"),
     }
 }
@@ -58,6 +61,17 @@ fn push_fault(line: &mut Vec<u8>, fault: &CaptureFault) -> Result<(), AllocError
     line.extend_from_slice(b"bad capture: ")?;
     line.extend_from_slice(kind_text(fault.kind))?;
     push_number(line, b" at ", fault.place)
+}
+
+fn push_text_fault(line: &mut Vec<u8>, fault: &TextFault) -> Result<(), AllocError>
+    ensures { OnOk result (line.new.items ≡ line.old.items ++ codes "bad report: " ++ session_fault_text fault.now) }
+{
+    line.extend_from_slice(b"bad report: ")?;
+    match fault {
+        TextFault::BadLine(number) => push_number(line, b"line ", *number),
+        TextFault::MissingEnd(number) => push_number(line, b"no end at line ", *number),
+        TextFault::TooLong => line.extend_from_slice(b"too long"),
+    }
 }
 
 fn kind_text(kind: FaultKind) -> &'static [u8]

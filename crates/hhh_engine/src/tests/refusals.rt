@@ -5,9 +5,11 @@ use super::{Outside, SOUND, run_over};
 use crate::{Opt, Status, WordsKind, fault_line};
 use checkpoint::StoreSettings;
 use deal_rules::{DealKind, Dealers};
+use exact_audit::Verdict;
 use frame_records::Weigh;
 use pcap_frames::{CaptureFault, FaultKind};
 use prefix_lattice::{PrefixFault, Side};
+use report_text::TextFault;
 use std::alloc::Global;
 use std::marker::Sync;
 use std::process::Abort;
@@ -245,6 +247,29 @@ pub(crate) fn tells_each_status(rt: &impl Abort, alloc: Global) -> Result<(), Fa
             bad(FaultKind::TooManyFrames, 570_425_368),
             3,
             b"hhh: bad capture: too many frames at 570425368\n",
+        ),
+        (
+            Status::AuditNo {
+                report: 2,
+                verdict: Verdict::BadTotal,
+            },
+            11,
+            b"hhh: audit: no\n",
+        ),
+        (
+            Status::BadReport(TextFault::BadLine(4)),
+            12,
+            b"hhh: bad report: line 4\n",
+        ),
+        (
+            Status::BadReport(TextFault::MissingEnd(7)),
+            12,
+            b"hhh: bad report: no end at line 7\n",
+        ),
+        (
+            Status::BadReport(TextFault::TooLong),
+            12,
+            b"hhh: bad report: too long\n",
         ),
         (Status::OutOfMemory, 13, b"hhh: out of memory\n"),
     ] {

@@ -49,12 +49,14 @@ fn run_on<R: Threads + Wait + Sync>(
 ) -> Result<Ended, AllocError> {
     let capture = capture_of(alloc, packets)?;
     let mut source = MemorySource::new(capture, Vec::new(alloc), 64);
+    let mut text = MemorySource::new(Vec::new(alloc), Vec::new(alloc), 64);
     let mut sink = MemorySink::with_room(alloc, 4096, Vec::new(alloc))?;
     let status = run(
         rt,
         alloc,
         words,
         &mut source,
+        &mut text,
         &mut sink,
         disk,
         &OpenGate,

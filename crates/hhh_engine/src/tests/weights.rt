@@ -89,6 +89,7 @@ pub(crate) fn weighs_the_longest_frame<R: Abort + Threads + Wait + Sync>(
 ) -> Result<(), Fail> {
     let words = ["weigh", "0.0.0.0/0", "0.0.0.0/0"];
     let mut source = MemorySource::new(long_capture(alloc, 262_144)?, Vec::new(alloc), 4096);
+    let mut text = MemorySource::new(Vec::new(alloc), Vec::new(alloc), 64);
     let mut sink = MemorySink::with_room(alloc, 4096, Vec::new(alloc))?;
     let mut disk = MemoryDisk::with_room(alloc, 0, 0, Vec::new(alloc), None, Vec::new(alloc))?;
     assert_eq!(rt;
@@ -97,6 +98,7 @@ pub(crate) fn weighs_the_longest_frame<R: Abort + Threads + Wait + Sync>(
             alloc,
             &words,
             &mut source,
+            &mut text,
             &mut sink,
             &mut disk,
             &OpenGate,

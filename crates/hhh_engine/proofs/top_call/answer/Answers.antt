@@ -1,7 +1,35 @@
-use Rattle.hhh_engine.proofs.StatusLemmas.{format_ends}
+use Rattle.std.proofs.Common.{refl}
+use Rattle.command_words.specs.declared.command.Command.TheVariants.{Weigh, Report, Format, Audit}
+use Rattle.hhh_engine.specs.Inputs.{inputs}
+use Rattle.hhh_engine.specs.Saves.{kept_in}
+use Rattle.hhh_engine.proofs.AuditEndLemmas.{audit_ends_as}
+use Rattle.hhh_engine.proofs.StatusLemmas.{ends_as, ends_beside}
 use Rattle.hhh_engine.proofs.top_call.answer.Goals as goal
+
+pub returns-in-Weigh-clause-ends : goal.returns-in-Weigh-clause-ends
+returns-in-Weigh-clause-ends g c =
+    ends_as _ _ c.args.command.now (Weigh c.in-Weigh.prefix c.in-Weigh.settings)
+    (inputs (g.S.Source.left c.args.capture.now) (g.S.Source.left c.weigh.new.capture) (g.T.Source.left c.args.text.now)
+    (g.T.Source.left c.args.text.now) (g.D.Disk.reads c.args.disk.now)) _ _ _ _ _ _ _ _ _ _ _ c.weigh.result
+    c.in-Weigh.is (ends_beside _ _ _ _ _ (λ fault. ⊥) (λ status. ⊥) _ _ _ _ _ _ _ _ _ c.weigh.result refl (c.weigh.ensures _))
+
+pub returns-in-Report-clause-ends : goal.returns-in-Report-clause-ends
+returns-in-Report-clause-ends g c =
+    ends_as _ _ c.args.command.now (Report c.in-Report.settings) _ _ _ _ _ _ _ _ _ _ _ _ c.report.result
+    c.in-Report.is (c.report.ensures.ends _)
 
 pub returns-in-Format-clause-ends : goal.returns-in-Format-clause-ends
 returns-in-Format-clause-ends g c =
-    format_ends _ _ c.args.command.now c.in-Format.settings _ _ _ _ _ _ _ _ _ _ _ _ _ c.format.result c.in-Format.is
-    (c.format.ensures.ends _ _)
+    ends_as _ _ c.args.command.now (Format c.in-Format.settings) _ _ _ _ _ _ _ _ _ _ _ _ c.format.result
+    c.in-Format.is (c.format.ensures.ends _ _)
+
+pub returns-in-Audit-clause-ends : goal.returns-in-Audit-clause-ends
+returns-in-Audit-clause-ends g c =
+    let given = inputs (g.S.Source.left c.args.capture.now) (g.S.Source.left c.audit.new.capture)
+    (g.T.Source.left c.args.text.now) (g.T.Source.left c.audit.new.text) (g.D.Disk.reads c.args.disk.now) in
+    ends_as _ _ c.args.command.now (Audit c.in-Audit.settings) given _ _ _ _ _ _ _ _ _ _ _ c.audit.result
+    c.in-Audit.is
+    (audit_ends_as c.in-Audit.settings _
+    (kept_in g.D.Disk.reads g.D.Disk.image_now g.D.Disk.moment g.D.Disk.image_since c.args.disk.now c.args.disk.now) given
+    (g.D.Disk.reads c.args.disk.now) _ _ _ _ _ _ _ _ _ c.audit.result refl
+    (c.audit.ensures (g.D.Disk.reads c.args.disk.now)))

@@ -1,0 +1,276 @@
+-- How an audit of a session ended, step by step.
+use Rattle.std.proofs.Common.{◌≡◌, ◌⊎◌, ◌≤◌, ◌<◌, ◌+◌, ◌++◌, ◌∙◌, ℕ, List, [], length, All, Option, None, Some, IfSome}
+use Rattle.std.proofs.Common.{inl, inr, ⊎_elim, refl, sym, ap, subst, arith, append-nil}
+use Rattle.std.specs.Prelude.{⊤}
+use Rattle.std.specs.Io.KnownBytes.{Appends, Consumes, IsAtEnd}
+use Rattle.std.proofs.lemmas.Bool.{cases_lt}
+use Rattle.std.proofs.lemmas.List.{length-append}
+use Rattle.outside_io.specs.{AppendsBeginning, Rose}
+use Rattle.prefix_lattice.specs.{RecordValue}
+use Rattle.hhh_output.specs.declared.reports.Reported.{Reported}
+use Rattle.report_text.specs.{HasSessionFault, HasTextFault, longest_text}
+use Rattle.report_text.specs.declared.session.Session.{Session}
+use Rattle.report_text.specs.declared.session_fault.SessionFault.{SessionFault}
+use Rattle.report_text.specs.declared.session_fault.SessionFault.TheVariants as session
+use Rattle.report_text.specs.declared.session_fault.TextFault.TheVariants.{TooLong}
+use Rattle.command_words.specs.declared.command.Command.TheVariants.{Audit}
+use Rattle.command_words.specs.declared.settings.Settings.{Settings}
+use Rattle.hhh_engine.specs.Answer.{IsCutShort, Writes}
+use Rattle.hhh_engine.specs.Audit.{AreAudited, IsAuditText, IsSoundSession, IsUnsoundSession, WasReadToLimit, unsound_text}
+use Rattle.hhh_engine.specs.Auditing.{AreInputsOf, HasNoAudit, IsAnswerOf, SaysOf}
+use Rattle.hhh_engine.specs.Ending.{AuditFinds, Ends, SourceFaults}
+use Rattle.hhh_engine.specs.Inputs.{InputBytes, IsCapture, OfAudited, WasRead, inputs}
+use Rattle.hhh_engine.specs.Session.{Keeping, Rules}
+use Rattle.hhh_engine.specs.Status.{status_of_session}
+use Rattle.hhh_engine.specs.declared.commands.audit.Answer.{Answer}
+use Rattle.hhh_engine.specs.declared.commands.audit.Audited.{Audited}
+use Rattle.hhh_engine.specs.declared.status.Status.{Status}
+use Rattle.hhh_engine.specs.declared.status.Status.TheVariants.{Done, BadWords, BadCapture, ReadFault, WriteFault}
+use Rattle.hhh_engine.specs.declared.status.Status.TheVariants.{DiskFault, NotFormatted, Damaged, OtherSettings}
+use Rattle.hhh_engine.specs.declared.status.Status.TheVariants.{OtherCapture, AuditNo, BadReport, OutOfMemory}
+use Rattle.hhh_engine.proofs.CaptureLemmas.{if_known}
+use Rattle.hhh_engine.proofs.StatusLemmas.{EndsAs, ends_beside}
+
+-- what follows of the inputs of an audit that may be known
+pub of_audited_more : (read : InputBytes) (P Q : List ℕ → List ℕ → Type 0)
+    → ((file text : List ℕ) → P file text → Q file text) → OfAudited read P → OfAudited read Q
+of_audited_more read P Q follows has =
+    if_known read.capture (λ file. IsCapture file × IfSome read.text (P file))
+    (λ file. IsCapture file × IfSome read.text (Q file))
+    (λ file holds. (holds.0, if_known read.text (P file) (Q file) (follows file) holds.1)) has
+
+-- the fault of the bytes that were read is one of the text itself
+text_has_fault : (text left : Option (List ℕ)) (bytes : List ℕ) (fault : SessionFault) → Consumes text left bytes
+    → (length bytes ≤ longest_text → IsAtEnd left) → HasSessionFault bytes fault
+    → (longest_text < length bytes → fault ≡ session.Text TooLong)
+    → IfSome text (λ whole. HasSessionFault whole fault)
+text_has_fault None left bytes fault consumed at_end has too_long = tt
+text_has_fault (Some whole) None bytes fault consumed at_end has too_long = absurd consumed
+text_has_fault (Some whole) (Some rest) bytes fault consumed at_end has too_long =
+    ⊎_elim
+    (λ (long : longest_text < length bytes).
+    subst (HasSessionFault whole) (sym (too_long long))
+    (omega (arith, long, ap length consumed, length-append bytes rest)))
+    (λ (short : length bytes ≤ longest_text).
+    subst (λ t. HasSessionFault t fault)
+    (sym (consumed ∙ ap (λ r. bytes ++ r) (at_end short) ∙ append-nil bytes)) has)
+    (cases_lt longest_text (length bytes))
+
+-- why the inputs of an audit were not taken: the text of a session was refused
+pub text_refused : (capture capture_left text text_left store : Option (List ℕ)) (before now : SourceFaults)
+    (bytes : List ℕ) (fault : SessionFault) → IsAtEnd capture_left → IfSome capture IsCapture
+    → Consumes text text_left bytes → length bytes ≤ longest_text + 1
+    → (length bytes ≤ longest_text → IsAtEnd text_left) → HasSessionFault bytes fault
+    → (longest_text < length bytes → fault ≡ session.Text TooLong)
+    → HasNoAudit (inputs capture capture_left text text_left store) before now (status_of_session fault)
+text_refused capture capture_left text text_left store before now bytes (session.Text fault) read is_capture consumed
+    limit at_end has too_long = (
+      read,
+      is_capture,
+      text_has_fault text text_left bytes (session.Text fault) consumed at_end has too_long,
+      record { front = bytes; consumed = consumed; limit = limit },
+    )
+text_refused capture capture_left text text_left store before now bytes session.OutOfMemory read is_capture consumed
+    limit at_end has too_long = tt
+
+-- how an audit ended
+abbrev pub EndsAudit : {K : Type 0} → Settings → Rules → InputBytes → (read_before read_now : SourceFaults)
+    → (sink written : K) → (old new : Option (List ℕ)) → (write_before write_now : ℕ) → Status → Type 0
+EndsAudit settings rules given read_before read_now sink written old new write_before write_now status =
+    Ends (λ answer. OfAudited given (λ file session. IsSoundSession settings rules file session answer))
+    (λ front. OfAudited given (λ file session. IsCutShort (IsAuditText settings rules file session) front))
+    (IsAtEnd given.capture_left × IsAtEnd given.text_left) (IfSome given.capture IsCapture) ⊥ ⊤ (λ fault. ⊥)
+    (AuditFinds settings rules given old new) given.capture read_before read_now sink written old new write_before
+    write_now status
+
+-- an audit whose inputs were not taken
+pub not_taken : {K : Type 0} (settings : Settings) (rules : Rules) (given : InputBytes)
+    (read_before read_now : SourceFaults) (sink : K) (old : Option (List ℕ)) (faults : ℕ) (status : Status)
+    → HasNoAudit given read_before read_now status → ((status ≡ ReadFault → ⊥) → read_now ≡ read_before)
+    → EndsAudit settings rules given read_before read_now sink sink old old faults faults status
+not_taken settings rules given read_before read_now sink old faults Done none told =
+    absurd none
+not_taken settings rules given read_before read_now sink old faults (BadWords kind) none told =
+    absurd none
+not_taken settings rules given read_before read_now sink old faults (BadCapture fault) none told =
+    (none, refl, tt, told (λ is. cc is), refl)
+not_taken settings rules given read_before read_now sink old faults ReadFault none told =
+    (none, refl, tt, refl)
+not_taken settings rules given read_before read_now sink old faults WriteFault none told =
+    absurd none
+not_taken settings rules given read_before read_now sink old faults DiskFault none told =
+    absurd none
+not_taken settings rules given read_before read_now sink old faults NotFormatted none told =
+    absurd none
+not_taken settings rules given read_before read_now sink old faults (Damaged slot) none told =
+    absurd none
+not_taken settings rules given read_before read_now sink old faults (OtherSettings stored asked) none told =
+    absurd none
+not_taken settings rules given read_before read_now sink old faults (OtherCapture stored asked) none told =
+    absurd none
+not_taken settings rules given read_before read_now sink old faults (AuditNo report verdict) none told =
+    absurd none
+not_taken settings rules given read_before read_now sink old faults (BadReport fault) none told =
+    (none, refl, tt, told (λ is. cc is), refl)
+not_taken settings rules given read_before read_now sink old faults OutOfMemory none told =
+    (inl refl, told (λ is. cc is), refl)
+
+-- what an audit says is its text, whether all reports are sound or not
+audit_text : (settings : Settings) (rules : Rules) (file bytes : List ℕ) (lists : List (List RecordValue))
+    (said : Session) (text : List ℕ) (status : Status) → AreAudited settings rules file bytes lists said
+    → SaysOf settings lists said.reports text status → IsAuditText settings rules file bytes text
+audit_text settings rules file bytes lists said text Done audited says =
+    inl (record { lists = lists; session = said; audited = audited; sound = says.0; spelled = says.1 })
+audit_text settings rules file bytes lists said text (BadWords kind) audited says =
+    absurd says
+audit_text settings rules file bytes lists said text (BadCapture fault) audited says =
+    absurd says
+audit_text settings rules file bytes lists said text ReadFault audited says =
+    absurd says
+audit_text settings rules file bytes lists said text WriteFault audited says =
+    absurd says
+audit_text settings rules file bytes lists said text DiskFault audited says =
+    absurd says
+audit_text settings rules file bytes lists said text NotFormatted audited says =
+    absurd says
+audit_text settings rules file bytes lists said text (Damaged slot) audited says =
+    absurd says
+audit_text settings rules file bytes lists said text (OtherSettings stored asked) audited says =
+    absurd says
+audit_text settings rules file bytes lists said text (OtherCapture stored asked) audited says =
+    absurd says
+audit_text settings rules file bytes lists said text (AuditNo report verdict) audited says =
+    inr (report, verdict, record { lists = lists; session = said; audited = audited; first = says.0 }, says.1)
+audit_text settings rules file bytes lists said text (BadReport fault) audited says =
+    absurd says
+audit_text settings rules file bytes lists said text OutOfMemory audited says =
+    absurd says
+
+-- an audit whose answer was not written whole
+pub broken_answer : {K : Type 0} (settings : Settings) (rules : Rules) (given : InputBytes)
+    (read_before read_now : SourceFaults) (sink written : K) (old new : Option (List ℕ)) (write_before write_now : ℕ)
+    (audited : Audited) (answer : Answer) → AreInputsOf settings rules given audited
+    → IsAnswerOf settings audited.dealt audited.session.reports answer → IsAtEnd given.capture_left
+    → IsAtEnd given.text_left → read_now ≡ read_before → AppendsBeginning old new answer.text.items
+    → Rose write_before write_now
+    → EndsAudit settings rules given read_before read_now sink written old new write_before write_now WriteFault
+broken_answer settings rules given read_before read_now sink written old new write_before write_now audited answer are
+    says capture_read text_read same begun rose = (
+      (capture_read, text_read),
+      record {
+        text = begun.front;
+        is_text = of_audited_more given (λ file bytes. AreAudited settings rules file bytes audited.dealt audited.session)
+            (λ file bytes. IsCutShort (IsAuditText settings rules file bytes) begun.front)
+            (λ file bytes is. record {
+              text = answer.text.items;
+              is_text = audit_text settings rules file bytes audited.dealt audited.session answer.text.items answer.status
+                  is says;
+              begins = begun.is_beginning;
+              cut = begun.cut;
+            }) are;
+        written = begun.appended;
+      },
+      rose,
+      same,
+    )
+
+-- an audit whose answer was written
+written_as : {K : Type 0} (settings : Settings) (rules : Rules) (given : InputBytes)
+    (read_before read_now : SourceFaults) (sink written : K) (old new : Option (List ℕ)) (write_before write_now : ℕ)
+    (lists : List (List RecordValue)) (said : Session) (text : List ℕ) (status : Status)
+    → OfAudited given (λ file bytes. AreAudited settings rules file bytes lists said)
+    → SaysOf settings lists said.reports text status → IsAtEnd given.capture_left → IsAtEnd given.text_left
+    → read_now ≡ read_before → Appends old new text → write_now ≡ write_before
+    → EndsAudit settings rules given read_before read_now sink written old new write_before write_now status
+written_as settings rules given read_before read_now sink written old new write_before write_now lists said text
+    Done are says capture_read text_read same appended same_sink =
+    (
+      (capture_read, text_read),
+      record {
+        text = text;
+        is_text = of_audited_more given (λ file bytes. AreAudited settings rules file bytes lists said)
+            (λ file bytes. IsSoundSession settings rules file bytes text)
+            (λ file bytes is. record {
+              lists = lists;
+              session = said;
+              audited = is;
+              sound = says.0;
+              spelled = says.1;
+            }) are;
+        written = appended;
+      },
+      same,
+      same_sink,
+    )
+written_as settings rules given read_before read_now sink written old new write_before write_now lists said text
+    (BadWords kind) are says capture_read text_read same appended same_sink =
+    absurd says
+written_as settings rules given read_before read_now sink written old new write_before write_now lists said text
+    (BadCapture fault) are says capture_read text_read same appended same_sink =
+    absurd says
+written_as settings rules given read_before read_now sink written old new write_before write_now lists said text
+    ReadFault are says capture_read text_read same appended same_sink =
+    absurd says
+written_as settings rules given read_before read_now sink written old new write_before write_now lists said text
+    WriteFault are says capture_read text_read same appended same_sink =
+    absurd says
+written_as settings rules given read_before read_now sink written old new write_before write_now lists said text
+    DiskFault are says capture_read text_read same appended same_sink =
+    absurd says
+written_as settings rules given read_before read_now sink written old new write_before write_now lists said text
+    NotFormatted are says capture_read text_read same appended same_sink =
+    absurd says
+written_as settings rules given read_before read_now sink written old new write_before write_now lists said text
+    (Damaged slot) are says capture_read text_read same appended same_sink =
+    absurd says
+written_as settings rules given read_before read_now sink written old new write_before write_now lists said text
+    (OtherSettings stored asked) are says capture_read text_read same appended same_sink =
+    absurd says
+written_as settings rules given read_before read_now sink written old new write_before write_now lists said text
+    (OtherCapture stored asked) are says capture_read text_read same appended same_sink =
+    absurd says
+written_as settings rules given read_before read_now sink written old new write_before write_now lists said text
+    (AuditNo report verdict) are says capture_read text_read same appended same_sink =
+    (
+      (capture_read, text_read),
+      (
+        of_audited_more given (λ file bytes. AreAudited settings rules file bytes lists said)
+            (λ file bytes. IsUnsoundSession settings rules file bytes report verdict)
+            (λ file bytes is. record { lists = lists; session = said; audited = is; first = says.0 }) are,
+        subst (Appends old new) says.1 appended,
+      ),
+      same,
+      same_sink,
+    )
+written_as settings rules given read_before read_now sink written old new write_before write_now lists said text
+    (BadReport fault) are says capture_read text_read same appended same_sink =
+    absurd says
+written_as settings rules given read_before read_now sink written old new write_before write_now lists said text
+    OutOfMemory are says capture_read text_read same appended same_sink =
+    absurd says
+
+pub written_answer : {K : Type 0} (settings : Settings) (rules : Rules) (given : InputBytes)
+    (read_before read_now : SourceFaults) (sink written : K) (old new : Option (List ℕ)) (write_before write_now : ℕ)
+    (audited : Audited) (answer : Answer) → AreInputsOf settings rules given audited
+    → IsAnswerOf settings audited.dealt audited.session.reports answer → IsAtEnd given.capture_left
+    → IsAtEnd given.text_left → read_now ≡ read_before → Appends old new answer.text.items → write_now ≡ write_before
+    → EndsAudit settings rules given read_before read_now sink written old new write_before write_now answer.status
+written_answer settings rules given read_before read_now sink written old new write_before write_now audited answer are
+    says capture_read text_read same appended same_sink =
+    written_as settings rules given read_before read_now sink written old new write_before write_now audited.dealt
+    audited.session answer.text.items answer.status are says capture_read text_read same appended same_sink
+
+-- how an audit ended, as a command beside a disk
+pub audit_ends_as : {K : Type 0} (settings : Settings) (rules : Rules) (keeping : Keeping) (given : InputBytes)
+    (store_now : Option (List ℕ)) (DiskSame : Type 0) (read_before read_now : SourceFaults) (sink written : K)
+    (old new : Option (List ℕ)) (write_before write_now : ℕ) (status : Status) → DiskSame
+    → EndsAudit settings rules given read_before read_now sink written old new write_before write_now status
+    → EndsAs rules keeping (Audit settings) given store_now (WasRead (Audit settings) given) ⊥ DiskSame read_before
+    read_now sink written old new write_before write_now status
+audit_ends_as settings rules keeping given store_now DiskSame read_before read_now sink written old new write_before
+    write_now status same ends =
+    ends_beside (λ answer. OfAudited given (λ file session. IsSoundSession settings rules file session answer))
+    (λ front. OfAudited given (λ file session. IsCutShort (IsAuditText settings rules file session) front))
+    (IsAtEnd given.capture_left × IsAtEnd given.text_left) (IfSome given.capture IsCapture) DiskSame (λ fault. ⊥)
+    (AuditFinds settings rules given old new) given.capture read_before read_now sink written old new write_before
+    write_now status same ends

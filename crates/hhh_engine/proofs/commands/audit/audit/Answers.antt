@@ -1,0 +1,33 @@
+use Rattle.std.proofs.Common.{subst}
+use Rattle.std.specs.Io.KnownBytes.{Appends}
+use Rattle.outside_io.specs.{AppendsBeginning}
+use Rattle.hhh_engine.specs.Inputs.{inputs}
+use Rattle.hhh_engine.proofs.AuditEndLemmas.{broken_answer, not_taken, written_answer}
+use Rattle.hhh_engine.proofs.commands.audit.audit.Goals as goal
+
+pub returns-in-Err : goal.returns-in-Err
+returns-in-Err g c = λ store.
+    let given = inputs (g.S.Source.left c.args.capture.now) (g.S.Source.left c.read_audited.new.capture)
+    (g.T.Source.left c.args.text.now) (g.T.Source.left c.read_audited.new.text) store in
+    not_taken c.args.settings.now _ given _ _ _ _ _ c.in-Err.status (c.in-Err.ensures.refused store)
+    (λ other. c.in-Err.ensures.told (λ is. other (cc is)))
+
+pub returns-in-Ok-write_all : goal.returns-in-Ok-write_all
+returns-in-Ok-write_all g c = λ store.
+    let given = inputs (g.S.Source.left c.args.capture.now) (g.S.Source.left c.read_audited.new.capture)
+    (g.T.Source.left c.args.text.now) (g.T.Source.left c.read_audited.new.text) store in
+    written_answer c.args.settings.now _ given _ _ c.args.sink.now c.write_all.new.sink _ _ _ _ c.in-Ok.audited c.in-Ok-answer_of.answer
+    (c.in-Ok.ensures.audited store) c.in-Ok-answer_of.ensures c.in-Ok.ensures.capture_at_end
+    c.in-Ok.ensures.text_at_end (c.in-Ok.ensures.told (λ is. cc is))
+    (subst (Appends (g.K.Sink.taken c.args.sink.now) (g.K.Sink.taken c.write_all.new.sink)) c.deref.ensures.value
+    c.in-Ok-write_all.ensures.whole) c.in-Ok-write_all.ensures.cause.kept
+
+pub returns : goal.returns
+returns g c = λ store.
+    let given = inputs (g.S.Source.left c.args.capture.now) (g.S.Source.left c.read_audited.new.capture)
+    (g.T.Source.left c.args.text.now) (g.T.Source.left c.read_audited.new.text) store in
+    broken_answer c.args.settings.now _ given _ _ c.args.sink.now c.write_all.new.sink _ _ _ _ c.in-Ok.audited c.in-Ok-answer_of.answer
+    (c.in-Ok.ensures.audited store) c.in-Ok-answer_of.ensures c.in-Ok.ensures.capture_at_end
+    c.in-Ok.ensures.text_at_end (c.in-Ok.ensures.told (λ is. cc is))
+    (subst (AppendsBeginning (g.K.Sink.taken c.args.sink.now) (g.K.Sink.taken c.write_all.new.sink)) c.deref.ensures.value
+    c.in-Err-write_all.ensures.beginning) c.in-Err-write_all.ensures.cause.failed

@@ -1,0 +1,353 @@
+//! What `audit` finds.
+
+use super::captures::{ONE, Packet, capture_of};
+use super::reports::ELEVEN;
+use super::{Ended, SOUND, run, run_over};
+use crate::Status;
+use deal_rules::Dealers;
+use exact_audit::Verdict;
+use gate_workers::OpenGate;
+use outside_io::{MemorySink, MemorySource, Source};
+use pcap_frames::{CaptureFault, FaultKind};
+use prefix_lattice::Prefix;
+use report_text::TextFault;
+use slot_disk::MemoryDisk;
+use std::alloc::{AllocError, Global};
+use std::marker::Sync;
+use std::process::Abort;
+use std::sync::Wait;
+use std::test::Fail;
+use std::thread::Threads;
+
+const AUDIT: [&str; 4] = ["audit", "--shards", "1", "--report=r"];
+
+// Two tables of capacity 4, and the share of one half.
+const NARROW: [&str; 7] = [
+    "audit",
+    "--report=r",
+    "--shards=2",
+    "--capacity=4",
+    "--phi=500000",
+    "--weigh=packets",
+    "--deal=round",
+];
+
+// The arguments, the packets, the text, what the run ends in, and what is written.
+type Case = (
+    &'static [&'static str],
+    &'static [Packet],
+    &'static str,
+    Status,
+    &'static str,
+);
+
+const fn not_good(report: u64, verdict: Verdict) -> Status {
+    Status::AuditNo { report, verdict }
+}
+
+// A session over one packet, with its lines changed.
+const CASES: [Case; 8] = [
+    (
+        &AUDIT,
+        &[ONE],
+        "opened 0\nreport\nat 1\ntotal 100\nthreshold 1\nline 10.1.2.3/32 20.1.2.3/32 100 100\ndone\nframes 1\nskipped 0 0 0\nend\n",
+        Status::Done,
+        "good 1\n",
+    ),
+    (
+        &AUDIT,
+        &[ONE],
+        "opened 0\nreport\nat 1\ntotal 100\nthreshold 1\nline 10.1.2.3/32 20.1.2.3/32 99 99\ndone\nframes 1\nskipped 0 0 0\nend\n",
+        not_good(1, Verdict::BadInterval(1)),
+        "report 1: bad interval in line 1\n",
+    ),
+    (
+        &AUDIT,
+        &[ONE],
+        "opened 0\nreport\nat 1\ntotal 100\nthreshold 1\nline 10.1.2.3/32 20.1.2.3/32 100 100\nline 0.0.0.0/0 0.0.0.0/0 100 100\ndone\nframes 1\nskipped 0 0 0\nend\n",
+        not_good(1, Verdict::NotJustified(2)),
+        "report 1: not justified in line 2\n",
+    ),
+    (
+        &AUDIT,
+        &[],
+        "opened 0\nreport\nat 1\ntotal 100\nthreshold 1\nline 10.1.2.3/32 20.1.2.3/32 100 100\ndone\nframes 1\nskipped 0 0 0\nend\n",
+        not_good(1, Verdict::BadPositions),
+        "report 1: bad positions\n",
+    ),
+    (
+        &AUDIT,
+        &[ONE],
+        "opened 0\nreport\nat 1\ntotal 99\nthreshold 1\nline 10.1.2.3/32 20.1.2.3/32 100 100\ndone\nframes 1\nskipped 0 0 0\nend\n",
+        not_good(1, Verdict::BadTotal),
+        "report 1: bad total\n",
+    ),
+    (
+        &AUDIT,
+        &[ONE],
+        "opened 0\nreport\nat 1\ntotal 100\nthreshold 2\nline 10.1.2.3/32 20.1.2.3/32 100 100\ndone\nframes 1\nskipped 0 0 0\nend\n",
+        not_good(1, Verdict::BadThreshold),
+        "report 1: bad threshold\n",
+    ),
+    // The second report is wrong, and the third as well.
+    (
+        &AUDIT,
+        &[ONE],
+        "opened 0\nreport\nat 0\ntotal 0\nthreshold 1\ndone\nsaved 0\nreport\nat 1\ntotal 0\nthreshold 1\ndone\nreport\nat 2\ntotal 0\nthreshold 1\ndone\nframes 1\nskipped 0 0 0\nend\n",
+        not_good(2, Verdict::BadTotal),
+        "report 2: bad total\n",
+    ),
+    // The numbers of frames are not audited.
+    (
+        &AUDIT,
+        &[ONE],
+        "opened 0\nreport\nat 0\ntotal 0\nthreshold 1\ndone\nreport\nat 1\ntotal 100\nthreshold 1\nline 10.1.2.3/32 20.1.2.3/32 100 100\ndone\nframes 9\nskipped 9 9 9\nend\n",
+        Status::Done,
+        "good 2\n",
+    ),
+];
+
+pub(crate) fn audits<R: Abort + Threads + Wait + Sync>(
+    rt: &R,
+    alloc: Global,
+    dealers: &Dealers,
+) -> Result<(), Fail> {
+    for (words, packets, text, status, written) in CASES {
+        let ended = audit_over(rt, alloc, dealers, words, packets, text.as_bytes(), SOUND_CALLS)?;
+        assert_eq!(rt; ended.status, status);
+        assert_eq!(rt; ended.text.as_slice(), written.as_bytes());
+    }
+    // No line has the packet's prefix.
+    let text = b"opened 0\nreport\nat 1\ntotal 100\nthreshold 1\ndone\nframes 1\nskipped 0 0 0\nend\n";
+    let ended = audit_over(rt, alloc, dealers, &AUDIT, &[ONE], text, SOUND_CALLS)?;
+    let left_out = Prefix::parse(b"10.1.2.3/32", b"20.1.2.3/32").unwrap();
+    assert_eq!(rt; ended.status, not_good(1, Verdict::LeftOut(left_out, 100)));
+    assert_eq!(rt; ended.text.as_slice(), b"report 1: left out 10.1.2.3/32 20.1.2.3/32 100\n");
+    Ok(())
+}
+
+// The lines of a report over eleven packets, of which one, two or none are changed, and what the audit writes.
+type Change = (&'static str, &'static str);
+
+const CHANGES: [Change; 16] = [
+    (
+        "at 6 5\ntotal 11\nthreshold 6\nline 1.0.0.1/32 101.0.0.1/32 5 6\nline 0.0.0.0/0 0.0.0.0/0 11 11\n",
+        "good 1\n",
+    ),
+    (
+        "at 7 5\ntotal 11\nthreshold 6\nline 1.0.0.1/32 101.0.0.1/32 5 6\nline 0.0.0.0/0 0.0.0.0/0 11 11\n",
+        "report 1: bad positions\n",
+    ),
+    (
+        "at 6 4\ntotal 11\nthreshold 6\nline 1.0.0.1/32 101.0.0.1/32 5 6\nline 0.0.0.0/0 0.0.0.0/0 11 11\n",
+        "report 1: bad total\n",
+    ),
+    (
+        "at 6 5\ntotal 12\nthreshold 6\nline 1.0.0.1/32 101.0.0.1/32 5 6\nline 0.0.0.0/0 0.0.0.0/0 11 11\n",
+        "report 1: bad total\n",
+    ),
+    (
+        "at 6 5\ntotal 11\nthreshold 5\nline 1.0.0.1/32 101.0.0.1/32 5 6\nline 0.0.0.0/0 0.0.0.0/0 11 11\n",
+        "report 1: bad threshold\n",
+    ),
+    (
+        "at 6 5\ntotal 11\nthreshold 7\nline 1.0.0.1/32 101.0.0.1/32 5 6\nline 0.0.0.0/0 0.0.0.0/0 11 11\n",
+        "report 1: bad threshold\n",
+    ),
+    // The prefix weighs 6.
+    (
+        "at 6 5\ntotal 11\nthreshold 6\nline 1.0.0.1/32 101.0.0.1/32 5 5\nline 0.0.0.0/0 0.0.0.0/0 11 11\n",
+        "report 1: bad interval in line 1\n",
+    ),
+    (
+        "at 6 5\ntotal 11\nthreshold 6\nline 1.0.0.1/32 101.0.0.1/32 7 7\nline 0.0.0.0/0 0.0.0.0/0 11 11\n",
+        "report 1: bad interval in line 1\n",
+    ),
+    (
+        "at 6 5\ntotal 11\nthreshold 6\nline 1.0.0.1/32 101.0.0.1/32 5 6\nline 0.0.0.0/0 0.0.0.0/0 12 12\n",
+        "report 1: bad interval in line 2\n",
+    ),
+    // Four times 3 is above 11, and four times 2 is not.
+    (
+        "at 6 5\ntotal 11\nthreshold 6\nline 1.0.0.1/32 101.0.0.1/32 3 6\nline 0.0.0.0/0 0.0.0.0/0 11 11\n",
+        "report 1: too wide in line 1\n",
+    ),
+    (
+        "at 6 5\ntotal 11\nthreshold 6\nline 1.0.0.1/32 101.0.0.1/32 5 7\nline 0.0.0.0/0 0.0.0.0/0 11 11\n",
+        "good 1\n",
+    ),
+    (
+        "at 6 5\ntotal 11\nthreshold 6\nline 1.0.0.1/32 101.0.0.1/32 5 6\nline 0.0.0.0/0 0.0.0.0/0 11 14\n",
+        "report 1: too wide in line 2\n",
+    ),
+    (
+        "at 6 5\ntotal 11\nthreshold 6\nline 1.0.0.1/32 101.0.0.1/32 5 6\nline 2.0.0.1/32 102.0.0.1/32 1 1\nline 0.0.0.0/0 0.0.0.0/0 11 11\n",
+        "report 1: below threshold in line 2\n",
+    ),
+    // Its weight is that of the line before: four times 0 and twice 11 are below four times 6.
+    (
+        "at 6 5\ntotal 11\nthreshold 6\nline 1.0.0.1/32 101.0.0.1/32 5 6\nline 1.0.0.0/24 101.0.0.1/32 6 6\nline 0.0.0.0/0 0.0.0.0/0 11 11\n",
+        "report 1: not justified in line 2\n",
+    ),
+    (
+        "at 6 5\ntotal 11\nthreshold 6\nline 0.0.0.0/0 0.0.0.0/0 11 11\n",
+        "report 1: left out 1.0.0.1/32 101.0.0.1/32 6\n",
+    ),
+    // Without the first line's packets 5 are left, which is below the threshold.
+    (
+        "at 6 5\ntotal 11\nthreshold 6\nline 1.0.0.1/32 101.0.0.1/32 5 6\n",
+        "good 1\n",
+    ),
+];
+
+pub(crate) fn finds_each_change<R: Abort + Threads + Wait + Sync>(
+    rt: &R,
+    alloc: Global,
+    dealers: &Dealers,
+) -> Result<(), Fail> {
+    for (report, written) in CHANGES {
+        let mut text = Vec::from_slice(alloc, b"opened 0 0\nreport\n")?;
+        text.extend_from_slice(report.as_bytes())?;
+        text.extend_from_slice(b"done\nframes 11\nskipped 0 0 0\nend\n")?;
+        let ended = audit_over(rt, alloc, dealers, &NARROW, &ELEVEN, &text, SOUND_CALLS)?;
+        assert_eq!(rt; ended.text.as_slice(), written.as_bytes());
+    }
+    Ok(())
+}
+
+const BAD_TEXTS: [(&str, TextFault); 4] = [
+    (
+        "opened 0\nreport\nat 0\ntotal 00\nthreshold 1\ndone\nframes 0\nskipped 0 0 0\nend\n",
+        TextFault::BadLine(4),
+    ),
+    (
+        "opened 0\nreport\nat 0\ntotal 0\nthreshold 1\ndone\n",
+        TextFault::MissingEnd(7),
+    ),
+    (
+        "opened 0\nreport\nat 0\ntotal 0\nthreshold 1\ndone\nframes 0\nskipped 0 0 0\nend\nx",
+        TextFault::BadLine(10),
+    ),
+    ("", TextFault::MissingEnd(1)),
+];
+
+pub(crate) fn refuses_texts<R: Abort + Threads + Wait + Sync>(
+    rt: &R,
+    alloc: Global,
+    dealers: &Dealers,
+) -> Result<(), Fail> {
+    for (text, fault) in BAD_TEXTS {
+        let ended = audit_over(rt, alloc, dealers, &AUDIT, &[], text.as_bytes(), SOUND_CALLS)?;
+        assert_eq!(rt; ended.status, Status::BadReport(fault));
+        assert_eq!(rt; ended.text.as_slice(), b"".as_slice());
+    }
+    Ok(())
+}
+
+// Which calls of the capture, of the text and of the sink fail.
+#[derive(Clone, Copy)]
+struct Fails {
+    capture: &'static [u64],
+    text: &'static [u64],
+    sink: &'static [u64],
+}
+
+const SOUND_CALLS: Fails = Fails {
+    capture: &[],
+    text: &[],
+    sink: &[],
+};
+
+pub(crate) fn tells_the_faults_of_its_inputs<R: Abort + Threads + Wait + Sync>(
+    rt: &R,
+    alloc: Global,
+    dealers: &Dealers,
+) -> Result<(), Fail> {
+    let (words, packets, text, _, _) = CASES[0];
+    let failing: [(Fails, Status); 3] = [
+        (
+            Fails {
+                capture: &[0],
+                ..SOUND_CALLS
+            },
+            Status::ReadFault,
+        ),
+        (
+            Fails {
+                text: &[2],
+                ..SOUND_CALLS
+            },
+            Status::ReadFault,
+        ),
+        (
+            Fails {
+                sink: &[0],
+                ..SOUND_CALLS
+            },
+            Status::WriteFault,
+        ),
+    ];
+    for (fails, status) in failing {
+        let ended = audit_over(rt, alloc, dealers, words, packets, text.as_bytes(), fails)?;
+        assert_eq!(rt; ended.status, status);
+        assert_eq!(rt; ended.text.as_slice(), b"".as_slice());
+    }
+    Ok(())
+}
+
+// A session with rounds of three callers, each report of which is sound.
+pub(crate) fn own_reports_are_good<R: Abort + Threads + Wait + Sync>(
+    rt: &R,
+    alloc: Global,
+    dealers: &Dealers,
+) -> Result<(), Fail> {
+    let words = [
+        "report",
+        "--shards=2",
+        "--capacity=4",
+        "--phi=500000",
+        "--weigh=packets",
+        "--block=1",
+        "--callers=2",
+        "--rounds=3",
+    ];
+    let capture = capture_of(alloc, &ELEVEN)?;
+    let session = run_over(rt, alloc, dealers, &words, capture, SOUND)?;
+    assert_eq!(rt; session.status, Status::Done);
+    let ended = audit_over(rt, alloc, dealers, &NARROW, &ELEVEN, &session.text, SOUND_CALLS)?;
+    assert_eq!(rt; ended.status, Status::Done);
+    assert_eq!(rt; ended.text.as_slice(), b"good 10\n");
+    Ok(())
+}
+
+// Audits a text over a capture of these packets, both read in pieces.
+fn audit_over<R: Threads + Wait + Sync>(
+    rt: &R,
+    alloc: Global,
+    dealers: &Dealers,
+    words: &[&str],
+    packets: &[Packet],
+    text: &[u8],
+    fails: Fails,
+) -> Result<Ended, AllocError> {
+    let capture = capture_of(alloc, packets)?;
+    let mut capture = MemorySource::new(capture, Vec::from_slice(alloc, fails.capture)?, 64);
+    let text = Vec::from_slice(alloc, text)?;
+    let mut text = MemorySource::new(text, Vec::from_slice(alloc, fails.text)?, 50);
+    let fails = Vec::from_slice(alloc, fails.sink)?;
+    let mut sink = MemorySink::with_room(alloc, 4096, fails)?;
+    let mut disk = MemoryDisk::with_room(alloc, 0, 0, Vec::new(alloc), None, Vec::new(alloc))?;
+    let status = run(
+        rt,
+        alloc,
+        words,
+        &mut capture,
+        &mut text,
+        &mut sink,
+        &mut disk,
+        &OpenGate,
+        dealers,
+    );
+    let text = Vec::from_slice(alloc, sink.taken())?;
+    Ok(Ended { status, text })
+}
