@@ -183,8 +183,7 @@ written_as : {K : Type 0} (settings : Settings) (rules : Rules) (given : InputBy
     → read_now ≡ read_before → Appends old new text → write_now ≡ write_before
     → EndsAudit settings rules given read_before read_now sink written old new write_before write_now status
 written_as settings rules given read_before read_now sink written old new write_before write_now lists said text
-    Done are says capture_read text_read same appended same_sink =
-    (
+    Done are says capture_read text_read same appended same_sink = (
       (capture_read, text_read),
       record {
         text = text;
@@ -230,8 +229,7 @@ written_as settings rules given read_before read_now sink written old new write_
     (OtherCapture stored asked) are says capture_read text_read same appended same_sink =
     absurd says
 written_as settings rules given read_before read_now sink written old new write_before write_now lists said text
-    (AuditNo report verdict) are says capture_read text_read same appended same_sink =
-    (
+    (AuditNo report verdict) are says capture_read text_read same appended same_sink = (
       (capture_read, text_read),
       (
         of_audited_more given (λ file bytes. AreAudited settings rules file bytes lists said)

@@ -146,7 +146,7 @@ refuses_exactly : {K : Type 0} → NeverBoth → OneTextFault → NoFault
 refuses_exactly never_both one_fault no_fault rules keeping settings given store_now ReadToEnd DiskSame read_before
     read_now sink written old new write_before write_now Done file bytes frames fault is_file capture is_text has ends =
     let is =
-        of_both given file bytes (λ f t. IsSoundSession settings rules f t ends.1.text) is_file is_text ends.1.is_text in
+    of_both given file bytes (λ f t. IsSoundSession settings rules f t ends.1.text) is_file is_text ends.1.is_text in
     absurd (no_fault bytes is.session fault is.audited.is_session is.audited.not_long has)
 refuses_exactly never_both one_fault no_fault rules keeping settings given store_now ReadToEnd DiskSame read_before
     read_now sink written old new write_before write_now (BadWords kind) file bytes frames fault is_file capture is_text has ends =
@@ -160,8 +160,8 @@ refuses_exactly never_both one_fault no_fault rules keeping settings given store
 refuses_exactly never_both one_fault no_fault rules keeping settings given store_now ReadToEnd DiskSame read_before
     read_now sink written old new write_before write_now WriteFault file bytes frames fault is_file capture is_text has ends =
     let is =
-        of_both given file bytes (λ f t. IsCutShort (IsAuditText settings rules f t) ends.1.text) is_file is_text
-        ends.1.is_text in
+    of_both given file bytes (λ f t. IsCutShort (IsAuditText settings rules f t) ends.1.text) is_file is_text
+    ends.1.is_text in
     absurd (never_audited no_fault settings rules file bytes is.text fault has is.is_text)
 refuses_exactly never_both one_fault no_fault rules keeping settings given store_now ReadToEnd DiskSame read_before
     read_now sink written old new write_before write_now DiskFault file bytes frames fault is_file capture is_text has ends =
@@ -181,7 +181,7 @@ refuses_exactly never_both one_fault no_fault rules keeping settings given store
 refuses_exactly never_both one_fault no_fault rules keeping settings given store_now ReadToEnd DiskSame read_before
     read_now sink written old new write_before write_now (AuditNo report verdict) file bytes frames fault is_file capture is_text has ends =
     let is =
-        of_both given file bytes (λ f t. IsUnsoundSession settings rules f t report verdict) is_file is_text ends.1.0 in
+    of_both given file bytes (λ f t. IsUnsoundSession settings rules f t report verdict) is_file is_text ends.1.0 in
     absurd (no_fault bytes is.session fault is.audited.is_session is.audited.not_long has)
 refuses_exactly never_both one_fault no_fault rules keeping settings given store_now ReadToEnd DiskSame read_before
     read_now sink written old new write_before write_now (BadReport wrong) file bytes frames fault is_file capture is_text has ends =
@@ -209,7 +209,7 @@ finds_exactly never_both no_fault one rules keeping settings given store_now Rea
     written old new write_before write_now Done file bytes frames known report verdict is_file capture is_text is_session
     not_long first ends =
     let is =
-        of_both given file bytes (λ f t. IsSoundSession settings rules f t ends.1.text) is_file is_text ends.1.is_text in
+    of_both given file bytes (λ f t. IsSoundSession settings rules f t ends.1.text) is_file is_text ends.1.is_text in
     let unsound = first is.lists is.session is.audited in
     absurd (not_sound one settings is.lists is.session.reports report verdict unsound
     (all_at (IsSoundOver settings is.lists) is.session.reports unsound.before unsound.reported unsound.is is.sound))
@@ -253,7 +253,7 @@ finds_exactly never_both no_fault one rules keeping settings given store_now Rea
     written old new write_before write_now (AuditNo other_report other) file bytes frames known report verdict is_file capture is_text is_session
     not_long first ends =
     let is =
-        of_both given file bytes (λ f t. IsUnsoundSession settings rules f t other_report other) is_file is_text ends.1.0 in
+    of_both given file bytes (λ f t. IsUnsoundSession settings rules f t other_report other) is_file is_text ends.1.0 in
     inl (one_first one settings is.lists is.session.reports report other_report verdict other
     (first is.lists is.session is.audited) is.first)
 finds_exactly never_both no_fault one rules keeping settings given store_now ReadToEnd DiskSame read_before read_now sink

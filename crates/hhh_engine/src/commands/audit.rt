@@ -143,7 +143,13 @@ fn first_unsound(
     let reports = audited.session.reports.as_slice();
     for (place, reported) in reports.iter().enumerate() {
         let report = &reported.report;
-        match exact_audit::audit(alloc, &audited.dealt, report, settings.capacity, settings.phi)? {
+        match exact_audit::audit(
+            alloc,
+            &audited.dealt,
+            report,
+            settings.capacity,
+            settings.phi,
+        )? {
             Verdict::Good => {}
             verdict => {
                 return Ok(Some(Unsound {

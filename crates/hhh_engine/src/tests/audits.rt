@@ -7,7 +7,7 @@ use crate::Status;
 use deal_rules::Dealers;
 use exact_audit::Verdict;
 use gate_workers::OpenGate;
-use outside_io::{MemorySink, MemorySource, Source};
+use outside_io::{MemorySink, MemorySource};
 use pcap_frames::{CaptureFault, FaultKind};
 use prefix_lattice::Prefix;
 use report_text::TextFault;
@@ -41,10 +41,6 @@ type Case = (
     &'static str,
 );
 
-const fn not_good(report: u64, verdict: Verdict) -> Status {
-    Status::AuditNo { report, verdict }
-}
-
 // A session over one packet, with its lines changed.
 const CASES: [Case; 8] = [
     (
@@ -58,35 +54,50 @@ const CASES: [Case; 8] = [
         &AUDIT,
         &[ONE],
         "opened 0\nreport\nat 1\ntotal 100\nthreshold 1\nline 10.1.2.3/32 20.1.2.3/32 99 99\ndone\nframes 1\nskipped 0 0 0\nend\n",
-        not_good(1, Verdict::BadInterval(1)),
+        Status::AuditNo {
+            report: 1,
+            verdict: Verdict::BadInterval(1),
+        },
         "report 1: bad interval in line 1\n",
     ),
     (
         &AUDIT,
         &[ONE],
         "opened 0\nreport\nat 1\ntotal 100\nthreshold 1\nline 10.1.2.3/32 20.1.2.3/32 100 100\nline 0.0.0.0/0 0.0.0.0/0 100 100\ndone\nframes 1\nskipped 0 0 0\nend\n",
-        not_good(1, Verdict::NotJustified(2)),
+        Status::AuditNo {
+            report: 1,
+            verdict: Verdict::NotJustified(2),
+        },
         "report 1: not justified in line 2\n",
     ),
     (
         &AUDIT,
         &[],
         "opened 0\nreport\nat 1\ntotal 100\nthreshold 1\nline 10.1.2.3/32 20.1.2.3/32 100 100\ndone\nframes 1\nskipped 0 0 0\nend\n",
-        not_good(1, Verdict::BadPositions),
+        Status::AuditNo {
+            report: 1,
+            verdict: Verdict::BadPositions,
+        },
         "report 1: bad positions\n",
     ),
     (
         &AUDIT,
         &[ONE],
         "opened 0\nreport\nat 1\ntotal 99\nthreshold 1\nline 10.1.2.3/32 20.1.2.3/32 100 100\ndone\nframes 1\nskipped 0 0 0\nend\n",
-        not_good(1, Verdict::BadTotal),
+        Status::AuditNo {
+            report: 1,
+            verdict: Verdict::BadTotal,
+        },
         "report 1: bad total\n",
     ),
     (
         &AUDIT,
         &[ONE],
         "opened 0\nreport\nat 1\ntotal 100\nthreshold 2\nline 10.1.2.3/32 20.1.2.3/32 100 100\ndone\nframes 1\nskipped 0 0 0\nend\n",
-        not_good(1, Verdict::BadThreshold),
+        Status::AuditNo {
+            report: 1,
+            verdict: Verdict::BadThreshold,
+        },
         "report 1: bad threshold\n",
     ),
     // The second report is wrong, and the third as well.
@@ -94,7 +105,10 @@ const CASES: [Case; 8] = [
         &AUDIT,
         &[ONE],
         "opened 0\nreport\nat 0\ntotal 0\nthreshold 1\ndone\nsaved 0\nreport\nat 1\ntotal 0\nthreshold 1\ndone\nreport\nat 2\ntotal 0\nthreshold 1\ndone\nframes 1\nskipped 0 0 0\nend\n",
-        not_good(2, Verdict::BadTotal),
+        Status::AuditNo {
+            report: 2,
+            verdict: Verdict::BadTotal,
+        },
         "report 2: bad total\n",
     ),
     // The numbers of frames are not audited.
@@ -113,16 +127,34 @@ pub(crate) fn audits<R: Abort + Threads + Wait + Sync>(
     dealers: &Dealers,
 ) -> Result<(), Fail> {
     for (words, packets, text, status, written) in CASES {
-        let ended = audit_over(rt, alloc, dealers, words, packets, text.as_bytes(), SOUND_CALLS)?;
+        let ended = audit_over(
+            rt,
+            alloc,
+            dealers,
+            words,
+            packets,
+            text.as_bytes(),
+            SOUND_CALLS,
+        )?;
         assert_eq!(rt; ended.status, status);
         assert_eq!(rt; ended.text.as_slice(), written.as_bytes());
     }
     // No line has the packet's prefix.
-    let text = b"opened 0\nreport\nat 1\ntotal 100\nthreshold 1\ndone\nframes 1\nskipped 0 0 0\nend\n";
+    let text =
+        b"opened 0\nreport\nat 1\ntotal 100\nthreshold 1\ndone\nframes 1\nskipped 0 0 0\nend\n";
     let ended = audit_over(rt, alloc, dealers, &AUDIT, &[ONE], text, SOUND_CALLS)?;
     let left_out = Prefix::parse(b"10.1.2.3/32", b"20.1.2.3/32").unwrap();
-    assert_eq!(rt; ended.status, not_good(1, Verdict::LeftOut(left_out, 100)));
-    assert_eq!(rt; ended.text.as_slice(), b"report 1: left out 10.1.2.3/32 20.1.2.3/32 100\n");
+    assert_eq!(rt;
+        ended.status,
+        Status::AuditNo {
+            report: 1,
+            verdict: Verdict::LeftOut(left_out, 100)
+        }
+    );
+    assert_eq!(rt;
+        ended.text.as_slice(),
+        b"report 1: left out 10.1.2.3/32 20.1.2.3/32 100\n".as_slice()
+    );
     Ok(())
 }
 
@@ -237,7 +269,15 @@ pub(crate) fn refuses_texts<R: Abort + Threads + Wait + Sync>(
     dealers: &Dealers,
 ) -> Result<(), Fail> {
     for (text, fault) in BAD_TEXTS {
-        let ended = audit_over(rt, alloc, dealers, &AUDIT, &[], text.as_bytes(), SOUND_CALLS)?;
+        let ended = audit_over(
+            rt,
+            alloc,
+            dealers,
+            &AUDIT,
+            &[],
+            text.as_bytes(),
+            SOUND_CALLS,
+        )?;
         assert_eq!(rt; ended.status, Status::BadReport(fault));
         assert_eq!(rt; ended.text.as_slice(), b"".as_slice());
     }
@@ -314,9 +354,17 @@ pub(crate) fn own_reports_are_good<R: Abort + Threads + Wait + Sync>(
     let capture = capture_of(alloc, &ELEVEN)?;
     let session = run_over(rt, alloc, dealers, &words, capture, SOUND)?;
     assert_eq!(rt; session.status, Status::Done);
-    let ended = audit_over(rt, alloc, dealers, &NARROW, &ELEVEN, &session.text, SOUND_CALLS)?;
+    let ended = audit_over(
+        rt,
+        alloc,
+        dealers,
+        &NARROW,
+        &ELEVEN,
+        &session.text,
+        SOUND_CALLS,
+    )?;
     assert_eq!(rt; ended.status, Status::Done);
-    assert_eq!(rt; ended.text.as_slice(), b"good 10\n");
+    assert_eq!(rt; ended.text.as_slice(), b"good 10\n".as_slice());
     Ok(())
 }
 
