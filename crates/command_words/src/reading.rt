@@ -13,7 +13,7 @@ ghost use Rattle.command_words.specs.declared.words_kind.WordsRefusal.TheVariant
 use crate::command_word::CommandWord;
 use crate::parsing::parse;
 use crate::scanning::are_well_formed;
-use crate::values::{is_wide, settings_of};
+use crate::values::{bounded, settings_of};
 use crate::{Command, WordsKind, WordsRefusal};
 use clap::ArgMatches;
 use prefix_lattice::{Prefix, prefix_texts_have_one_reading};
@@ -114,11 +114,7 @@ fn report_command(matches: &ArgMatches<'_>) -> Result<Command, WordsKind>
     ensures ok { (words : List Text) → AreMatchesOfWords words Report matches.now → IfOk result (AskFor words) }
     ensures err { (words : List Text) → AreMatchesOfWords words Report matches.now → IfErr result (HasWordsFault words) }
 {
-    let settings = settings_of(matches)?;
-    if !is_wide(&settings) {
-        return Err(WordsKind::Bound);
-    }
-    Ok(Command::Report(settings))
+    Ok(Command::Report(bounded(settings_of(matches)?)?))
 }
 
 // The command asked for by arguments that begin with `format`. Its tables may be too small for the default share.
@@ -134,9 +130,5 @@ fn audit_command(matches: &ArgMatches<'_>) -> Result<Command, WordsKind>
     ensures ok { (words : List Text) → AreMatchesOfWords words Audit matches.now → IfOk result (AskFor words) }
     ensures err { (words : List Text) → AreMatchesOfWords words Audit matches.now → IfErr result (HasWordsFault words) }
 {
-    let settings = settings_of(matches)?;
-    if !is_wide(&settings) {
-        return Err(WordsKind::Bound);
-    }
-    Ok(Command::Audit(settings))
+    Ok(Command::Audit(bounded(settings_of(matches)?)?))
 }

@@ -7,7 +7,7 @@ ghost use Rattle.command_words.specs.Settings.{SetsDeal, SetsNumber, SetsSetting
 ghost use Rattle.command_words.specs.Matches.{store_in_matches, values_in_matches};
 ghost use Rattle.command_words.specs.Words.{HasValueFault};
 ghost use Rattle.command_words.specs.OneValue.{AreGoodBefore, IsBadChoice, IsBadNumber, SetsRunning};
-ghost use Rattle.command_words.specs.declared.words_kind.WordsKind.TheVariants.{BadChoice};
+ghost use Rattle.command_words.specs.declared.words_kind.WordsKind.TheVariants.{BadChoice, Bound};
 ghost use Rattle.command_words.specs.declared.opt.Opt.TheVariants.{Weigh as ByWeigh, Deal, Block};
 
 use crate::{Opt, Settings, WordsKind};
@@ -128,8 +128,19 @@ fn running_of(matches: &ArgMatches<'_>) -> Result<Running, WordsKind>
     })
 }
 
-/// Whether tables of this capacity are large enough for the share `phi`.
-pub(crate) fn is_wide(settings: &Settings) -> bool
+/// The settings themselves, if their tables are large enough for their share.
+pub(crate) fn bounded(settings: Settings) -> Result<Settings, WordsKind>
+    ensures ok { IfOk result (λ same. (same ≡ settings) × IsWide settings) }
+    ensures err { IfErr result (λ kind. (kind ≡ Bound) × (IsWide settings → ⊥)) }
+{
+    if !is_wide(&settings) {
+        return Err(WordsKind::Bound);
+    }
+    Ok(settings)
+}
+
+// Whether tables of this capacity are large enough for the share `phi`.
+fn is_wide(settings: &Settings) -> bool
     ensures { IsTrue result ↔ IsWide settings.now }
 {
     u64::from(settings.phi) * u64::from(settings.capacity) >= LEAST_WIDTH
