@@ -4,7 +4,7 @@ use Rattle.std.proofs.lemmas.List.Elements.{All-cons, All-nil}
 use Rattle.std.proofs.lemmas.List.Kept.{AllPairs-cons}
 use Rattle.std.specs.List.{All, AllPairs, Contains}
 use Rattle.command_words.specs.Arguments.{Text, Argument, positional, option, hyphen, equals_sign, IsValue, IsName}
-use Rattle.command_words.specs.Arguments.{long, Spells, Begins, SpellsAll, positionals_in, names_in, value_of, Form}
+use Rattle.command_words.specs.Arguments.{long, Spells, Begins, SpellsAll, positionals_in, names_in, value_of, named, Form}
 use Rattle.command_words.specs.Arguments.{AreOfForm, AreWellFormed}
 use Rattle.command_words.specs.Scanning.{form_named, option_name, text_at, FitsRest}
 use Rattle.command_words.specs.Forms.{form_of}
@@ -92,6 +92,12 @@ nothing_spelled = refl
 
 pub positionals_of_the_words : positionals_in arguments ≡ codes "10.0.0.0/8" ∷ codes "20.0.0.0/8" ∷ []
 positionals_of_the_words = refl
+
+-- among them the positionals are named SRC and DST
+pub sides_by_their_names : named (codes "SRC" ∷ codes "DST" ∷ []) arguments
+    ≡ option (codes "weigh") (codes "packets") ∷ option (codes "SRC") (codes "10.0.0.0/8")
+    ∷ option (codes "capture") (codes "a.pcap") ∷ option (codes "DST") (codes "20.0.0.0/8") ∷ []
+sides_by_their_names = refl
 
 pub names_of_the_words : names_in arguments ≡ codes "weigh" ∷ codes "capture" ∷ []
 names_of_the_words = refl

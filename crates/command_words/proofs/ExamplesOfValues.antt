@@ -1,22 +1,23 @@
 -- Worked examples of the values of options, and of what they set.
-use Rattle.std.proofs.Common.{◌≡◌, ◌<◌, ℕ, zero, suc, [], ◌∷◌, get_or, true, false, Some, None, inr, refl, sym, subst, codes}
+use Rattle.std.proofs.Common.{◌≡◌, ◌⊎◌, ◌<◌, ◌^◌, ℕ, zero, suc, List, [], ◌∷◌, get_or, true, false, Some, None, inl, inr, refl, sym, subst, codes}
 use Rattle.std.proofs.Common.{false, arith}
 use Rattle.std.specs.Fmt.{digits}
 use Rattle.std.proofs.lemmas.Fmt.{first_decimal, decimal_injective}
 use Rattle.frame_records.specs.declared.weigh.Weigh.TheVariants.{Bytes, Packets}
 use Rattle.deal_rules.specs.declared.deal_kind.DealKind.TheVariants.{RoundRobin, Free}
-use Rattle.command_words.specs.Arguments.{option}
+use Rattle.command_words.specs.Arguments.{Argument, positional, option}
 use Rattle.command_words.specs.Options.{name_of, place_of, Kind, number, choice, kind_of, IsNumber, IsAllowed}
 use Rattle.command_words.specs.Options.{IsGoodText, IsGood, IsNoNumber, IsOutside, IsNoChoice}
-use Rattle.command_words.specs.Options.{greatest_capacity, greatest_phi}
+use Rattle.command_words.specs.Options.{greatest_capacity, greatest_phi, greatest_seed, greatest_frames}
 use Rattle.command_words.specs.Settings.{Values, values_in, store_in, SetsNumber, SetsWeigh, SetsDeal, SetsStore}
 use Rattle.command_words.specs.Settings.{weigh_word, deal_word}
-use Rattle.command_words.specs.Settings.{SetsSettings, IsWide, AreLimited}
+use Rattle.command_words.specs.Settings.{SetsSettings, IsWide, AreLimited, GivesNumber, GivesTraffic, CanBeMade}
 use Rattle.command_words.specs.Options.{greatest_block, greatest_workers, greatest_callers, greatest_rounds}
-use Rattle.command_words.specs.Words.{IsFirstBad, HasValueFault}
-use Rattle.command_words.specs.OneValue.{IsBadNumber, IsBadChoice}
+use Rattle.command_words.specs.Words.{AreGood, IsFirstBad, HasValueFault}
+use Rattle.command_words.specs.OneValue.{IsBadNumber, IsBadChoice, SetsGiven}
+use Rattle.command_words.specs.declared.command_word.CommandWord.TheVariants as command
 use Rattle.command_words.specs.declared.opt.Opt.{Opt}
-use Rattle.command_words.specs.declared.opt.Opt.TheVariants.{Weigh, Shards, Capacity, Phi, Deal}
+use Rattle.command_words.specs.declared.opt.Opt.TheVariants.{Seed, Frames, Weigh, Shards, Capacity, Phi, Deal}
 use Rattle.command_words.specs.declared.opt.Opt.TheVariants.{Block, Workers, Callers, Rounds}
 use Rattle.command_words.specs.declared.settings.Settings.{Settings}
 use Rattle.command_words.specs.declared.words_kind.WordsKind.TheVariants.{BadNumber, OutOfLimits, BadChoice}
@@ -91,9 +92,11 @@ dealing_that_is_no_choice = (refl, no_dealing_by_hash)
 
 -- in `--deal hash --shards 17` the shards are looked at first
 abbrev two_bad_values : Values
-two_bad_values = values_in (option (codes "deal") (codes "hash") ∷ option (codes "shards") (codes "17") ∷ [])
+two_bad_values = values_in command.Report (option (codes "deal") (codes "hash") ∷ option (codes "shards") (codes "17") ∷ [])
 
 good_before_shards : (other : Opt) → place_of other < place_of Shards → IsGood other (two_bad_values other)
+good_before_shards Seed before = tt
+good_before_shards Frames before = tt
 good_before_shards Weigh before = tt
 good_before_shards Shards before = absurd (omega (arith, before))
 good_before_shards Capacity before = tt
@@ -137,7 +140,7 @@ defaults = record {
   store = false;
 }
 
-pub nothing_sets_the_defaults : SetsSettings (values_in []) (store_in []) defaults
+pub nothing_sets_the_defaults : SetsSettings (values_in command.Report []) (store_in []) defaults
 nothing_sets_the_defaults = record {
   weigh = refl;
   shards = refl;
@@ -178,16 +181,16 @@ pub tables_too_small_for_a_share : IsWide (record defaults { phi = 117647; capac
 tables_too_small_for_a_share wide = omega (arith, wide)
 
 -- what `--weigh=packets 10.0.0.0/8 --capture a.pcap 20.0.0.0/8` says
-pub weighing_that_is_said : values_in arguments Weigh ≡ Some (codes "packets")
+pub weighing_that_is_said : values_in command.Weigh arguments Weigh ≡ Some (codes "packets")
 weighing_that_is_said = refl
 
-pub capacity_that_is_not_said : values_in arguments Capacity ≡ None
+pub capacity_that_is_not_said : values_in command.Weigh arguments Capacity ≡ None
 capacity_that_is_not_said = refl
 
-pub packets_by_their_word : SetsWeigh (values_in arguments Weigh) Packets
+pub packets_by_their_word : SetsWeigh (values_in command.Weigh arguments Weigh) Packets
 packets_by_their_word = refl
 
-pub in_turn_by_default : SetsDeal (values_in arguments Deal) RoundRobin
+pub in_turn_by_default : SetsDeal (values_in command.Weigh arguments Deal) RoundRobin
 in_turn_by_default = refl
 
 pub no_store_by_default : SetsStore (store_in arguments) false
@@ -196,7 +199,7 @@ no_store_by_default = refl
 pub store_by_its_path : SetsStore (Some (codes "S")) true
 store_by_its_path = refl
 
-pub capacity_by_default : SetsNumber Capacity 512 (values_in arguments Capacity) 512
+pub capacity_by_default : SetsNumber Capacity 512 (values_in command.Weigh arguments Capacity) 512
 capacity_by_default = refl
 
 pub sixteen_shards_by_their_number : SetsNumber Shards 4 (Some (codes "16")) 16
@@ -231,3 +234,83 @@ greatest_settings = record {
   few_callers = omega arith;
   few_rounds = omega arith;
 }
+
+-- ---- made traffic
+
+-- `SEED` and `FRAMES` of `make 7 3`
+abbrev pub traffic_arguments : List Argument
+traffic_arguments = positional (codes "7") ∷ positional (codes "3") ∷ []
+
+pub seed_by_its_place : values_in command.Make traffic_arguments Seed ≡ Some (codes "7")
+seed_by_its_place = refl
+
+pub frames_by_their_place : values_in command.Make traffic_arguments Frames ≡ Some (codes "3")
+frames_by_their_place = refl
+
+pub no_shards_among_them : values_in command.Make traffic_arguments Shards ≡ None
+no_shards_among_them = refl
+
+pub seed_is_looked_at_first : (other : Opt) → place_of other < place_of Seed → ⊥
+seed_is_looked_at_first other before = omega (arith, before)
+
+pub three_frames : GivesNumber Frames (Some (codes "3")) 3
+unfolding digits
+three_frames = (record { spelled = refl; bounded = omega arith }, (omega arith, omega arith))
+
+pub three_frames_of_seed_seven : GivesTraffic (values_in command.Make traffic_arguments) 7 3
+unfolding digits
+three_frames_of_seed_seven = record {
+  seed_given = (record { spelled = refl; bounded = omega arith }, (omega arith, omega arith));
+  frames_given = three_frames;
+}
+
+pub no_number_is_given_by_nothing : GivesNumber Frames None 1 → ⊥
+no_number_is_given_by_nothing gives = gives
+
+pub greatest_seed_of_64_bits : IsAllowed (kind_of Seed) greatest_seed
+greatest_seed_of_64_bits = (omega arith, omega arith)
+
+pub no_seed_is_outside : IsOutside (kind_of Seed) (codes "7") → ⊥
+no_seed_is_outside outside = go outside.2
+  where
+    bounded : outside.0 < 2 ^ 64
+    bounded = outside.1.bounded
+
+    go : (outside.0 < 0) ⊎ (greatest_seed < outside.0) → ⊥
+    go (inl below) = omega (arith, below)
+    go (inr above) = omega (arith, above, bounded)
+
+pub million_frames_can_be_made : CanBeMade greatest_seed greatest_frames
+million_frames_can_be_made = record { is_seed = omega arith; some_frames = omega arith; few_frames = omega arith }
+
+pub no_frame_can_not_be_made : CanBeMade 7 0 → ⊥
+no_frame_can_not_be_made made = omega (arith, made.some_frames)
+
+pub no_frame_is_outside : IsOutside (kind_of Frames) (codes "0")
+unfolding digits
+no_frame_is_outside = (0, record { spelled = refl; bounded = omega arith }, inl (omega arith))
+
+pub more_than_a_million_frames_are_outside : IsOutside (kind_of Frames) (codes "1000001")
+unfolding digits
+more_than_a_million_frames_are_outside =
+    (1000001, record { spelled = refl; bounded = omega arith }, inr (omega arith))
+
+-- the positionals are good, and nothing else is said
+pub traffic_is_good : AreGood (values_in command.Make traffic_arguments)
+unfolding digits
+traffic_is_good Seed = (7, record { spelled = refl; bounded = omega arith }, (omega arith, omega arith))
+traffic_is_good Frames = (3, record { spelled = refl; bounded = omega arith }, (omega arith, omega arith))
+traffic_is_good Weigh = tt
+traffic_is_good Shards = tt
+traffic_is_good Capacity = tt
+traffic_is_good Phi = tt
+traffic_is_good Deal = tt
+traffic_is_good Block = tt
+traffic_is_good Workers = tt
+traffic_is_good Callers = tt
+traffic_is_good Rounds = tt
+
+pub nothing_gives_the_defaults : SetsGiven (values_in command.Report []) (store_in [])
+    (record { seed = 0; frames = 1; settings = defaults })
+nothing_gives_the_defaults =
+    record { seed_set = refl; frames_set = refl; settings_set = nothing_sets_the_defaults }

@@ -1,8 +1,9 @@
 -- Worked examples of whole command lines: what they ask, or what is wrong with them.
-use Rattle.std.proofs.Common.{◌≡◌, ◌≢◌, ◌<◌, ℕ, zero, suc, List, [], ◌∷◌, inl, inr, refl, subst, codes, true, arith}
+use Rattle.std.proofs.Common.{◌≡◌, ◌≢◌, ◌<◌, ℕ, zero, suc, List, [], ◌∷◌, length, inl, inr, refl, sym, subst, codes, true}
+use Rattle.std.proofs.Common.{arith}
 use Rattle.std.specs.Prelude.{slice_index}
 use Rattle.std.specs.Fmt.{digits}
-use Rattle.std.specs.List.{Contains, list_any}
+use Rattle.std.specs.List.{All, Contains, list_any}
 use Rattle.std.specs.Str.{bytes_eq}
 use Rattle.std.proofs.lemmas.List.Elements.{All-cons, All-head, All-nil}
 use Rattle.std.proofs.lemmas.List.Kept.{AllPairs-cons}
@@ -10,17 +11,19 @@ use Rattle.prefix_lattice.specs.{AreLeadingBytes, PrefixValue, SpellsPrefix}
 use Rattle.prefix_lattice.specs.declared.prefix_fault.Side.TheVariants.{Source}
 use Rattle.prefix_lattice.specs.declared.prefix_fault.PrefixFault.TheVariants.{LooseBits}
 use Rattle.frame_records.specs.declared.weigh.Weigh.TheVariants.{Packets}
-use Rattle.command_words.specs.Arguments.{Text, Argument, positional, option, SpellsAll, names_in, AreWellFormed}
+use Rattle.command_words.specs.Arguments.{Text, Argument, positional, option, IsValue, SpellsAll}
+use Rattle.command_words.specs.Arguments.{names_in, AreWellFormed}
 use Rattle.command_words.specs.Forms.{word_of, form_of, AreWordsOf}
 use Rattle.command_words.specs.Paths.{NamesPaths}
 use Rattle.command_words.specs.Settings.{values_in}
 use Rattle.command_words.specs.Words.{HasSides, AskToWeigh, AskToReport, AskToFormat, AskToAudit, AskFor, IsLimited}
+use Rattle.command_words.specs.Words.{AskToMake, AskToDemo, AreGood}
 use Rattle.command_words.specs.Words.{HasGoodPositionals, IsBounded}
 use Rattle.command_words.specs.Words.{HasBadPrefix, HasBadValue, IsTooNarrow, HasWordsFault}
 use Rattle.command_words.specs.Options.{place_of, IsGood}
 use Rattle.command_words.specs.declared.command.Command.TheVariants as command
 use Rattle.command_words.specs.declared.command_word.CommandWord.{CommandWord}
-use Rattle.command_words.specs.declared.command_word.CommandWord.TheVariants.{Weigh, Report, Format, Audit}
+use Rattle.command_words.specs.declared.command_word.CommandWord.TheVariants.{Weigh, Report, Format, Audit, Make, Demo}
 use Rattle.command_words.specs.declared.opt.Opt.{Opt}
 use Rattle.command_words.specs.declared.opt.Opt.TheVariants as opt
 use Rattle.command_words.specs.declared.settings.Settings.{Settings}
@@ -32,6 +35,7 @@ use Rattle.command_words.proofs.Examples.{words, arguments, words_of_weigh}
 use Rattle.command_words.proofs.ExamplesOfValues.{defaults, nothing_sets_the_defaults}
 use Rattle.command_words.proofs.ExamplesOfValues.{defaults_are_within_their_limits, defaults_are_wide}
 use Rattle.command_words.proofs.ExamplesOfValues.{seventeen_shards, tables_too_small_for_a_share}
+use Rattle.command_words.proofs.ExamplesOfValues.{traffic_arguments, three_frames_of_seed_seven, no_frame_is_outside}
 
 pub word_of_a_command : word_of Report ≡ codes "report"
 word_of_a_command = refl
@@ -350,6 +354,8 @@ way_is_no_command Weigh = apart (codes "way") (codes "weigh") refl
 way_is_no_command Report = apart (codes "way") (codes "report") refl
 way_is_no_command Format = apart (codes "way") (codes "format") refl
 way_is_no_command Audit = apart (codes "way") (codes "audit") refl
+way_is_no_command Make = apart (codes "way") (codes "make") refl
+way_is_no_command Demo = apart (codes "way") (codes "demo") refl
 
 pub unknown_command : HasWordsFault (codes "way" ∷ []) UnknownCommand
 unknown_command = (codes "way", [], refl, way_is_no_command)
@@ -448,7 +454,9 @@ words_for_many_shards = record {
   };
 }
 
-good_before_shards : (other : Opt) → place_of other < place_of opt.Shards → IsGood other (values_in many_shards other)
+good_before_shards : (other : Opt) → place_of other < place_of opt.Shards → IsGood other (values_in Report many_shards other)
+good_before_shards opt.Seed before = tt
+good_before_shards opt.Frames before = tt
 good_before_shards opt.Weigh before = tt
 good_before_shards opt.Shards before = absurd (omega (arith, before))
 good_before_shards opt.Capacity before = tt
@@ -512,6 +520,21 @@ narrow_words_are_of_report = record {
   };
 }
 
+narrow_values_are_good : AreGood (values_in Report narrow_arguments)
+unfolding digits
+narrow_values_are_good opt.Seed = tt
+narrow_values_are_good opt.Frames = tt
+narrow_values_are_good opt.Weigh = tt
+narrow_values_are_good opt.Shards = tt
+narrow_values_are_good opt.Capacity = (17, record { spelled = refl; bounded = omega arith }, (omega arith, omega arith))
+narrow_values_are_good opt.Phi =
+    (117647, record { spelled = refl; bounded = omega arith }, (omega arith, omega arith))
+narrow_values_are_good opt.Deal = tt
+narrow_values_are_good opt.Block = tt
+narrow_values_are_good opt.Workers = tt
+narrow_values_are_good opt.Callers = tt
+narrow_values_are_good opt.Rounds = tt
+
 pub tables_are_too_narrow : IsTooNarrow (codes "report" ∷ narrow_words)
 unfolding digits
 tables_are_too_narrow = record {
@@ -519,6 +542,7 @@ tables_are_too_narrow = record {
   bounded = tt;
   arguments = narrow_arguments;
   are_words = record { behind = narrow_words; begun = refl; well_formed = narrow_words_are_of_report };
+  good = narrow_values_are_good;
   settings = record defaults { phi = 117647; capacity = 17 };
   set = record {
     weigh = refl;
@@ -537,3 +561,106 @@ tables_are_too_narrow = record {
 
 pub bound_is_the_fault : HasWordsFault (codes "report" ∷ narrow_words) Bound
 bound_is_the_fault = tables_are_too_narrow
+
+-- `make 7 3`
+abbrev traffic_words : List Text
+traffic_words = codes "7" ∷ codes "3" ∷ []
+
+two_numbers_are_spelled : (frames : Text) → IsValue frames → SpellsAll (codes "7" ∷ frames ∷ [])
+    (positional (codes "7") ∷ positional frames ∷ [])
+two_numbers_are_spelled frames is_value = (
+  frames ∷ [],
+  record { front = codes "7" ∷ []; parted = refl; spelled = (λ same. omega (arith, same), refl) },
+  ([], record { front = frames ∷ []; parted = refl; spelled = (is_value, refl) }, refl),
+)
+
+two_numbers : (command : CommandWord) (frames : Text) → IsValue frames → length (form_of command).positionals ≡ 2
+    → (form_of command).required ≡ []
+    → AreWordsOf (word_of command ∷ codes "7" ∷ frames ∷ []) command
+    (positional (codes "7") ∷ positional frames ∷ [])
+two_numbers command frames is_value two none = record {
+  behind = codes "7" ∷ frames ∷ [];
+  begun = refl;
+  well_formed = record {
+    spelled = two_numbers_are_spelled frames is_value;
+    of_form = record {
+      as_many = sym two;
+      known = All-nil _;
+      once = λ i j d before within. absurd (omega (arith, before, within));
+      complete = subst (λ names. All (λ name. Contains [] name) names) (sym none) (All-nil _);
+    };
+  };
+}
+
+pub asks_for_made_traffic : AskToMake (codes "make" ∷ traffic_words) 7 3
+asks_for_made_traffic = record {
+  arguments = traffic_arguments;
+  are_words = two_numbers Make (codes "3") (λ same. omega (arith, same)) refl refl;
+  made = three_frames_of_seed_seven;
+}
+
+pub asks_for_made_traffic_by_its_command : AskFor (codes "make" ∷ traffic_words) (command.Make 7 3)
+asks_for_made_traffic_by_its_command = asks_for_made_traffic
+
+-- `make` has no options, so it names no path
+pub no_path_is_named : NamesPaths (codes "make" ∷ traffic_words) (record { capture = []; report = []; store = [] })
+no_path_is_named = record {
+  command = Make;
+  arguments = traffic_arguments;
+  are_words = two_numbers Make (codes "3") (λ same. omega (arith, same)) refl refl;
+  capture = record { given = λ has. absurd (omega (arith, has.1)); absent = λ lacks. refl };
+  report = record { given = λ has. refl; absent = λ lacks. refl };
+  store = record { given = λ has. refl; absent = λ lacks. refl };
+}
+
+-- `demo 7 3`
+pub asks_for_a_demo : AskToDemo (codes "demo" ∷ traffic_words) 7 3 defaults
+asks_for_a_demo = record {
+  arguments = traffic_arguments;
+  are_words = two_numbers Demo (codes "3") (λ same. omega (arith, same)) refl refl;
+  made = three_frames_of_seed_seven;
+  set = record {
+    weigh = refl;
+    shards = refl;
+    capacity = refl;
+    phi = refl;
+    deal = refl;
+    block = refl;
+    workers = refl;
+    callers = refl;
+    rounds = refl;
+    store = refl;
+  };
+  wide = defaults_are_wide;
+}
+
+pub asks_for_the_demo_by_its_command : AskFor (codes "demo" ∷ traffic_words) (command.Demo 7 3 defaults)
+asks_for_the_demo_by_its_command = asks_for_a_demo
+
+-- `make 7 0`: the seed is good, and no frame is too few
+abbrev no_frame : List Argument
+no_frame = positional (codes "7") ∷ positional (codes "0") ∷ []
+
+good_before_frames : (other : Opt) → place_of other < place_of opt.Frames → IsGood other (values_in Make no_frame other)
+unfolding digits
+good_before_frames opt.Seed before =
+    (7, record { spelled = refl; bounded = omega arith }, (omega arith, omega arith))
+good_before_frames opt.Frames before = absurd (omega (arith, before))
+good_before_frames opt.Weigh before = tt
+good_before_frames opt.Shards before = tt
+good_before_frames opt.Capacity before = tt
+good_before_frames opt.Phi before = tt
+good_before_frames opt.Deal before = tt
+good_before_frames opt.Block before = tt
+good_before_frames opt.Workers before = tt
+good_before_frames opt.Callers before = tt
+good_before_frames opt.Rounds before = tt
+
+pub no_frame_is_the_fault : HasWordsFault (codes "make" ∷ codes "7" ∷ codes "0" ∷ []) (OutOfLimits opt.Frames)
+no_frame_is_the_fault = record {
+  command = Make;
+  arguments = no_frame;
+  are_words = two_numbers Make (codes "0") (λ same. omega (arith, same)) refl refl;
+  positionals = tt;
+  has_fault = record { before = good_before_frames; text = codes "0"; value = refl; is_bad = no_frame_is_outside };
+}

@@ -1,13 +1,13 @@
 -- What the words of a command line set is within limits.
-use Rattle.std.proofs.Common.{◌≡◌, ◌≤◌, ℕ, List, Option, Some, None, refl, sym, subst, arith}
+use Rattle.std.proofs.Common.{◌≡◌, ◌<◌, ◌≤◌, ◌^◌, ℕ, List, Option, Some, None, refl, sym, subst, arith}
 use Rattle.command_words.specs.Arguments.{Text}
-use Rattle.command_words.specs.Options.{Kind, number, kind_of, IsAllowed}
-use Rattle.command_words.specs.Settings.{Values, SetsNumber, SetsSettings, AreLimited}
+use Rattle.command_words.specs.Options.{Kind, number, kind_of, IsAllowed, greatest_frames}
+use Rattle.command_words.specs.Settings.{Values, SetsNumber, SetsSettings, GivesNumber, GivesTraffic, AreLimited, CanBeMade}
 use Rattle.command_words.specs.Words.{AskFor, IsLimited}
 use Rattle.command_words.specs.declared.command.Command.{Command}
-use Rattle.command_words.specs.declared.command.Command.TheVariants.{Weigh, Report, Format, Audit}
+use Rattle.command_words.specs.declared.command.Command.TheVariants.{Weigh, Report, Format, Audit, Make, Demo}
 use Rattle.command_words.specs.declared.opt.Opt.{Opt}
-use Rattle.command_words.specs.declared.opt.Opt.TheVariants.{Shards, Capacity, Phi, Block, Workers, Callers, Rounds}
+use Rattle.command_words.specs.declared.opt.Opt.TheVariants.{Seed, Frames, Shards, Capacity, Phi, Block, Workers, Callers, Rounds}
 use Rattle.command_words.specs.declared.settings.Settings.{Settings}
 
 -- a number that an option sets is within its limits, if the default is
@@ -51,9 +51,32 @@ set_is_limited values path settings set =
       few_rounds = rounds.1;
     }
 
+-- a number that is given is below 2^64, and within its limits
+given_bounded : (opt : Opt) (text : Option Text) (value : ℕ) → GivesNumber opt text value → value < 2 ^ 64
+given_bounded opt None value gives = absurd gives
+given_bounded opt (Some text) value gives = gives.0.bounded
+
+given_within : (opt : Opt) (least greatest : ℕ) (text : Option Text) (value : ℕ) → kind_of opt ≡ number least greatest
+    → GivesNumber opt text value → (least ≤ value) × (value ≤ greatest)
+given_within opt least greatest None value kind gives = absurd gives
+given_within opt least greatest (Some text) value kind gives = subst (λ (k : Kind). IsAllowed k value) kind gives.1
+
+-- traffic that values give can be made
+given_can_be_made : (values : Values) (seed frames : ℕ) → GivesTraffic values seed frames → CanBeMade seed frames
+given_can_be_made values seed frames gives =
+    let within = given_within Frames 1 greatest_frames (values Frames) frames refl gives.frames_given in
+    record {
+      is_seed = given_bounded Seed (values Seed) seed gives.seed_given;
+      some_frames = within.0;
+      few_frames = within.1;
+    }
+
 -- so the settings of what is asked for are
 pub asked_is_limited : (words : List Text) (command : Command) → AskFor words command → IsLimited command
 asked_is_limited words (Weigh prefix settings) asked = set_is_limited _ _ settings asked.set
 asked_is_limited words (Report settings) asked = (set_is_limited _ _ settings asked.set, asked.wide)
 asked_is_limited words (Format settings) asked = set_is_limited _ _ settings asked.set
 asked_is_limited words (Audit settings) asked = (set_is_limited _ _ settings asked.set, asked.wide)
+asked_is_limited words (Make seed frames) asked = given_can_be_made _ seed frames asked.made
+asked_is_limited words (Demo seed frames settings) asked =
+    (given_can_be_made _ seed frames asked.made, set_is_limited _ _ settings asked.set, asked.wide)

@@ -1,24 +1,27 @@
 -- What `clap` tells of words is what the words say.
-use Rattle.std.proofs.Common.{◌≡◌, ◌<◌, ℕ, zero, suc, List, [], ◌∷◌, length, Option, Some, None, Bor, refl, sym, ap}
+use Rattle.std.proofs.Common.{◌≡◌, ◌<◌, ◌≤◌, ℕ, zero, suc, List, [], ◌∷◌, length, Option, Some, None, Bor, refl, sym, ap}
 use Rattle.std.proofs.Common.{ap₂, ◌∙◌, subst, arith, codes, slice_index_or}
 use Rattle.std.proofs.Math.Path.{fun_ext}
 use Rattle.std.specs.Prelude.{slice_get, Contains, IsSome, unwrap_or}
 use Rattle.clap.specs.Words.{found_of, first_value}
 use Rattle.clap.specs.declared.parser.matches.ArgMatches.{ArgMatches}
-use Rattle.command_words.specs.Arguments.{Text, Argument, positionals_in, value_of}
+use Rattle.command_words.specs.Arguments.{Text, Argument, Form, positionals_in, value_of}
 use Rattle.command_words.specs.Scanning.{text_at}
 use Rattle.command_words.specs.Forms.{form_of}
 use Rattle.command_words.specs.Options.{name_of}
-use Rattle.command_words.specs.Settings.{values_in, store_in, SetsSettings}
+use Rattle.command_words.specs.Settings.{values_in, store_in, SetsNumber, SetsSettings, GivesNumber, GivesTraffic, IsWide}
+use Rattle.command_words.specs.OneValue.{SetsGiven}
 use Rattle.command_words.specs.Matches.{AreMatchesOf, AreMatchesOfWords, values_in_matches, store_in_matches}
 use Rattle.command_words.specs.Paths.{NamesPath}
-use Rattle.command_words.specs.Words.{HasSides, HasGoodPositionals, HasValueFault, HasWordsFault}
+use Rattle.command_words.specs.Words.{AreGood, HasSides, HasGoodPositionals, HasValueFault, HasWordsFault}
+use Rattle.command_words.specs.Words.{AskToMake, AskToDemo, IsBounded}
 use Rattle.command_words.specs.declared.command_word.CommandWord.{CommandWord}
-use Rattle.command_words.specs.declared.command_word.CommandWord.TheVariants.{Weigh, Report, Format, Audit}
+use Rattle.command_words.specs.declared.command_word.CommandWord.TheVariants.{Weigh, Report, Format, Audit, Make, Demo}
 use Rattle.command_words.specs.declared.opt.Opt.{Opt}
 use Rattle.command_words.specs.declared.settings.Settings.{Settings}
+use Rattle.command_words.specs.declared.values.Given.{Given}
 use Rattle.command_words.specs.declared.words_kind.WordsKind.{WordsKind}
-use Rattle.command_words.specs.declared.words_kind.WordsKind.TheVariants.{BadNumber, OutOfLimits, BadChoice}
+use Rattle.command_words.specs.declared.words_kind.WordsKind.TheVariants.{BadNumber, OutOfLimits, BadChoice, Bound}
 use Rattle.command_words.specs.declared.opt.Opt.TheVariants as opt
 
 -- the byte that a name begins with: what a positional is for begins with a capital letter, which is at most 90
@@ -26,35 +29,36 @@ abbrev pub first_byte : Text → ℕ
 first_byte [] = 0
 first_byte (first ∷ rest) = first
 
+-- a name that begins with a small letter is none of two that don't
+among_two : (one two name : Text) → 90 < first_byte name → Contains (one ∷ two ∷ []) name → first_byte one ≤ 90
+    → first_byte two ≤ 90 → ⊥
+among_two one two name small has large other = go has.0 has.1 has.2
+  where
+    go : (place : ℕ) → place < 2 → slice_index_or (one ∷ two ∷ []) place name ≡ name → ⊥
+    go zero below same = omega (arith, ap first_byte same, large, small)
+    go (suc zero) below same = omega (arith, ap first_byte same, other, small)
+    go (suc (suc place)) below same = omega arith
+
 -- a name that begins with a small letter is not that of a positional
 no_positional : (word : CommandWord) (name : Text) → 90 < first_byte name → Contains (form_of word).positionals name → ⊥
-no_positional Weigh name small has = go has.0 has.1 has.2
-  where
-    go : (place : ℕ) → place < 2 → slice_index_or (codes "SRC" ∷ codes "DST" ∷ []) place name ≡ name → ⊥
-    go zero below same = omega (arith, ap first_byte same)
-    go (suc zero) below same = omega (arith, ap first_byte same)
-    go (suc (suc place)) below same = omega arith
+no_positional Weigh name small has = among_two (codes "SRC") (codes "DST") name small has (omega arith) (omega arith)
 no_positional Report name small has = omega (arith, has.1)
 no_positional Format name small has = omega (arith, has.1)
 no_positional Audit name small has = omega (arith, has.1)
-
--- the name of an option begins with a small letter
-small_name : (at : Opt) → 90 < first_byte (name_of at)
-small_name opt.Weigh = omega arith
-small_name opt.Shards = omega arith
-small_name opt.Capacity = omega arith
-small_name opt.Phi = omega arith
-small_name opt.Deal = omega arith
-small_name opt.Block = omega arith
-small_name opt.Workers = omega arith
-small_name opt.Callers = omega arith
-small_name opt.Rounds = omega arith
+no_positional Make name small has = among_two (codes "SEED") (codes "FRAMES") name small has (omega arith) (omega arith)
+no_positional Demo name small has = among_two (codes "SEED") (codes "FRAMES") name small has (omega arith) (omega arith)
 
 -- the values that are told are those of the arguments
 pub told_values : (word : CommandWord) (arguments : List Argument) (matches : ArgMatches)
-    → AreMatchesOf (form_of word) arguments matches → values_in_matches matches ≡ values_in arguments
-told_values word arguments matches told =
-    fun_ext (λ at. told.options (name_of at) (no_positional word (name_of at) (small_name at)))
+    → AreMatchesOf (form_of word) arguments matches → values_in_matches matches ≡ values_in word arguments
+told_values word arguments matches told = fun_ext (λ at. told.by_name (name_of at))
+
+-- if they are good, those of the arguments are
+pub told_good : (word : CommandWord) (arguments : List Argument) (matches : ArgMatches)
+    → AreMatchesOf (form_of word) arguments matches → AreGood (values_in_matches matches)
+    → AreGood (values_in word arguments)
+told_good word arguments matches told good =
+    subst (λ values. AreGood values) (told_values word arguments matches told) good
 
 -- what is told of a path is what the arguments give
 pub told_path : (word : CommandWord) (arguments : List Argument) (matches : ArgMatches) (name : Text)
@@ -77,9 +81,9 @@ told_names_path word arguments matches name default text told small given absent
 pub told_settings : (word : CommandWord) (arguments : List Argument) (matches : ArgMatches) (settings : Settings)
     → AreMatchesOf (form_of word) arguments matches
     → SetsSettings (values_in_matches matches) (store_in_matches matches) settings
-    → SetsSettings (values_in arguments) (store_in arguments) settings
+    → SetsSettings (values_in word arguments) (store_in arguments) settings
 told_settings word arguments matches settings told set =
-    subst (λ path. SetsSettings (values_in arguments) path settings)
+    subst (λ path. SetsSettings (values_in word arguments) path settings)
     (told_path word arguments matches (codes "store") told (omega arith))
     (subst (λ values. SetsSettings values (store_in_matches matches) settings)
     (told_values word arguments matches told) set)
@@ -91,7 +95,7 @@ pub told_fault : (words : List Text) (word : CommandWord) (matches : ArgMatches)
 told_fault words word matches tells kind good has =
     go kind (subst (λ values. HasValueFault values kind) (told_values word tells.arguments matches tells.told) has)
   where
-    go : (kind : WordsKind) → HasValueFault (values_in tells.arguments) kind → HasWordsFault words kind
+    go : (kind : WordsKind) → HasValueFault (values_in word tells.arguments) kind → HasWordsFault words kind
     go (BadNumber at) fault = record {
       command = word;
       arguments = tells.arguments;
@@ -115,30 +119,99 @@ told_fault words word matches tells kind good has =
     }
     go _ fault = absurd fault
 
--- two sides, and that they are told
-pub record TellsSides (arguments : List Argument) (matches : ArgMatches) : Type 0 where
-  pub source : Text
-  pub dest : Text
-  pub sides : HasSides arguments source dest
-  pub source_told : first_value (found_of matches) (codes "SRC") ≡ Some source
-  pub dest_told : first_value (found_of matches) (codes "DST") ≡ Some dest
+-- settings that are told to be too narrow are what is wrong with the words
+pub told_narrow : (words : List Text) (word : CommandWord) (matches : ArgMatches)
+    (tells : AreMatchesOfWords words word matches) (settings : Settings) (kind : WordsKind) → IsBounded word
+    → AreGood (values_in_matches matches)
+    → SetsSettings (values_in_matches matches) (store_in_matches matches) settings
+    → kind ≡ Bound → (IsWide settings → ⊥) → HasWordsFault words kind
+told_narrow words word matches tells settings kind bounded good set is narrow =
+    subst (λ k. HasWordsFault words k) (sym is) record {
+      command = word;
+      bounded = bounded;
+      arguments = tells.arguments;
+      are_words = tells.are_words;
+      good = told_good word tells.arguments matches tells.told good;
+      settings = settings;
+      set = told_settings word tells.arguments matches settings tells.told set;
+      narrow = narrow;
+    }
+
+-- two positionals, and that they are told by their names
+pub record TellsTwo (arguments : List Argument) (matches : ArgMatches) (one two : Text) : Type 0 where
+  pub first : Text
+  pub second : Text
+  pub are : positionals_in arguments ≡ first ∷ second ∷ []
+  pub first_told : first_value (found_of matches) one ≡ Some first
+  pub second_told : first_value (found_of matches) two ≡ Some second
+
+-- the positionals of a form that has two are told
+told_two : (form : Form) (arguments : List Argument) (matches : ArgMatches) (one two : Text)
+    → form.positionals ≡ one ∷ two ∷ [] → length (positionals_in arguments) ≡ 2
+    → AreMatchesOf form arguments matches → TellsTwo arguments matches one two
+told_two form arguments matches one two has many told = go (positionals_in arguments) refl many
+  where
+    go : (texts : List Text) → positionals_in arguments ≡ texts → length texts ≡ 2
+        → TellsTwo arguments matches one two
+    go [] are many = absurd (omega arith)
+    go (first ∷ []) are many = absurd (omega arith)
+    go (first ∷ second ∷ []) are many = record {
+      first = first;
+      second = second;
+      are = are;
+      first_told = told.positionals 0 one (ap (λ names. slice_get names 0) has) ∙ ap (λ texts. slice_get texts 0) are;
+      second_told = told.positionals 1 two (ap (λ names. slice_get names 1) has) ∙ ap (λ texts. slice_get texts 1) are;
+    }
+    go (first ∷ second ∷ other ∷ more) are many = absurd (omega arith)
 
 -- both sides of `weigh` are told
 pub told_sides : (arguments : List Argument) (matches : ArgMatches) → length (positionals_in arguments) ≡ 2
-    → AreMatchesOf (form_of Weigh) arguments matches → TellsSides arguments matches
-told_sides arguments matches two told = go (positionals_in arguments) refl two
-  where
-    go : (texts : List Text) → positionals_in arguments ≡ texts → length texts ≡ 2 → TellsSides arguments matches
-    go [] are many = absurd (omega arith)
-    go (source ∷ []) are many = absurd (omega arith)
-    go (source ∷ dest ∷ []) are many = record {
-      source = source;
-      dest = dest;
-      sides = are;
-      source_told = told.positionals 0 (codes "SRC") refl ∙ ap (λ texts. slice_get texts 0) are;
-      dest_told = told.positionals 1 (codes "DST") refl ∙ ap (λ texts. slice_get texts 1) are;
+    → AreMatchesOf (form_of Weigh) arguments matches → TellsTwo arguments matches (codes "SRC") (codes "DST")
+told_sides arguments matches two told =
+    told_two (form_of Weigh) arguments matches (codes "SRC") (codes "DST") refl two told
+
+-- a number that is set by a text is given
+set_is_given : (at : Opt) (default : ℕ) (told : Option Text) (text : Text) (value : ℕ) → told ≡ Some text
+    → SetsNumber at default told value → GivesNumber at told value
+set_is_given at default None text value is set = cc
+set_is_given at default (Some other) text value is set = set
+
+-- what is told of made traffic is what the arguments give
+told_traffic : (word : CommandWord) (arguments : List Argument) (matches : ArgMatches) (given : Given)
+    → (form_of word).positionals ≡ codes "SEED" ∷ codes "FRAMES" ∷ [] → length (positionals_in arguments) ≡ 2
+    → AreMatchesOf (form_of word) arguments matches
+    → SetsGiven (values_in_matches matches) (store_in_matches matches) given
+    → GivesTraffic (values_in word arguments) given.seed given.frames
+told_traffic word arguments matches given has many told sets =
+    let two = told_two (form_of word) arguments matches (codes "SEED") (codes "FRAMES") has many told in
+    subst (λ values. GivesTraffic values given.seed given.frames) (told_values word arguments matches told) record {
+      seed_given = set_is_given opt.Seed 0 _ two.first given.seed two.first_told sets.seed_set;
+      frames_given = set_is_given opt.Frames 1 _ two.second given.frames two.second_told sets.frames_set;
     }
-    go (source ∷ dest ∷ other ∷ more) are many = absurd (omega arith)
+
+-- so words ask for it, behind `make`
+pub told_make : (words : List Text) (matches : ArgMatches) (tells : AreMatchesOfWords words Make matches)
+    (given : Given) → SetsGiven (values_in_matches matches) (store_in_matches matches) given
+    → AskToMake words given.seed given.frames
+told_make words matches tells given sets = record {
+  arguments = tells.arguments;
+  are_words = tells.are_words;
+  made =
+      told_traffic Make tells.arguments matches given refl tells.are_words.well_formed.of_form.as_many tells.told sets;
+}
+
+-- and for a demo of it, behind `demo`
+pub told_demo : (words : List Text) (matches : ArgMatches) (tells : AreMatchesOfWords words Demo matches)
+    (given : Given) → SetsGiven (values_in_matches matches) (store_in_matches matches) given
+    → IsWide given.settings → AskToDemo words given.seed given.frames given.settings
+told_demo words matches tells given sets wide = record {
+  arguments = tells.arguments;
+  are_words = tells.are_words;
+  made =
+      told_traffic Demo tells.arguments matches given refl tells.are_words.well_formed.of_form.as_many tells.told sets;
+  set = told_settings Demo tells.arguments matches given.settings tells.told sets.settings_set;
+  wide = wide;
+}
 
 -- a text that is told is found
 pub told_is_found : (found : Option (Bor Text)) (told : Option Text) (text : Text) → text_at found ≡ told
@@ -166,7 +239,7 @@ pub found_sides : (words : List Text) (matches : ArgMatches) (tells : AreMatches
 found_sides words matches tells found_source found_dest source dest source_is dest_is source_found dest_found
     source_text dest_text same_source same_dest =
     let told = told_sides tells.arguments matches tells.are_words.well_formed.of_form.as_many tells.told in
-    told.sides
+    told.are
     ∙ ap₂ (λ s d. s ∷ d ∷ [])
-    (sym (same_source ∙ found_is_told found_source _ told.source source source_is told.source_told source_found))
-    (sym (same_dest ∙ found_is_told found_dest _ told.dest dest dest_is told.dest_told dest_found))
+    (sym (same_source ∙ found_is_told found_source _ told.first source source_is told.first_told source_found))
+    (sym (same_dest ∙ found_is_told found_dest _ told.second dest dest_is told.second_told dest_found))

@@ -10,6 +10,7 @@ use Rattle.clap.specs.Words.{Row, first_of}
 use Rattle.clap.specs.declared.builder.value_parser.Reading.TheVariants.{AsWritten}
 use Rattle.clap.specs.declared.parser.matches.ValueSource.TheVariants.{CommandLine}
 use Rattle.command_words.specs.Arguments.{Text, Argument, positional, option, positionals_in, names_in, value_of}
+use Rattle.command_words.specs.Arguments.{named}
 use Rattle.prefix_lattice.proofs.ListLemmas.{AllPairs-head, AllPairs-tail}
 
 -- a text is equal to itself, and to no other
@@ -44,6 +45,27 @@ first_here name id value rows same = rw (same, same_text name) refl
 first_behind : (name id value : Text) (rows : List Row) → id ≢ name
     → first_of name (row id value ∷ rows) ≡ first_of name rows
 first_behind name id value rows apart = rw (other_text id name apart) refl
+
+-- what is found first among rows is what is found first among arguments, if it is so behind the first of them
+named_behind : (name other value : Text) (rows : List Row) (arguments : List Argument)
+    → first_of name rows ≡ value_of name arguments
+    → first_of name (row other value ∷ rows) ≡ value_of name (option other value ∷ arguments)
+named_behind name other value rows arguments behind = go (bytes_eq other name) refl
+  where
+    go : (b : Bool) → bytes_eq other name ≡ b
+        → first_of name (row other value ∷ rows) ≡ value_of name (option other value ∷ arguments)
+    go true is = rw is refl
+    go false is = rw is behind
+
+-- a name gives the value of the argument of that name
+pub told_named : (name : Text) (ids : List Text) (arguments : List Argument)
+    → first_of name (told ids arguments) ≡ value_of name (named ids arguments)
+told_named name ids [] = refl
+told_named name [] (positional text ∷ arguments) = told_named name [] arguments
+told_named name (id ∷ ids) (positional text ∷ arguments) =
+    named_behind name id text (told ids arguments) (named ids arguments) (told_named name ids arguments)
+told_named name ids (option other value ∷ arguments) =
+    named_behind name other value (told ids arguments) (named ids arguments) (told_named name ids arguments)
 
 -- a name of an option gives its value
 pub told_option : (name : Text) (ids : List Text) (arguments : List Argument) → All (λ id. id ≢ name) ids

@@ -1,26 +1,40 @@
 -- Words ask for one command at most, or have one fault at most, and never both.
-use Rattle.std.proofs.Common.{◌≡◌, ◌≢◌, ◌⊎◌, inl, inr, ◌==◌, cond, Option, List, [], ◌∷◌, Ok, Err, Result, refl, sym, ap}
-use Rattle.std.proofs.Common.{ap₂, ◌∙◌, subst}
+use Rattle.std.proofs.Common.{◌≡◌, ◌≢◌, ◌⊎◌, inl, inr, ◌==◌, cond, ℕ, suc, false, Option, Some, None, List, [], ◌∷◌, Ok, Err}
+use Rattle.std.proofs.Common.{Result, refl, sym, ap, ap₂, ◌∙◌, subst, codes, arith}
+use Rattle.std.specs.List.{All, Contains, list_any}
 use Rattle.std.specs.Result.{IfOk, IsOk}
+use Rattle.std.specs.Str.{bytes_eq}
 use Rattle.prefix_lattice.specs.{PrefixValue, SpellsPrefix, HasPrefixFault}
 use Rattle.prefix_lattice.specs.declared.prefix_fault.PrefixFault.{PrefixFault}
-use Rattle.command_words.specs.Arguments.{Text, Argument, SpellsAll, AreWellFormed}
+use Rattle.frame_records.specs.declared.weigh.Weigh.TheVariants.{Bytes}
+use Rattle.deal_rules.specs.declared.deal_kind.DealKind.TheVariants.{RoundRobin}
+use Rattle.command_words.specs.Arguments.{Text, Argument, positional, option, SpellsAll, AreOfForm, AreWellFormed}
+use Rattle.command_words.specs.Arguments.{names_in, value_of, named}
 use Rattle.command_words.specs.Forms.{word_of, form_of, AreWordsOf}
-use Rattle.command_words.specs.Settings.{Values, SetsSettings, values_in, store_in, IsWide}
+use Rattle.command_words.specs.OneValue.{SetsGiven}
+use Rattle.command_words.specs.Options.{Kind, number, name_of, kind_of, IsAllowed, IsGood, IsGoodText}
+use Rattle.command_words.specs.Options.{greatest_seed, greatest_frames}
+use Rattle.command_words.specs.Settings.{Values, SetsNumber, SetsWeigh, SetsDeal, SetsStore, SetsSettings}
+use Rattle.command_words.specs.Settings.{GivesNumber, GivesTraffic, values_in, store_in, IsWide}
 use Rattle.command_words.specs.Words.{AskFor, HasSides, HasGoodPositionals, HasValueFault, HasBadValue, HasWordsFault}
-use Rattle.command_words.specs.Words.{IsBounded}
+use Rattle.command_words.specs.Words.{AreGood, IsBounded}
 use Rattle.command_words.specs.declared.command.Command.{Command}
 use Rattle.command_words.specs.declared.command_word.CommandWord.{CommandWord}
-use Rattle.command_words.specs.declared.command_word.CommandWord.TheVariants.{Weigh, Report, Format, Audit}
+use Rattle.command_words.specs.declared.command_word.CommandWord.TheVariants.{Weigh, Report, Format, Audit, Make, Demo}
+use Rattle.command_words.specs.declared.opt.Opt.{Opt}
+use Rattle.command_words.specs.declared.opt.Opt.TheVariants as opt
 use Rattle.command_words.specs.declared.settings.Settings.{Settings}
+use Rattle.command_words.specs.declared.values.Given.{Given}
 use Rattle.command_words.specs.declared.words_kind.WordsKind.{WordsKind}
 use Rattle.command_words.specs.declared.words_kind.WordsKind.TheVariants.{NoCommand, UnknownCommand, Refused}
 use Rattle.command_words.specs.declared.words_kind.WordsKind.TheVariants.{BadPrefix, BadNumber, OutOfLimits}
 use Rattle.command_words.specs.declared.words_kind.WordsKind.TheVariants.{BadChoice, Bound}
 use Rattle.command_words.specs.declared.words_kind.WordsRefusal.{WordsRefusal}
 use Rattle.command_words.specs.declared.words_kind.WordsRefusal.TheVariants.{Bad, OutOfMemory}
+use Rattle.command_words.proofs.ElementLemmas.{not_among}
+use Rattle.command_words.proofs.MatchRowLemmas.{other_text}
 use Rattle.command_words.proofs.OneReadingLemmas.{same_head, same_rest, no_list, one_reading}
-use Rattle.command_words.proofs.OneValueFaultLemmas.{one_value_fault, no_value_fault, one_set}
+use Rattle.command_words.proofs.OneValueFaultLemmas.{one_value_fault, no_value_fault, given_are_good, one_given}
 use Rattle.command_words.specs.declared.command.Command.TheVariants as command
 
 -- what the texts of a prefix mean is told once
@@ -40,13 +54,16 @@ Outcome = Result Command WordsKind
 abbrev command_at : Text → CommandWord
 command_at [] = Report
 command_at (first ∷ rest) =
-    cond (first == 119) Weigh (cond (first == 102) Format (cond (first == 97) Audit Report))
+    cond (first == 119) Weigh (cond (first == 102) Format
+    (cond (first == 97) Audit (cond (first == 109) Make (cond (first == 100) Demo Report))))
 
 at_word : (word : CommandWord) → command_at (word_of word) ≡ word
 at_word Weigh = refl
 at_word Report = refl
 at_word Format = refl
 at_word Audit = refl
+at_word Make = refl
+at_word Demo = refl
 
 -- commands of one word are one command
 same_command : (word other : CommandWord) → word_of word ≡ word_of other → word ≡ other
@@ -63,43 +80,195 @@ one_words words word other arguments more one two =
           (subst (λ behind. SpellsAll behind more) (sym (same_rest _ _ _ _ same)) two.well_formed.spelled),
     )
 
--- what values and the path of a store come to: what they set, or the first fault of the values
-abbrev ValuesTell : Values → Option Text → Result Settings WordsKind → Type 0
-ValuesTell values path (Ok settings) = SetsSettings values path settings
+-- what values and the path of a store come to: what they give, or the first fault of the values
+abbrev ValuesTell : Values → Option Text → Result Given WordsKind → Type 0
+ValuesTell values path (Ok given) = SetsGiven values path given
 ValuesTell values path (Err kind) = HasValueFault values kind
 
 -- values come to one thing
-values_tell_once : (values : Values) (path : Option Text) (read other : Result Settings WordsKind)
+values_tell_once : (values : Values) (path : Option Text) (read other : Result Given WordsKind)
     → ValuesTell values path read → ValuesTell values path other → read ≡ other
-values_tell_once values path (Ok settings) (Ok other) one two = ap Ok (one_set values path settings other one two)
-values_tell_once values path (Ok settings) (Err kind) one two =
-    absurd (no_value_fault values path settings kind one two)
-values_tell_once values path (Err kind) (Ok settings) one two =
-    absurd (no_value_fault values path settings kind two one)
+values_tell_once values path (Ok given) (Ok other) one two = ap Ok (one_given values path given other one two)
+values_tell_once values path (Ok given) (Err kind) one two =
+    absurd (no_value_fault values kind (given_are_good values path given one) two)
+values_tell_once values path (Err kind) (Ok given) one two =
+    absurd (no_value_fault values kind (given_are_good values path given two) one)
 values_tell_once values path (Err kind) (Err other) one two = ap Err (one_value_fault values kind other one two)
 
--- what the options of arguments come to
-abbrev OptionsTell : List Argument → Result Settings WordsKind → Type 0
-OptionsTell arguments read = ValuesTell (values_in arguments) (store_in arguments) read
+-- what the values of a command's arguments come to
+abbrev ArgumentsGive : CommandWord → List Argument → Result Given WordsKind → Type 0
+ArgumentsGive word arguments read = ValuesTell (values_in word arguments) (store_in arguments) read
 
-options_tell_once : (arguments : List Argument) (read other : Result Settings WordsKind)
-    → OptionsTell arguments read → OptionsTell arguments other → read ≡ other
-options_tell_once arguments read other one two =
-    values_tell_once (values_in arguments) (store_in arguments) read other one two
+give_once : (word : CommandWord) (arguments : List Argument) (read other : Result Given WordsKind)
+    → ArgumentsGive word arguments read → ArgumentsGive word arguments other → read ≡ other
+give_once word arguments read other one two =
+    values_tell_once (values_in word arguments) (store_in arguments) read other one two
 
--- what `weigh` comes to, once its prefix is read
-abbrev weighing : PrefixValue → Result Settings WordsKind → Outcome
-weighing prefix (Ok settings) = Ok (command.Weigh prefix settings)
-weighing prefix (Err kind) = Err kind
+-- ---- what is missing
+
+-- an argument of another name in front gives nothing
+no_value_behind : (other value : Text) (arguments : List Argument) (name : Text) → other ≢ name
+    → value_of name arguments ≡ None → value_of name (option other value ∷ arguments) ≡ None
+no_value_behind other value arguments name apart behind = rw (other_text other name apart) behind
+
+-- an option that no argument gives has no value
+not_an_option : (arguments : List Argument) (name : Text) → (Contains (names_in arguments) name → ⊥)
+    → value_of name arguments ≡ None
+not_an_option [] name lacks = refl
+not_an_option (positional text ∷ arguments) name lacks = not_an_option arguments name lacks
+not_an_option (option other value ∷ arguments) name lacks =
+    no_value_behind other value arguments name (λ same. lacks (0, omega arith, same))
+    (not_an_option arguments name (λ has. lacks (suc has.0, omega (arith, has.1), has.2)))
+
+-- a name that neither a positional nor an option has gives nothing
+no_value : (names : List Text) (arguments : List Argument) (name : Text) → (Contains names name → ⊥)
+    → (Contains (names_in arguments) name → ⊥) → value_of name (named names arguments) ≡ None
+no_value names [] name apart lacks = refl
+no_value [] (positional text ∷ arguments) name apart lacks = no_value [] arguments name apart lacks
+no_value (first ∷ names) (positional text ∷ arguments) name apart lacks =
+    no_value_behind first text (named names arguments) name
+    (λ same. apart (0, omega arith, same))
+    (no_value names arguments name (λ has. apart (suc has.0, omega (arith, has.1), has.2)) lacks)
+no_value names (option other value ∷ arguments) name apart lacks =
+    no_value_behind other value (named names arguments) name
+    (λ same. lacks (0, omega arith, same))
+    (no_value names arguments name apart (λ has. lacks (suc has.0, omega (arith, has.1), has.2)))
+
+-- a name that a form lacks is none of its arguments' names
+none_known : (options names : List Text) (name : Text) → All (λ n. Contains options n) names
+    → (Contains options name → ⊥) → Contains names name → ⊥
+none_known options names name known lacks has =
+    lacks (subst (λ n. Contains options n) has.2 (known has.0 name has.1))
+
+-- what a command's form lacks is missing
+missing : (word : CommandWord) (arguments : List Argument) (at : Opt) → AreOfForm (form_of word) arguments
+    → list_any (λ other. bytes_eq other (name_of at)) (form_of word).positionals ≡ false
+    → list_any (λ other. bytes_eq other (name_of at)) (form_of word).options ≡ false
+    → values_in word arguments at ≡ None
+missing word arguments at of_form apart lacks =
+    no_value (form_of word).positionals arguments (name_of at)
+    (not_among (form_of word).positionals (name_of at) apart)
+    (none_known (form_of word).options (names_in arguments) (name_of at) of_form.known
+    (not_among (form_of word).options (name_of at) lacks))
+
+-- what is missing sets the default
+missing_sets : (at : Opt) (default : ℕ) (told : Option Text) → told ≡ None → SetsNumber at default told default
+missing_sets at default told none = subst (λ t. SetsNumber at default t default) (sym none) refl
+
+-- a command without made traffic
+record HasNoTraffic (word : CommandWord) : Type 0 where
+  no_seed : list_any (λ other. bytes_eq other (codes "SEED")) (form_of word).positionals ≡ false
+  no_frames : list_any (λ other. bytes_eq other (codes "FRAMES")) (form_of word).positionals ≡ false
+  seed_unknown : list_any (λ other. bytes_eq other (codes "SEED")) (form_of word).options ≡ false
+  frames_unknown : list_any (λ other. bytes_eq other (codes "FRAMES")) (form_of word).options ≡ false
+
+-- settings, and nothing else
+abbrev alone : Settings → Given
+alone settings = record { seed = 0; frames = 1; settings = settings }
+
+-- settings that are set are what the arguments of such a command give
+settings_given : (word : CommandWord) (arguments : List Argument) (settings : Settings) → HasNoTraffic word
+    → AreOfForm (form_of word) arguments
+    → SetsSettings (values_in word arguments) (store_in arguments) settings
+    → SetsGiven (values_in word arguments) (store_in arguments) (alone settings)
+settings_given word arguments settings lacks of_form set = record {
+  seed_set = missing_sets opt.Seed 0 _ (missing word arguments opt.Seed of_form lacks.no_seed lacks.seed_unknown);
+  frames_set =
+      missing_sets opt.Frames 1 _ (missing word arguments opt.Frames of_form lacks.no_frames lacks.frames_unknown);
+  settings_set = set;
+}
+
+-- the settings where nothing is set
+abbrev default_settings : Settings
+default_settings = record {
+  shards = 4;
+  capacity = 512;
+  phi = 10000;
+  block = 1024;
+  workers = 4;
+  callers = 0;
+  rounds = 0;
+  weigh = Bytes;
+  deal = RoundRobin;
+  store = false;
+}
+
+-- the arguments of `make` set nothing else
+make_sets : (arguments : List Argument) → AreOfForm (form_of Make) arguments
+    → SetsSettings (values_in Make arguments) (store_in arguments) default_settings
+make_sets arguments of_form = record {
+  weigh = subst (λ told. SetsWeigh told Bytes) (sym (no opt.Weigh refl)) refl;
+  shards = missing_sets opt.Shards 4 _ (no opt.Shards refl);
+  capacity = missing_sets opt.Capacity 512 _ (no opt.Capacity refl);
+  phi = missing_sets opt.Phi 10000 _ (no opt.Phi refl);
+  deal = subst (λ told. SetsDeal told RoundRobin) (sym (no opt.Deal refl)) refl;
+  block = missing_sets opt.Block 1024 _ (no opt.Block refl);
+  workers = missing_sets opt.Workers 4 _ (no opt.Workers refl);
+  callers = missing_sets opt.Callers 0 _ (no opt.Callers refl);
+  rounds = missing_sets opt.Rounds 0 _ (no opt.Rounds refl);
+  store = subst (λ path. SetsStore path false) (sym no_store) refl;
+}
+  where
+    no : (at : Opt) → list_any (λ other. bytes_eq other (name_of at)) (form_of Make).positionals ≡ false
+        → values_in Make arguments at ≡ None
+    no at apart = missing Make arguments at of_form apart refl
+
+    no_store : store_in arguments ≡ None
+    no_store =
+        not_an_option arguments (codes "store")
+        (none_known [] (names_in arguments) (codes "store") of_form.known (λ has. omega (arith, has.1)))
+
+-- a number that is given is set
+given_sets : (at : Opt) (default : ℕ) (told : Option Text) (value : ℕ) → GivesNumber at told value
+    → SetsNumber at default told value
+given_sets at default None value gives = absurd gives
+given_sets at default (Some text) value gives = gives
+
+-- traffic that is given, beside settings that are set
+traffic_given : (values : Values) (path : Option Text) (seed frames : ℕ) (settings : Settings)
+    → GivesTraffic values seed frames → SetsSettings values path settings
+    → SetsGiven values path (record { seed = seed; frames = frames; settings = settings })
+traffic_given values path seed frames settings gives set = record {
+  seed_set = given_sets opt.Seed 0 _ seed gives.seed_given;
+  frames_set = given_sets opt.Frames 1 _ frames gives.frames_given;
+  settings_set = set;
+}
+
+-- ---- the commands
+
+-- what a command comes to, once its values are read, if nothing else is tested
+abbrev asking : (Given → Command) → Result Given WordsKind → Outcome
+asking asked (Ok given) = Ok (asked given)
+asking asked (Err kind) = Err kind
+
+-- the command that is asked for by what is given
+abbrev asked_weigh : PrefixValue → Given → Command
+asked_weigh prefix given = command.Weigh prefix given.settings
+
+abbrev asked_report : Given → Command
+asked_report given = command.Report given.settings
+
+abbrev asked_format : Given → Command
+asked_format given = command.Format given.settings
+
+abbrev asked_audit : Given → Command
+asked_audit given = command.Audit given.settings
+
+abbrev asked_make : Given → Command
+asked_make given = command.Make given.seed given.frames
+
+abbrev asked_demo : Given → Command
+asked_demo given = command.Demo given.seed given.frames given.settings
 
 -- what the arguments of `weigh` come to
 data WeighTells (arguments : List Argument) (outcome : Outcome) : Type 0 where
   badly : (source dest : Text) (fault : PrefixFault) → HasSides arguments source dest
       → HasPrefixFault source dest fault → outcome ≡ Err (BadPrefix fault)
       → WeighTells arguments outcome
-  well : (source dest : Text) (prefix : PrefixValue) (read : Result Settings WordsKind)
+  well : (source dest : Text) (prefix : PrefixValue) (read : Result Given WordsKind)
       → HasSides arguments source dest → SpellsPrefix source dest prefix
-      → OptionsTell arguments read → outcome ≡ weighing prefix read → WeighTells arguments outcome
+      → ArgumentsGive Weigh arguments read → outcome ≡ asking (asked_weigh prefix) read
+      → WeighTells arguments outcome
 
 -- what is said of the two sides is said of the same two texts
 at_sides : (P : Text → Text → Type 0) (arguments : List Argument) (source dest other more : Text)
@@ -132,59 +301,60 @@ weigh_tells_once reading arguments outcome other (well source dest prefix read s
     let same =
     reading.one_prefix source dest prefix prefix' spelled
     (at_sides (λ s d. SpellsPrefix s d prefix') arguments source dest source' dest' sides sides' spelled') in
-    is ∙ ap₂ weighing same (options_tell_once arguments read read' told told') ∙ sym is'
+    is ∙ ap₂ (λ p r. asking (asked_weigh p) r) same (give_once Weigh arguments read read' told told') ∙ sym is'
 
 -- what a command whose share is bounded comes to, once its values are read
-abbrev BoundedComesTo : (Settings → Command) → Result Settings WordsKind → Outcome → Type 0
-BoundedComesTo asked (Ok settings) outcome =
-    (IsWide settings × (outcome ≡ Ok (asked settings))) ⊎ ((IsWide settings → ⊥) × (outcome ≡ Err Bound))
+abbrev BoundedComesTo : (Given → Command) → Result Given WordsKind → Outcome → Type 0
+BoundedComesTo asked (Ok given) outcome =
+    (IsWide given.settings × (outcome ≡ Ok (asked given)))
+    ⊎ ((IsWide given.settings → ⊥) × (outcome ≡ Err Bound))
 BoundedComesTo asked (Err kind) outcome = outcome ≡ Err kind
 
-bounded_comes_to_one : (asked : Settings → Command) (read : Result Settings WordsKind) (outcome other : Outcome)
+bounded_comes_to_one : (asked : Given → Command) (read : Result Given WordsKind) (outcome other : Outcome)
     → BoundedComesTo asked read outcome → BoundedComesTo asked read other → outcome ≡ other
-bounded_comes_to_one asked (Ok settings) outcome other (inl one) (inl two) = one.1 ∙ sym two.1
-bounded_comes_to_one asked (Ok settings) outcome other (inl one) (inr two) = absurd (two.0 one.0)
-bounded_comes_to_one asked (Ok settings) outcome other (inr one) (inl two) = absurd (one.0 two.0)
-bounded_comes_to_one asked (Ok settings) outcome other (inr one) (inr two) = one.1 ∙ sym two.1
+bounded_comes_to_one asked (Ok given) outcome other (inl one) (inl two) = one.1 ∙ sym two.1
+bounded_comes_to_one asked (Ok given) outcome other (inl one) (inr two) = absurd (two.0 one.0)
+bounded_comes_to_one asked (Ok given) outcome other (inr one) (inl two) = absurd (one.0 two.0)
+bounded_comes_to_one asked (Ok given) outcome other (inr one) (inr two) = one.1 ∙ sym two.1
 bounded_comes_to_one asked (Err kind) outcome other one two = one ∙ sym two
 
--- what the arguments of a command whose share is bounded come to
-record BoundedTells (asked : Settings → Command) (arguments : List Argument) (outcome : Outcome) : Type 0 where
-  read : Result Settings WordsKind
-  told : OptionsTell arguments read
+-- what the arguments of a command come to, if its share is bounded
+record BoundedTells (word : CommandWord) (asked : Given → Command) (arguments : List Argument) (outcome : Outcome)
+    : Type 0 where
+  read : Result Given WordsKind
+  told : ArgumentsGive word arguments read
   comes_to : BoundedComesTo asked read outcome
 
--- the arguments of a command whose share is bounded come to one thing
-bounded_tells_once : (asked : Settings → Command) (arguments : List Argument) (outcome other : Outcome)
-    → BoundedTells asked arguments outcome → BoundedTells asked arguments other → outcome ≡ other
-bounded_tells_once asked arguments outcome other one two =
+bounded_tells_once : (word : CommandWord) (asked : Given → Command) (arguments : List Argument)
+    (outcome other : Outcome) → BoundedTells word asked arguments outcome
+    → BoundedTells word asked arguments other → outcome ≡ other
+bounded_tells_once word asked arguments outcome other one two =
     bounded_comes_to_one asked one.read outcome other one.comes_to
     (subst (λ read. BoundedComesTo asked read other)
-    (sym (options_tell_once arguments one.read two.read one.told two.told)) two.comes_to)
+    (sym (give_once word arguments one.read two.read one.told two.told)) two.comes_to)
 
--- what `format` comes to, once its values are read
-abbrev formatting : Result Settings WordsKind → Outcome
-formatting (Ok settings) = Ok (command.Format settings)
-formatting (Err kind) = Err kind
+-- what the arguments of a command come to, if nothing but its values is tested
+record FreelyTells (word : CommandWord) (asked : Given → Command) (arguments : List Argument) (outcome : Outcome)
+    : Type 0 where
+  read : Result Given WordsKind
+  told : ArgumentsGive word arguments read
+  comes_to : outcome ≡ asking asked read
 
--- what the arguments of `format` come to
-record FormatTells (arguments : List Argument) (outcome : Outcome) : Type 0 where
-  read : Result Settings WordsKind
-  told : OptionsTell arguments read
-  comes_to : outcome ≡ formatting read
-
--- the arguments of `format` come to one thing
-format_tells_once : (arguments : List Argument) (outcome other : Outcome) → FormatTells arguments outcome
-    → FormatTells arguments other → outcome ≡ other
-format_tells_once arguments outcome other one two =
-    one.comes_to ∙ ap formatting (options_tell_once arguments one.read two.read one.told two.told) ∙ sym two.comes_to
+freely_tells_once : (word : CommandWord) (asked : Given → Command) (arguments : List Argument)
+    (outcome other : Outcome) → FreelyTells word asked arguments outcome
+    → FreelyTells word asked arguments other → outcome ≡ other
+freely_tells_once word asked arguments outcome other one two =
+    one.comes_to ∙ ap (asking asked) (give_once word arguments one.read two.read one.told two.told)
+    ∙ sym two.comes_to
 
 -- what the arguments of a command come to
 abbrev ArgumentsTell : CommandWord → List Argument → Outcome → Type 0
 ArgumentsTell Weigh arguments outcome = WeighTells arguments outcome
-ArgumentsTell Report arguments outcome = BoundedTells command.Report arguments outcome
-ArgumentsTell Format arguments outcome = FormatTells arguments outcome
-ArgumentsTell Audit arguments outcome = BoundedTells command.Audit arguments outcome
+ArgumentsTell Report arguments outcome = BoundedTells Report asked_report arguments outcome
+ArgumentsTell Format arguments outcome = FreelyTells Format asked_format arguments outcome
+ArgumentsTell Audit arguments outcome = BoundedTells Audit asked_audit arguments outcome
+ArgumentsTell Make arguments outcome = FreelyTells Make asked_make arguments outcome
+ArgumentsTell Demo arguments outcome = BoundedTells Demo asked_demo arguments outcome
 
 arguments_tell_once : HasOneReading → (word : CommandWord) (arguments : List Argument) (outcome other : Outcome)
     → ArgumentsTell word arguments outcome → ArgumentsTell word arguments other
@@ -192,10 +362,15 @@ arguments_tell_once : HasOneReading → (word : CommandWord) (arguments : List A
 arguments_tell_once reading Weigh arguments outcome other one two =
     weigh_tells_once reading arguments outcome other one two
 arguments_tell_once reading Report arguments outcome other one two =
-    bounded_tells_once command.Report arguments outcome other one two
-arguments_tell_once reading Format arguments outcome other one two = format_tells_once arguments outcome other one two
+    bounded_tells_once Report asked_report arguments outcome other one two
+arguments_tell_once reading Format arguments outcome other one two =
+    freely_tells_once Format asked_format arguments outcome other one two
 arguments_tell_once reading Audit arguments outcome other one two =
-    bounded_tells_once command.Audit arguments outcome other one two
+    bounded_tells_once Audit asked_audit arguments outcome other one two
+arguments_tell_once reading Make arguments outcome other one two =
+    freely_tells_once Make asked_make arguments outcome other one two
+arguments_tell_once reading Demo arguments outcome other one two =
+    bounded_tells_once Demo asked_demo arguments outcome other one two
 
 -- what words come to, by the first thing that settles it
 data Story (words : List Text) (outcome : Outcome) : Type 0 where
@@ -275,40 +450,119 @@ one_story reading words outcome other (told word arguments are_words tell) (told
 asked_story : (words : List Text) (asked : Command) → AskFor words asked → Story words (Ok asked)
 asked_story words (command.Weigh prefix settings) asks =
     told Weigh asks.arguments asks.are_words
-    (well asks.source asks.dest prefix (Ok settings) asks.sides asks.spelled asks.set refl)
+    (well asks.source asks.dest prefix (Ok (alone settings)) asks.sides asks.spelled
+    (settings_given Weigh asks.arguments settings
+    (record { no_seed = refl; no_frames = refl; seed_unknown = refl; frames_unknown = refl })
+    asks.are_words.well_formed.of_form asks.set) refl)
 asked_story words (command.Report settings) asks =
-    told Report asks.arguments asks.are_words record
-    { read = Ok settings; told = asks.set; comes_to = inl (asks.wide, refl) }
+    told Report asks.arguments asks.are_words record {
+      read = Ok (alone settings);
+      told =
+          settings_given Report asks.arguments settings
+          (record { no_seed = refl; no_frames = refl; seed_unknown = refl; frames_unknown = refl })
+          asks.are_words.well_formed.of_form asks.set;
+      comes_to = inl (asks.wide, refl);
+    }
 asked_story words (command.Format settings) asks =
-    told Format asks.arguments asks.are_words record { read = Ok settings; told = asks.set; comes_to = refl }
+    told Format asks.arguments asks.are_words record {
+      read = Ok (alone settings);
+      told =
+          settings_given Format asks.arguments settings
+          (record { no_seed = refl; no_frames = refl; seed_unknown = refl; frames_unknown = refl })
+          asks.are_words.well_formed.of_form asks.set;
+      comes_to = refl;
+    }
 asked_story words (command.Audit settings) asks =
-    told Audit asks.arguments asks.are_words record
-    { read = Ok settings; told = asks.set; comes_to = inl (asks.wide, refl) }
+    told Audit asks.arguments asks.are_words record {
+      read = Ok (alone settings);
+      told =
+          settings_given Audit asks.arguments settings
+          (record { no_seed = refl; no_frames = refl; seed_unknown = refl; frames_unknown = refl })
+          asks.are_words.well_formed.of_form asks.set;
+      comes_to = inl (asks.wide, refl);
+    }
+asked_story words (command.Make seed frames) asks =
+    told Make asks.arguments asks.are_words record {
+      read = Ok (record { seed = seed; frames = frames; settings = default_settings });
+      told =
+          traffic_given (values_in Make asks.arguments) (store_in asks.arguments) seed frames default_settings
+          asks.made (make_sets asks.arguments asks.are_words.well_formed.of_form);
+      comes_to = refl;
+    }
+asked_story words (command.Demo seed frames settings) asks =
+    told Demo asks.arguments asks.are_words record {
+      read = Ok (record { seed = seed; frames = frames; settings = settings });
+      told =
+          traffic_given (values_in Demo asks.arguments) (store_in asks.arguments) seed frames settings asks.made
+          asks.set;
+      comes_to = inl (asks.wide, refl);
+    }
 
 -- a bad value is what arguments come to
 bad_value_tells : (word : CommandWord) (arguments : List Argument) (kind : WordsKind)
-    → HasGoodPositionals word arguments → HasValueFault (values_in arguments) kind
+    → HasGoodPositionals word arguments → HasValueFault (values_in word arguments) kind
     → ArgumentsTell word arguments (Err kind)
 bad_value_tells Weigh arguments kind good has = well good.0 good.1 good.3.0 (Err kind) good.2 good.3.1 has refl
 bad_value_tells Report arguments kind good has = record { read = Err kind; told = has; comes_to = refl }
 bad_value_tells Format arguments kind good has = record { read = Err kind; told = has; comes_to = refl }
 bad_value_tells Audit arguments kind good has = record { read = Err kind; told = has; comes_to = refl }
+bad_value_tells Make arguments kind good has = record { read = Err kind; told = has; comes_to = refl }
+bad_value_tells Demo arguments kind good has = record { read = Err kind; told = has; comes_to = refl }
 
 bad_value_story : (words : List Text) (kind : WordsKind) → HasBadValue words kind → Story words (Err kind)
 bad_value_story words kind has =
     told has.command has.arguments has.are_words
     (bad_value_tells has.command has.arguments kind has.positionals has.has_fault)
 
+-- a good number sets something
+good_sets : (at : Opt) (least greatest default : ℕ) (told : Option Text) → kind_of at ≡ number least greatest
+    → IsGood at told → (value : ℕ) × SetsNumber at default told value
+good_sets at least greatest default None kind good = (default, refl)
+good_sets at least greatest default (Some text) kind good =
+    let within = subst (λ (k : Kind). IsGoodText k text) kind good in
+    (within.0, (within.1, subst (λ (k : Kind). IsAllowed k within.0) (sym kind) within.2))
+
+-- values that are good give something, if they set settings
+record GivesSettings (values : Values) (path : Option Text) (settings : Settings) : Type 0 where
+  given : Given
+  same : given.settings ≡ settings
+  gives : SetsGiven values path given
+
+good_gives : (values : Values) (path : Option Text) (settings : Settings) → AreGood values
+    → SetsSettings values path settings → GivesSettings values path settings
+good_gives values path settings good set =
+    let seed = good_sets opt.Seed 0 greatest_seed 0 (values opt.Seed) refl (good opt.Seed) in
+    let frames = good_sets opt.Frames 1 greatest_frames 1 (values opt.Frames) refl (good opt.Frames) in
+    record {
+      given = record { seed = seed.0; frames = frames.0; settings = settings };
+      same = refl;
+      gives = record { seed_set = seed.1; frames_set = frames.1; settings_set = set };
+    }
+
 -- tables that are too small for the share are what the arguments of a bounded command come to
+too_narrow : (word : CommandWord) (asked : Given → Command) (arguments : List Argument) (settings : Settings)
+    → AreGood (values_in word arguments) → SetsSettings (values_in word arguments) (store_in arguments) settings
+    → (IsWide settings → ⊥) → BoundedTells word asked arguments (Err Bound)
+too_narrow word asked arguments settings good set narrow =
+    let gives = good_gives (values_in word arguments) (store_in arguments) settings good set in
+    record {
+      read = Ok gives.given;
+      told = gives.gives;
+      comes_to = inr (subst (λ s. IsWide s → ⊥) (sym gives.same) narrow, refl);
+    }
+
 narrow_tells : (word : CommandWord) (arguments : List Argument) (settings : Settings) → IsBounded word
-    → SetsSettings (values_in arguments) (store_in arguments) settings → (IsWide settings → ⊥)
-    → ArgumentsTell word arguments (Err Bound)
-narrow_tells Weigh arguments settings bounded set narrow = absurd bounded
-narrow_tells Report arguments settings bounded set narrow =
-    record { read = Ok settings; told = set; comes_to = inr (narrow, refl) }
-narrow_tells Format arguments settings bounded set narrow = absurd bounded
-narrow_tells Audit arguments settings bounded set narrow =
-    record { read = Ok settings; told = set; comes_to = inr (narrow, refl) }
+    → AreGood (values_in word arguments) → SetsSettings (values_in word arguments) (store_in arguments) settings
+    → (IsWide settings → ⊥) → ArgumentsTell word arguments (Err Bound)
+narrow_tells Weigh arguments settings bounded good set narrow = absurd bounded
+narrow_tells Report arguments settings bounded good set narrow =
+    too_narrow Report asked_report arguments settings good set narrow
+narrow_tells Format arguments settings bounded good set narrow = absurd bounded
+narrow_tells Audit arguments settings bounded good set narrow =
+    too_narrow Audit asked_audit arguments settings good set narrow
+narrow_tells Make arguments settings bounded good set narrow = absurd bounded
+narrow_tells Demo arguments settings bounded good set narrow =
+    too_narrow Demo asked_demo arguments settings good set narrow
 
 -- the fault of words is what they come to
 fault_story : (words : List Text) (kind : WordsKind) → HasWordsFault words kind → Story words (Err kind)
@@ -322,7 +576,7 @@ fault_story words (OutOfLimits opt) has = bad_value_story words (OutOfLimits opt
 fault_story words (BadChoice opt) has = bad_value_story words (BadChoice opt) has
 fault_story words Bound has =
     told has.command has.arguments has.are_words
-    (narrow_tells has.command has.arguments has.settings has.bounded has.set has.narrow)
+    (narrow_tells has.command has.arguments has.settings has.bounded has.good has.set has.narrow)
 
 -- words ask for one command at most
 pub one_command : HasOneReading → (words : List Text) (asked other : Command) → AskFor words asked

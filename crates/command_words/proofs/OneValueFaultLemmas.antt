@@ -9,9 +9,11 @@ use Rattle.command_words.specs.Options.{Kind, number, choice, kind_of, place_of,
 use Rattle.command_words.specs.Options.{IsNoNumber, IsNoChoice, IsOutside}
 use Rattle.command_words.specs.Settings.{Values, SetsNumber, SetsWeigh, SetsDeal, SetsStore, SetsSettings}
 use Rattle.command_words.specs.Settings.{weigh_word, deal_word}
-use Rattle.command_words.specs.Words.{IsFirstBad, HasValueFault}
+use Rattle.command_words.specs.Words.{AreGood, IsFirstBad, HasValueFault}
+use Rattle.command_words.specs.OneValue.{SetsGiven}
 use Rattle.command_words.specs.declared.opt.Opt.{Opt}
 use Rattle.command_words.specs.declared.settings.Settings.{Settings}
+use Rattle.command_words.specs.declared.values.Given.{Given}
 use Rattle.command_words.specs.declared.words_kind.WordsKind.{WordsKind}
 use Rattle.command_words.specs.declared.words_kind.WordsKind.TheVariants.{BadNumber, OutOfLimits, BadChoice}
 use Rattle.command_words.proofs.ValueLemmas.{same_opt, number_is_good, weigh_is_good, deal_is_good}
@@ -137,35 +139,33 @@ one_value_fault values (BadChoice at) (BadChoice place) one two =
 one_value_fault values (BadChoice at) _ one two = absurd two
 one_value_fault values _ other one two = absurd one
 
--- values that set something are all good
-set_is_good : (values : Values) (path : Option Text) (settings : Settings) → SetsSettings values path settings → (at : Opt)
-    → IsGood at (values at)
-set_is_good values path settings set opt.Weigh = weigh_is_good (values opt.Weigh) settings.weigh set.weigh
-set_is_good values path settings set opt.Shards = number_is_good opt.Shards 4 (values opt.Shards) settings.shards set.shards
-set_is_good values path settings set opt.Capacity =
-    number_is_good opt.Capacity 512 (values opt.Capacity) settings.capacity set.capacity
-set_is_good values path settings set opt.Phi = number_is_good opt.Phi 10000 (values opt.Phi) settings.phi set.phi
-set_is_good values path settings set opt.Deal = deal_is_good (values opt.Deal) settings.deal set.deal
-set_is_good values path settings set opt.Block =
-    number_is_good opt.Block 1024 (values opt.Block) settings.block set.block
-set_is_good values path settings set opt.Workers =
-    number_is_good opt.Workers 4 (values opt.Workers) settings.workers set.workers
-set_is_good values path settings set opt.Callers =
-    number_is_good opt.Callers 0 (values opt.Callers) settings.callers set.callers
-set_is_good values path settings set opt.Rounds =
-    number_is_good opt.Rounds 0 (values opt.Rounds) settings.rounds set.rounds
+-- values that give something are all good
+pub given_are_good : (values : Values) (path : Option Text) (given : Given) → SetsGiven values path given
+    → AreGood values
+given_are_good values path given gives = go gives.settings_set
+  where
+    settings : Settings
+    settings = given.settings
 
--- values that set something have no fault
-pub no_value_fault : (values : Values) (path : Option Text) (settings : Settings) (kind : WordsKind)
-    → SetsSettings values path settings
-    → HasValueFault values kind → ⊥
-no_value_fault values path settings (BadNumber at) set has =
-    bad_is_no_good IsNoNumber values at no_number_is_bad has (set_is_good values path settings set at)
-no_value_fault values path settings (OutOfLimits at) set has =
-    bad_is_no_good IsOutside values at outside_is_bad has (set_is_good values path settings set at)
-no_value_fault values path settings (BadChoice at) set has =
-    bad_is_no_good IsNoChoice values at no_choice_is_bad has (set_is_good values path settings set at)
-no_value_fault values path settings _ set has = has
+    go : SetsSettings values path settings → AreGood values
+    go set opt.Seed = number_is_good opt.Seed 0 (values opt.Seed) given.seed gives.seed_set
+    go set opt.Frames = number_is_good opt.Frames 1 (values opt.Frames) given.frames gives.frames_set
+    go set opt.Weigh = weigh_is_good (values opt.Weigh) settings.weigh set.weigh
+    go set opt.Shards = number_is_good opt.Shards 4 (values opt.Shards) settings.shards set.shards
+    go set opt.Capacity = number_is_good opt.Capacity 512 (values opt.Capacity) settings.capacity set.capacity
+    go set opt.Phi = number_is_good opt.Phi 10000 (values opt.Phi) settings.phi set.phi
+    go set opt.Deal = deal_is_good (values opt.Deal) settings.deal set.deal
+    go set opt.Block = number_is_good opt.Block 1024 (values opt.Block) settings.block set.block
+    go set opt.Workers = number_is_good opt.Workers 4 (values opt.Workers) settings.workers set.workers
+    go set opt.Callers = number_is_good opt.Callers 0 (values opt.Callers) settings.callers set.callers
+    go set opt.Rounds = number_is_good opt.Rounds 0 (values opt.Rounds) settings.rounds set.rounds
+
+-- values that are all good have no fault
+pub no_value_fault : (values : Values) (kind : WordsKind) → AreGood values → HasValueFault values kind → ⊥
+no_value_fault values (BadNumber at) good has = bad_is_no_good IsNoNumber values at no_number_is_bad has (good at)
+no_value_fault values (OutOfLimits at) good has = bad_is_no_good IsOutside values at outside_is_bad has (good at)
+no_value_fault values (BadChoice at) good has = bad_is_no_good IsNoChoice values at no_choice_is_bad has (good at)
+no_value_fault values _ good has = has
 
 -- a value sets one number at most
 one_set_number : (at : Opt) (default : ℕ) (told : Option Text) (value other : ℕ) → SetsNumber at default told value
@@ -216,4 +216,15 @@ one_set values path settings other one two =
       weigh = one_set_weigh (values opt.Weigh) settings.weigh other.weigh one.weigh two.weigh i;
       deal = one_set_deal (values opt.Deal) settings.deal other.deal one.deal two.deal i;
       store = one_set_store path settings.store other.store one.store two.store i;
+    }
+
+-- values give one thing at most
+pub one_given : (values : Values) (path : Option Text) (given other : Given) → SetsGiven values path given
+    → SetsGiven values path other → given ≡ other
+one_given values path given other one two =
+    λ i. record {
+      seed = one_set_number opt.Seed 0 (values opt.Seed) given.seed other.seed one.seed_set two.seed_set i;
+      frames =
+          one_set_number opt.Frames 1 (values opt.Frames) given.frames other.frames one.frames_set two.frames_set i;
+      settings = one_set values path given.settings other.settings one.settings_set two.settings_set i;
     }

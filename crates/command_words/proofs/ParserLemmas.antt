@@ -21,10 +21,10 @@ use Rattle.command_words.specs.Forms.{form_of, word_of}
 use Rattle.command_words.specs.Matches.{AreMatchesOf}
 use Rattle.command_words.specs.Parser.{parser_for}
 use Rattle.command_words.specs.declared.command_word.CommandWord.{CommandWord}
-use Rattle.command_words.specs.declared.command_word.CommandWord.TheVariants.{Weigh, Report, Format, Audit}
+use Rattle.command_words.specs.declared.command_word.CommandWord.TheVariants.{Weigh, Report, Format, Audit, Make, Demo}
 use Rattle.command_words.proofs.ParserNameLemmas.{AreNoOptions, IsNoOption, Places, fit}
 use Rattle.command_words.proofs.OneReadingLemmas.{no_list}
-use Rattle.command_words.proofs.MatchRowLemmas.{at_place, same_text, told, told_option, told_positional}
+use Rattle.command_words.proofs.MatchRowLemmas.{at_place, same_text, told, told_named, told_option, told_positional}
 use Rattle.command_words.proofs.ParserWalkLemmas.{Knows, Reaches, built_option, last_position, reaches_all, standing}
 
 -- ---- after the walk
@@ -82,6 +82,8 @@ optional Weigh = record { empty = refl; passes = refl; valid = λ rows. refl }
 optional Report = record { empty = refl; passes = refl; valid = λ rows. refl }
 optional Format = record { empty = refl; passes = refl; valid = λ rows. refl }
 optional Audit = record { empty = refl; passes = refl; valid = λ rows. refl }
+optional Make = record { empty = refl; passes = refl; valid = λ rows. refl }
+optional Demo = record { empty = refl; passes = refl; valid = λ rows. refl }
 
 -- two texts that differ in a byte
 apart_by : (text other : Text) → bytes_eq text other ≡ false → text ≢ other
@@ -135,12 +137,21 @@ each_known Audit =
         (k _ _ refl refl, (k _ _ refl refl, (k _ _ refl refl, (k _ _ refl refl, (k _ _ refl refl, tt))))),
       ),
     )
+each_known Make = All-nil (Knows (shape Make))
+each_known Demo =
+    let k = known_by (shape Demo) in
+    All-from_recursion (Knows (shape Demo)) (form_of Demo).options (
+      k _ _ refl refl,
+      (k _ _ refl refl, (k _ _ refl refl, (k _ _ refl refl, (k _ _ refl refl, (k _ _ refl refl, tt))))),
+    )
 
 places : (command : CommandWord) → Places (shape command) 1 (form_of command).positionals
 places Weigh = (record { placed = refl; known = refl }, (record { placed = refl; known = refl }, tt))
 places Report = tt
 places Format = tt
 places Audit = tt
+places Make = (record { placed = refl; known = refl }, (record { placed = refl; known = refl }, tt))
+places Demo = (record { placed = refl; known = refl }, (record { placed = refl; known = refl }, tt))
 
 -- a positional of `weigh` is none of its options
 no_option : (id : Text) → bytes_eq id (codes "capture") ≡ false → bytes_eq id (codes "weigh") ≡ false
@@ -150,6 +161,21 @@ no_option id capture weigh name within =
     (All-from_recursion (λ other. id ≢ other) (form_of Weigh).options
     (apart_by id _ capture, (apart_by id _ weigh, tt))) within
 
+-- nor is a positional of `demo` one of its
+no_option_of_demo : (id : Text) → bytes_eq id (codes "shards") ≡ false → bytes_eq id (codes "capacity") ≡ false
+    → bytes_eq id (codes "phi") ≡ false → bytes_eq id (codes "deal") ≡ false
+    → bytes_eq id (codes "block") ≡ false → bytes_eq id (codes "workers") ≡ false
+    → IsNoOption (form_of Demo).options id
+no_option_of_demo id shards capacity phi deal block workers name within =
+    each_contained (λ other. id ≢ other) (form_of Demo).options name
+    (All-from_recursion (λ other. id ≢ other) (form_of Demo).options (
+      apart_by id _ shards,
+      (
+        apart_by id _ capacity,
+        (apart_by id _ phi, (apart_by id _ deal, (apart_by id _ block, (apart_by id _ workers, tt)))),
+      ),
+    )) within
+
 no_options : (command : CommandWord) → AreNoOptions (form_of command).options (form_of command).positionals
 no_options Weigh =
     All-from_recursion (IsNoOption (form_of Weigh).options) (form_of Weigh).positionals
@@ -157,18 +183,33 @@ no_options Weigh =
 no_options Report = All-nil (IsNoOption (form_of Report).options)
 no_options Format = All-nil (IsNoOption (form_of Format).options)
 no_options Audit = All-nil (IsNoOption (form_of Audit).options)
+no_options Make =
+    All-from_recursion (IsNoOption []) (form_of Make).positionals (
+      λ name within. omega (arith, within.1),
+      (λ name within. omega (arith, within.1), tt),
+    )
+no_options Demo =
+    All-from_recursion (IsNoOption (form_of Demo).options) (form_of Demo).positionals (
+      no_option_of_demo _ refl refl refl refl refl refl,
+      (no_option_of_demo _ refl refl refl refl refl refl, tt),
+    )
 
 none_apart : AllPairs {X = Text} (λ a b. a ≢ b) []
 none_apart = λ earlier later default before within. absurd (omega arith)
 
+two_apart : (one two : Text) → bytes_eq one two ≡ false → AllPairs (λ a b. a ≢ b) (one ∷ two ∷ [])
+two_apart one two differ = AllPairs-cons (λ a b. a ≢ b) one (two ∷ [])
+    (All-from_recursion (λ b. one ≢ b) (two ∷ []) (apart_by one two differ, tt))
+    (AllPairs-cons (λ a b. a ≢ b) two [] (All-nil (λ b. two ≢ b)) none_apart)
+
 -- the positionals of a command have names of their own
 are_apart : (command : CommandWord) → AllPairs (λ a b. a ≢ b) (form_of command).positionals
-are_apart Weigh = AllPairs-cons (λ a b. a ≢ b) (codes "SRC") (codes "DST" ∷ [])
-    (All-from_recursion (λ b. codes "SRC" ≢ b) (codes "DST" ∷ []) (apart_by _ _ refl, tt))
-    (AllPairs-cons (λ a b. a ≢ b) (codes "DST") [] (All-nil (λ b. codes "DST" ≢ b)) none_apart)
+are_apart Weigh = two_apart (codes "SRC") (codes "DST") refl
 are_apart Report = none_apart
 are_apart Format = none_apart
 are_apart Audit = none_apart
+are_apart Make = two_apart (codes "SEED") (codes "FRAMES") refl
+are_apart Demo = two_apart (codes "SEED") (codes "FRAMES") refl
 
 -- well-formed words bring the walk to the rows of their arguments
 module _ (command : CommandWord) (words : List Text) (arguments : List Argument)
@@ -205,6 +246,14 @@ well_formed_taken Audit words arguments well_formed =
     let reached = form_reached Audit words arguments well_formed in
     rw (never_stopped (shape Audit) (optional Audit) words _ _ reached)
     (level_reached (shape Audit) (optional Audit) words _ _ reached)
+well_formed_taken Make words arguments well_formed =
+    let reached = form_reached Make words arguments well_formed in
+    rw (never_stopped (shape Make) (optional Make) words _ _ reached)
+    (level_reached (shape Make) (optional Make) words _ _ reached)
+well_formed_taken Demo words arguments well_formed =
+    let reached = form_reached Demo words arguments well_formed in
+    rw (never_stopped (shape Demo) (optional Demo) words _ _ reached)
+    (level_reached (shape Demo) (optional Demo) words _ _ reached)
 
 -- and finds the rows of their arguments
 pub well_formed_found : (command : CommandWord) (words : List Text) (arguments : List Argument)
@@ -218,6 +267,10 @@ well_formed_found Format words arguments well_formed =
     rows_reached (shape Format) (optional Format) words _ _ (form_reached Format words arguments well_formed)
 well_formed_found Audit words arguments well_formed =
     rows_reached (shape Audit) (optional Audit) words _ _ (form_reached Audit words arguments well_formed)
+well_formed_found Make words arguments well_formed =
+    rows_reached (shape Make) (optional Make) words _ _ (form_reached Make words arguments well_formed)
+well_formed_found Demo words arguments well_formed =
+    rows_reached (shape Demo) (optional Demo) words _ _ (form_reached Demo words arguments well_formed)
 
 -- the parser is one of which `clap` says what it finds
 pub simple_parser : (command : CommandWord) → is_simple (parser command) ≡ true
@@ -225,6 +278,8 @@ simple_parser Weigh = refl
 simple_parser Report = refl
 simple_parser Format = refl
 simple_parser Audit = refl
+simple_parser Make = refl
+simple_parser Demo = refl
 
 -- ---- what the matches tell
 
@@ -246,4 +301,6 @@ rows_tell command arguments matches of_form rows = record {
       (λ k default within same.
       at_place (IsNoOption (form_of command).options) place name (form_of command).positionals at
       (no_options command) _ (of_form.known k default within) (sym same));
+  by_name = λ name. first_value-rows (found_of matches) name ∙ ap (first_of name) rows
+      ∙ told_named name (form_of command).positionals arguments;
 }

@@ -71,6 +71,13 @@ value_of name [] = None
 value_of name (positional text ∷ arguments) = value_of name arguments
 value_of name (option other value ∷ arguments) = if bytes_eq other name then Some value else value_of name arguments
 
+-- the arguments with each positional as an option, whose name stands in its place among these names
+abbrev pub named : List Text → List Argument → List Argument
+named names [] = []
+named [] (positional text ∷ arguments) = named [] arguments
+named (name ∷ names) (positional text ∷ arguments) = option name text ∷ named names arguments
+named names (option name value ∷ arguments) = option name value ∷ named names arguments
+
 -- what a command takes: the names of its positionals, the names of its options, and which options are required
 pub record Form : Type 0 where
   pub positionals : List Text

@@ -2,7 +2,7 @@
 use Rattle.std.specs.Prelude.{◌≡◌, List, [], ◌∷◌, codes}
 use Rattle.command_words.specs.Arguments.{Text, Argument, Form, AreWellFormed}
 use Rattle.command_words.specs.declared.command_word.CommandWord.{CommandWord}
-use Rattle.command_words.specs.declared.command_word.CommandWord.TheVariants.{Weigh, Report, Format, Audit}
+use Rattle.command_words.specs.declared.command_word.CommandWord.TheVariants.{Weigh, Report, Format, Audit, Make, Demo}
 
 -- the name of a command, which is the first word of the command line
 abbrev pub word_of : CommandWord → Text
@@ -10,6 +10,8 @@ word_of Weigh = codes "weigh"
 word_of Report = codes "report"
 word_of Format = codes "format"
 word_of Audit = codes "audit"
+word_of Make = codes "make"
+word_of Demo = codes "demo"
 
 -- the positionals and options that each command takes
 abbrev pub form_of : CommandWord → Form
@@ -36,6 +38,13 @@ form_of Audit = record {
       codes "capture" ∷ codes "weigh" ∷ codes "shards" ∷ codes "capacity" ∷ codes "phi" ∷ codes "deal"
       ∷ codes "report" ∷ [];
   required = codes "report" ∷ [];
+}
+form_of Make = record { positionals = codes "SEED" ∷ codes "FRAMES" ∷ []; options = []; required = [] }
+form_of Demo = record {
+  positionals = codes "SEED" ∷ codes "FRAMES" ∷ [];
+  options =
+      codes "shards" ∷ codes "capacity" ∷ codes "phi" ∷ codes "deal" ∷ codes "block" ∷ codes "workers" ∷ [];
+  required = [];
 }
 
 -- the words are a command's name followed by well-formed words that spell these arguments

@@ -10,5 +10,5 @@ pub mod OneValue
 pub mod Matches
 pub mod Parser
 -- the face: what contracts of other crates cite
-pub use Rattle.command_words.specs.Settings.{AreLimited, IsWide}
+pub use Rattle.command_words.specs.Settings.{AreLimited, CanBeMade, IsWide}
 pub use Rattle.command_words.specs.Words.{AskFor, HasWordsFault, IsLimited, texts}

@@ -2,7 +2,7 @@
 use Rattle.std.specs.Prelude.{ℕ, ◌≡◌, List, codes, Contains, Option, slice_get, Some}
 use Rattle.clap.specs.Words.{found_of, first_value}
 use Rattle.clap.specs.declared.parser.matches.ArgMatches.{ArgMatches}
-use Rattle.command_words.specs.Arguments.{Text, Argument, Form, positionals_in, value_of}
+use Rattle.command_words.specs.Arguments.{Text, Argument, Form, positionals_in, value_of, named}
 use Rattle.command_words.specs.Forms.{form_of, AreWordsOf}
 use Rattle.command_words.specs.Options.{name_of}
 use Rattle.command_words.specs.Settings.{Values}
@@ -14,6 +14,7 @@ pub record AreMatchesOf (form : Form) (arguments : List Argument) (matches : Arg
       → first_value (found_of matches) name ≡ value_of name arguments
   pub positionals : (place : ℕ) (name : Text) → slice_get form.positionals place ≡ Some name
       → first_value (found_of matches) name ≡ slice_get (positionals_in arguments) place
+  pub by_name : (name : Text) → first_value (found_of matches) name ≡ value_of name (named form.positionals arguments)
 
 -- the matches hold the arguments that the words of a command line spell
 pub record AreMatchesOfWords (words : List Text) (command : CommandWord) (matches : ArgMatches) : Type 0 where
@@ -21,7 +22,7 @@ pub record AreMatchesOfWords (words : List Text) (command : CommandWord) (matche
   pub are_words : AreWordsOf words command arguments
   pub told : AreMatchesOf (form_of command) arguments matches
 
--- the value that matches hold for each option
+-- the value that matches hold for each option or positional
 abbrev pub values_in_matches : ArgMatches → Values
 values_in_matches matches = λ opt. first_value (found_of matches) (name_of opt)
 

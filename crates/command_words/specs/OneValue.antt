@@ -2,9 +2,10 @@
 use Rattle.std.specs.Prelude.{ℕ, ◌≡◌, ◌<◌, Option, Some, None}
 use Rattle.command_words.specs.Arguments.{Text}
 use Rattle.command_words.specs.Options.{kind_of, place_of, IsGood, IsNoNumber, IsOutside, IsNoChoice}
-use Rattle.command_words.specs.Settings.{Values, SetsNumber}
+use Rattle.command_words.specs.Settings.{Values, SetsNumber, SetsSettings}
 use Rattle.command_words.specs.declared.opt.Opt.{Opt}
-use Rattle.command_words.specs.declared.opt.Opt.TheVariants.{Block, Workers, Callers, Rounds}
+use Rattle.command_words.specs.declared.opt.Opt.TheVariants.{Seed, Frames, Block, Workers, Callers, Rounds}
+use Rattle.command_words.specs.declared.values.Given.{Given}
 use Rattle.command_words.specs.declared.values.Running.{Running}
 use Rattle.command_words.specs.declared.words_kind.WordsKind.{WordsKind}
 use Rattle.command_words.specs.declared.words_kind.WordsKind.TheVariants.{BadNumber, OutOfLimits, BadChoice}
@@ -32,3 +33,9 @@ pub record SetsRunning (values : Values) (running : Running) : Type 0 where
   pub workers : SetsNumber Workers 4 (values Workers) running.workers
   pub callers : SetsNumber Callers 0 (values Callers) running.callers
   pub rounds : SetsNumber Rounds 0 (values Rounds) running.rounds
+
+-- what values and the path of a store give, with defaults filled in
+pub record SetsGiven (values : Values) (path : Option Text) (given : Given) : Type 0 where
+  pub seed_set : SetsNumber Seed 0 (values Seed) given.seed
+  pub frames_set : SetsNumber Frames 1 (values Frames) given.frames
+  pub settings_set : SetsSettings values path given.settings

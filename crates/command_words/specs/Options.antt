@@ -1,14 +1,16 @@
--- The options whose values are checked: what each takes, and what is wrong with a value.
-use Rattle.std.specs.Prelude.{⊤, ℕ, ◌≡◌, ◌⊎◌, ◌^◌, ◌<◌, ◌≤◌, List, [], ◌∷◌, codes, decimal, Contains, Option, Some}
+-- The options and positionals whose values are checked: what each takes, and what is wrong with a value.
+use Rattle.std.specs.Prelude.{⊤, ℕ, ◌≡◌, ◌⊎◌, ◌^◌, ◌-◌, ◌<◌, ◌≤◌, List, [], ◌∷◌, codes, decimal, Contains, Option, Some}
 use Rattle.std.specs.Prelude.{None}
 use Rattle.command_words.specs.Arguments.{Text}
 use Rattle.command_words.specs.declared.opt.Opt.{Opt}
-use Rattle.command_words.specs.declared.opt.Opt.TheVariants.{Weigh, Shards, Capacity, Phi, Deal}
+use Rattle.command_words.specs.declared.opt.Opt.TheVariants.{Seed, Frames, Weigh, Shards, Capacity, Phi, Deal}
 use Rattle.command_words.specs.declared.opt.Opt.TheVariants.{Block, Workers, Callers, Rounds}
 use Rattle.prefix_lattice.specs.{most_shards}
 
--- the name of an option
+-- the name of an option or a positional
 abbrev pub name_of : Opt → Text
+name_of Seed = codes "SEED"
+name_of Frames = codes "FRAMES"
 name_of Weigh = codes "weigh"
 name_of Shards = codes "shards"
 name_of Capacity = codes "capacity"
@@ -19,22 +21,32 @@ name_of Workers = codes "workers"
 name_of Callers = codes "callers"
 name_of Rounds = codes "rounds"
 
--- the index of an option in the order in which values are checked
+-- the index of an option or a positional in the order in which values are checked
 abbrev pub place_of : Opt → ℕ
-place_of Weigh = 0
-place_of Shards = 1
-place_of Capacity = 2
-place_of Phi = 3
-place_of Deal = 4
-place_of Block = 5
-place_of Workers = 6
-place_of Callers = 7
-place_of Rounds = 8
+place_of Seed = 0
+place_of Frames = 1
+place_of Weigh = 2
+place_of Shards = 3
+place_of Capacity = 4
+place_of Phi = 5
+place_of Deal = 6
+place_of Block = 7
+place_of Workers = 8
+place_of Callers = 9
+place_of Rounds = 10
 
 -- what the value of an option may be: a number from the least to the greatest, or one of some choices
 pub data Kind : Type 0 where
   number : ℕ → ℕ → Kind
   choice : List Text → Kind
+
+-- the greatest seed, which may be any number of 64 bits
+abbrev pub greatest_seed : ℕ
+greatest_seed = 2 ^ 64 - 1
+
+-- the most frames that are made
+abbrev pub greatest_frames : ℕ
+greatest_frames = 1000000
 
 -- the greatest capacity of tables that the command line takes, which is that of the tables themselves
 abbrev pub greatest_capacity : ℕ
@@ -60,8 +72,10 @@ greatest_callers = 8
 abbrev pub greatest_rounds : ℕ
 greatest_rounds = 32
 
--- the values that each option takes
+-- the values that each option or positional takes
 abbrev pub kind_of : Opt → Kind
+kind_of Seed = number 0 greatest_seed
+kind_of Frames = number 1 greatest_frames
 kind_of Weigh = choice (codes "bytes" ∷ codes "packets" ∷ [])
 kind_of Shards = number 1 most_shards
 kind_of Capacity = number 2 greatest_capacity

@@ -1,25 +1,28 @@
--- The settings that the options of a command line give.
-use Rattle.std.specs.Prelude.{ℕ, ◌≡◌, ◌*◌, ◌≤◌, Bool, true, false, List, codes, Option, Some, None}
+-- The settings that the options of a command line give, and the traffic that its positionals name.
+use Rattle.std.specs.Prelude.{ℕ, ◌≡◌, ◌*◌, ◌^◌, ◌<◌, ◌≤◌, Bool, true, false, List, codes, Option, Some, None}
 use Rattle.frame_records.specs.declared.weigh.Weigh.{Weigh}
 use Rattle.frame_records.specs.declared.weigh.Weigh.TheVariants as weighing
 use Rattle.deal_rules.specs.declared.deal_kind.DealKind.{DealKind}
 use Rattle.deal_rules.specs.declared.deal_kind.DealKind.TheVariants as dealing
-use Rattle.command_words.specs.Arguments.{Text, Argument, value_of}
+use Rattle.command_words.specs.Arguments.{Text, Argument, value_of, named}
+use Rattle.command_words.specs.Forms.{form_of}
 use Rattle.command_words.specs.Options.{name_of, kind_of, IsNumber, IsAllowed, greatest_capacity, greatest_phi}
+use Rattle.command_words.specs.Options.{greatest_frames}
 use Rattle.command_words.specs.Options.{greatest_block, greatest_workers, greatest_callers, greatest_rounds}
+use Rattle.command_words.specs.declared.command_word.CommandWord.{CommandWord}
 use Rattle.command_words.specs.declared.opt.Opt.{Opt}
-use Rattle.command_words.specs.declared.opt.Opt.TheVariants.{Weigh as ByWeigh, Shards, Capacity, Phi, Deal}
+use Rattle.command_words.specs.declared.opt.Opt.TheVariants.{Seed, Frames, Weigh as ByWeigh, Shards, Capacity, Phi, Deal}
 use Rattle.command_words.specs.declared.opt.Opt.TheVariants.{Block, Workers, Callers, Rounds}
 use Rattle.command_words.specs.declared.settings.Settings.{Settings}
 use Rattle.prefix_lattice.specs.{most_shards}
 
--- the value of each option that is present
+-- the value of each option or positional that is present
 abbrev pub Values : Type 0
 Values = Opt → Option Text
 
--- the value that arguments give each option
-abbrev pub values_in : List Argument → Values
-values_in arguments = λ opt. value_of (name_of opt) arguments
+-- the value that the arguments of a command give each option and each positional, by its name
+abbrev pub values_in : CommandWord → List Argument → Values
+values_in command arguments = λ opt. value_of (name_of opt) (named (form_of command).positionals arguments)
 
 -- the path that arguments give for a store
 abbrev pub store_in : List Argument → Option Text
@@ -68,6 +71,22 @@ pub record SetsSettings (values : Values) (path : Option Text) (settings : Setti
   pub callers : SetsNumber Callers 0 (values Callers) settings.callers
   pub rounds : SetsNumber Rounds 0 (values Rounds) settings.rounds
   pub store : SetsStore path settings.store
+
+-- the number that a positional gives: its value, within its limits
+abbrev pub GivesNumber : Opt → Option Text → ℕ → Type 0
+GivesNumber opt None value = ⊥
+GivesNumber opt (Some text) value = IsNumber text value × IsAllowed (kind_of opt) value
+
+-- the traffic that values give: the seed that it is made from, and how many frames are made
+pub record GivesTraffic (values : Values) (seed frames : ℕ) : Type 0 where
+  pub seed_given : GivesNumber Seed (values Seed) seed
+  pub frames_given : GivesNumber Frames (values Frames) frames
+
+-- so many frames can be made from this seed
+pub record CanBeMade (seed frames : ℕ) : Type 0 where
+  pub is_seed : seed < 2 ^ 64
+  pub some_frames : 1 ≤ frames
+  pub few_frames : frames ≤ greatest_frames
 
 -- tables of this capacity can't hide a prefix of this share: phi times capacity is at least 2,000,000
 abbrev pub IsWide : Settings → Type 0

@@ -1,16 +1,16 @@
 -- The command that the arguments of a command line ask for, or the first fault of the arguments.
-use Rattle.std.specs.Prelude.{⊤, ◌≡◌, ◌≢◌, ◌<◌, List, [], ◌∷◌, map, Some}
+use Rattle.std.specs.Prelude.{⊤, ℕ, ◌≡◌, ◌≢◌, ◌<◌, List, [], ◌∷◌, map, Some}
 use Rattle.std.specs.Borrow.{Bor}
 use Rattle.prefix_lattice.specs.{PrefixValue, SpellsPrefix, HasPrefixFault}
 use Rattle.prefix_lattice.specs.declared.prefix_fault.PrefixFault.{PrefixFault}
 use Rattle.command_words.specs.Arguments.{Text, Argument, positionals_in, AreWellFormed}
 use Rattle.command_words.specs.Forms.{word_of, form_of, AreWordsOf}
 use Rattle.command_words.specs.Options.{Kind, kind_of, place_of, IsGood, IsNoNumber, IsOutside, IsNoChoice}
-use Rattle.command_words.specs.Settings.{Values, values_in, store_in, SetsSettings, IsWide, AreLimited}
+use Rattle.command_words.specs.Settings.{Values, values_in, store_in, SetsSettings, GivesTraffic, IsWide, AreLimited, CanBeMade}
 use Rattle.command_words.specs.declared.command.Command.{Command}
 use Rattle.command_words.specs.declared.command.Command.TheVariants as command
 use Rattle.command_words.specs.declared.command_word.CommandWord.{CommandWord}
-use Rattle.command_words.specs.declared.command_word.CommandWord.TheVariants.{Weigh, Report, Format, Audit}
+use Rattle.command_words.specs.declared.command_word.CommandWord.TheVariants.{Weigh, Report, Format, Audit, Make, Demo}
 use Rattle.command_words.specs.declared.opt.Opt.{Opt}
 use Rattle.command_words.specs.declared.settings.Settings.{Settings}
 use Rattle.command_words.specs.declared.words_kind.WordsKind.{WordsKind}
@@ -34,26 +34,40 @@ pub record AskToWeigh (words : List Text) (prefix : PrefixValue) (settings : Set
   pub dest : Text
   pub sides : HasSides arguments source dest
   pub spelled : SpellsPrefix source dest prefix
-  pub set : SetsSettings (values_in arguments) (store_in arguments) settings
+  pub set : SetsSettings (values_in Weigh arguments) (store_in arguments) settings
 
 -- the command line asks for a report
 pub record AskToReport (words : List Text) (settings : Settings) : Type 0 where
   pub arguments : List Argument
   pub are_words : AreWordsOf words Report arguments
-  pub set : SetsSettings (values_in arguments) (store_in arguments) settings
+  pub set : SetsSettings (values_in Report arguments) (store_in arguments) settings
   pub wide : IsWide settings
 
 -- the command line asks for an empty store
 pub record AskToFormat (words : List Text) (settings : Settings) : Type 0 where
   pub arguments : List Argument
   pub are_words : AreWordsOf words Format arguments
-  pub set : SetsSettings (values_in arguments) (store_in arguments) settings
+  pub set : SetsSettings (values_in Format arguments) (store_in arguments) settings
 
 -- the command line asks for the verdict on each report of a text
 pub record AskToAudit (words : List Text) (settings : Settings) : Type 0 where
   pub arguments : List Argument
   pub are_words : AreWordsOf words Audit arguments
-  pub set : SetsSettings (values_in arguments) (store_in arguments) settings
+  pub set : SetsSettings (values_in Audit arguments) (store_in arguments) settings
+  pub wide : IsWide settings
+
+-- the command line asks for made traffic
+pub record AskToMake (words : List Text) (seed frames : ℕ) : Type 0 where
+  pub arguments : List Argument
+  pub are_words : AreWordsOf words Make arguments
+  pub made : GivesTraffic (values_in Make arguments) seed frames
+
+-- the command line asks for a report of made traffic, and the verdict on it
+pub record AskToDemo (words : List Text) (seed frames : ℕ) (settings : Settings) : Type 0 where
+  pub arguments : List Argument
+  pub are_words : AreWordsOf words Demo arguments
+  pub made : GivesTraffic (values_in Demo arguments) seed frames
+  pub set : SetsSettings (values_in Demo arguments) (store_in arguments) settings
   pub wide : IsWide settings
 
 -- which command the arguments of a command line ask for
@@ -62,16 +76,21 @@ AskFor words (command.Weigh prefix settings) = AskToWeigh words prefix settings
 AskFor words (command.Report settings) = AskToReport words settings
 AskFor words (command.Format settings) = AskToFormat words settings
 AskFor words (command.Audit settings) = AskToAudit words settings
+AskFor words (command.Make seed frames) = AskToMake words seed frames
+AskFor words (command.Demo seed frames settings) = AskToDemo words seed frames settings
 
--- the settings of the command are within their limits, and the tables of a report or an audit are large enough for
--- its share
+-- the numbers of the command are within their limits, and the tables of a report, an audit or a demo are large enough
+-- for their share
 abbrev pub IsLimited : Command → Type 0
 IsLimited (command.Weigh prefix settings) = AreLimited settings
 IsLimited (command.Report settings) = AreLimited settings × IsWide settings
 IsLimited (command.Format settings) = AreLimited settings
 IsLimited (command.Audit settings) = AreLimited settings × IsWide settings
+IsLimited (command.Make seed frames) = CanBeMade seed frames
+IsLimited (command.Demo seed frames settings) = CanBeMade seed frames × AreLimited settings × IsWide settings
 
--- the positionals of the command are good: those of `weigh` spell a prefix
+-- the positionals of the command are good: those of `weigh` spell a prefix. Those that are numbers are checked with
+-- the values of options
 abbrev pub HasGoodPositionals : CommandWord → List Argument → Type 0
 HasGoodPositionals Weigh arguments =
     (source : Text) × (dest : Text) × HasSides arguments source dest
@@ -79,6 +98,8 @@ HasGoodPositionals Weigh arguments =
 HasGoodPositionals Report arguments = ⊤
 HasGoodPositionals Format arguments = ⊤
 HasGoodPositionals Audit arguments = ⊤
+HasGoodPositionals Make arguments = ⊤
+HasGoodPositionals Demo arguments = ⊤
 
 -- the tables of the command must be large enough for its share
 abbrev pub IsBounded : CommandWord → Type 0
@@ -86,6 +107,8 @@ IsBounded Weigh = ⊥
 IsBounded Report = ⊤
 IsBounded Format = ⊥
 IsBounded Audit = ⊤
+IsBounded Make = ⊥
+IsBounded Demo = ⊤
 
 -- the positionals of `weigh` have this fault
 pub record HasBadPrefix (words : List Text) (fault : PrefixFault) : Type 0 where
@@ -96,14 +119,18 @@ pub record HasBadPrefix (words : List Text) (fault : PrefixFault) : Type 0 where
   pub sides : HasSides arguments source dest
   pub has_fault : HasPrefixFault source dest fault
 
--- this option has a bad value, and each option before it has a good value or is missing
+-- each option or positional has a good value, or is missing
+abbrev pub AreGood : Values → Type 0
+AreGood values = (opt : Opt) → IsGood opt (values opt)
+
+-- this option or positional has a bad value, and each before it has a good value or is missing
 pub record IsFirstBad (IsBad : Kind → Text → Type 0) (values : Values) (opt : Opt) : Type 0 where
   pub before : (other : Opt) → place_of other < place_of opt → IsGood other (values other)
   pub text : Text
   pub value : values opt ≡ Some text
   pub is_bad : IsBad (kind_of opt) text
 
--- the first fault of the values of options
+-- the first fault of values
 abbrev pub HasValueFault : Values → WordsKind → Type 0
 HasValueFault values (BadNumber opt) = IsFirstBad IsNoNumber values opt
 HasValueFault values (OutOfLimits opt) = IsFirstBad IsOutside values opt
@@ -116,7 +143,7 @@ pub record HasBadValue (words : List Text) (kind : WordsKind) : Type 0 where
   pub arguments : List Argument
   pub are_words : AreWordsOf words command arguments
   pub positionals : HasGoodPositionals command arguments
-  pub has_fault : HasValueFault (values_in arguments) kind
+  pub has_fault : HasValueFault (values_in command arguments) kind
 
 -- each value is good, and the tables are too small for the share, though the command needs them to be large enough
 pub record IsTooNarrow (words : List Text) : Type 0 where
@@ -124,8 +151,9 @@ pub record IsTooNarrow (words : List Text) : Type 0 where
   pub bounded : IsBounded command
   pub arguments : List Argument
   pub are_words : AreWordsOf words command arguments
+  pub good : AreGood (values_in command arguments)
   pub settings : Settings
-  pub set : SetsSettings (values_in arguments) (store_in arguments) settings
+  pub set : SetsSettings (values_in command arguments) (store_in arguments) settings
   pub narrow : IsWide settings → ⊥
 
 -- the first fault of the arguments: the command, then their form, then the prefix, then the values in the order

@@ -7,11 +7,25 @@ use prefix_lattice::Prefix;
 #[derive(Clone, Copy, Debug, PartialEq, Eq)]
 pub enum Command {
     /// `weigh SRC DST`: the weight of one prefix.
-    Weigh { prefix: Prefix, settings: Settings },
+    Weigh {
+        prefix: Prefix,
+        settings: Settings,
+    },
     /// `report`: the prefixes that carry heavy load which no more specific reported prefix explains.
     Report(Settings),
     /// `format`: an empty store for reports with these settings.
     Format(Settings),
     /// `audit`: the verdict on each report of a session's text, against the plain records.
     Audit(Settings),
+    /// `make SEED FRAMES`: a capture of so many frames, made from the seed.
+    Make {
+        seed: u64,
+        frames: u32,
+    },
+    /// `demo SEED FRAMES`: a report of made traffic, and the verdict on it.
+    Demo {
+        seed: u64,
+        frames: u32,
+        settings: Settings,
+    },
 }

@@ -14,6 +14,8 @@ pub enum CommandWord {
     Report,
     Format,
     Audit,
+    Make,
+    Demo,
 }
 
 static NONE: [&str; 0] = [];
@@ -37,6 +39,10 @@ static AUDIT_OPTIONS: [&str; 7] = [
 
 static AUDIT_REQUIRED: [&str; 1] = ["report"];
 
+static MADE_POSITIONALS: [&str; 2] = ["SEED", "FRAMES"];
+
+static DEMO_OPTIONS: [&str; 6] = ["shards", "capacity", "phi", "deal", "block", "workers"];
+
 impl CommandWord {
     /// The command of this name, if there is one.
     pub fn of(word: &str) -> Option<CommandWord>
@@ -48,6 +54,8 @@ impl CommandWord {
             "report" => Some(CommandWord::Report),
             "format" => Some(CommandWord::Format),
             "audit" => Some(CommandWord::Audit),
+            "make" => Some(CommandWord::Make),
+            "demo" => Some(CommandWord::Demo),
             _ => None,
         }
     }
@@ -61,6 +69,8 @@ impl CommandWord {
             CommandWord::Report => "report",
             CommandWord::Format => "format",
             CommandWord::Audit => "audit",
+            CommandWord::Make => "make",
+            CommandWord::Demo => "demo",
         }
     }
 
@@ -88,6 +98,16 @@ impl CommandWord {
                 positionals: NONE.as_slice(),
                 options: AUDIT_OPTIONS.as_slice(),
                 required: AUDIT_REQUIRED.as_slice(),
+            },
+            CommandWord::Make => FormNames {
+                positionals: MADE_POSITIONALS.as_slice(),
+                options: NONE.as_slice(),
+                required: NONE.as_slice(),
+            },
+            CommandWord::Demo => FormNames {
+                positionals: MADE_POSITIONALS.as_slice(),
+                options: DEMO_OPTIONS.as_slice(),
+                required: NONE.as_slice(),
             },
         }
     }

@@ -1,13 +1,17 @@
-//! The options whose values are checked.
+//! The options and the positionals whose values are checked.
 
 ghost use Rattle.std.specs.Prelude.{◌≡◌};
 ghost use Rattle.command_words.specs.Options.{name_of};
 
 use std::fmt::{Display, Error, Formatter, Write};
 
-/// An option whose value is checked. Values are checked in this order.
+/// An option whose value is checked, or a positional that is a number. Values are checked in this order.
 #[derive(Clone, Copy, Debug, PartialEq, Eq)]
 pub enum Opt {
+    /// The number that traffic is made from, 0 to 2^64 - 1.
+    Seed,
+    /// How many frames are made, 1 to 1,000,000.
+    Frames,
     /// How traffic is weighed: `bytes` or `packets`.
     Weigh,
     /// How many shards there are, 1 to 16.
@@ -29,11 +33,13 @@ pub enum Opt {
 }
 
 impl Opt {
-    /// The name of the option, without its hyphens.
+    /// The name of the option without its hyphens, or that of the positional.
     pub fn name(self) -> &'static str
         ensures { result.now ≡ name_of self }
     {
         match self {
+            Opt::Seed => "SEED",
+            Opt::Frames => "FRAMES",
             Opt::Weigh => "weigh",
             Opt::Shards => "shards",
             Opt::Capacity => "capacity",

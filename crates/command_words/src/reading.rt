@@ -3,17 +3,20 @@
 ghost use Rattle.std.specs.Prelude.{◌≡◌, ◌⊎◌, List, Ok, Err, IfOk, IfErr};
 ghost use Rattle.command_words.specs.Arguments.{Text};
 ghost use Rattle.command_words.specs.Matches.{AreMatchesOfWords};
+ghost use Rattle.command_words.specs.Settings.{IsWide};
 ghost use Rattle.command_words.specs.Words.{texts, AskFor, HasWordsFault, IsLimited};
 ghost use Rattle.command_words.specs.declared.command.Command.{Command};
+ghost use Rattle.command_words.specs.declared.command.Command.TheVariants.{Demo as DemoOf};
 ghost use Rattle.command_words.specs.declared.command_word.CommandWord.{CommandWord};
-ghost use Rattle.command_words.specs.declared.command_word.CommandWord.TheVariants.{Weigh, Report, Format, Audit};
+ghost use Rattle.command_words.specs.declared.command_word.CommandWord.TheVariants.{Weigh, Report, Format, Audit, Make, Demo};
 ghost use Rattle.command_words.specs.declared.words_kind.WordsKind.{WordsKind};
+ghost use Rattle.command_words.specs.declared.words_kind.WordsKind.TheVariants.{Bound};
 ghost use Rattle.command_words.specs.declared.words_kind.WordsRefusal.TheVariants.{Bad, OutOfMemory};
 
 use crate::command_word::CommandWord;
 use crate::parsing::parse;
 use crate::scanning::are_well_formed;
-use crate::values::{bounded, settings_of};
+use crate::values::{Given, bounded, given_of, settings_of};
 use crate::{Command, WordsKind, WordsRefusal};
 use clap::ArgMatches;
 use prefix_lattice::{Prefix, prefix_texts_have_one_reading};
@@ -33,7 +36,7 @@ pub(crate) struct CommandLine<'a> {
 ///
 /// Arguments that ask for no command are refused for their first fault: the command, then the form of the
 /// arguments, then the prefix, then the values in the order of `Opt`, each as a number before its limits, then
-/// for `report` and `audit` the bound on `phi` times the capacity.
+/// for `report`, `audit` and `demo` the bound on `phi` times the capacity.
 pub fn read_words(alloc: Global, words: &[&str]) -> Result<Command, WordsRefusal>
     ensures ok { IfOk result (AskFor (texts words.now)) }
     ensures limited { IfOk result IsLimited }
@@ -90,6 +93,8 @@ fn command_of(word: CommandWord, matches: &ArgMatches<'_>) -> Result<Command, Wo
         CommandWord::Report => report_command(matches),
         CommandWord::Format => format_command(matches),
         CommandWord::Audit => audit_command(matches),
+        CommandWord::Make => make_command(matches),
+        CommandWord::Demo => demo_command(matches),
     }
 }
 
@@ -131,4 +136,37 @@ fn audit_command(matches: &ArgMatches<'_>) -> Result<Command, WordsKind>
     ensures err { (words : List Text) → AreMatchesOfWords words Audit matches.now → IfErr result (HasWordsFault words) }
 {
     Ok(Command::Audit(bounded(settings_of(matches)?)?))
+}
+
+// The command asked for by arguments that begin with `make`.
+fn make_command(matches: &ArgMatches<'_>) -> Result<Command, WordsKind>
+    ensures ok { (words : List Text) → AreMatchesOfWords words Make matches.now → IfOk result (AskFor words) }
+    ensures err { (words : List Text) → AreMatchesOfWords words Make matches.now → IfErr result (HasWordsFault words) }
+{
+    let given = given_of(matches)?;
+    Ok(Command::Make {
+        seed: given.seed,
+        frames: given.frames,
+    })
+}
+
+// The command asked for by arguments that begin with `demo`.
+fn demo_command(matches: &ArgMatches<'_>) -> Result<Command, WordsKind>
+    ensures ok { (words : List Text) → AreMatchesOfWords words Demo matches.now → IfOk result (AskFor words) }
+    ensures err { (words : List Text) → AreMatchesOfWords words Demo matches.now → IfErr result (HasWordsFault words) }
+{
+    let given = given_of(matches)?;
+    demo_of(given)
+}
+
+// The demo of what values give, if its tables are large enough for its share.
+fn demo_of(given: Given) -> Result<Command, WordsKind>
+    ensures ok { IfOk result (λ command. (command ≡ DemoOf given.seed given.frames given.settings) × IsWide given.settings) }
+    ensures err { IfErr result (λ kind. (kind ≡ Bound) × (IsWide given.settings → ⊥)) }
+{
+    Ok(Command::Demo {
+        seed: given.seed,
+        frames: given.frames,
+        settings: bounded(given.settings)?,
+    })
 }

@@ -18,7 +18,7 @@ const DEFAULTS: Settings = Settings {
 };
 
 // Arguments joined by single spaces, and what is wrong with them.
-const BAD_WORDS: [(&str, WordsKind); 55] = [
+const BAD_WORDS: [(&str, WordsKind); 67] = [
     ("", WordsKind::NoCommand),
     ("way", WordsKind::UnknownCommand),
     ("Report", WordsKind::UnknownCommand),
@@ -42,6 +42,9 @@ const BAD_WORDS: [(&str, WordsKind); 55] = [
     ("audit", WordsKind::Refused),
     ("audit --report R --store S", WordsKind::Refused),
     ("audit --report R --block 1", WordsKind::Refused),
+    ("make 7", WordsKind::Refused),
+    ("make 7 1 --shards 1", WordsKind::Refused),
+    ("demo 7 1 --capture C", WordsKind::Refused),
     ("report --shards", WordsKind::Refused),
     ("report --shards --phi", WordsKind::Refused),
     ("report --shards=", WordsKind::Refused),
@@ -93,7 +96,17 @@ const BAD_WORDS: [(&str, WordsKind); 55] = [
     ("report --workers 17", WordsKind::OutOfLimits(Opt::Workers)),
     ("report --callers 9", WordsKind::OutOfLimits(Opt::Callers)),
     ("report --rounds 33", WordsKind::OutOfLimits(Opt::Rounds)),
+    ("make 07 1", WordsKind::BadNumber(Opt::Seed)),
+    (
+        "make 18446744073709551616 1",
+        WordsKind::BadNumber(Opt::Seed),
+    ),
+    ("make 7 x", WordsKind::BadNumber(Opt::Frames)),
+    ("make 7 0", WordsKind::OutOfLimits(Opt::Frames)),
+    ("make 7 1000001", WordsKind::OutOfLimits(Opt::Frames)),
     // the first of several faults
+    ("make x 0", WordsKind::BadNumber(Opt::Seed)),
+    ("demo --shards x 7 0", WordsKind::OutOfLimits(Opt::Frames)),
     (
         "report --deal hash --shards 0",
         WordsKind::OutOfLimits(Opt::Shards),
@@ -123,6 +136,11 @@ const BAD_WORDS: [(&str, WordsKind); 55] = [
     (
         "audit --capacity 17 --report R --phi 117647",
         WordsKind::Bound,
+    ),
+    ("demo 7 1 --capacity 17 --phi 117647", WordsKind::Bound),
+    (
+        "demo 7 0 --capacity 17 --phi 117647",
+        WordsKind::OutOfLimits(Opt::Frames),
     ),
 ];
 
@@ -171,6 +189,11 @@ fn reads_words(rt: HostRuntime) -> Result<(), Fail> {
         weigh: Weigh::Packets,
         ..DEFAULTS
     };
+    let busy = Settings {
+        shards: 16,
+        workers: 16,
+        ..DEFAULTS
+    };
     // The arguments, what they ask for, and the capture, the text of reports and the store that they name.
     let cases = [
         ("report", Command::Report(DEFAULTS), "-", "", ""),
@@ -210,6 +233,27 @@ fn reads_words(rt: HostRuntime) -> Result<(), Fail> {
             "r",
             "",
         ),
+        (
+            "make 18446744073709551615 1000000",
+            Command::Make {
+                seed: 18_446_744_073_709_551_615,
+                frames: 1_000_000,
+            },
+            "",
+            "",
+            "",
+        ),
+        (
+            "demo --shards=16 0 --workers 16 1",
+            Command::Demo {
+                seed: 0,
+                frames: 1,
+                settings: busy,
+            },
+            "",
+            "",
+            "",
+        ),
     ];
     for (line, command, capture, report, store) in cases {
         let words: Vec<&str> = line.split_whitespace().collect(alloc)?;
@@ -247,6 +291,11 @@ fn writes_refusals(rt: HostRuntime) -> Result<(), Fail> {
         (
             WordsKind::BadPrefix(PrefixFault::BadLength(Side::Source)),
             "prefix: source: bad length",
+        ),
+        (WordsKind::BadNumber(Opt::Seed), "SEED: no number"),
+        (
+            WordsKind::OutOfLimits(Opt::Frames),
+            "FRAMES: outside its limits",
         ),
         (WordsKind::BadChoice(Opt::Weigh), "weigh: no such choice"),
         (WordsKind::BadNumber(Opt::Shards), "shards: no number"),

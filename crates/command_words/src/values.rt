@@ -5,10 +5,10 @@ ghost use Rattle.command_words.specs.Scanning.{text_at};
 ghost use Rattle.command_words.specs.Options.{kind_of, number, place_of};
 ghost use Rattle.command_words.specs.Settings.{SetsDeal, SetsNumber, SetsSettings, SetsStore, SetsWeigh, IsWide};
 ghost use Rattle.command_words.specs.Matches.{store_in_matches, values_in_matches};
-ghost use Rattle.command_words.specs.Words.{HasValueFault};
-ghost use Rattle.command_words.specs.OneValue.{AreGoodBefore, IsBadChoice, IsBadNumber, SetsRunning};
+ghost use Rattle.command_words.specs.Words.{AreGood, HasValueFault};
+ghost use Rattle.command_words.specs.OneValue.{AreGoodBefore, IsBadChoice, IsBadNumber, SetsGiven, SetsRunning};
 ghost use Rattle.command_words.specs.declared.words_kind.WordsKind.TheVariants.{BadChoice, Bound};
-ghost use Rattle.command_words.specs.declared.opt.Opt.TheVariants.{Weigh as ByWeigh, Deal, Block};
+ghost use Rattle.command_words.specs.declared.opt.Opt.TheVariants.{Seed, Weigh as ByWeigh, Deal, Block};
 
 use crate::{Opt, Settings, WordsKind};
 use clap::ArgMatches;
@@ -16,13 +16,24 @@ use deal_rules::DealKind;
 use frame_records::Weigh;
 use prefix_lattice::number_of;
 
-// An option that takes a number.
+// An option or a positional that takes a number.
 struct Numeric {
     opt: Opt,
     least: u32,
     greatest: u32,
     default: u32,
 }
+
+// The most frames that are made.
+const MOST_FRAMES: u32 = 1_000_000;
+
+// A positional, which is never missing where a command has it.
+const FRAMES: Numeric = Numeric {
+    opt: Opt::Frames,
+    least: 1,
+    greatest: MOST_FRAMES,
+    default: 1,
+};
 
 const SHARDS: Numeric = Numeric {
     opt: Opt::Shards,
@@ -73,6 +84,14 @@ const ROUNDS: Numeric = Numeric {
     default: 0,
 };
 
+/// What options and positionals give, with defaults filled in. A command takes of it what its form has.
+#[derive(Drop)]
+pub(crate) struct Given {
+    pub(crate) seed: u64,
+    pub(crate) frames: u32,
+    pub(crate) settings: Settings,
+}
+
 // What threads do while records are folded.
 #[derive(Drop)]
 struct Running {
@@ -85,8 +104,33 @@ struct Running {
 // The least product of `phi` and the capacity at which no table hides a heavy prefix.
 const LEAST_WIDTH: u64 = 2_000_000;
 
-/// The settings that the options give, or the fault of the first wrong value.
+/// The settings that the options give, or the fault of the first wrong value, be it an option's or a positional's.
 pub(crate) fn settings_of(matches: &ArgMatches<'_>) -> Result<Settings, WordsKind>
+    ensures ok { IfOk result (SetsSettings (values_in_matches matches.now) (store_in_matches matches.now)) }
+    ensures good { IfOk result (λ _. AreGood (values_in_matches matches.now)) }
+    ensures err { IfErr result (HasValueFault (values_in_matches matches.now)) }
+{
+    Ok(given_of(matches)?.settings)
+}
+
+/// What options and positionals give, or the fault of the first wrong value.
+pub(crate) fn given_of(matches: &ArgMatches<'_>) -> Result<Given, WordsKind>
+    ensures ok { IfOk result (SetsGiven (values_in_matches matches.now) (store_in_matches matches.now)) }
+    ensures err { IfErr result (HasValueFault (values_in_matches matches.now)) }
+{
+    let seed = seed_of(text_of(matches, Opt::Seed))?;
+    let frames = FRAMES.read(text_of(matches, Opt::Frames))?;
+    let settings = options_of(matches)?;
+    Ok(Given {
+        seed,
+        frames,
+        settings,
+    })
+}
+
+// The settings that the options give, or the fault of the first wrong value. The values before them are good.
+fn options_of(matches: &ArgMatches<'_>) -> Result<Settings, WordsKind>
+    requires { AreGoodBefore (values_in_matches matches.now) (place_of ByWeigh) }
     ensures ok { IfOk result (SetsSettings (values_in_matches matches.now) (store_in_matches matches.now)) }
     ensures err { IfErr result (HasValueFault (values_in_matches matches.now)) }
 {
@@ -177,6 +221,20 @@ impl Numeric {
             return Err(WordsKind::OutOfLimits(self.opt));
         }
         Ok(value as u32)
+    }
+}
+
+// The seed, which may be any number. It is never missing where a command has it.
+fn seed_of(text: Option<&str>) -> Result<u64, WordsKind>
+    ensures ok { IfOk result (SetsNumber Seed 0 (text_at text.entry)) }
+    ensures err { IfErr result (IsBadNumber Seed (text_at text.entry)) }
+{
+    let Some(text) = text else {
+        return Ok(0);
+    };
+    match number_of(text.as_bytes()) {
+        Some(seed) => Ok(seed),
+        None => Err(WordsKind::BadNumber(Opt::Seed)),
     }
 }
 

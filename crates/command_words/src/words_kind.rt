@@ -23,10 +23,10 @@ pub enum WordsKind {
     /// The texts of the prefix have this fault.
     #[error("prefix: {0}")]
     BadPrefix(PrefixFault),
-    /// The value of the option is not a number.
+    /// The value of the option or positional is not a number.
     #[error("{0}: no number")]
     BadNumber(Opt),
-    /// The value of the option is a number outside its limits.
+    /// The value of the option or positional is a number outside its limits.
     #[error("{0}: outside its limits")]
     OutOfLimits(Opt),
     /// The value of the option is none of its choices.

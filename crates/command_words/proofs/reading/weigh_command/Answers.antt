@@ -10,13 +10,13 @@ pub unwrap-source-requires : goal.unwrap-source-requires
 unwrap-source-requires c =
     let tells = c.requires.1 in
     let told = told_sides tells.arguments c.args.matches.now tells.are_words.well_formed.of_form.as_many tells.told in
-    told_is_found c.get_str.result _ told.source c.get_str.ensures told.source_told
+    told_is_found c.get_str.result _ told.first c.get_str.ensures told.first_told
 
 pub unwrap-dest-requires : goal.unwrap-dest-requires
 unwrap-dest-requires c =
     let tells = c.requires.1 in
     let told = told_sides tells.arguments c.args.matches.now tells.are_words.well_formed.of_form.as_many tells.told in
-    told_is_found c.get_str-2.result _ told.dest c.get_str-2.ensures told.dest_told
+    told_is_found c.get_str-2.result _ told.second c.get_str-2.ensures told.second_told
 
 pub returns-in-Err-clause-err : goal.returns-in-Err-clause-err
 returns-in-Err-clause-err c = λ words tells. record {

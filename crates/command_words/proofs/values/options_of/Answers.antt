@@ -3,23 +3,23 @@ use Rattle.std.proofs.Common.{sym}
 use Rattle.std.proofs.lemmas.Result.{err_from_is_err_and}
 use Rattle.command_words.specs.Matches.{values_in_matches}
 use Rattle.command_words.specs.declared.opt.Opt.TheVariants.{Weigh, Shards, Capacity, Phi, Deal}
-use Rattle.command_words.proofs.ValueLemmas.{good_before_first, good_before_next, weigh_is_good, number_is_good, deal_is_good}
+use Rattle.command_words.proofs.ValueLemmas.{good_before_next, weigh_is_good, number_is_good, deal_is_good}
 use Rattle.command_words.proofs.ValueLemmas.{number_is_first, choice_is_first}
-use Rattle.command_words.proofs.values.settings_of.Goals as goal
+use Rattle.command_words.proofs.values.options_of.Goals as goal
 
 pub returns-in_err-weigh-clause-err : goal.returns-in_err-weigh-clause-err
 returns-in_err-weigh-clause-err c =
     let values = values_in_matches c.args.matches.now in
     let p = err_from_is_err_and c.from_residual.result c.from_residual.ensures.1 in
     rw (p.1, p.2)
-    (choice_is_first values Weigh _ _ (sym c.text_of.ensures) (good_before_first values)
+    (choice_is_first values Weigh _ _ (sym c.text_of.ensures) c.requires
     c.in_err-weigh.ensures.err)
 
 pub returns-in_err-shards-clause-err : goal.returns-in_err-shards-clause-err
 returns-in_err-shards-clause-err c =
     let values = values_in_matches c.args.matches.now in
     let before_shards =
-    good_before_next values Weigh _ (sym c.text_of.ensures) (good_before_first values)
+    good_before_next values Weigh _ (sym c.text_of.ensures) c.requires
     (weigh_is_good _ _ c.in_ok-weigh.ensures.ok) in
     let p = err_from_is_err_and c.from_residual-in_err-shards.result c.from_residual-in_err-shards.ensures.1 in
     rw (p.1, p.2)
@@ -29,7 +29,7 @@ pub returns-in_err-capacity-clause-err : goal.returns-in_err-capacity-clause-err
 returns-in_err-capacity-clause-err c =
     let values = values_in_matches c.args.matches.now in
     let before_shards =
-    good_before_next values Weigh _ (sym c.text_of.ensures) (good_before_first values)
+    good_before_next values Weigh _ (sym c.text_of.ensures) c.requires
     (weigh_is_good _ _ c.in_ok-weigh.ensures.ok) in
     let before_capacity =
     good_before_next values Shards _ (sym c.text_of-2.ensures) before_shards
@@ -42,7 +42,7 @@ pub returns-in_err-phi-clause-err : goal.returns-in_err-phi-clause-err
 returns-in_err-phi-clause-err c =
     let values = values_in_matches c.args.matches.now in
     let before_shards =
-    good_before_next values Weigh _ (sym c.text_of.ensures) (good_before_first values)
+    good_before_next values Weigh _ (sym c.text_of.ensures) c.requires
     (weigh_is_good _ _ c.in_ok-weigh.ensures.ok) in
     let before_capacity =
     good_before_next values Shards _ (sym c.text_of-2.ensures) before_shards
@@ -57,7 +57,7 @@ pub returns-in_err-deal-clause-err : goal.returns-in_err-deal-clause-err
 returns-in_err-deal-clause-err c =
     let values = values_in_matches c.args.matches.now in
     let before_shards =
-    good_before_next values Weigh _ (sym c.text_of.ensures) (good_before_first values)
+    good_before_next values Weigh _ (sym c.text_of.ensures) c.requires
     (weigh_is_good _ _ c.in_ok-weigh.ensures.ok) in
     let before_capacity =
     good_before_next values Shards _ (sym c.text_of-2.ensures) before_shards
@@ -75,7 +75,7 @@ pub running_of-requires : goal.running_of-requires
 running_of-requires c =
     let values = values_in_matches c.args.matches.now in
     let before_shards =
-    good_before_next values Weigh _ (sym c.text_of.ensures) (good_before_first values)
+    good_before_next values Weigh _ (sym c.text_of.ensures) c.requires
     (weigh_is_good _ _ c.in_ok-weigh.ensures.ok) in
     let before_capacity =
     good_before_next values Shards _ (sym c.text_of-2.ensures) before_shards

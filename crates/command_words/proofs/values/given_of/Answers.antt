@@ -1,0 +1,24 @@
+-- Each value that was read is good, so the first one that isn't is the first fault.
+use Rattle.std.proofs.Common.{sym}
+use Rattle.std.proofs.lemmas.Result.{err_from_is_err_and}
+use Rattle.command_words.specs.Matches.{values_in_matches}
+use Rattle.command_words.specs.declared.opt.Opt.TheVariants.{Seed, Frames}
+use Rattle.command_words.proofs.ValueLemmas.{good_before_first, good_before_next, number_is_good, number_is_first}
+use Rattle.command_words.proofs.values.given_of.Goals as goal
+
+pub returns-in_err-seed-clause-err : goal.returns-in_err-seed-clause-err
+returns-in_err-seed-clause-err c =
+    let values = values_in_matches c.args.matches.now in
+    let p = err_from_is_err_and c.from_residual.result c.from_residual.ensures.1 in
+    rw (p.1, p.2)
+    (number_is_first values Seed _ _ (sym c.text_of.ensures) (good_before_first values) c.in_err-seed.ensures.err)
+
+pub returns-in_err-frames-clause-err : goal.returns-in_err-frames-clause-err
+returns-in_err-frames-clause-err c =
+    let values = values_in_matches c.args.matches.now in
+    let before_frames =
+    good_before_next values Seed _ (sym c.text_of.ensures) (good_before_first values)
+    (number_is_good Seed 0 _ _ c.in_ok-seed.ensures.ok) in
+    let p = err_from_is_err_and c.from_residual-in_err-frames.result c.from_residual-in_err-frames.ensures.1 in
+    rw (p.1, p.2)
+    (number_is_first values Frames _ _ (sym c.text_of-2.ensures) before_frames c.in_err-frames.ensures.err)
