@@ -19,7 +19,7 @@ use Rattle.exact_audit.specs.declared.verdict.Verdict.{Verdict}
 use Rattle.exact_audit.specs.declared.verdict.Verdict.TheVariants.{Good}
 use Rattle.command_words.specs.{AskFor}
 use Rattle.command_words.specs.declared.command.Command.{Command}
-use Rattle.command_words.specs.declared.command.Command.TheVariants.{Weigh, Report as ToReport, Format, Audit}
+use Rattle.command_words.specs.declared.command.Command.TheVariants.{Weigh, Report as ToReport, Format, Audit, Make, Demo}
 use Rattle.command_words.specs.declared.settings.Settings.{Settings}
 use Rattle.hhh_engine.specs.Audit.{AreAudited, IsAuditText, IsFirstUnsound, IsSoundOver, IsSoundSession, IsUnsoundSession}
 use Rattle.hhh_engine.specs.Answer.{IsCutShort}
@@ -274,6 +274,8 @@ found_for : (rules : Rules) (words : List (List ℕ)) (command : Command) (given
 found_for rules words (Weigh prefix settings) given old new report verdict asked read finds = absurd finds
 found_for rules words (ToReport settings) given old new report verdict asked read finds = absurd finds
 found_for rules words (Format settings) given old new report verdict asked read finds = absurd finds
+found_for rules words (Make seed frames) given old new report verdict asked read finds = absurd finds
+found_for rules words (Demo seed frames settings) given old new report verdict asked read finds = absurd finds
 found_for rules words (Audit settings) given old new report verdict asked read finds = record {
   settings = settings;
   asked = asked;
@@ -305,6 +307,11 @@ refused_text rules words (Weigh prefix settings) given old new fault sink writte
 refused_text rules words (ToReport settings) given old new fault sink written disk stands asked finds same untouched =
     absurd finds
 refused_text rules words (Format settings) given old new fault sink written disk stands asked finds same untouched =
+    absurd finds
+refused_text rules words (Make seed frames) given old new fault sink written disk stands asked finds same untouched =
+    absurd finds
+refused_text rules words (Demo seed frames settings) given old new fault sink written disk stands asked finds same
+    untouched =
     absurd finds
 refused_text rules words (Audit settings) given old new fault sink written disk stands asked finds same untouched = record {
   settings = settings;

@@ -8,7 +8,7 @@ use Rattle.pcap_frames.specs.{header_fault, fault_at}
 use Rattle.frame_records.specs.declared.weigh.Weigh.TheVariants.{Bytes}
 use Rattle.command_words.specs.{AskFor}
 use Rattle.command_words.specs.declared.command.Command.{Command}
-use Rattle.command_words.specs.declared.command.Command.TheVariants.{Weigh, Report as report_command, Format, Audit}
+use Rattle.command_words.specs.declared.command.Command.TheVariants.{Weigh, Report as report_command, Format, Audit, Make, Demo}
 use Rattle.command_words.specs.declared.words_kind.WordsKind.TheVariants.{NoCommand}
 use Rattle.hhh_engine.specs.Answer.{Answers, AnswersInPart, IsAnswer, IsAnswerInPart, IsWeightTextInPart, Writes}
 use Rattle.hhh_engine.specs.Answer.{IsCutShort, formatted_text}
@@ -77,6 +77,8 @@ no_words_ask (Weigh prefix settings) asked = let begun = asked.are_words.begun i
 no_words_ask (report_command settings) asked = let begun = asked.are_words.begun in cc
 no_words_ask (Format settings) asked = let begun = asked.are_words.begun in cc
 no_words_ask (Audit settings) asked = let begun = asked.are_words.begun in cc
+no_words_ask (Make seed frames) asked = let begun = asked.are_words.begun in cc
+no_words_ask (Demo seed frames settings) asked = let begun = asked.are_words.begun in cc
 
 pub no_words_ask_to_read : AskToUse ReadsCapture [] → ⊥
 no_words_ask_to_read asks = no_words_ask asks.command asks.asked

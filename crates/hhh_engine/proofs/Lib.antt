@@ -12,6 +12,8 @@ pub mod AppendLemmas
 pub mod BaseLemmas
 pub mod CaptureLemmas
 pub mod DealtLemmas
+pub mod MadeCaptureLemmas
+pub mod DemoLemmas
 pub mod AuditLemmas
 pub mod AuditEndLemmas
 pub mod WiderRulesLemmas

@@ -14,7 +14,7 @@ use Rattle.std.proofs.Common.{Ok, Err}
 use Rattle.shard_state.specs.{CutValue}
 use Rattle.command_words.specs.{AreLimited, AskFor, IsLimited}
 use Rattle.command_words.specs.declared.command.Command.{Command}
-use Rattle.command_words.specs.declared.command.Command.TheVariants.{Weigh, Report, Format, Audit}
+use Rattle.command_words.specs.declared.command.Command.TheVariants.{Weigh, Report, Format, Audit, Make, Demo}
 use Rattle.command_words.specs.declared.settings.Settings.{Settings}
 use Rattle.std.specs.Prelude.{⊤}
 use Rattle.report_text.specs.{HasTextFault, IsSessionText, longest_text}
@@ -68,6 +68,8 @@ captured rules keeping (Format settings) given file text reads known answer = ab
 captured rules keeping (Audit settings) given file text reads known answer =
     (of_file given.capture file (λ f. IsCapture f × IfSome given.text (λ session. IsSoundSession settings rules f session text))
     known answer).0
+captured rules keeping (Make seed frames) given file text reads known answer = absurd reads
+captured rules keeping (Demo seed frames settings) given file text reads known answer = absurd reads
 
 -- and a part of a text
 captured_in_part : (rules : Rules) (command : Command) (given : InputBytes) (file front : List ℕ)
@@ -84,6 +86,8 @@ captured_in_part rules (Audit settings) given file front reads known answer =
     (of_file given.capture file
     (λ f. IsCapture f × IfSome given.text (λ session. IsCutShort (IsAuditText settings rules f session) front))
     known answer).0
+captured_in_part rules (Make seed frames) given file front reads known answer = absurd reads
+captured_in_part rules (Demo seed frames settings) given file front reads known answer = absurd reads
 
 -- and a store is refused over captures alone
 captured_refused : (rules : Rules) (command : Command) (given : InputBytes) (store_now : Option (List ℕ)) (file : List ℕ)
@@ -95,6 +99,8 @@ captured_refused rules (Report settings) given store_now file fault known refuse
     (is.dealt.frames, is.dealt.capture)
 captured_refused rules (Format settings) given store_now file fault known refuses = absurd refuses
 captured_refused rules (Audit settings) given store_now file fault known refuses = absurd refuses
+captured_refused rules (Make seed frames) given store_now file fault known refuses = absurd refuses
+captured_refused rules (Demo seed frames settings) given store_now file fault known refuses = absurd refuses
 
 -- and an audit that ends by what it found read a capture
 captured_found : (rules : Rules) (command : Command) (given : InputBytes) (old new : Option (List ℕ)) (file : List ℕ)
@@ -103,6 +109,8 @@ captured_found : (rules : Rules) (command : Command) (given : InputBytes) (old n
 captured_found rules (Weigh prefix settings) given old new file report verdict known finds = absurd finds
 captured_found rules (Report settings) given old new file report verdict known finds = absurd finds
 captured_found rules (Format settings) given old new file report verdict known finds = absurd finds
+captured_found rules (Make seed frames) given old new file report verdict known finds = absurd finds
+captured_found rules (Demo seed frames settings) given old new file report verdict known finds = absurd finds
 captured_found rules (Audit settings) given old new file report verdict known finds =
     (of_file given.capture file
     (λ f. IsCapture f × IfSome given.text (λ text. IsUnsoundSession settings rules f text report verdict))
@@ -114,6 +122,8 @@ captured_before : (rules : Rules) (command : Command) (given : InputBytes) (old 
 captured_before rules (Weigh prefix settings) given old new file fault known finds = absurd finds
 captured_before rules (Report settings) given old new file fault known finds = absurd finds
 captured_before rules (Format settings) given old new file fault known finds = absurd finds
+captured_before rules (Make seed frames) given old new file fault known finds = absurd finds
+captured_before rules (Demo seed frames settings) given old new file fault known finds = absurd finds
 captured_before rules (Audit settings) given old new file fault known finds =
     of_file given.capture file IsCapture known finds.1
 
@@ -124,6 +134,8 @@ accepted (Weigh prefix settings) given file reads known was = of_file given.capt
 accepted (Report settings) given file reads known was = of_file given.capture file IsCapture known was
 accepted (Format settings) given file reads known was = absurd reads
 accepted (Audit settings) given file reads known was = of_file given.capture file IsCapture known was
+accepted (Make seed frames) given file reads known was = absurd reads
+accepted (Demo seed frames settings) given file reads known was = absurd reads
 
 -- how a command over these inputs ended
 abbrev pub EndsAs : {K : Type 0} → Rules → Keeping → Command → (given : InputBytes) (store_now : Option (List ℕ))
@@ -209,6 +221,8 @@ known_capture rules (Audit settings) given file fault never_both reads can has =
     let capture = can.0 in
     never_both capture.file capture.frames fault capture.capture
     (of_file given.capture capture.file (λ f. IsRefusedFor f fault) capture.told has)
+known_capture rules (Make seed frames) given file fault never_both reads can has = absurd reads
+known_capture rules (Demo seed frames settings) given file fault never_both reads can has = absurd reads
 
 -- a store of the records isn't refused
 never_refused : OpeningsAreDecided → BelongingStoresAreOpened → (rules : Rules) (settings : Settings)
@@ -235,6 +249,10 @@ never_refused_for decided opened rules (Format settings) given store_now fault l
     refuses
 never_refused_for decided opened rules (Audit settings) given store_now fault limited can shown refuses =
     refuses
+never_refused_for decided opened rules (Make seed frames) given store_now fault limited can shown refuses =
+    refuses
+never_refused_for decided opened rules (Demo seed frames settings) given store_now fault limited can shown refuses =
+    refuses
 
 -- no text of a session that is not too long has a fault
 abbrev pub NoFault : Type 0
@@ -248,6 +266,8 @@ never_faulty : NoFault → (rules : Rules) (command : Command) (given : InputByt
 never_faulty no_fault rules (Weigh prefix settings) given old new fault can finds = finds
 never_faulty no_fault rules (Report settings) given old new fault can finds = finds
 never_faulty no_fault rules (Format settings) given old new fault can finds = finds
+never_faulty no_fault rules (Make seed frames) given old new fault can finds = finds
+never_faulty no_fault rules (Demo seed frames settings) given old new fault can finds = finds
 never_faulty no_fault rules (Audit settings) given old new fault can finds =
     let known = can.1 in
     no_fault known.text known.session fault known.is_session known.not_long
@@ -258,6 +278,8 @@ done_answers : (command : Command) → WasAnswered command Done
 done_answers (Weigh prefix settings) = refl
 done_answers (Report settings) = refl
 done_answers (Format settings) = refl
+done_answers (Make seed frames) = refl
+done_answers (Demo seed frames settings) = refl
 done_answers (Audit settings) = inl refl
 
 -- and so was one that found a report that is not sound
@@ -267,6 +289,8 @@ found_answers : (rules : Rules) (command : Command) (given : InputBytes) (old ne
 found_answers rules (Weigh prefix settings) given old new report verdict finds = absurd finds
 found_answers rules (Report settings) given old new report verdict finds = absurd finds
 found_answers rules (Format settings) given old new report verdict finds = absurd finds
+found_answers rules (Make seed frames) given old new report verdict finds = absurd finds
+found_answers rules (Demo seed frames settings) given old new report verdict finds = absurd finds
 found_answers rules (Audit settings) given old new report verdict finds = inr (report, verdict, refl)
 
 -- over known inputs in their formats and with no fault of source, sink or disk, a command is answered unless memory runs
@@ -325,18 +349,6 @@ answered never_both decided opened no_fault rules keeping command given store_no
     read_before read_now sink written old new write_before write_now OutOfMemory limited can no_read no_write no_disk reads ends =
     inr refl
 
--- of several commands, only one that reads a capture is refused for it
-pub only_reads : {K D : Type 0} (reads : Option (List ℕ)) (possible : List ℕ → Type 0) (sink written : K)
-    (disk stands : D) (command : Command) (status : Status)
-    → ((settings : Settings) → command ≡ Format settings
-    → FormatEnds (store_settings settings) reads possible sink written disk stands status)
-    → (fault : CaptureFault) → status ≡ BadCapture fault → ReadsCapture command
-only_reads reads possible sink written disk stands (Weigh prefix settings) status formats fault is = tt
-only_reads reads possible sink written disk stands (Report settings) status formats fault is = tt
-only_reads reads possible sink written disk stands (Audit settings) status formats fault is = tt
-only_reads reads possible sink written disk stands (Format settings) status formats fault is =
-    absurd (subst (FormatEnds (store_settings settings) reads possible sink written disk stands) is (formats settings refl))
-
 -- the command that was asked for is the one that was read
 pub same_command : {E : Type 0} (result : Result Command E) (error : E) (command read : Command)
     → (result ≡ Ok command) ⊎ (result ≡ Err error) → result ≡ Ok read → read ≡ command
@@ -362,6 +374,10 @@ report_refused rules words (Report settings) given store_now fault sink written 
 report_refused rules words (Format settings) given store_now fault sink written asked read refuses same =
     absurd refuses
 report_refused rules words (Audit settings) given store_now fault sink written asked read refuses same =
+    absurd refuses
+report_refused rules words (Make seed frames) given store_now fault sink written asked read refuses same =
+    absurd refuses
+report_refused rules words (Demo seed frames settings) given store_now fault sink written asked read refuses same =
     absurd refuses
 
 -- what a status that names a fault of a store says
@@ -615,6 +631,8 @@ happened_to_disk (Weigh prefix settings) Happened none = absurd none
 happened_to_disk (Report settings) Happened happened = happened
 happened_to_disk (Format settings) Happened happened = happened
 happened_to_disk (Audit settings) Happened none = absurd none
+happened_to_disk (Make seed frames) Happened none = absurd none
+happened_to_disk (Demo seed frames settings) Happened none = absurd none
 
 -- arguments that ask for a command are refused only where memory ran out
 pub ran_out : (result : Result Command WordsRefusal) (command : Command) (refusal : WordsRefusal) (status : Status)

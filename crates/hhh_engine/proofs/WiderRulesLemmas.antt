@@ -6,11 +6,13 @@ use Rattle.prefix_lattice.specs.{RecordValue}
 use Rattle.deal_rules.specs.declared.deal_kind.DealKind.{DealKind}
 use Rattle.deal_rules.specs.{IsDealing}
 use Rattle.command_words.specs.declared.command.Command.{Command}
-use Rattle.command_words.specs.declared.command.Command.TheVariants.{Weigh, Report, Format, Audit}
+use Rattle.command_words.specs.declared.command.Command.TheVariants.{Weigh, Report, Format, Audit, Make, Demo}
 use Rattle.hhh_engine.specs.Answer.{IsAnswer, IsAnswerInPart, IsCutShort, Answers, AnswersInPart}
 use Rattle.frame_records.specs.declared.records.Records.{Records}
 use Rattle.hhh_engine.specs.Session.{AreDealtFrom, IsSession, IsSessionInPart, Keeping, Rules}
 use Rattle.hhh_engine.specs.Audit.{AreAudited, IsAuditText, IsSoundSession, IsUnsoundSession}
+use Rattle.traffic_maker.specs.{made_capture}
+use Rattle.hhh_engine.specs.Demo.{IsDemoText}
 use Rattle.hhh_engine.specs.Ending.{FoundUnsound}
 use Rattle.hhh_engine.specs.Inputs.{InputBytes, OfAudited}
 use Rattle.hhh_engine.proofs.AuditEndLemmas.{of_audited_more}
@@ -126,6 +128,19 @@ wider_audit_in_part narrow wide settings file text front widen short = record {
   cut = short.cut;
 }
 
+wider_demo : (narrow wide : Rules) (settings : Settings) (seed frames : ℕ) (text : List ℕ)
+    → ((kind : DealKind) (place : ℕ) (rec : RecordValue) (shards number : ℕ) → narrow kind place rec shards number
+    → wide kind place rec shards number)
+    → IsDemoText settings narrow seed frames text → IsDemoText settings wide seed frames text
+wider_demo narrow wide settings seed frames text widen is = record {
+  records = is.records;
+  lists = is.lists;
+  dealt = wider_records narrow wide settings (made_capture seed frames) is.records is.lists widen is.dealt;
+  report = is.report;
+  is_report = is.is_report;
+  spelled = is.spelled;
+}
+
 wider_answer : (narrow wide : Rules) (keeping : Keeping) (command : Command) (read : InputBytes) (text : List ℕ)
     → ((kind : DealKind) (place : ℕ) (rec : RecordValue) (shards number : ℕ) → narrow kind place rec shards number
     → wide kind place rec shards number)
@@ -140,6 +155,9 @@ wider_answer narrow wide keeping (Audit settings) read text widen answer =
     of_audited_more read (λ file session. IsSoundSession settings narrow file session text)
     (λ file session. IsSoundSession settings wide file session text)
     (λ file session is. wider_sound narrow wide settings file session text widen is) answer
+wider_answer narrow wide keeping (Make seed frames) read text widen answer = answer
+wider_answer narrow wide keeping (Demo seed frames settings) read text widen answer =
+    wider_demo narrow wide settings seed frames text widen answer
 
 wider_answer_in_part : (narrow wide : Rules) (command : Command) (read : InputBytes) (front : List ℕ)
     → ((kind : DealKind) (place : ℕ) (rec : RecordValue) (shards number : ℕ) → narrow kind place rec shards number
@@ -155,6 +173,13 @@ wider_answer_in_part narrow wide (Audit settings) read front widen answer =
     of_audited_more read (λ file session. IsCutShort (IsAuditText settings narrow file session) front)
     (λ file session. IsCutShort (IsAuditText settings wide file session) front)
     (λ file session is. wider_audit_in_part narrow wide settings file session front widen is) answer
+wider_answer_in_part narrow wide (Make seed frames) read front widen answer = answer
+wider_answer_in_part narrow wide (Demo seed frames settings) read front widen answer = record {
+  text = answer.text;
+  is_text = wider_demo narrow wide settings seed frames answer.text widen answer.is_text;
+  begins = answer.begins;
+  cut = answer.cut;
+}
 
 pub wider_answers : (narrow wide : Rules) (keeping : Keeping) (words : List (List ℕ)) (read : InputBytes)
     (old new : Option (List ℕ))

@@ -4,10 +4,12 @@ use Rattle.command_words.specs.{AskFor}
 use Rattle.command_words.specs.declared.command.Command.{Command}
 use Rattle.std.specs.Io.KnownBytes.{Appends}
 use Rattle.outside_io.specs.{IsBeginning}
-use Rattle.command_words.specs.declared.command.Command.TheVariants.{Weigh, Report, Format, Audit}
+use Rattle.command_words.specs.declared.command.Command.TheVariants.{Weigh, Report, Format, Audit, Make, Demo}
 use Rattle.frame_records.specs.declared.weigh.Weigh.{Weigh as Weighing}
 use Rattle.prefix_lattice.specs.{PrefixValue}
 use Rattle.hhh_engine.specs.Audit.{IsAuditText, IsSoundSession}
+use Rattle.traffic_maker.specs.{made_capture}
+use Rattle.hhh_engine.specs.Demo.{IsDemoText}
 use Rattle.hhh_engine.specs.Inputs.{InputBytes, OfAudited, WasRead}
 use Rattle.hhh_engine.specs.WeightText.{IsWeightText}
 use Rattle.hhh_engine.specs.Session.{Keeping, Rules, IsSession, IsSessionInPart}
@@ -25,6 +27,8 @@ IsAnswer rules keeping (Report settings) read text =
 IsAnswer rules keeping (Format settings) read text = text ≡ formatted_text
 IsAnswer rules keeping (Audit settings) read text =
     OfAudited read (λ file session. IsSoundSession settings rules file session text)
+IsAnswer rules keeping (Make seed frames) read text = text ≡ made_capture seed frames
+IsAnswer rules keeping (Demo seed frames settings) read text = IsDemoText settings rules seed frames text
 
 -- bytes of a text, not all of them
 pub record IsCutShort (IsText : List ℕ → Type 0) (front : List ℕ) : Type 0 where
@@ -46,6 +50,8 @@ IsAnswerInPart rules (Report settings) read front =
 IsAnswerInPart rules (Format settings) read front = IsCutShort (λ text. text ≡ formatted_text) front
 IsAnswerInPart rules (Audit settings) read front =
     OfAudited read (λ file session. IsCutShort (IsAuditText settings rules file session) front)
+IsAnswerInPart rules (Make seed frames) read front = IsCutShort (λ text. text ≡ made_capture seed frames) front
+IsAnswerInPart rules (Demo seed frames settings) read front = IsCutShort (IsDemoText settings rules seed frames) front
 
 -- bytes of this kind were appended to what the sink held
 pub record Writes (IsText : List ℕ → Type 0) (old new : Option (List ℕ)) : Type 0 where

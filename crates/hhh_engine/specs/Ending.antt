@@ -132,6 +132,8 @@ WasAnswered (command.Audit settings) status =
 WasAnswered (command.Weigh prefix settings) status = status ≡ Done
 WasAnswered (command.Report settings) status = status ≡ Done
 WasAnswered (command.Format settings) status = status ≡ Done
+WasAnswered (command.Make seed frames) status = status ≡ Done
+WasAnswered (command.Demo seed frames settings) status = status ≡ Done
 
 -- the disk holds a store with no gate open, whatever a crash now leaves, where its bytes are known
 abbrev pub HoldsEmptyStore : Option (List ℕ) → (List ℕ → Type 0) → StoreSettings → Type 0
@@ -161,6 +163,8 @@ RefusesFor (command.Report settings) rules read store_now fault =
     RefusesStore settings rules read.capture read.store store_now fault
 RefusesFor (command.Format settings) rules read store_now fault = ⊥
 RefusesFor (command.Audit settings) rules read store_now fault = ⊥
+RefusesFor (command.Make seed frames) rules read store_now fault = ⊥
+RefusesFor (command.Demo seed frames settings) rules read store_now fault = ⊥
 
 -- within the crate: this happened to the disk, which the command may use
 abbrev pub OfDisk : Command → Type 0 → Type 0
@@ -168,6 +172,8 @@ OfDisk (command.Weigh prefix settings) happened = ⊥
 OfDisk (command.Report settings) happened = happened
 OfDisk (command.Format settings) happened = happened
 OfDisk (command.Audit settings) happened = ⊥
+OfDisk (command.Make seed frames) happened = ⊥
+OfDisk (command.Demo seed frames settings) happened = ⊥
 
 -- within the crate: what an audit found that ended so, and what it wrote of it
 abbrev pub AuditFinds : Settings → Rules → InputBytes → (old new : Option (List ℕ)) → Status → Type 0
@@ -184,6 +190,8 @@ abbrev pub FindsFor : Command → Rules → InputBytes → (old new : Option (Li
 FindsFor (command.Weigh prefix settings) rules read old new status = ⊥
 FindsFor (command.Report settings) rules read old new status = ⊥
 FindsFor (command.Format settings) rules read old new status = ⊥
+FindsFor (command.Make seed frames) rules read old new status = ⊥
+FindsFor (command.Demo seed frames settings) rules read old new status = ⊥
 FindsFor (command.Audit settings) rules read old new status = AuditFinds settings rules read old new status
 
 -- within the crate: how a command ended. IsText says what is its text, IsPart which bytes begin it, ReadToEnd that its

@@ -12,7 +12,7 @@ use Rattle.report_text.specs.{IsSessionText, longest_text}
 use Rattle.report_text.specs.declared.session.Session.{Session}
 use Rattle.command_words.specs.{AskFor}
 use Rattle.command_words.specs.declared.command.Command.{Command}
-use Rattle.command_words.specs.declared.command.Command.TheVariants.{Weigh, Report, Format, Audit}
+use Rattle.command_words.specs.declared.command.Command.TheVariants.{Weigh, Report, Format, Audit, Make, Demo}
 use Rattle.command_words.specs.declared.settings.Settings.{Settings}
 use Rattle.hhh_engine.specs.Saves.{store_settings}
 use Rattle.hhh_engine.specs.Session.{AreDealtFrom, Rules}
@@ -43,6 +43,8 @@ ReadsCapture (Weigh prefix settings) = ⊤
 ReadsCapture (Report settings) = ⊤
 ReadsCapture (Format settings) = ⊥
 ReadsCapture (Audit settings) = ⊤
+ReadsCapture (Make seed frames) = ⊥
+ReadsCapture (Demo seed frames settings) = ⊥
 
 -- this command reads the text of a session
 abbrev pub ReadsSession : Command → Type 0
@@ -50,6 +52,8 @@ ReadsSession (Weigh prefix settings) = ⊥
 ReadsSession (Report settings) = ⊥
 ReadsSession (Format settings) = ⊥
 ReadsSession (Audit settings) = ⊤
+ReadsSession (Make seed frames) = ⊥
+ReadsSession (Demo seed frames settings) = ⊥
 
 -- this command uses the disk of a store
 abbrev pub UsesStore : Command → Type 0
@@ -57,6 +61,8 @@ UsesStore (Weigh prefix settings) = ⊥
 UsesStore (Report settings) = settings.store ≡ true
 UsesStore (Format settings) = ⊤
 UsesStore (Audit settings) = ⊥
+UsesStore (Make seed frames) = ⊥
+UsesStore (Demo seed frames settings) = ⊥
 
 -- what a command reads was read to its end
 abbrev pub WasRead : Command → InputBytes → Type 0
@@ -64,6 +70,8 @@ WasRead (Weigh prefix settings) read = IsAtEnd read.capture_left
 WasRead (Report settings) read = IsAtEnd read.capture_left
 WasRead (Format settings) read = ⊤
 WasRead (Audit settings) read = IsAtEnd read.capture_left × IsAtEnd read.text_left
+WasRead (Make seed frames) read = ⊤
+WasRead (Demo seed frames settings) read = ⊤
 
 -- the file is a capture of some frames
 abbrev pub IsCapture : List ℕ → Type 0
@@ -79,6 +87,8 @@ WasAccepted (Weigh prefix settings) read = IfSome read.capture IsCapture
 WasAccepted (Report settings) read = IfSome read.capture IsCapture
 WasAccepted (Format settings) read = ⊤
 WasAccepted (Audit settings) read = IfSome read.capture IsCapture
+WasAccepted (Make seed frames) read = ⊤
+WasAccepted (Demo seed frames settings) read = ⊤
 
 -- the bytes of a source are known, and they are a capture of some frames
 pub record HasKnownCapture (bytes : Option (List ℕ)) : Type 0 where
@@ -115,6 +125,8 @@ CanBeAnswered rules (Report settings) read =
     HasKnownCapture read.capture × (settings.store ≡ true → HasKnownStore settings rules read)
 CanBeAnswered rules (Format settings) read = ⊤
 CanBeAnswered rules (Audit settings) read = HasKnownCapture read.capture × HasKnownSession read.text
+CanBeAnswered rules (Make seed frames) read = ⊤
+CanBeAnswered rules (Demo seed frames settings) read = ⊤
 
 -- the arguments ask for a command that uses something
 pub record AskToUse (Uses : Command → Type 0) (words : List (List ℕ)) : Type 0 where

@@ -1,12 +1,15 @@
 //! Laws of what commands write, each the contract of a function that does nothing.
 
-ghost use Rattle.std.specs.Prelude.{◌≡◌, ℕ, ◌+◌, ◌++◌, List, All, Option, IfSome, IsSomeAnd};
+ghost use Rattle.std.specs.Prelude.{◌≡◌, ℕ, ◌+◌, ◌++◌, ◌≤◌, List, length, All, Option, IfSome, IsSomeAnd};
 ghost use Rattle.prefix_lattice.specs.{RecordValue};
 ghost use Rattle.deal_rules.specs.{dealer_of};
 ghost use Rattle.deal_rules.specs.declared.deal_kind.DealKind.{DealKind};
 ghost use Rattle.hhh_engine.specs.Answer.{Answers, AnswersInPart};
 ghost use Rattle.hhh_engine.specs.Ending.{FoundUnsound};
 ghost use Rattle.hhh_engine.specs.Inputs.{InputBytes};
+ghost use Rattle.pcap_frames.specs.{FrameValue};
+ghost use Rattle.frame_records.specs.{HasFrames};
+ghost use Rattle.traffic_maker.specs.{made_capture, most_made};
 ghost use Rattle.exact_audit.specs.{IsVerdict};
 ghost use Rattle.exact_audit.specs.declared.verdict.Verdict.{Verdict};
 ghost use Rattle.exact_audit.specs.declared.verdict.Verdict.TheVariants.{Good};
@@ -112,3 +115,8 @@ pub fn own_reports_are_good<D: Disk>()
 {
     a_report_has_one_verdict();
 }
+
+/// A made capture is a capture of its frames.
+pub fn made_captures_are_captures()
+    ensures { (seed count : ℕ) → count ≤ most_made → (frames : List FrameValue) × HasFrames (made_capture seed count) frames × (length frames ≡ count) }
+{}

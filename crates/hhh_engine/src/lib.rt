@@ -14,7 +14,7 @@ pub use commands::LiveRounds;
 pub use exact_audit::Verdict;
 pub use laws::{
     answers_follow_formulas, last_reports_are_one, last_saves_are_at_the_ends,
-    own_reports_are_good, resumed_sessions_end_alike, saves_belong,
+    made_captures_are_captures, own_reports_are_good, resumed_sessions_end_alike, saves_belong,
     sessions_without_rounds_have_one_report,
 };
 pub use status::{Status, fault_line};

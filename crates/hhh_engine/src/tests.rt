@@ -4,6 +4,7 @@ ghost use Rattle.deal_rules.specs.{IsAsked};
 mod audits;
 mod captures;
 mod gates;
+mod made;
 mod refusals;
 mod reports;
 mod rounds;
@@ -180,4 +181,17 @@ fn a_free_rule_deals_as_it_answers(rt: HostRuntime) -> Result<(), Fail> {
 fn tells_each_status(rt: HostRuntime) -> Result<(), Fail> {
     let alloc = rt.alloc();
     refusals::tells_each_status(&rt, alloc)
+}
+
+#[test]
+fn makes_traffic(rt: HostRuntime) -> Result<(), Fail> {
+    let alloc = rt.alloc();
+    let dealers = Dealers {
+        round: Dealer::new(DealKind::RoundRobin, Box::new(alloc, by_place)?),
+        source: Dealer::new(DealKind::BySource, Box::new(alloc, by_source)?),
+        free: Dealer::new(DealKind::Free, Box::new(alloc, by_both)?),
+    };
+    made::makes_a_capture(&rt, alloc, &dealers)?;
+    made::demonstrates(&rt, alloc, &dealers)?;
+    made::demonstrates_the_same_with_one_worker(&rt, alloc, &dealers)
 }

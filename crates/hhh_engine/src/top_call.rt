@@ -30,7 +30,9 @@ ghost use Rattle.hhh_engine.specs.declared.status.Status.TheVariants.{Done, BadW
 
 use crate::Status;
 use crate::commands::audit::audit;
+use crate::commands::demo::demo;
 use crate::commands::format::format;
+use crate::commands::make::make;
 use crate::commands::report::report;
 use crate::commands::weigh::weigh;
 use command_words::{Command, read_words};
@@ -63,6 +65,11 @@ use std::thread::Threads;
 /// `audit` reads a capture and the text of a session to their ends, deals the records, and audits each report of the
 /// session by these records alone. It writes one line: how many reports there are, if all are sound, else what is wrong
 /// with the first that is not.
+///
+/// `make SEED FRAMES` writes the capture of so many frames that the seed makes.
+///
+/// `demo SEED FRAMES` makes that capture in memory, deals its records to shards, counts them by workers, reports on all of
+/// them, and audits the report. It writes a summary, which says that the audit found the report sound.
 ///
 /// `gate` is called around each fold and each read, and changes nothing of what is written.
 pub fn run<R: Threads + Wait + Sync, S: Source, T: Source, K: Sink, D: Disk, G: Gate + Sync>(
@@ -199,6 +206,7 @@ fn answer<R: Threads + Wait + Sync, S: Source, T: Source, K: Sink, D: Disk, G: G
         sink.old sink.new (K.taken sink.old) (K.taken sink.new) (K.faults sink.old) (K.faults sink.new) result }
     ensures told { (result ≡ DiskFault → ⊥) → D.faults disk.new ≡ D.faults disk.old }
     ensures unused { (UsesStore command.now → ⊥) → disk.new ≡ disk.old }
+    ensures reads { (fault : CaptureFault) → result ≡ BadCapture fault → ReadsCapture command.now }
     ensures unread { (ReadsCapture command.now → ⊥) → capture.new ≡ capture.old }
     ensures text_unread { (ReadsSession command.now → ⊥) → text.new ≡ text.old }
     ensures formats { (settings : Settings) → command.now ≡ Format settings → FormatEnds (store_settings settings)
@@ -211,5 +219,11 @@ fn answer<R: Threads + Wait + Sync, S: Source, T: Source, K: Sink, D: Disk, G: G
         }
         Command::Format(settings) => format(settings, sink, disk),
         Command::Audit(settings) => audit(alloc, settings, capture, text, sink, dealers),
+        Command::Make { seed, frames } => make(*seed, *frames, sink),
+        Command::Demo {
+            seed,
+            frames,
+            settings,
+        } => demo(rt, alloc, *seed, *frames, settings, sink, gate, dealers),
     }
 }

@@ -122,8 +122,8 @@ fn run_feed<R: Threads + Wait + Sync, K: Sink, D: Disk, G: Gate + Sync>(
     Ok(gathered)
 }
 
-// The threads that the settings ask for.
-fn plan_of(settings: &Settings) -> ThreadPlan
+/// The threads that the settings ask for.
+pub(crate) fn plan_of(settings: &Settings) -> ThreadPlan
     ensures { result ≡ record {
       workers = settings.now.workers;
       callers = settings.now.callers;

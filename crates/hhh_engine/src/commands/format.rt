@@ -2,11 +2,12 @@
 
 ghost use Rattle.std.specs.Prelude.{⊤, ℕ, ◌≡◌, List, Option};
 ghost use Rattle.outside_io.specs.{Rose};
+ghost use Rattle.pcap_frames.specs.declared.fault.CaptureFault.{CaptureFault};
 ghost use Rattle.command_words.specs.{AreLimited};
 ghost use Rattle.hhh_engine.specs.Answer.{IsCutShort, formatted_text};
 ghost use Rattle.hhh_engine.specs.Ending.{Ends, FormatEnds, SourceFaults};
 ghost use Rattle.hhh_engine.specs.Saves.{store_settings};
-ghost use Rattle.hhh_engine.specs.declared.status.Status.TheVariants.{DiskFault};
+ghost use Rattle.hhh_engine.specs.declared.status.Status.TheVariants.{BadCapture, DiskFault};
 
 use crate::commands::base::store_settings;
 use crate::{Settings, Status};
@@ -23,6 +24,7 @@ pub(crate) fn format<K: Sink, D: Disk>(settings: &Settings, sink: &mut K, disk: 
         sink.old sink.new (K.taken sink.old) (K.taken sink.new) (K.faults sink.old) (K.faults sink.new) result }
     ensures store { FormatEnds (store_settings settings.now) (D.reads disk.new) (D.image_now disk.new)
         sink.old sink.new disk.old disk.new result }
+    ensures no_capture { (fault : CaptureFault) → result ≡ BadCapture fault → ⊥ }
     ensures told { (result ≡ DiskFault → ⊥) → D.faults disk.new ≡ D.faults disk.old }
 {
     formatted_stores_are_empty();

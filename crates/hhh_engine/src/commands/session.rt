@@ -101,8 +101,13 @@ pub(crate) fn write_session<R: Threads + Wait + Sync, K: Sink, D: Disk, G: Gate 
     )
 }
 
-// Puts the shards of dealt lists on a board, from the base on.
-fn open(alloc: Global, dealt: Dealt, base: Option<Cut>, capacity: u32) -> Result<Opened, AllocError>
+/// Puts the shards of dealt lists on a board, from the base on.
+pub(crate) fn open(
+    alloc: Global,
+    dealt: Dealt,
+    base: Option<Cut>,
+    capacity: u32,
+) -> Result<Opened, AllocError>
     requires least { least_capacity ≤ capacity }
     requires most { capacity ≤ most_capacity }
     requires fits { IfSome base (GoesOn capacity dealt) }

@@ -20,7 +20,7 @@ use std::thread::Threads;
 // The arguments, what is wrong with them, and the line that reports it.
 type Case = (&'static [&'static str], WordsKind, &'static str);
 
-const CASES: [Case; 12] = [
+const CASES: [Case; 14] = [
     (&[], WordsKind::NoCommand, "hhh: bad words: no command\n"),
     (
         &["way"],
@@ -72,6 +72,16 @@ const CASES: [Case; 12] = [
         &["report", "x"],
         WordsKind::Refused,
         "hhh: bad words: refused\n",
+    ),
+    (
+        &["make", "7", "0"],
+        WordsKind::OutOfLimits(Opt::Frames),
+        "hhh: bad words: limits\n",
+    ),
+    (
+        &["make", "7", "1000001"],
+        WordsKind::OutOfLimits(Opt::Frames),
+        "hhh: bad words: limits\n",
     ),
 ];
 

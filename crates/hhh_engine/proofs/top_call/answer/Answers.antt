@@ -1,5 +1,5 @@
 use Rattle.std.proofs.Common.{refl}
-use Rattle.command_words.specs.declared.command.Command.TheVariants.{Weigh, Report, Format, Audit}
+use Rattle.command_words.specs.declared.command.Command.TheVariants.{Weigh, Report, Format, Audit, Make, Demo}
 use Rattle.hhh_engine.specs.Inputs.{inputs}
 use Rattle.hhh_engine.specs.Saves.{kept_in}
 use Rattle.hhh_engine.proofs.AuditEndLemmas.{audit_ends_as}
@@ -33,3 +33,19 @@ returns-in-Audit-clause-ends g c =
     (kept_in g.D.Disk.reads g.D.Disk.image_now g.D.Disk.moment g.D.Disk.image_since c.args.disk.now c.args.disk.now) given
     (g.D.Disk.reads c.args.disk.now) _ _ _ _ _ _ _ _ _ c.audit.result refl
     (c.audit.ensures (g.D.Disk.reads c.args.disk.now)))
+
+pub returns-in-Make-clause-ends : goal.returns-in-Make-clause-ends
+returns-in-Make-clause-ends g c =
+    ends_as _ _ c.args.command.now (Make c.in-Make.seed c.in-Make.frames)
+    (inputs (g.S.Source.left c.args.capture.now) (g.S.Source.left c.args.capture.now) (g.T.Source.left c.args.text.now)
+    (g.T.Source.left c.args.text.now) (g.D.Disk.reads c.args.disk.now)) _ _ _ _ _ _ _ _ _ _ _ c.make.result
+    c.in-Make.is (ends_beside _ _ _ _ _ (λ fault. ⊥) (λ status. ⊥) _ _ _ _ _ _ _ _ _ c.make.result refl
+    (c.make.ensures.ends (g.S.Source.left c.args.capture.now) _))
+
+pub returns-in-Demo-clause-ends : goal.returns-in-Demo-clause-ends
+returns-in-Demo-clause-ends g c =
+    ends_as _ _ c.args.command.now (Demo c.in-Demo.seed c.in-Demo.frames c.in-Demo.settings)
+    (inputs (g.S.Source.left c.args.capture.now) (g.S.Source.left c.args.capture.now) (g.T.Source.left c.args.text.now)
+    (g.T.Source.left c.args.text.now) (g.D.Disk.reads c.args.disk.now)) _ _ _ _ _ _ _ _ _ _ _ c.demo.result
+    c.in-Demo.is (ends_beside _ _ _ _ _ (λ fault. ⊥) (λ status. ⊥) _ _ _ _ _ _ _ _ _ c.demo.result refl
+    (c.demo.ensures.ends (g.S.Source.left c.args.capture.now) _))

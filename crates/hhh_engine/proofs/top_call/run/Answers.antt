@@ -4,7 +4,7 @@ use Rattle.hhh_engine.specs.Ending.{FormatEnds}
 use Rattle.hhh_engine.specs.Inputs.{ReadsCapture}
 use Rattle.hhh_engine.specs.Saves.{store_settings}
 use Rattle.hhh_engine.proofs.AuditLemmas.{finds_as, found_as, refused_text_as, refuses_text_as}
-use Rattle.hhh_engine.proofs.StatusLemmas.{answered_as, happened_to_disk, only_reads, ran_out, refused_as, refused_for}
+use Rattle.hhh_engine.proofs.StatusLemmas.{answered_as, happened_to_disk, ran_out, refused_as, refused_for}
 use Rattle.hhh_engine.proofs.StatusLemmas.{refuses_as, same_command}
 use Rattle.hhh_engine.proofs.top_call.run.Goals as goal
 
@@ -36,7 +36,7 @@ returns-clause-complete g c = λ command asked can no_read_fault no_write_fault 
     _ _ _ _ _ _ _ _ _ _ _ _ _ c.answer.result
     (same_command c.read_words.result _ command c.in-Ok.command (c.read_words.ensures.complete command asked) c.in-Ok.is)
     c.in-Ok.ensures.limited can no_read_fault no_write_fault
-    (λ rose. no_disk_fault (happened_to_disk c.in-Ok.command _ rose)) (only_reads _ _ _ _ _ _ c.in-Ok.command c.answer.result c.answer.ensures.formats)
+    (λ rose. no_disk_fault (happened_to_disk c.in-Ok.command _ rose)) c.answer.ensures.reads
     c.answer.ensures.ends
 
 pub returns-in-Err-clause-refuses_store : goal.returns-in-Err-clause-refuses_store

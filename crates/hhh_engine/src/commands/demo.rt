@@ -1,0 +1,224 @@
+//! The demonstration: made traffic is counted, reported and audited.
+
+ghost use Rattle.std.specs.Prelude.{⊤, ◌≡◌, ◌≤◌, ℕ, List, length, Option, None, IfErr, IfOk};
+ghost use Rattle.shard_state.specs.{capacity_of};
+ghost use Rattle.prefix_lattice.specs.{most_records};
+ghost use Rattle.pcap_frames.specs.{FrameValue};
+ghost use Rattle.frame_records.specs.{AreRecordsOf, HasFrames, HasRecords};
+ghost use Rattle.deal_rules.specs.{dealer_of};
+ghost use Rattle.pcap_frames.specs.declared.fault.CaptureFault.{CaptureFault};
+ghost use Rattle.traffic_maker.specs.{made_capture, most_made};
+ghost use Rattle.pass_tokens.specs.{WordsValue};
+ghost use Rattle.gate_workers.specs.{View};
+ghost use Rattle.command_words.specs.{AreLimited, IsWide};
+ghost use Rattle.hhh_engine.specs.Answer.{IsCutShort};
+ghost use Rattle.hhh_engine.specs.Demo.{IsDemoText, IsWholeReport, demo_text as text_of_demo};
+ghost use Rattle.hhh_engine.specs.Ending.{Ends, SourceFaults};
+ghost use Rattle.hhh_engine.specs.Feed.{IsOpened};
+ghost use Rattle.hhh_engine.specs.NoText.{HasNoText};
+ghost use Rattle.hhh_engine.specs.Session.{IsShown, ends_of};
+ghost use Rattle.hhh_engine.specs.declared.status.Status.TheVariants.{BadCapture};
+
+use crate::commands::dealing::deal_records;
+use crate::commands::feed::plan_of;
+use crate::commands::made_source::MadeSource;
+use crate::commands::session::{Opened, open, openings_stand};
+use crate::decimal_text::push_number;
+use crate::laws::made_captures_are_captures;
+use crate::{Settings, Status};
+use deal_rules::{Dealer, Dealers, Deals, Dealt};
+use exact_audit::{Verdict, audit};
+use frame_records::{Records, Weigh, files_are_read_or_refused, read_records};
+use gate_workers::{Gate, OpenGate, Rounds, report_once, run_threads};
+use hhh_output::Report;
+use outside_io::{Sink, Source, write_all};
+use pass_tokens::{Board, Pass};
+use std::alloc::{AllocError, Global};
+use std::marker::Sync;
+use std::sync::Wait;
+use std::thread::Threads;
+use traffic_maker::make_bytes;
+
+/// Makes a capture in memory, counts its records, reports on all of them, audits that report, and writes a summary.
+pub(crate) fn demo<R: Threads + Wait + Sync, K: Sink, G: Gate + Sync>(
+    rt: &R,
+    alloc: Global,
+    seed: u64,
+    frames: u32,
+    settings: &Settings,
+    sink: &mut K,
+    gate: &G,
+    dealers: &Dealers,
+) -> Status
+    requires frames { (1 ≤ frames) × (frames ≤ most_made) }
+    requires limited { AreLimited settings.now }
+    requires wide { IsWide settings.now }
+    ensures ends { (capture : Option (List ℕ)) (faults : SourceFaults) → Ends
+        (IsDemoText settings.now (λ kind. ⟦<Dealer as Deals>⟧.may_answer (dealer_of kind dealers.now)) seed frames)
+        (IsCutShort (IsDemoText settings.now (λ kind. ⟦<Dealer as Deals>⟧.may_answer (dealer_of kind dealers.now)) seed frames))
+        ⊤ ⊤ ⊥ ⊤ (λ fault. ⊥) (λ status. ⊥) capture faults faults
+        sink.old sink.new (K.taken sink.old) (K.taken sink.new) (K.faults sink.old) (K.faults sink.new) result }
+    ensures no_capture { (fault : CaptureFault) → result ≡ BadCapture fault → ⊥ }
+{
+    let text = match demo_text(rt, alloc, seed, frames, settings, gate, dealers) {
+        Ok(text) => text,
+        Err(_) => return Status::OutOfMemory,
+    };
+    match write_all(sink, &text) {
+        Ok(()) => Status::Done,
+        Err(_) => Status::WriteFault,
+    }
+}
+
+// The summary of a capture that is made, counted, reported and audited.
+fn demo_text<R: Threads + Wait + Sync, G: Gate + Sync>(
+    rt: &R,
+    alloc: Global,
+    seed: u64,
+    frames: u32,
+    settings: &Settings,
+    gate: &G,
+    dealers: &Dealers,
+) -> Result<Vec<u8>, AllocError>
+    requires frames { (1 ≤ frames) × (frames ≤ most_made) }
+    requires limited { AreLimited settings.now }
+    requires wide { IsWide settings.now }
+    ensures { IfOk result (λ text. IsDemoText settings.now (λ kind. ⟦<Dealer as Deals>⟧.may_answer (dealer_of kind dealers.now)) seed frames text.items) }
+{
+    let records = made_records(alloc, seed, frames, settings.weigh)?;
+    let dealt = deal_records(alloc, &records.list, settings, dealers)?;
+    // What is audited is a copy, so that the audit shares nothing with the shards.
+    let plain = dealt.copy(alloc)?;
+    let report = report_all(rt, alloc, dealt, settings, gate)?;
+    match audit(alloc, &plain, &report, settings.capacity, settings.phi)? {
+        Verdict::Good => summary(alloc, seed, frames, records.list.len() as u64, &report),
+        _ => unreachable!(),
+    }
+}
+
+// The records of the capture of this many frames that a seed makes.
+fn made_records(alloc: Global, seed: u64, frames: u32, weigh: Weigh) -> Result<Records, AllocError>
+    requires { (1 ≤ frames) × (frames ≤ most_made) }
+    ensures records { IfOk result (λ records. (made : List FrameValue) × HasFrames (made_capture seed frames) made × AreRecordsOf weigh made records) }
+    ensures few { IfOk result (λ records. length records.list ≤ most_records) }
+{
+    made_captures_are_captures();
+    files_are_read_or_refused();
+    let mut capture = MadeSource::new(alloc, make_bytes(alloc, seed, frames)?);
+    let status = match read_capture(alloc, &mut capture, weigh) {
+        Ok(records) => return Ok(records),
+        Err(status) => status,
+    };
+    // A made capture is one, and is read without a fault.
+    match status {
+        Status::OutOfMemory => Err(AllocError),
+        _ => unreachable!(),
+    }
+}
+
+// The records of a capture, which is read to its end.
+fn read_capture<S: Source>(alloc: Global, capture: &mut S, weigh: Weigh) -> Result<Records, Status>
+    ensures records { IfOk result (HasRecords weigh (S.left capture.old)) }
+    ensures few { IfOk result (λ records. length records.list ≤ most_records) }
+    ensures refused { IfErr result (HasNoText (S.left capture.old) (S.faults capture.old) (S.faults capture.new)) }
+{
+    Ok(read_records(alloc, capture, weigh)?)
+}
+
+// Counts all dealt records in new tables, and reports on them.
+fn report_all<R: Threads + Wait + Sync, G: Gate + Sync>(
+    rt: &R,
+    alloc: Global,
+    dealt: Dealt,
+    settings: &Settings,
+    gate: &G,
+) -> Result<Report, AllocError>
+    requires limited { AreLimited settings.now }
+    requires wide { IsWide settings.now }
+    requires shards { length dealt ≡ settings.now.shards }
+    ensures { IfOk result (IsWholeReport settings.now dealt) }
+{
+    openings_stand(&dealt, &None, settings.capacity);
+    let opened = open(alloc, dealt, None, settings.capacity)?;
+    let report = report_opened(rt, alloc, opened, settings, gate)?;
+    Ok(report)
+}
+
+// Counts all records of the shards on a board, and reports on them.
+fn report_opened<R: Threads + Wait + Sync, G: Gate + Sync>(
+    rt: &R,
+    alloc: Global,
+    opened: Opened,
+    settings: &Settings,
+    gate: &G,
+) -> Result<Report, AllocError>
+    requires limited { AreLimited settings.now }
+    requires wide { IsWide settings.now }
+    requires opened { IsOpened opened.board.opening opened }
+    requires alike { capacity_of opened.board.opening ≡ settings.now.capacity }
+    ensures shown { IfOk result (λ report. IsShown opened.board.opening settings.now (record { report = report; saved = None })) }
+    ensures at_ends { IfOk result (λ report. report.positions ≡ ends_of opened.board.opening) }
+{
+    let Opened { board, pass, cut } = opened;
+    let mut cut = cut;
+    let mut rounds = NoRounds;
+    let gathered = run_threads(
+        rt,
+        alloc,
+        &board,
+        pass,
+        &plan_of(settings),
+        gate,
+        &mut rounds,
+    )?;
+    let mut pass = gathered.pass;
+    let report = report_once(
+        rt,
+        alloc,
+        &board,
+        &mut pass,
+        0,
+        0,
+        settings.phi,
+        &mut cut,
+        &OpenGate,
+    )?;
+    Ok(report)
+}
+
+// The calling thread makes no rounds.
+#[derive(Drop)]
+struct NoRounds;
+
+impl Rounds for NoRounds {
+    ghost use Rattle.std.specs.Prelude.{⊤, ◌≡◌};
+
+    ghost ready = { λ rounds board view. ⊤ };
+
+    ghost stays = { λ rounds board before now later ready. ready };
+
+    ghost does = { λ rounds before later now. now ≡ before };
+
+    fn go<R: Wait>(&mut self, _rt: &R, _alloc: Global, _board: &Board, _pass: &mut Pass) {}
+}
+
+// The lines that say what was made, counted and reported, and that the audit found the report sound.
+fn summary(
+    alloc: Global,
+    seed: u64,
+    frames: u32,
+    records: u64,
+    report: &Report,
+) -> Result<Vec<u8>, AllocError>
+    ensures { IfOk result (λ text. text.items ≡ text_of_demo seed frames records report.now) }
+{
+    let mut text = Vec::new(alloc);
+    push_number(&mut text, b"demo ", seed)?;
+    push_number(&mut text, b" ", u64::from(frames))?;
+    push_number(&mut text, b"\nrecords ", records)?;
+    push_number(&mut text, b"\ntotal ", report.total)?;
+    push_number(&mut text, b"\nthreshold ", report.threshold)?;
+    push_number(&mut text, b"\nlines ", report.lines.len() as u64)?;
+    text.extend_from_slice(b"\naudit good\nend\n")?;
+    Ok(text)
+}

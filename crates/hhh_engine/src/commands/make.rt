@@ -1,0 +1,25 @@
+//! The making of a capture.
+
+ghost use Rattle.std.specs.Prelude.{⊤, ◌≡◌, ◌≤◌, ℕ, List, Option};
+ghost use Rattle.pcap_frames.specs.declared.fault.CaptureFault.{CaptureFault};
+ghost use Rattle.traffic_maker.specs.{made_capture, most_made};
+ghost use Rattle.hhh_engine.specs.Answer.{IsCutShort};
+ghost use Rattle.hhh_engine.specs.Ending.{Ends, SourceFaults};
+ghost use Rattle.hhh_engine.specs.declared.status.Status.TheVariants.{BadCapture};
+
+use crate::Status;
+use outside_io::Sink;
+
+/// Writes the capture of this many frames that a seed makes.
+pub(crate) fn make<K: Sink>(seed: u64, frames: u32, sink: &mut K) -> Status
+    requires { (1 ≤ frames) × (frames ≤ most_made) }
+    ensures ends { (capture : Option (List ℕ)) (faults : SourceFaults) → Ends (λ text. text ≡ made_capture seed frames)
+        (IsCutShort (λ text. text ≡ made_capture seed frames)) ⊤ ⊤ ⊥ ⊤ (λ fault. ⊥) (λ status. ⊥) capture faults faults
+        sink.old sink.new (K.taken sink.old) (K.taken sink.new) (K.faults sink.old) (K.faults sink.new) result }
+    ensures no_capture { (fault : CaptureFault) → result ≡ BadCapture fault → ⊥ }
+{
+    match traffic_maker::make(seed, frames, sink) {
+        Ok(()) => Status::Done,
+        Err(_) => Status::WriteFault,
+    }
+}

@@ -1,0 +1,88 @@
+//! Made traffic, and what `demo` says of it.
+
+use super::captures::HEADER;
+use super::{Outside, SOUND, run_over};
+use crate::Status;
+use deal_rules::Dealers;
+use std::alloc::Global;
+use std::marker::Sync;
+use std::process::Abort;
+use std::sync::Wait;
+use std::test::Fail;
+use std::thread::Threads;
+
+// The one frame that seed 7 makes first: from 10.0.3.40 to 20.166.26.127, 100 bytes on the wire.
+const FRAME: [u8; 50] = [
+    0, 0, 0, 0, 0, 0, 0, 0, 34, 0, 0, 0, 100, 0, 0, 0, // at second 0, 34 bytes captured
+    2, 0, 0, 0, 0, 2, 2, 0, 0, 0, 0, 1, 8, 0, // Ethernet
+    0x45, 0, 0, 86, 0, 0, 0, 0, 64, 17, 0, 0, 10, 0, 3, 40, 20, 166, 26, 127, // IPv4
+];
+
+pub(crate) fn makes_a_capture<R: Abort + Threads + Wait + Sync>(
+    rt: &R,
+    alloc: Global,
+    dealers: &Dealers,
+) -> Result<(), Fail> {
+    let mut capture = Vec::from_slice(alloc, &HEADER)?;
+    capture.extend_from_slice(&FRAME)?;
+    let words = ["make", "7", "1"];
+    let ended = run_over(rt, alloc, dealers, &words, Vec::new(alloc), SOUND)?;
+    assert_eq!(rt; ended.status, Status::Done);
+    assert_eq!(rt; ended.text.as_slice(), capture.as_slice());
+
+    // A sink with room for 30 bytes takes a part of it.
+    let full = Outside { room: 30, ..SOUND };
+    let ended = run_over(rt, alloc, dealers, &words, Vec::new(alloc), full)?;
+    assert_eq!(rt; ended.status, Status::WriteFault);
+    assert_eq!(rt; ended.text.as_slice(), &capture[..30]);
+    Ok(())
+}
+
+pub(crate) fn demonstrates<R: Abort + Threads + Wait + Sync>(
+    rt: &R,
+    alloc: Global,
+    dealers: &Dealers,
+) -> Result<(), Fail> {
+    let words = ["demo", "7", "1"];
+    let ended = run_over(rt, alloc, dealers, &words, Vec::new(alloc), SOUND)?;
+    assert_eq!(rt; ended.status, Status::Done);
+    let summary =
+        b"demo 7 1\nrecords 1\ntotal 100\nthreshold 1\nlines 1\naudit good\nend\n".as_slice();
+    assert_eq!(rt; ended.text.as_slice(), summary);
+
+    let fails = Outside {
+        sink_fails: &[0],
+        ..SOUND
+    };
+    let ended = run_over(rt, alloc, dealers, &words, Vec::new(alloc), fails)?;
+    assert_eq!(rt; ended.status, Status::WriteFault);
+    assert_eq!(rt; ended.text.as_slice(), b"".as_slice());
+    Ok(())
+}
+
+// 2,000 frames: 2,000 records and 500,000 bytes, of which 1 % is the threshold. How many lines there are is the same
+// however many workers count.
+pub(crate) fn demonstrates_the_same_with_one_worker<R: Abort + Threads + Wait + Sync>(
+    rt: &R,
+    alloc: Global,
+    dealers: &Dealers,
+) -> Result<(), Fail> {
+    let words = ["demo", "7", "2000", "--shards=8"];
+    let ended = run_over(rt, alloc, dealers, &words, Vec::new(alloc), SOUND)?;
+    assert_eq!(rt; ended.status, Status::Done);
+    let before_the_lines = b"demo 7 2000\nrecords 2000\ntotal 500000\nthreshold 5000\nlines ";
+    assert!(rt; ended.text.as_slice().starts_with(before_the_lines));
+    assert!(rt; ended.text.as_slice().ends_with(b"\naudit good\nend\n"));
+
+    let words = [
+        "demo",
+        "7",
+        "2000",
+        "--shards=8",
+        "--workers=1",
+        "--block=1",
+    ];
+    let other = run_over(rt, alloc, dealers, &words, Vec::new(alloc), SOUND)?;
+    assert_eq!(rt; other.text.as_slice(), ended.text.as_slice());
+    Ok(())
+}
