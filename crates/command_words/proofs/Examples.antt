@@ -4,7 +4,8 @@ use Rattle.std.proofs.lemmas.List.Elements.{All-cons, All-nil}
 use Rattle.std.proofs.lemmas.List.Kept.{AllPairs-cons}
 use Rattle.std.specs.List.{All, AllPairs, Contains}
 use Rattle.command_words.specs.Arguments.{Text, Argument, positional, option, hyphen, equals_sign, IsValue, IsName}
-use Rattle.command_words.specs.Arguments.{long, Spells, Begins, SpellsAll, positionals_in, names_in, value_of, named, Form}
+use Rattle.command_words.specs.Arguments.{long, Spells, Begins, SpellsAll, positionals_in, names_in, value_of, named}
+use Rattle.command_words.specs.Arguments.{Form}
 use Rattle.command_words.specs.Arguments.{AreOfForm, AreWellFormed}
 use Rattle.command_words.specs.Scanning.{form_named, option_name, text_at, FitsRest}
 use Rattle.command_words.specs.Forms.{form_of}

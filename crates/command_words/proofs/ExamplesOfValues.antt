@@ -1,5 +1,6 @@
 -- Worked examples of the values of options, and of what they set.
-use Rattle.std.proofs.Common.{◌≡◌, ◌⊎◌, ◌<◌, ◌^◌, ℕ, zero, suc, List, [], ◌∷◌, get_or, true, false, Some, None, inl, inr, refl, sym, subst, codes}
+use Rattle.std.proofs.Common.{◌≡◌, ◌⊎◌, ◌<◌, ◌^◌, ℕ, zero, suc, List, [], ◌∷◌, get_or, true, false, Some, None, inl}
+use Rattle.std.proofs.Common.{inr, refl, sym, subst, codes}
 use Rattle.std.proofs.Common.{false, arith}
 use Rattle.std.specs.Fmt.{digits}
 use Rattle.std.proofs.lemmas.Fmt.{first_decimal, decimal_injective}
@@ -92,7 +93,8 @@ dealing_that_is_no_choice = (refl, no_dealing_by_hash)
 
 -- in `--deal hash --shards 17` the shards are looked at first
 abbrev two_bad_values : Values
-two_bad_values = values_in command.Report (option (codes "deal") (codes "hash") ∷ option (codes "shards") (codes "17") ∷ [])
+two_bad_values =
+    values_in command.Report (option (codes "deal") (codes "hash") ∷ option (codes "shards") (codes "17") ∷ [])
 
 good_before_shards : (other : Opt) → place_of other < place_of Shards → IsGood other (two_bad_values other)
 good_before_shards Seed before = tt

@@ -1,5 +1,6 @@
 -- Worked examples of whole command lines: what they ask, or what is wrong with them.
-use Rattle.std.proofs.Common.{◌≡◌, ◌≢◌, ◌<◌, ℕ, zero, suc, List, [], ◌∷◌, length, inl, inr, refl, sym, subst, codes, true}
+use Rattle.std.proofs.Common.{◌≡◌, ◌≢◌, ◌<◌, ℕ, zero, suc, List, [], ◌∷◌, length, inl, inr, refl, sym, subst, codes}
+use Rattle.std.proofs.Common.{true}
 use Rattle.std.proofs.Common.{arith}
 use Rattle.std.specs.Prelude.{slice_index}
 use Rattle.std.specs.Fmt.{digits}
@@ -454,7 +455,8 @@ words_for_many_shards = record {
   };
 }
 
-good_before_shards : (other : Opt) → place_of other < place_of opt.Shards → IsGood other (values_in Report many_shards other)
+good_before_shards : (other : Opt) → place_of other < place_of opt.Shards
+    → IsGood other (values_in Report many_shards other)
 good_before_shards opt.Seed before = tt
 good_before_shards opt.Frames before = tt
 good_before_shards opt.Weigh before = tt

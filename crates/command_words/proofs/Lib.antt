@@ -10,6 +10,7 @@ pub mod ParserNameLemmas
 pub mod ParserLemmas
 pub mod ValueLemmas
 pub mod OneValueFaultLemmas
+pub mod GivenLemmas
 pub mod OneMeaningLemmas
 pub mod MatchLemmas
 pub mod FirstWordLemmas

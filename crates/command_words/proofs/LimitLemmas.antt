@@ -2,12 +2,14 @@
 use Rattle.std.proofs.Common.{◌≡◌, ◌<◌, ◌≤◌, ◌^◌, ℕ, List, Option, Some, None, refl, sym, subst, arith}
 use Rattle.command_words.specs.Arguments.{Text}
 use Rattle.command_words.specs.Options.{Kind, number, kind_of, IsAllowed, greatest_frames}
-use Rattle.command_words.specs.Settings.{Values, SetsNumber, SetsSettings, GivesNumber, GivesTraffic, AreLimited, CanBeMade}
+use Rattle.command_words.specs.Settings.{Values, SetsNumber, SetsSettings, GivesNumber, GivesTraffic, AreLimited}
+use Rattle.command_words.specs.Settings.{CanBeMade}
 use Rattle.command_words.specs.Words.{AskFor, IsLimited}
 use Rattle.command_words.specs.declared.command.Command.{Command}
 use Rattle.command_words.specs.declared.command.Command.TheVariants.{Weigh, Report, Format, Audit, Make, Demo}
 use Rattle.command_words.specs.declared.opt.Opt.{Opt}
-use Rattle.command_words.specs.declared.opt.Opt.TheVariants.{Seed, Frames, Shards, Capacity, Phi, Block, Workers, Callers, Rounds}
+use Rattle.command_words.specs.declared.opt.Opt.TheVariants.{Seed, Frames, Shards, Capacity, Phi, Block, Workers}
+use Rattle.command_words.specs.declared.opt.Opt.TheVariants.{Callers, Rounds}
 use Rattle.command_words.specs.declared.settings.Settings.{Settings}
 
 -- a number that an option sets is within its limits, if the default is

@@ -1,5 +1,6 @@
 -- What `clap` tells of words is what the words say.
-use Rattle.std.proofs.Common.{◌≡◌, ◌<◌, ◌≤◌, ℕ, zero, suc, List, [], ◌∷◌, length, Option, Some, None, Bor, refl, sym, ap}
+use Rattle.std.proofs.Common.{◌≡◌, ◌<◌, ◌≤◌, ℕ, zero, suc, List, [], ◌∷◌, length, Option, Some, None, Bor, refl, sym}
+use Rattle.std.proofs.Common.{ap}
 use Rattle.std.proofs.Common.{ap₂, ◌∙◌, subst, arith, codes, slice_index_or}
 use Rattle.std.proofs.Math.Path.{fun_ext}
 use Rattle.std.specs.Prelude.{slice_get, Contains, IsSome, unwrap_or}
@@ -9,7 +10,8 @@ use Rattle.command_words.specs.Arguments.{Text, Argument, Form, positionals_in, 
 use Rattle.command_words.specs.Scanning.{text_at}
 use Rattle.command_words.specs.Forms.{form_of}
 use Rattle.command_words.specs.Options.{name_of}
-use Rattle.command_words.specs.Settings.{values_in, store_in, SetsNumber, SetsSettings, GivesNumber, GivesTraffic, IsWide}
+use Rattle.command_words.specs.Settings.{values_in, store_in, SetsNumber, SetsSettings, GivesNumber, GivesTraffic}
+use Rattle.command_words.specs.Settings.{IsWide}
 use Rattle.command_words.specs.OneValue.{SetsGiven}
 use Rattle.command_words.specs.Matches.{AreMatchesOf, AreMatchesOfWords, values_in_matches, store_in_matches}
 use Rattle.command_words.specs.Paths.{NamesPath}

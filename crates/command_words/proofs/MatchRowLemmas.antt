@@ -76,12 +76,7 @@ told_option name (id ∷ ids) (positional text ∷ arguments) apart =
     first_behind name id text (told ids arguments) (All-head (λ i. i ≢ name) id ids apart)
     ∙ told_option name ids arguments (All-tail (λ i. i ≢ name) id ids apart)
 told_option name ids (option other value ∷ arguments) apart =
-    go (bytes_eq other name) refl (told_option name ids arguments apart)
-  where
-    go : (b : Bool) → bytes_eq other name ≡ b → first_of name (told ids arguments) ≡ value_of name arguments
-        → first_of name (row other value ∷ told ids arguments) ≡ value_of name (option other value ∷ arguments)
-    go true is behind = rw is refl
-    go false is behind = rw is behind
+    named_behind name other value (told ids arguments) arguments (told_option name ids arguments apart)
 
 -- a name of a positional gives the one in its place
 pub told_positional : (place : ℕ) (name : Text) (ids : List Text) (arguments : List Argument)

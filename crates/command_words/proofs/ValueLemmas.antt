@@ -21,7 +21,10 @@ use Rattle.command_words.specs.declared.opt.Opt.TheVariants as opt
 -- the option at a place
 abbrev opt_at : ℕ → Opt
 opt_at place =
-    if place == 0 then opt.Seed else if place == 1 then opt.Frames else if place == 2 then opt.Weigh else if place == 3 then opt.Shards else if place == 4 then opt.Capacity else if place == 5 then opt.Phi else if place == 6 then opt.Deal else if place == 7 then opt.Block else if place == 8 then opt.Workers else if place == 9 then opt.Callers else opt.Rounds
+    if place == 0 then opt.Seed else if place == 1 then opt.Frames else if place == 2 then opt.Weigh else
+    if place == 3 then opt.Shards else if place == 4 then opt.Capacity else if place == 5 then opt.Phi else
+    if place == 6 then opt.Deal else if place == 7 then opt.Block else if place == 8 then opt.Workers else
+    if place == 9 then opt.Callers else opt.Rounds
 
 at_place : (opt : Opt) → opt_at (place_of opt) ≡ opt
 at_place opt.Seed = refl

@@ -11,7 +11,8 @@ use Rattle.command_words.specs.Options.{greatest_frames}
 use Rattle.command_words.specs.Options.{greatest_block, greatest_workers, greatest_callers, greatest_rounds}
 use Rattle.command_words.specs.declared.command_word.CommandWord.{CommandWord}
 use Rattle.command_words.specs.declared.opt.Opt.{Opt}
-use Rattle.command_words.specs.declared.opt.Opt.TheVariants.{Seed, Frames, Weigh as ByWeigh, Shards, Capacity, Phi, Deal}
+use Rattle.command_words.specs.declared.opt.Opt.TheVariants.{Seed, Frames, Weigh as ByWeigh, Shards, Capacity, Phi}
+use Rattle.command_words.specs.declared.opt.Opt.TheVariants.{Deal}
 use Rattle.command_words.specs.declared.opt.Opt.TheVariants.{Block, Workers, Callers, Rounds}
 use Rattle.command_words.specs.declared.settings.Settings.{Settings}
 use Rattle.prefix_lattice.specs.{most_shards}

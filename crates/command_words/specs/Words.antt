@@ -6,7 +6,8 @@ use Rattle.prefix_lattice.specs.declared.prefix_fault.PrefixFault.{PrefixFault}
 use Rattle.command_words.specs.Arguments.{Text, Argument, positionals_in, AreWellFormed}
 use Rattle.command_words.specs.Forms.{word_of, form_of, AreWordsOf}
 use Rattle.command_words.specs.Options.{Kind, kind_of, place_of, IsGood, IsNoNumber, IsOutside, IsNoChoice}
-use Rattle.command_words.specs.Settings.{Values, values_in, store_in, SetsSettings, GivesTraffic, IsWide, AreLimited, CanBeMade}
+use Rattle.command_words.specs.Settings.{Values, values_in, store_in, SetsSettings, GivesTraffic, IsWide, AreLimited}
+use Rattle.command_words.specs.Settings.{CanBeMade}
 use Rattle.command_words.specs.declared.command.Command.{Command}
 use Rattle.command_words.specs.declared.command.Command.TheVariants as command
 use Rattle.command_words.specs.declared.command_word.CommandWord.{CommandWord}
