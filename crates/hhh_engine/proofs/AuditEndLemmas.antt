@@ -1,5 +1,5 @@
 -- How an audit of a session ended, step by step.
-use Rattle.std.proofs.Common.{◌≡◌, ◌⊎◌, ◌≤◌, ◌<◌, ◌+◌, ◌++◌, ◌∙◌, ℕ, List, [], length, All, Option, None, Some, IfSome}
+use Rattle.std.proofs.Common.{◌≡◌, ◌≤◌, ◌<◌, ◌+◌, ◌++◌, ◌∙◌, ℕ, List, length, Option, None, Some, IfSome}
 use Rattle.std.proofs.Common.{inl, inr, ⊎_elim, refl, sym, ap, subst, arith, append-nil}
 use Rattle.std.specs.Prelude.{⊤}
 use Rattle.std.specs.Io.KnownBytes.{Appends, Consumes, IsAtEnd}
@@ -7,16 +7,15 @@ use Rattle.std.proofs.lemmas.Bool.{cases_lt}
 use Rattle.std.proofs.lemmas.List.{length-append}
 use Rattle.outside_io.specs.{AppendsBeginning, Rose}
 use Rattle.prefix_lattice.specs.{RecordValue}
-use Rattle.hhh_output.specs.declared.reports.Reported.{Reported}
-use Rattle.report_text.specs.{HasSessionFault, HasTextFault, longest_text}
+use Rattle.report_text.specs.{HasSessionFault, longest_text}
 use Rattle.report_text.specs.declared.session.Session.{Session}
 use Rattle.report_text.specs.declared.session_fault.SessionFault.{SessionFault}
 use Rattle.report_text.specs.declared.session_fault.SessionFault.TheVariants as session
 use Rattle.report_text.specs.declared.session_fault.TextFault.TheVariants.{TooLong}
 use Rattle.command_words.specs.declared.command.Command.TheVariants.{Audit}
 use Rattle.command_words.specs.declared.settings.Settings.{Settings}
-use Rattle.hhh_engine.specs.Answer.{IsCutShort, Writes}
-use Rattle.hhh_engine.specs.Audit.{AreAudited, IsAuditText, IsSoundSession, IsUnsoundSession, WasReadToLimit, unsound_text}
+use Rattle.hhh_engine.specs.Answer.{IsCutShort}
+use Rattle.hhh_engine.specs.Audit.{AreAudited, IsAuditText, IsSoundSession, IsUnsoundSession}
 use Rattle.hhh_engine.specs.Auditing.{AreInputsOf, HasNoAudit, IsAnswerOf, SaysOf}
 use Rattle.hhh_engine.specs.Ending.{AuditFinds, Ends, SourceFaults}
 use Rattle.hhh_engine.specs.Inputs.{InputBytes, IsCapture, OfAudited, WasRead, inputs}

@@ -24,5 +24,6 @@ pub mod Examples
 pub mod ExamplesOfStatuses
 pub mod ExamplesOfSessions
 pub mod ExamplesOfAnswers
+pub mod ExamplesOfAudits
 pub mod ExamplesOfRounds
 pub mod ExamplesOfSaves

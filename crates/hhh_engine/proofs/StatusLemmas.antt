@@ -22,8 +22,8 @@ use Rattle.report_text.specs.declared.session.Session.{Session}
 use Rattle.report_text.specs.declared.session_fault.TextFault.{TextFault}
 use Rattle.exact_audit.specs.declared.verdict.Verdict.{Verdict}
 use Rattle.hhh_engine.specs.Audit.{IsAuditText, IsSoundSession, IsUnsoundSession}
-use Rattle.hhh_engine.specs.Answer.{IsAnswer, IsAnswerInPart, IsCutShort, IsWeightTextInPart, formatted_text}
-use Rattle.hhh_engine.specs.Ending.{Ends, FindsFor, FormatEnds, IsRefusedStore, OfDisk, OneRose, RefusedStore, RefusesFor}
+use Rattle.hhh_engine.specs.Answer.{IsAnswer, IsAnswerInPart, IsCutShort, IsWeightTextInPart}
+use Rattle.hhh_engine.specs.Ending.{Ends, FindsFor, IsRefusedStore, OfDisk, OneRose, RefusedStore, RefusesFor}
 use Rattle.hhh_engine.specs.Ending.{RefusesStore, SourceFaults, WasAnswered}
 use Rattle.hhh_engine.specs.Inputs.{CanBeAnswered, HasKnownCapture, HasKnownStore, IsCapture, ReadsCapture}
 use Rattle.hhh_engine.specs.Inputs.{InputBytes, WasAccepted, WasRead}

@@ -1,5 +1,5 @@
 -- Answers under rules of dealing that allow more.
-use Rattle.std.proofs.Common.{◌⊎◌, ⊎_elim, inl, inr, ℕ, List, Option, IfSome}
+use Rattle.std.proofs.Common.{⊎_elim, inl, inr, ℕ, List, Option}
 use Rattle.report_text.specs.declared.session.Session.{Session}
 use Rattle.exact_audit.specs.declared.verdict.Verdict.{Verdict}
 use Rattle.prefix_lattice.specs.{RecordValue}
@@ -14,7 +14,7 @@ use Rattle.hhh_engine.specs.Audit.{AreAudited, IsAuditText, IsSoundSession, IsUn
 use Rattle.traffic_maker.specs.{made_capture}
 use Rattle.hhh_engine.specs.Demo.{IsDemoText}
 use Rattle.hhh_engine.specs.Ending.{FoundUnsound}
-use Rattle.hhh_engine.specs.Inputs.{InputBytes, OfAudited}
+use Rattle.hhh_engine.specs.Inputs.{InputBytes}
 use Rattle.hhh_engine.proofs.AuditEndLemmas.{of_audited_more}
 use Rattle.hhh_engine.proofs.CaptureLemmas.{if_known}
 use Rattle.command_words.specs.declared.settings.Settings.{Settings}

@@ -1,5 +1,5 @@
 -- What `audit` does step by step, which no public contract cites.
-use Rattle.std.specs.Prelude.{⊤, ℕ, ◌≡◌, List, length, All, Option, IfSome}
+use Rattle.std.specs.Prelude.{⊤, ℕ, ◌≡◌, List, length, All, IfSome}
 use Rattle.std.specs.Io.KnownBytes.{IsAtEnd}
 use Rattle.outside_io.specs.{Rose}
 use Rattle.prefix_lattice.specs.{RecordValue}
@@ -13,7 +13,6 @@ use Rattle.hhh_engine.specs.Inputs.{InputBytes, IsCapture, OfAudited}
 use Rattle.hhh_engine.specs.Session.{Rules}
 use Rattle.hhh_engine.specs.declared.commands.audit.Answer.{Answer}
 use Rattle.hhh_engine.specs.declared.commands.audit.Audited.{Audited}
-use Rattle.hhh_engine.specs.declared.commands.audit.Unsound.{Unsound}
 use Rattle.hhh_engine.specs.declared.status.Status.{Status}
 use Rattle.hhh_engine.specs.declared.status.Status.TheVariants.{Done, BadCapture, ReadFault, AuditNo, BadReport, OutOfMemory}
 

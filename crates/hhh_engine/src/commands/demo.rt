@@ -1,6 +1,6 @@
 //! The demonstration: made traffic is counted, reported and audited.
 
-ghost use Rattle.std.specs.Prelude.{⊤, ◌≡◌, ◌≤◌, ℕ, List, length, Option, None, IfErr, IfOk};
+ghost use Rattle.std.specs.Prelude.{⊤, ◌≡◌, ◌≤◌, ◌↔◌, ℕ, List, length, Option, None, IfErr, IfOk};
 ghost use Rattle.shard_state.specs.{capacity_of};
 ghost use Rattle.prefix_lattice.specs.{most_records};
 ghost use Rattle.pcap_frames.specs.{FrameValue};
@@ -8,8 +8,9 @@ ghost use Rattle.frame_records.specs.{AreRecordsOf, HasFrames, HasRecords};
 ghost use Rattle.deal_rules.specs.{dealer_of};
 ghost use Rattle.pcap_frames.specs.declared.fault.CaptureFault.{CaptureFault};
 ghost use Rattle.traffic_maker.specs.{made_capture, most_made};
-ghost use Rattle.pass_tokens.specs.{WordsValue};
-ghost use Rattle.gate_workers.specs.{View};
+ghost use Rattle.hhh_output.specs.{IsSound};
+ghost use Rattle.exact_audit.specs.{IsVerdict};
+ghost use Rattle.exact_audit.specs.declared.verdict.Verdict.TheVariants.{Good};
 ghost use Rattle.command_words.specs.{AreLimited, IsWide};
 ghost use Rattle.hhh_engine.specs.Answer.{IsCutShort};
 ghost use Rattle.hhh_engine.specs.Demo.{IsDemoText, IsWholeReport, demo_text as text_of_demo};
@@ -90,10 +91,24 @@ fn demo_text<R: Threads + Wait + Sync, G: Gate + Sync>(
     // What is audited is a copy, so that the audit shares nothing with the shards.
     let plain = dealt.copy(alloc)?;
     let report = report_all(rt, alloc, dealt, settings, gate)?;
-    match audit(alloc, &plain, &report, settings.capacity, settings.phi)? {
+    match verdict_on(alloc, &plain, &report, settings)? {
         Verdict::Good => summary(alloc, seed, frames, records.list.len() as u64, &report),
         _ => unreachable!(),
     }
+}
+
+// The verdict on a report over dealt records.
+fn verdict_on(
+    alloc: Global,
+    plain: &Dealt,
+    report: &Report,
+    settings: &Settings,
+) -> Result<Verdict, AllocError>
+    requires { AreLimited settings.now }
+    ensures verdict { IfOk result (IsVerdict plain.now settings.now.capacity settings.now.phi report.now) }
+    ensures good { IfOk result (λ verdict. (verdict ≡ Good) ↔ IsSound report.now plain.now settings.now.capacity settings.now.phi) }
+{
+    audit(alloc, plain, report, settings.capacity, settings.phi)
 }
 
 // The records of the capture of this many frames that a seed makes.

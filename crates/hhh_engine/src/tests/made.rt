@@ -60,29 +60,22 @@ pub(crate) fn demonstrates<R: Abort + Threads + Wait + Sync>(
     Ok(())
 }
 
-// 2,000 frames: 2,000 records and 500,000 bytes, of which 1 % is the threshold. How many lines there are is the same
-// however many workers count.
+// 200,000 frames: 200,000 records and 50,000,000 bytes, of which 1 % is the threshold. Another program of the same
+// algorithm, that of bench/space_saving.c, also has 28 lines. However many workers count, they are the same.
 pub(crate) fn demonstrates_the_same_with_one_worker<R: Abort + Threads + Wait + Sync>(
     rt: &R,
     alloc: Global,
     dealers: &Dealers,
 ) -> Result<(), Fail> {
-    let words = ["demo", "7", "2000", "--shards=8"];
+    let words = ["demo", "7", "200000", "--shards=8"];
     let ended = run_over(rt, alloc, dealers, &words, Vec::new(alloc), SOUND)?;
     assert_eq!(rt; ended.status, Status::Done);
-    let before_the_lines = b"demo 7 2000\nrecords 2000\ntotal 500000\nthreshold 5000\nlines ";
-    assert!(rt; ended.text.as_slice().starts_with(before_the_lines));
-    assert!(rt; ended.text.as_slice().ends_with(b"\naudit good\nend\n"));
+    let summary =
+        b"demo 7 200000\nrecords 200000\ntotal 50000000\nthreshold 500000\nlines 28\naudit good\nend\n".as_slice();
+    assert_eq!(rt; ended.text.as_slice(), summary);
 
-    let words = [
-        "demo",
-        "7",
-        "2000",
-        "--shards=8",
-        "--workers=1",
-        "--block=1",
-    ];
+    let words = ["demo", "7", "200000", "--shards=8", "--workers=1"];
     let other = run_over(rt, alloc, dealers, &words, Vec::new(alloc), SOUND)?;
-    assert_eq!(rt; other.text.as_slice(), ended.text.as_slice());
+    assert_eq!(rt; other.text.as_slice(), summary);
     Ok(())
 }

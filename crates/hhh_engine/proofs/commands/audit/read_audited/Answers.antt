@@ -1,4 +1,4 @@
-use Rattle.std.proofs.Common.{length, subst, ap, sym}
+use Rattle.std.proofs.Common.{subst}
 use Rattle.std.proofs.lemmas.Result.{err_from_is_err_and}
 use Rattle.frame_records.specs.{HasFrames}
 use Rattle.report_text.specs.{HasSessionFault}

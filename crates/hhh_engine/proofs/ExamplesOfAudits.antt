@@ -1,0 +1,94 @@
+-- Worked examples of audits and of the demonstration.
+use Rattle.std.proofs.Common.{◌≡◌, [], ◌∷◌, Some, None, inr, refl, arith, codes}
+use Rattle.std.specs.Fmt.{digits}
+use Rattle.std.proofs.lemmas.List.Elements.{All-cons, All-nil}
+use Rattle.hhh_output.specs.declared.report.Report.{Report}
+use Rattle.exact_audit.specs.{IsVerdict}
+use Rattle.exact_audit.specs.declared.verdict.Verdict.TheVariants.{BadPositions, BadTotal, TooWide, Good}
+use Rattle.pcap_frames.specs.declared.fault.FaultKind.TheVariants.{ShortHeader}
+use Rattle.pcap_frames.specs.{fault_at}
+use Rattle.hhh_engine.specs.Audit.{IsFirstUnsound, IsSoundOver, WasReadToLimit, sound_text, unsound_text, verdict_text}
+use Rattle.hhh_engine.specs.Auditing.{HasNoAudit, HasNoBytes, SaysOf}
+use Rattle.hhh_engine.specs.Demo.{IsWholeReport, demo_text}
+use Rattle.hhh_engine.specs.Ending.{source_faults}
+use Rattle.hhh_engine.specs.Inputs.{inputs}
+use Rattle.hhh_engine.specs.declared.status.Status.TheVariants.{Done, BadCapture, ReadFault, OutOfMemory}
+use Rattle.hhh_engine.proofs.ExamplesOfAnswers.{empty_file_has_no_text}
+use Rattle.hhh_engine.proofs.ExamplesOfSessions.{last, lists, nothing_is_sound, report, report_at_the_ends}
+use Rattle.hhh_engine.proofs.ExamplesOfSessions.{settings}
+
+pub text_of_a_wide_line : verdict_text (TooWide 12) ≡ codes "too wide in line 12"
+unfolding digits
+text_of_a_wide_line = refl
+
+pub text_of_three_sound_reports : sound_text 3 ≡ codes "good 3\n"
+unfolding digits
+text_of_three_sound_reports = refl
+
+pub text_of_the_second_report : unsound_text 2 BadTotal ≡ codes "report 2: bad total\n"
+unfolding digits
+text_of_the_second_report = refl
+
+-- a report of no records in four shards is sound, and so is one that was saved after
+pub last_report_is_sound : IsSoundOver settings lists last
+last_report_is_sound = nothing_is_sound
+
+-- a report of one record of the first shard, which has none
+abbrev past : Report
+past = record report { positions = 1 ∷ 0 ∷ 0 ∷ 0 ∷ [] }
+
+past_the_end : IsVerdict lists 512 10000 past BadPositions
+past_the_end within = omega (arith, within.0)
+
+-- it is the first that is not sound
+pub second_report_is_past_the_end :
+    IsFirstUnsound settings lists (last ∷ record { report = past; saved = None } ∷ []) 2 BadPositions
+second_report_is_past_the_end = record {
+  before = 1;
+  counted = refl;
+  reported = record { report = past; saved = None };
+  is = refl;
+  found = past_the_end;
+  not_good = λ is. cc is;
+  sound = All-cons (IsSoundOver settings lists) last [] last_report_is_sound (All-nil (IsSoundOver settings lists));
+}
+
+-- a report that is good is not the first that isn't
+pub good_report_is_not_unsound : IsFirstUnsound settings lists (last ∷ []) 1 Good → ⊥
+good_report_is_not_unsound first = first.not_good refl
+
+-- the first byte of two was read
+pub one_byte_was_read : WasReadToLimit (Some (1 ∷ 2 ∷ [])) (Some (2 ∷ []))
+one_byte_was_read = record { front = 1 ∷ []; consumed = refl; limit = omega arith }
+
+-- ---- within the crate
+
+pub bytes_of_a_failed_source : HasNoBytes 3 4 ReadFault
+bytes_of_a_failed_source = omega arith
+
+pub bytes_are_there_at_success : HasNoBytes 3 3 Done → ⊥
+bytes_are_there_at_success none = none
+
+pub audit_of_an_empty_capture : HasNoAudit (inputs (Some []) (Some []) None None None) (source_faults 0 0)
+    (source_faults 0 0) (BadCapture (fault_at ShortHeader 0))
+audit_of_an_empty_capture = empty_file_has_no_text
+
+pub audit_whose_text_failed : HasNoAudit (inputs None None None None None) (source_faults 3 0) (source_faults 3 1) ReadFault
+audit_whose_text_failed = inr (omega arith)
+
+pub audit_of_one_report : SaysOf settings lists (last ∷ []) (sound_text 1) Done
+audit_of_one_report =
+    (All-cons (IsSoundOver settings lists) last [] last_report_is_sound (All-nil (IsSoundOver settings lists)), refl)
+
+pub audit_says_nothing_without_memory : SaysOf settings lists (last ∷ []) [] OutOfMemory → ⊥
+audit_says_nothing_without_memory says = says
+
+-- ---- the demonstration
+
+pub text_of_a_demonstration :
+    demo_text 7 0 0 report ≡ codes "demo 7 0\nrecords 0\ntotal 0\nthreshold 1\nlines 0\naudit good\nend\n"
+unfolding digits
+text_of_a_demonstration = refl
+
+pub report_of_no_records : IsWholeReport settings lists report
+report_of_no_records = record { is_report = report_at_the_ends; at_ends = refl; is_sound = nothing_is_sound }
