@@ -11,7 +11,7 @@ use Rattle.report_text.specs.{HasSessionFault, longest_text}
 use Rattle.report_text.specs.declared.session.Session.{Session}
 use Rattle.report_text.specs.declared.session_fault.SessionFault.{SessionFault}
 use Rattle.report_text.specs.declared.session_fault.SessionFault.TheVariants as session
-use Rattle.report_text.specs.declared.session_fault.TextFault.TheVariants.{TooLong}
+use Rattle.report_text.specs.declared.session_fault.TextFault.TheVariants.{BadLine, MissingEnd, TooLong}
 use Rattle.command_words.specs.declared.command.Command.TheVariants.{Audit}
 use Rattle.command_words.specs.declared.settings.Settings.{Settings}
 use Rattle.hhh_engine.specs.Answer.{IsCutShort}
@@ -62,13 +62,27 @@ pub text_refused : (capture capture_left text text_left store : Option (List ℕ
     → (length bytes ≤ longest_text → IsAtEnd text_left) → HasSessionFault bytes fault
     → (longest_text < length bytes → fault ≡ session.Text TooLong)
     → HasNoAudit (inputs capture capture_left text text_left store) before now (status_of_session fault)
-text_refused capture capture_left text text_left store before now bytes (session.Text fault) read is_capture consumed
-    limit at_end has too_long = (
-      read,
-      is_capture,
-      text_has_fault text text_left bytes (session.Text fault) consumed at_end has too_long,
-      record { front = bytes; consumed = consumed; limit = limit },
-    )
+text_refused capture capture_left text text_left store before now bytes (session.Text TooLong) read is_capture consumed
+    limit at_end has too_long = record {
+      read_to_end = read;
+      accepted = is_capture;
+      first_fault = text_has_fault text text_left bytes (session.Text TooLong) consumed at_end has too_long;
+      read_to_limit = record { front = bytes; consumed = consumed; limit = omega (arith, limit, has) };
+    }
+text_refused capture capture_left text text_left store before now bytes (session.Text (BadLine line)) read is_capture
+    consumed limit at_end has too_long = record {
+      read_to_end = read;
+      accepted = is_capture;
+      first_fault = text_has_fault text text_left bytes (session.Text (BadLine line)) consumed at_end has too_long;
+      read_to_limit = at_end has.0;
+    }
+text_refused capture capture_left text text_left store before now bytes (session.Text (MissingEnd line)) read is_capture
+    consumed limit at_end has too_long = record {
+      read_to_end = read;
+      accepted = is_capture;
+      first_fault = text_has_fault text text_left bytes (session.Text (MissingEnd line)) consumed at_end has too_long;
+      read_to_limit = at_end has.0;
+    }
 text_refused capture capture_left text text_left store before now bytes session.OutOfMemory read is_capture consumed
     limit at_end has too_long = tt
 

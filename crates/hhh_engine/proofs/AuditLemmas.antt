@@ -185,7 +185,7 @@ refuses_exactly never_both one_fault no_fault rules keeping settings given store
 refuses_exactly never_both one_fault no_fault rules keeping settings given store_now ReadToEnd DiskSame read_before
     read_now sink written old new write_before write_now (BadReport wrong) file bytes frames fault is_file capture is_text has ends =
     inl (ap BadReport (one_fault bytes wrong fault
-    (of_file given.text bytes (λ t. HasTextFault t wrong) is_text ends.0.2) has))
+    (of_file given.text bytes (λ t. HasTextFault t wrong) is_text ends.0.first_fault) has))
 refuses_exactly never_both one_fault no_fault rules keeping settings given store_now ReadToEnd DiskSame read_before
     read_now sink written old new write_before write_now OutOfMemory file bytes frames fault is_file capture is_text has ends =
     inr (inr refl)
@@ -259,7 +259,7 @@ finds_exactly never_both no_fault one rules keeping settings given store_now Rea
     written old new write_before write_now (BadReport wrong) file bytes frames known report verdict is_file capture is_text is_session
     not_long first ends =
     absurd (no_fault bytes known wrong is_session not_long
-    (of_file given.text bytes (λ t. HasTextFault t wrong) is_text ends.0.2))
+    (of_file given.text bytes (λ t. HasTextFault t wrong) is_text ends.0.first_fault))
 finds_exactly never_both no_fault one rules keeping settings given store_now ReadToEnd DiskSame read_before read_now sink
     written old new write_before write_now OutOfMemory file bytes frames known report verdict is_file capture is_text is_session
     not_long first ends =
@@ -315,10 +315,7 @@ refused_text rules words (Demo seed frames settings) given old new fault sink wr
 refused_text rules words (Audit settings) given old new fault sink written disk stands asked finds same untouched = record {
   settings = settings;
   asked = asked;
-  read_to_end = finds.0;
-  accepted = finds.1;
-  first_fault = finds.2;
-  read_to_limit = finds.3;
+  refusal = finds;
   unwritten = same;
   untouched = untouched;
 }

@@ -14,7 +14,7 @@ use Rattle.hhh_engine.specs.Answer.{Answers, AnswersInPart, IsAnswer, IsAnswerIn
 use Rattle.hhh_engine.specs.Answer.{IsCutShort, formatted_text}
 use Rattle.hhh_engine.specs.Inputs.{AskNotToUse, AskToUse, CanBeAnswered, HasKnownCapture, ReadsCapture, ReadsSession}
 use Rattle.hhh_engine.specs.Inputs.{UsesStore, WasAccepted, WasRead, inputs}
-use Rattle.hhh_engine.specs.Ending.{Ends, FailedDisk, FailedToRead, FailedToWrite, FormatEnds, RefusedCapture}
+use Rattle.hhh_engine.specs.Ending.{Ends, FailedDisk, FailedToRead, FailedToWrite, FormatEnds, RefusedCapture, SourceFailed}
 use Rattle.hhh_engine.specs.Ending.{OfDisk, OneRose, RefusedWords, RefusesFor, RefusesStore, WasAnswered, WroteInPart}
 use Rattle.hhh_engine.specs.Ending.{source_faults}
 use Rattle.recovery.specs.declared.fault.OpenFault.{OpenFault}
@@ -220,25 +220,58 @@ pub no_command_before_a_read :
     RefusedWords {S = List ℕ} {T = List ℕ} {K = List ℕ} {D = List ℕ} [] NoCommand (1 ∷ 2 ∷ []) (2 ∷ []) [] [] [] []
     [] [] → ⊥
 no_command_before_a_read refused =
-    let same : 2 ≡ 1 = ap (λ bytes. get_or bytes 0 0) refused.unread in omega (arith, same)
+    let same : 2 ≡ 1 = ap (λ bytes. get_or bytes 0 0) refused.nothing.unread in omega (arith, same)
 
 pub no_command :
     RefusedWords {S = List ℕ} {T = List ℕ} {K = List ℕ} {D = List ℕ} [] NoCommand (1 ∷ 2 ∷ []) (1 ∷ 2 ∷ []) (3 ∷ [])
     (3 ∷ []) [] [] (7 ∷ []) (7 ∷ [])
-no_command = record { first_fault = refl; unread = refl; text_unread = refl; unwritten = refl; untouched = refl }
+no_command = record {
+  first_fault = refl;
+  nothing = record { unread = refl; text_unread = refl; unwritten = refl; untouched = refl };
+}
 
 pub empty_file_is_refused :
-    RefusedCapture {K = List ℕ} {D = List ℕ} (Some []) (fault_at ShortHeader 0) [] [] (7 ∷ []) (7 ∷ [])
-empty_file_is_refused = record { first_fault = empty_file_has_no_text; unwritten = refl; untouched = refl }
+    RefusedCapture {T = List ℕ} {K = List ℕ} {D = List ℕ} words (Some []) (fault_at ShortHeader 0) (3 ∷ []) (3 ∷ []) [] []
+    (7 ∷ []) (7 ∷ [])
+empty_file_is_refused = record {
+  asked = report_asks_to_read;
+  first_fault = empty_file_has_no_text;
+  text_unread = refl;
+  unwritten = refl;
+  untouched = refl;
+}
 
 -- a disk that changed isn't untouched
 pub capture_refused_after_a_save :
-    RefusedCapture {K = List ℕ} {D = List ℕ} (Some []) (fault_at ShortHeader 0) [] [] (7 ∷ []) (8 ∷ []) → ⊥
+    RefusedCapture {T = List ℕ} {K = List ℕ} {D = List ℕ} words (Some []) (fault_at ShortHeader 0) [] [] [] [] (7 ∷ [])
+    (8 ∷ []) → ⊥
 capture_refused_after_a_save refused =
     let same : 8 ≡ 7 = ap (λ bytes. get_or bytes 0 0) refused.untouched in omega (arith, same)
 
-pub source_failed : FailedToRead {K = List ℕ} {D = List ℕ} (source_faults 3 0) (source_faults 4 0) [] [] (7 ∷ []) (7 ∷ [])
-source_failed = record { rose = inl (omega arith); unwritten = refl; untouched = refl }
+-- nor is a text of which a byte was read before the capture was refused
+pub capture_refused_after_the_text_was_read :
+    RefusedCapture {T = List ℕ} {K = List ℕ} {D = List ℕ} words (Some []) (fault_at ShortHeader 0) (3 ∷ 4 ∷ []) (4 ∷ []) [] []
+    [] [] → ⊥
+capture_refused_after_the_text_was_read refused =
+    let same : 4 ≡ 3 = ap (λ bytes. get_or bytes 0 0) refused.text_unread in omega (arith, same)
+
+pub source_failed :
+    FailedToRead {T = List ℕ} {K = List ℕ} {D = List ℕ} words (inputs (Some header) (Some []) None None None)
+    (source_faults 3 0) (source_faults 4 0) [] [] [] [] (7 ∷ []) (7 ∷ [])
+source_failed = record {
+  failed = inl (record { reads = report_asks_to_read; rose = omega arith; text_unread = refl });
+  unwritten = refl;
+  untouched = refl;
+}
+
+-- the source of a text fails only once the capture was read to its end
+pub text_failed_too_early :
+    SourceFailed {T = List ℕ} ⊤ ⊤ (inputs (Some header) (Some (1 ∷ [])) None None None) (source_faults 3 0)
+    (source_faults 3 1) (3 ∷ []) [] → ⊥
+text_failed_too_early failed =
+    ⊎_elim
+    (λ capture. omega (arith, capture.rose))
+    (λ text. let none : 1 ≡ 0 = ap (λ (bytes : List ℕ). length bytes) text.read_to_end in omega (arith, none)) failed
 
 -- the text of a session may fail instead, and its count alone tells
 pub text_failed : OneRose (source_faults 3 0) (source_faults 3 1)
@@ -258,7 +291,11 @@ nothing_was_written_in_part = inl refl
 pub disk_failed_in_the_session :
     FailedDisk {K = List ℕ} in_turn words (inputs (Some header) (Some []) None None None) [] (codes "opened 0 0 0") (Some [])
     (Some (codes "opened 0 0 0")) 3 4
-disk_failed_in_the_session = record { rose = omega arith; in_part = inr session_was_written_in_part }
+disk_failed_in_the_session = record {
+  asked = record { command = report_command settings; asked = asks_for_a_report; uses = tt };
+  rose = omega arith;
+  in_part = inr session_was_written_in_part;
+}
 
 -- where no store is asked for, none is refused
 pub no_store_is_refused : (fault : OpenFault)

@@ -1,13 +1,15 @@
 -- Worked examples of audits and of the demonstration.
-use Rattle.std.proofs.Common.{◌≡◌, [], ◌∷◌, Some, None, inr, refl, arith, codes}
+use Rattle.std.proofs.Common.{◌≡◌, ◌+◌, ◌∙◌, ℕ, List, [], ◌∷◌, length, Some, None, inr, refl, ap, arith, codes}
+use Rattle.std.proofs.lemmas.List.{length-append}
 use Rattle.std.specs.Fmt.{digits}
 use Rattle.std.proofs.lemmas.List.Elements.{All-cons, All-nil}
 use Rattle.hhh_output.specs.declared.report.Report.{Report}
 use Rattle.exact_audit.specs.{IsVerdict}
 use Rattle.exact_audit.specs.declared.verdict.Verdict.TheVariants.{BadPositions, BadTotal, TooWide, Good}
 use Rattle.pcap_frames.specs.declared.fault.FaultKind.TheVariants.{ShortHeader}
+use Rattle.report_text.specs.declared.session_fault.TextFault.TheVariants.{BadLine}
 use Rattle.pcap_frames.specs.{fault_at}
-use Rattle.hhh_engine.specs.Audit.{IsFirstUnsound, IsSoundOver, WasReadToLimit, sound_text, unsound_text, verdict_text}
+use Rattle.hhh_engine.specs.Audit.{IsFirstUnsound, IsSoundOver, WasReadFor, WasReadToLimit, sound_text, unsound_text, verdict_text}
 use Rattle.hhh_engine.specs.Auditing.{HasNoAudit, HasNoBytes, SaysOf}
 use Rattle.hhh_engine.specs.Demo.{IsWholeReport, demo_text}
 use Rattle.hhh_engine.specs.Ending.{source_faults}
@@ -57,9 +59,19 @@ second_report_is_past_the_end = record {
 pub good_report_is_not_unsound : IsFirstUnsound settings lists (last ∷ []) 1 Good → ⊥
 good_report_is_not_unsound first = first.not_good refl
 
--- the first byte of two was read
-pub one_byte_was_read : WasReadToLimit (Some (1 ∷ 2 ∷ [])) (Some (2 ∷ []))
-one_byte_was_read = record { front = 1 ∷ []; consumed = refl; limit = omega arith }
+-- a text that is not too long was read to its end, whatever its fault
+pub text_was_read : WasReadFor (BadLine 1) (Some (1 ∷ 2 ∷ [])) (Some [])
+text_was_read = refl
+
+pub one_byte_was_not_read : WasReadFor (BadLine 1) (Some (1 ∷ 2 ∷ [])) (Some (2 ∷ [])) → ⊥
+one_byte_was_not_read read = let none : 1 ≡ 0 = ap (λ (bytes : List ℕ). length bytes) read in omega (arith, none)
+
+-- the first byte of two doesn't show that a text is too long
+pub one_byte_is_not_the_limit : WasReadToLimit (Some (1 ∷ 2 ∷ [])) (Some (2 ∷ [])) → ⊥
+one_byte_is_not_the_limit read =
+    let front : 2 ≡ length read.front + 1 =
+    ap (λ (bytes : List ℕ). length bytes) read.consumed ∙ length-append read.front (2 ∷ []) in
+    omega (arith, front, read.limit)
 
 -- ---- within the crate
 

@@ -3,6 +3,7 @@ pub mod StatusLemmas
 pub mod FaultLemmas
 pub mod SavesLemmas
 pub mod RoundLemmas
+pub mod ReadOrderLemmas
 pub mod SeenLemmas
 pub mod OpeningLemmas
 pub mod SessionLemmas

@@ -125,7 +125,7 @@ captured_before rules (Format settings) given old new file fault known finds = a
 captured_before rules (Make seed frames) given old new file fault known finds = absurd finds
 captured_before rules (Demo seed frames settings) given old new file fault known finds = absurd finds
 captured_before rules (Audit settings) given old new file fault known finds =
-    of_file given.capture file IsCapture known finds.1
+    of_file given.capture file IsCapture known finds.accepted
 
 -- an accepted capture is one
 accepted : (command : Command) (given : InputBytes) (file : List ℕ) → ReadsCapture command
@@ -271,7 +271,7 @@ never_faulty no_fault rules (Demo seed frames settings) given old new fault can 
 never_faulty no_fault rules (Audit settings) given old new fault can finds =
     let known = can.1 in
     no_fault known.text known.session fault known.is_session known.not_long
-    (of_file given.text known.text (λ t. HasTextFault t fault) known.told finds.2)
+    (of_file given.text known.text (λ t. HasTextFault t fault) known.told finds.first_fault)
 
 -- a command whose text was written was answered
 done_answers : (command : Command) → WasAnswered command Done

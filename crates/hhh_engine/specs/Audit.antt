@@ -1,13 +1,15 @@
 -- The audit of a session: which of its reports are sound over the records of a capture.
 use Rattle.std.specs.Prelude.{ℕ, ◌≡◌, ◌≢◌, ◌⊎◌, ◌+◌, ◌≤◌, List, ◌++◌, length, take, All, codes, decimal, slice_get}
 use Rattle.std.specs.Prelude.{Option, Some}
-use Rattle.std.specs.Io.KnownBytes.{Consumes}
+use Rattle.std.specs.Io.KnownBytes.{Consumes, IsAtEnd}
 use Rattle.prefix_lattice.specs.{RecordValue, prefix_text}
 use Rattle.hhh_output.specs.{IsSound}
 use Rattle.hhh_output.specs.declared.reports.Reported.{Reported}
 use Rattle.frame_records.specs.declared.records.Records.{Records}
 use Rattle.report_text.specs.{IsSessionText, longest_text}
 use Rattle.report_text.specs.declared.session.Session.{Session}
+use Rattle.report_text.specs.declared.session_fault.TextFault.{TextFault}
+use Rattle.report_text.specs.declared.session_fault.TextFault.TheVariants.{TooLong}
 use Rattle.exact_audit.specs.{IsVerdict}
 use Rattle.exact_audit.specs.declared.verdict.Verdict.{Verdict}
 use Rattle.exact_audit.specs.declared.verdict.Verdict.TheVariants.{Good, BadPositions, BadTotal, BadThreshold}
@@ -82,8 +84,13 @@ IsAuditText settings rules file text answer =
     ⊎ ((number : ℕ) × (verdict : Verdict) × IsUnsoundSession settings rules file text number verdict
     × (answer ≡ unsound_text number verdict))
 
--- of a text at most one byte was read past the longest one that is audited
+-- of a text one byte was read past the longest one that is audited
 pub record WasReadToLimit (old new : Option (List ℕ)) : Type 0 where
   pub front : List ℕ
   pub consumed : Consumes old new front
-  pub limit : length front ≤ longest_text + 1
+  pub limit : length front ≡ longest_text + 1
+
+-- how far a text was read that was refused for this fault: no further than shows that it is too long, else to its end
+abbrev pub WasReadFor : TextFault → (old new : Option (List ℕ)) → Type 0
+WasReadFor TooLong old new = WasReadToLimit old new
+WasReadFor _ old new = IsAtEnd new

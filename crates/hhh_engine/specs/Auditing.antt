@@ -7,8 +7,8 @@ use Rattle.frame_records.specs.{IsRefusedFor}
 use Rattle.hhh_output.specs.declared.reports.Reported.{Reported}
 use Rattle.report_text.specs.{HasTextFault}
 use Rattle.command_words.specs.declared.settings.Settings.{Settings}
-use Rattle.hhh_engine.specs.Audit.{AreAudited, IsFirstUnsound, IsSoundOver, WasReadToLimit, sound_text, unsound_text}
-use Rattle.hhh_engine.specs.Ending.{OneRose, SourceFaults}
+use Rattle.hhh_engine.specs.Audit.{AreAudited, IsFirstUnsound, IsSoundOver, WasReadFor, sound_text, unsound_text}
+use Rattle.hhh_engine.specs.Ending.{OneRose, SourceFaults, TextRefusal}
 use Rattle.hhh_engine.specs.Inputs.{InputBytes, IsCapture, OfAudited}
 use Rattle.hhh_engine.specs.Session.{Rules}
 use Rattle.hhh_engine.specs.declared.commands.audit.Answer.{Answer}
@@ -26,9 +26,7 @@ HasNoBytes before now _ = ⊥
 abbrev pub HasNoAudit : InputBytes → (before now : SourceFaults) → Status → Type 0
 HasNoAudit read before now (BadCapture fault) = IfSome read.capture (λ file. IsRefusedFor file fault)
 HasNoAudit read before now ReadFault = OneRose before now
-HasNoAudit read before now (BadReport fault) =
-    IsAtEnd read.capture_left × IfSome read.capture IsCapture × IfSome read.text (λ text. HasTextFault text fault)
-    × WasReadToLimit read.text read.text_left
+HasNoAudit read before now (BadReport fault) = TextRefusal read fault
 HasNoAudit read before now OutOfMemory = ⊤
 HasNoAudit read before now _ = ⊥
 

@@ -1,5 +1,5 @@
 -- What each status says of the arguments, of the source, of the sink and of the disk.
-use Rattle.std.specs.Prelude.{ℕ, ◌≡◌, ◌⊎◌, true, List, Option, None, IfSome}
+use Rattle.std.specs.Prelude.{⊤, ℕ, ◌≡◌, ◌⊎◌, true, List, Option, None, IfSome}
 use Rattle.std.specs.Io.KnownBytes.{Appends, IsAtEnd}
 use Rattle.outside_io.specs.{Rose}
 use Rattle.prefix_lattice.specs.{RecordValue}
@@ -21,8 +21,8 @@ use Rattle.command_words.specs.declared.command.Command.TheVariants as command
 use Rattle.command_words.specs.declared.settings.Settings.{Settings}
 use Rattle.command_words.specs.declared.words_kind.WordsKind.{WordsKind}
 use Rattle.hhh_engine.specs.Answer.{AnswersInPart, Writes}
-use Rattle.hhh_engine.specs.Audit.{IsUnsoundSession, WasReadToLimit, unsound_text}
-use Rattle.hhh_engine.specs.Inputs.{InputBytes, IsCapture, OfAudited, WasRead}
+use Rattle.hhh_engine.specs.Audit.{IsUnsoundSession, WasReadFor, unsound_text}
+use Rattle.hhh_engine.specs.Inputs.{AskToUse, InputBytes, IsCapture, MayUseStore, OfAudited, ReadsCapture, ReadsSession, WasRead}
 use Rattle.hhh_engine.specs.Saves.{store_settings}
 use Rattle.hhh_engine.specs.Session.{AreDealtFrom, Rules}
 use Rattle.hhh_engine.specs.declared.status.Status.{Status}
@@ -30,19 +30,27 @@ use Rattle.hhh_engine.specs.declared.status.Status.TheVariants.{Done, BadWords, 
 use Rattle.hhh_engine.specs.declared.status.Status.TheVariants.{DiskFault, NotFormatted, Damaged, OtherSettings}
 use Rattle.hhh_engine.specs.declared.status.Status.TheVariants.{OtherCapture, AuditNo, BadReport, OutOfMemory}
 
--- BadWords: this is the first fault of the arguments, and nothing was read or written
-pub record RefusedWords {S T K D : Type 0} (words : List (List ℕ)) (kind : WordsKind) (capture read : S)
-    (text text_read : T) (sink written : K) (disk left : D) : Type 0 where
-  pub first_fault : HasWordsFault words kind
+-- nothing was read or written: the sources, the sink and the disk are as before
+pub record IsUntouched {S T K D : Type 0} (capture read : S) (text text_read : T) (sink written : K) (disk left : D)
+    : Type 0 where
   pub unread : read ≡ capture
   pub text_unread : text_read ≡ text
   pub unwritten : written ≡ sink
   pub untouched : left ≡ disk
 
--- BadCapture: this is the first fault of the file, where its bytes are known, and nothing was written
-pub record RefusedCapture {K D : Type 0} (left : Option (List ℕ)) (fault : CaptureFault) (sink written : K)
-    (disk stands : D) : Type 0 where
+-- BadWords: this is the first fault of the arguments, and nothing was read or written
+pub record RefusedWords {S T K D : Type 0} (words : List (List ℕ)) (kind : WordsKind) (capture read : S)
+    (text text_read : T) (sink written : K) (disk left : D) : Type 0 where
+  pub first_fault : HasWordsFault words kind
+  pub nothing : IsUntouched capture read text text_read sink written disk left
+
+-- BadCapture: the command reads a capture; this is the first fault of the file, where its bytes are known; no text of a
+-- session was read before, and nothing was written
+pub record RefusedCapture {T K D : Type 0} (words : List (List ℕ)) (left : Option (List ℕ)) (fault : CaptureFault)
+    (text text_read : T) (sink written : K) (disk stands : D) : Type 0 where
+  pub asked : AskToUse ReadsCapture words
   pub first_fault : IfSome left (λ file. IsRefusedFor file fault)
+  pub text_unread : text_read ≡ text
   pub unwritten : written ≡ sink
   pub untouched : stands ≡ disk
 
@@ -59,9 +67,31 @@ source_faults capture text = record { capture = capture; text = text }
 abbrev pub OneRose : SourceFaults → SourceFaults → Type 0
 OneRose before now = Rose before.capture now.capture ⊎ Rose before.text now.text
 
+-- the source of a capture, which the command reads, failed before any text of a session was read
+pub record CaptureFailed {T : Type 0} (Reads : Type 0) (before now : SourceFaults) (text text_read : T) : Type 0 where
+  pub reads : Reads
+  pub rose : Rose before.capture now.capture
+  pub text_unread : text_read ≡ text
+
+-- the source of the text of a session, which the command reads, failed after the capture was read to its end without a
+-- fault, and is one, where its bytes are known
+pub record TextFailed (ReadsText : Type 0) (read : InputBytes) (before now : SourceFaults) : Type 0 where
+  pub reads : ReadsText
+  pub rose : Rose before.text now.text
+  pub capture_kept : now.capture ≡ before.capture
+  pub read_to_end : IsAtEnd read.capture_left
+  pub accepted : IfSome read.capture IsCapture
+
+-- one of the sources failed, the capture's first
+abbrev pub SourceFailed : {T : Type 0} → (Reads ReadsText : Type 0) → InputBytes → (before now : SourceFaults)
+    → (text text_read : T) → Type 0
+SourceFailed Reads ReadsText read before now text text_read =
+    CaptureFailed Reads before now text text_read ⊎ TextFailed ReadsText read before now
+
 -- ReadFault: the count of faults of a source rose, and nothing was written
-pub record FailedToRead {K D : Type 0} (before now : SourceFaults) (sink written : K) (disk stands : D) : Type 0 where
-  pub rose : OneRose before now
+pub record FailedToRead {T K D : Type 0} (words : List (List ℕ)) (read : InputBytes) (before now : SourceFaults)
+    (text text_read : T) (sink written : K) (disk stands : D) : Type 0 where
+  pub failed : SourceFailed (AskToUse ReadsCapture words) (AskToUse ReadsSession words) read before now text text_read
   pub unwritten : written ≡ sink
   pub untouched : stands ≡ disk
 
@@ -76,9 +106,11 @@ abbrev pub WroteInPart : {K : Type 0} → Rules → List (List ℕ) → InputByt
     → (old new : Option (List ℕ)) → Type 0
 WroteInPart rules words read sink written old new = (written ≡ sink) ⊎ AnswersInPart rules words read old new
 
--- DiskFault: the disk's count of faults rose, and bytes with which the text begins were written, or none
+-- DiskFault: the command may use a store; the disk's count of faults rose, and bytes with which the text begins were
+-- written, or none
 pub record FailedDisk {K : Type 0} (rules : Rules) (words : List (List ℕ)) (read : InputBytes) (sink written : K)
     (old new : Option (List ℕ)) (before now : ℕ) : Type 0 where
+  pub asked : AskToUse MayUseStore words
   pub rose : Rose before now
   pub in_part : WroteInPart rules words read sink written old new
 
@@ -112,16 +144,20 @@ pub record FoundUnsound (rules : Rules) (words : List (List ℕ)) (read : InputB
   pub found : OfAudited read (λ file text. IsUnsoundSession settings rules file text report verdict)
   pub written : Appends old new (unsound_text report verdict)
 
--- BadReport: an audit was asked for; the capture is one and was read to its end; this is the first fault of the text,
--- where its bytes are known, of which at most one byte was read past the longest one; and nothing was written
+-- the text of a session was refused: the capture is one and was read to its end; this is the first fault of the text, where
+-- its bytes are known, which was read to its end, or to one byte past the longest one
+pub record TextRefusal (read : InputBytes) (fault : TextFault) : Type 0 where
+  pub read_to_end : IsAtEnd read.capture_left
+  pub accepted : IfSome read.capture IsCapture
+  pub first_fault : IfSome read.text (λ text. HasTextFault text fault)
+  pub read_to_limit : WasReadFor fault read.text read.text_left
+
+-- BadReport: an audit was asked for, and the text was refused for this fault; nothing was written
 pub record RefusedText {K D : Type 0} (words : List (List ℕ)) (read : InputBytes) (fault : TextFault)
     (sink written : K) (disk stands : D) : Type 0 where
   pub settings : Settings
   pub asked : AskFor words (command.Audit settings)
-  pub read_to_end : IsAtEnd read.capture_left
-  pub accepted : IfSome read.capture IsCapture
-  pub first_fault : IfSome read.text (λ text. HasTextFault text fault)
-  pub read_to_limit : WasReadToLimit read.text read.text_left
+  pub refusal : TextRefusal read fault
   pub unwritten : written ≡ sink
   pub untouched : stands ≡ disk
 
@@ -175,14 +211,20 @@ OfDisk (command.Audit settings) happened = ⊥
 OfDisk (command.Make seed frames) happened = ⊥
 OfDisk (command.Demo seed frames settings) happened = ⊥
 
+-- within the crate: how far a command read its inputs that ended at a fault of the capture, or of a source
+abbrev pub StopsInOrder : {T : Type 0} → (Reads ReadsText : Type 0) → InputBytes → (before now : SourceFaults)
+    → (text text_read : T) → Status → Type 0
+StopsInOrder Reads ReadsText read before now text text_read (BadCapture fault) = Reads × (text_read ≡ text)
+StopsInOrder Reads ReadsText read before now text text_read ReadFault =
+    SourceFailed Reads ReadsText read before now text text_read
+StopsInOrder Reads ReadsText read before now text text_read _ = ⊤
+
 -- within the crate: what an audit found that ended so, and what it wrote of it
 abbrev pub AuditFinds : Settings → Rules → InputBytes → (old new : Option (List ℕ)) → Status → Type 0
 AuditFinds settings rules read old new (AuditNo report verdict) =
     OfAudited read (λ file text. IsUnsoundSession settings rules file text report verdict)
     × Appends old new (unsound_text report verdict)
-AuditFinds settings rules read old new (BadReport fault) =
-    IsAtEnd read.capture_left × IfSome read.capture IsCapture × IfSome read.text (λ text. HasTextFault text fault)
-    × WasReadToLimit read.text read.text_left
+AuditFinds settings rules read old new (BadReport fault) = TextRefusal read fault
 AuditFinds settings rules read old new _ = ⊥
 
 -- within the crate: the same of any command: only `audit` audits

@@ -64,6 +64,15 @@ UsesStore (Audit settings) = ⊥
 UsesStore (Make seed frames) = ⊥
 UsesStore (Demo seed frames settings) = ⊥
 
+-- this command uses the disk of a store if its settings name one
+abbrev pub MayUseStore : Command → Type 0
+MayUseStore (Weigh prefix settings) = ⊥
+MayUseStore (Report settings) = ⊤
+MayUseStore (Format settings) = ⊤
+MayUseStore (Audit settings) = ⊥
+MayUseStore (Make seed frames) = ⊥
+MayUseStore (Demo seed frames settings) = ⊥
+
 -- what a command reads was read to its end
 abbrev pub WasRead : Command → InputBytes → Type 0
 WasRead (Weigh prefix settings) read = IsAtEnd read.capture_left

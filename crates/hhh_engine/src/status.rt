@@ -21,7 +21,7 @@ pub enum Status {
     Done,
     /// The arguments ask for no command. Nothing was read or written.
     BadWords(WordsKind),
-    /// The source is not a valid capture. Nothing was written.
+    /// The file is not a capture, for this fault. Nothing was written.
     BadCapture(CaptureFault),
     /// The source failed. Nothing was written.
     ReadFault,

@@ -20,7 +20,7 @@ ghost use Rattle.command_words.specs.declared.command.Command.TheVariants.{Repor
 ghost use Rattle.command_words.specs.declared.settings.Settings.{Settings};
 ghost use Rattle.command_words.specs.declared.words_kind.WordsKind.{WordsKind};
 ghost use Rattle.hhh_engine.specs.Answer.{Answers, AnswersInPart, IsAnswer, IsAnswerInPart};
-ghost use Rattle.hhh_engine.specs.Ending.{Ends, FailedDisk, FailedToRead, FailedToWrite, FindsFor, FormatEnds, FoundUnsound, OfDisk, OneRose, RefusedCapture, RefusedStore, RefusedText, RefusedWords, RefusesFor, WasAnswered, WroteInPart, source_faults};
+ghost use Rattle.hhh_engine.specs.Ending.{Ends, FailedDisk, FailedToRead, FailedToWrite, FindsFor, FormatEnds, FoundUnsound, IsUntouched, OfDisk, OneRose, RefusedCapture, RefusedStore, RefusedText, RefusedWords, RefusesFor, StopsInOrder, WasAnswered, WroteInPart, source_faults};
 ghost use Rattle.hhh_engine.specs.Audit.{AreAudited, IsFirstUnsound};
 ghost use Rattle.hhh_engine.specs.Inputs.{AskNotToUse, AskToUse, CanBeAnswered, ReadsCapture, ReadsSession, UsesStore, WasAccepted, WasRead, inputs};
 ghost use Rattle.hhh_engine.specs.Saves.{kept_in, store_settings};
@@ -66,7 +66,7 @@ use std::thread::Threads;
 /// session by these records alone. It writes one line: how many reports there are, if all are sound, else what is wrong
 /// with the first that is not.
 ///
-/// `make SEED FRAMES` writes the capture of so many frames that the seed makes.
+/// `make SEED FRAMES` writes the capture of that many frames that the seed makes.
 ///
 /// `demo SEED FRAMES` makes that capture in memory, deals its records to shards, counts them by workers, reports on all of
 /// them, and audits the report. It writes a summary, which says that the audit found the report sound.
@@ -92,10 +92,12 @@ pub fn run<R: Threads + Wait + Sync, S: Source, T: Source, K: Sink, D: Disk, G: 
     // The arguments are checked first, before anything is read.
     ensures bad_words { (kind : WordsKind) → result ≡ BadWords kind → RefusedWords (texts words.now) kind capture.old capture.new text.old text.new sink.old sink.new
         disk.old disk.new }
-    ensures refuses_words { (kind : WordsKind) → HasWordsFault (texts words.now) kind → (result ≡ BadWords kind) ⊎ (result ≡ OutOfMemory) }
+    ensures refuses_words { (kind : WordsKind) → HasWordsFault (texts words.now) kind → (result ≡ BadWords kind) ⊎ ((result ≡ OutOfMemory)
+        × IsUntouched capture.old capture.new text.old text.new sink.old sink.new disk.old disk.new) }
 
     // A capture with a fault is refused for it, unless the source fails or memory runs out first.
-    ensures bad_capture { (fault : CaptureFault) → result ≡ BadCapture fault → RefusedCapture (S.left capture.old) fault sink.old sink.new disk.old disk.new }
+    ensures bad_capture { (fault : CaptureFault) → result ≡ BadCapture fault → RefusedCapture (texts words.now) (S.left capture.old) fault
+        text.old text.new sink.old sink.new disk.old disk.new }
     ensures refuses { (file : List ℕ) (fault : CaptureFault) → AskToUse ReadsCapture (texts words.now) → S.left capture.old ≡ Some file → IsRefusedFor file fault
         → (result ≡ BadCapture fault) ⊎ ((result ≡ ReadFault) ⊎ (result ≡ OutOfMemory)) }
 
@@ -135,8 +137,9 @@ pub fn run<R: Threads + Wait + Sync, S: Source, T: Source, K: Sink, D: Disk, G: 
 
     // A fault of a source, the sink or the disk is reported only where it had one in this call. It is never ignored, nor
     // reported as anything else.
-    ensures read_fault { result ≡ ReadFault → FailedToRead (source_faults (S.faults capture.old) (T.faults text.old))
-        (source_faults (S.faults capture.new) (T.faults text.new)) sink.old sink.new disk.old disk.new }
+    ensures read_fault { result ≡ ReadFault → FailedToRead (texts words.now)
+        (inputs (S.left capture.old) (S.left capture.new) (T.left text.old) (T.left text.new) (D.reads disk.old)) (source_faults (S.faults capture.old) (T.faults text.old))
+        (source_faults (S.faults capture.new) (T.faults text.new)) text.old text.new sink.old sink.new disk.old disk.new }
     ensures read_fault_told { (result ≡ ReadFault → ⊥) → source_faults (S.faults capture.new) (T.faults text.new) ≡ source_faults (S.faults capture.old) (T.faults text.old) }
     ensures write_fault { result ≡ WriteFault → FailedToWrite (λ kind. ⟦<Dealer as Deals>⟧.may_answer (dealer_of kind dealers.now)) (texts words.now)
         (inputs (S.left capture.old) (S.left capture.new) (T.left text.old) (T.left text.new) (D.reads disk.old)) (K.taken sink.old) (K.taken sink.new) (K.faults sink.old) (K.faults sink.new) }
@@ -204,6 +207,9 @@ fn answer<R: Threads + Wait + Sync, S: Source, T: Source, K: Sink, D: Disk, G: G
         (inputs (S.left capture.old) (S.left capture.new) (T.left text.old) (T.left text.new) (D.reads disk.old)) (K.taken sink.old) (K.taken sink.new))
         (S.left capture.old) (source_faults (S.faults capture.old) (T.faults text.old)) (source_faults (S.faults capture.new) (T.faults text.new))
         sink.old sink.new (K.taken sink.old) (K.taken sink.new) (K.faults sink.old) (K.faults sink.new) result }
+    ensures order { StopsInOrder (ReadsCapture command.now) (ReadsSession command.now)
+        (inputs (S.left capture.old) (S.left capture.new) (T.left text.old) (T.left text.new) (D.reads disk.old))
+        (source_faults (S.faults capture.old) (T.faults text.old)) (source_faults (S.faults capture.new) (T.faults text.new)) text.old text.new result }
     ensures told { (result ≡ DiskFault → ⊥) → D.faults disk.new ≡ D.faults disk.old }
     ensures unused { (UsesStore command.now → ⊥) → disk.new ≡ disk.old }
     ensures reads { (fault : CaptureFault) → result ≡ BadCapture fault → ReadsCapture command.now }

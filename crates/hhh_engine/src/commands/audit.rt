@@ -8,7 +8,7 @@ ghost use Rattle.command_words.specs.{AreLimited};
 ghost use Rattle.hhh_engine.specs.Audit.{IsAuditText, IsFirstUnsound, IsSoundOver, IsSoundSession, sound_text as text_of_sound, unsound_text as text_of_unsound, verdict_text};
 ghost use Rattle.hhh_engine.specs.Auditing.{AreInputsOf, HasNoAudit, IsAnswerOf};
 ghost use Rattle.hhh_engine.specs.Answer.{IsCutShort};
-ghost use Rattle.hhh_engine.specs.Ending.{AuditFinds, Ends, source_faults};
+ghost use Rattle.hhh_engine.specs.Ending.{AuditFinds, Ends, StopsInOrder, source_faults};
 ghost use Rattle.hhh_engine.specs.Inputs.{IsCapture, OfAudited, inputs};
 
 use crate::commands::dealing::deal_records;
@@ -59,7 +59,7 @@ pub(crate) fn audit<S: Source, T: Source, K: Sink>(
     dealers: &Dealers,
 ) -> Status
     requires { AreLimited settings.now }
-    ensures { (store : Option (List ℕ)) → Ends
+    ensures ends { (store : Option (List ℕ)) → Ends
         (λ answer. OfAudited (inputs (S.left capture.old) (S.left capture.new) (T.left text.old) (T.left text.new) store)
         (λ file session. IsSoundSession settings.now (λ kind. ⟦<Dealer as Deals>⟧.may_answer (dealer_of kind dealers.now)) file session answer))
         (λ front. OfAudited (inputs (S.left capture.old) (S.left capture.new) (T.left text.old) (T.left text.new) store)
@@ -69,6 +69,8 @@ pub(crate) fn audit<S: Source, T: Source, K: Sink>(
         (inputs (S.left capture.old) (S.left capture.new) (T.left text.old) (T.left text.new) store) (K.taken sink.old) (K.taken sink.new))
         (S.left capture.old) (source_faults (S.faults capture.old) (T.faults text.old)) (source_faults (S.faults capture.new) (T.faults text.new))
         sink.old sink.new (K.taken sink.old) (K.taken sink.new) (K.faults sink.old) (K.faults sink.new) result }
+    ensures order { (store : Option (List ℕ)) → StopsInOrder ⊤ ⊤ (inputs (S.left capture.old) (S.left capture.new) (T.left text.old) (T.left text.new) store)
+        (source_faults (S.faults capture.old) (T.faults text.old)) (source_faults (S.faults capture.new) (T.faults text.new)) text.old text.new result }
 {
     let audited = match read_audited(alloc, settings, capture, text, dealers) {
         Ok(audited) => audited,
@@ -99,6 +101,8 @@ fn read_audited<S: Source, T: Source>(
     ensures text_at_end { OnOk result (IsAtEnd (T.left text.new)) }
     ensures refused { (store : Option (List ℕ)) → IfErr result (HasNoAudit (inputs (S.left capture.old) (S.left capture.new) (T.left text.old) (T.left text.new) store)
         (source_faults (S.faults capture.old) (T.faults text.old)) (source_faults (S.faults capture.new) (T.faults text.new))) }
+    ensures order { (store : Option (List ℕ)) → IfErr result (StopsInOrder ⊤ ⊤ (inputs (S.left capture.old) (S.left capture.new) (T.left text.old) (T.left text.new) store)
+        (source_faults (S.faults capture.old) (T.faults text.old)) (source_faults (S.faults capture.new) (T.faults text.new)) text.old text.new) }
     ensures told { (IsErrOf result Status.ReadFault → ⊥)
         → source_faults (S.faults capture.new) (T.faults text.new) ≡ source_faults (S.faults capture.old) (T.faults text.old) }
 {

@@ -1,8 +1,10 @@
-use Rattle.std.proofs.Common.{refl}
+use Rattle.std.proofs.Common.{None, refl}
 use Rattle.command_words.specs.declared.command.Command.TheVariants.{Weigh, Report, Format, Audit, Make, Demo}
+use Rattle.hhh_engine.specs.Ending.{source_faults}
 use Rattle.hhh_engine.specs.Inputs.{inputs}
 use Rattle.hhh_engine.specs.Saves.{kept_in}
 use Rattle.hhh_engine.proofs.AuditEndLemmas.{audit_ends_as}
+use Rattle.hhh_engine.proofs.ReadOrderLemmas.{capture_alone, in_order_of, neither_read, order_as}
 use Rattle.hhh_engine.proofs.StatusLemmas.{ends_as, ends_beside}
 use Rattle.hhh_engine.proofs.top_call.answer.Goals as goal
 
@@ -32,7 +34,7 @@ returns-in-Audit-clause-ends g c =
     (audit_ends_as c.in-Audit.settings _
     (kept_in g.D.Disk.reads g.D.Disk.image_now g.D.Disk.moment g.D.Disk.image_since c.args.disk.now c.args.disk.now) given
     (g.D.Disk.reads c.args.disk.now) _ _ _ _ _ _ _ _ _ c.audit.result refl
-    (c.audit.ensures (g.D.Disk.reads c.args.disk.now)))
+    (c.audit.ensures.ends (g.D.Disk.reads c.args.disk.now)))
 
 pub returns-in-Make-clause-ends : goal.returns-in-Make-clause-ends
 returns-in-Make-clause-ends g c =
@@ -49,3 +51,38 @@ returns-in-Demo-clause-ends g c =
     (g.T.Source.left c.args.text.now) (g.D.Disk.reads c.args.disk.now)) _ _ _ _ _ _ _ _ _ _ _ c.demo.result
     c.in-Demo.is (ends_beside _ _ _ _ _ (λ fault. ⊥) (λ status. ⊥) _ _ _ _ _ _ _ _ _ c.demo.result refl
     (c.demo.ensures.ends (g.S.Source.left c.args.capture.now) _))
+
+pub returns-in-Weigh-clause-order : goal.returns-in-Weigh-clause-order
+returns-in-Weigh-clause-order g c =
+    order_as c.args.command.now (Weigh c.in-Weigh.prefix c.in-Weigh.settings) _ _ _ _ _ c.weigh.result c.in-Weigh.is
+    (capture_alone _ _ _ _ _ _ (λ fault. ⊥) (λ status. ⊥) _ _ _ _ _ _ _ _ _ _ c.weigh.result _ _ _ _ tt
+    (c.weigh.ensures 0))
+
+pub returns-in-Report-clause-order : goal.returns-in-Report-clause-order
+returns-in-Report-clause-order g c =
+    order_as c.args.command.now (Report c.in-Report.settings) _ _ _ _ _ c.report.result c.in-Report.is
+    (capture_alone _ _ _ _ _ _ _ _ _ _ _ _ _ _ _ _ _ _ c.report.result _ _ _ _ tt (c.report.ensures.ends 0))
+
+pub returns-in-Format-clause-order : goal.returns-in-Format-clause-order
+returns-in-Format-clause-order g c =
+    order_as c.args.command.now (Format c.in-Format.settings) _ _ _ _ _ c.format.result c.in-Format.is
+    (neither_read _ _ _ _ _ _ _ _ _ _ _ _ _ _ _ c.format.result _ _ _ _ _ _ c.format.ensures.no_capture
+    (c.format.ensures.ends None (source_faults 0 0)))
+
+pub returns-in-Audit-clause-order : goal.returns-in-Audit-clause-order
+returns-in-Audit-clause-order g c =
+    order_as c.args.command.now (Audit c.in-Audit.settings) _ _ _ _ _ c.audit.result c.in-Audit.is
+    (c.audit.ensures.order (g.D.Disk.reads c.args.disk.now))
+
+pub returns-in-Make-clause-order : goal.returns-in-Make-clause-order
+returns-in-Make-clause-order g c =
+    order_as c.args.command.now (Make c.in-Make.seed c.in-Make.frames) _ _ _ _ _ c.make.result c.in-Make.is
+    (neither_read _ _ _ _ _ _ (λ fault. ⊥) (λ status. ⊥) _ _ _ _ _ _ _ c.make.result _ _ _ _ _ _
+    c.make.ensures.no_capture (c.make.ensures.ends None (source_faults 0 0)))
+
+pub returns-in-Demo-clause-order : goal.returns-in-Demo-clause-order
+returns-in-Demo-clause-order g c =
+    order_as c.args.command.now (Demo c.in-Demo.seed c.in-Demo.frames c.in-Demo.settings) _ _ _ _ _ c.demo.result
+    c.in-Demo.is
+    (neither_read _ _ _ _ _ _ (λ fault. ⊥) (λ status. ⊥) _ _ _ _ _ _ _ c.demo.result _ _ _ _ _ _
+    c.demo.ensures.no_capture (c.demo.ensures.ends None (source_faults 0 0)))

@@ -4,6 +4,7 @@ use Rattle.hhh_engine.specs.Ending.{FormatEnds}
 use Rattle.hhh_engine.specs.Inputs.{ReadsCapture}
 use Rattle.hhh_engine.specs.Saves.{store_settings}
 use Rattle.hhh_engine.proofs.AuditLemmas.{finds_as, found_as, refused_text_as, refuses_text_as}
+use Rattle.hhh_engine.proofs.ReadOrderLemmas.{failed_disk_as, failed_to_read_as, refused_capture_as}
 use Rattle.hhh_engine.proofs.StatusLemmas.{answered_as, happened_to_disk, ran_out, refused_as, refused_for}
 use Rattle.hhh_engine.proofs.StatusLemmas.{refuses_as, same_command}
 use Rattle.hhh_engine.proofs.top_call.run.Goals as goal
@@ -95,3 +96,18 @@ returns-in-Err-clause-finds_unsound g c =
     λ settings file bytes frames known report verdict asks is_file capture is_text is_session not_long first.
     inr (inr (inr (ran_out c.read_words.result (Audit settings) c.in-Err.refusal c.from.result
     (c.read_words.ensures.complete (Audit settings) asks) c.in-Err.is c.from.ensures)))
+
+pub returns-clause-bad_capture : goal.returns-clause-bad_capture
+returns-clause-bad_capture g c = λ fault is.
+    refused_capture_as _ _ _ c.in-Ok.command _ _ _ _ _ _ _ _ _ _ _ _ _ _ _ _ c.answer.result fault c.in-Ok.ensures.ok is
+    c.answer.ensures.order c.answer.ensures.ends
+
+pub returns-clause-read_fault : goal.returns-clause-read_fault
+returns-clause-read_fault g c = λ is.
+    failed_to_read_as _ _ _ c.in-Ok.command _ _ _ _ _ _ _ _ _ _ _ _ _ _ _ _ c.answer.result c.in-Ok.ensures.ok is
+    c.answer.ensures.order c.answer.ensures.ends
+
+pub returns-clause-disk_fault : goal.returns-clause-disk_fault
+returns-clause-disk_fault g c = λ is.
+    failed_disk_as _ _ _ c.in-Ok.command _ _ _ _ _ _ _ _ _ _ _ _ _ c.answer.result c.in-Ok.ensures.ok is
+    c.answer.ensures.ends

@@ -3,17 +3,18 @@ use Rattle.std.specs.Io.KnownBytes.{Appends}
 use Rattle.outside_io.specs.{AppendsBeginning}
 use Rattle.hhh_engine.specs.Inputs.{inputs}
 use Rattle.hhh_engine.proofs.AuditEndLemmas.{broken_answer, not_taken, written_answer}
+use Rattle.hhh_engine.proofs.ReadOrderLemmas.{audit_was_made}
 use Rattle.hhh_engine.proofs.commands.audit.audit.Goals as goal
 
-pub returns-in-Err : goal.returns-in-Err
-returns-in-Err g c = λ store.
+pub returns-in-Err-clause-ends : goal.returns-in-Err-clause-ends
+returns-in-Err-clause-ends g c = λ store.
     let given = inputs (g.S.Source.left c.args.capture.now) (g.S.Source.left c.read_audited.new.capture)
     (g.T.Source.left c.args.text.now) (g.T.Source.left c.read_audited.new.text) store in
     not_taken c.args.settings.now _ given _ _ _ _ _ c.in-Err.status (c.in-Err.ensures.refused store)
     (λ other. c.in-Err.ensures.told (λ is. other (cc is)))
 
-pub returns-in-Ok-write_all : goal.returns-in-Ok-write_all
-returns-in-Ok-write_all g c = λ store.
+pub returns-in-Ok-write_all-clause-ends : goal.returns-in-Ok-write_all-clause-ends
+returns-in-Ok-write_all-clause-ends g c = λ store.
     let given = inputs (g.S.Source.left c.args.capture.now) (g.S.Source.left c.read_audited.new.capture)
     (g.T.Source.left c.args.text.now) (g.T.Source.left c.read_audited.new.text) store in
     written_answer c.args.settings.now _ given _ _ c.args.sink.now c.write_all.new.sink _ _ _ _ c.in-Ok.audited c.in-Ok-answer_of.answer
@@ -22,8 +23,8 @@ returns-in-Ok-write_all g c = λ store.
     (subst (Appends (g.K.Sink.taken c.args.sink.now) (g.K.Sink.taken c.write_all.new.sink)) c.deref.ensures.value
     c.in-Ok-write_all.ensures.whole) c.in-Ok-write_all.ensures.cause.kept
 
-pub returns : goal.returns
-returns g c = λ store.
+pub returns-clause-ends : goal.returns-clause-ends
+returns-clause-ends g c = λ store.
     let given = inputs (g.S.Source.left c.args.capture.now) (g.S.Source.left c.read_audited.new.capture)
     (g.T.Source.left c.args.text.now) (g.T.Source.left c.read_audited.new.text) store in
     broken_answer c.args.settings.now _ given _ _ c.args.sink.now c.write_all.new.sink _ _ _ _ c.in-Ok.audited c.in-Ok-answer_of.answer
@@ -31,3 +32,8 @@ returns g c = λ store.
     c.in-Ok.ensures.text_at_end (c.in-Ok.ensures.told (λ is. cc is))
     (subst (AppendsBeginning (g.K.Sink.taken c.args.sink.now) (g.K.Sink.taken c.write_all.new.sink)) c.deref.ensures.value
     c.in-Err-write_all.ensures.beginning) c.in-Err-write_all.ensures.cause.failed
+
+pub returns-in-Ok-write_all-clause-order : goal.returns-in-Ok-write_all-clause-order
+returns-in-Ok-write_all-clause-order g c = λ store.
+    audit_was_made _ _ _ _ _ c.args.settings.now c.in-Ok.audited.dealt c.in-Ok.audited.session.reports
+    c.in-Ok-answer_of.answer.text.items c.in-Ok-answer_of.answer.status c.in-Ok-answer_of.ensures

@@ -1,0 +1,291 @@
+-- In what order a command reads its inputs: the capture, and then the text of a session.
+use Rattle.std.proofs.Common.{◌≡◌, ◌⊎◌, ℕ, List, Option, IfSome, inl, inr, refl, sym, subst, arith, ⊎_elim}
+use Rattle.std.specs.Prelude.{⊤}
+use Rattle.std.specs.Io.KnownBytes.{IsAtEnd}
+use Rattle.outside_io.specs.{Rose}
+use Rattle.prefix_lattice.specs.{RecordValue}
+use Rattle.pcap_frames.specs.declared.fault.CaptureFault.{CaptureFault}
+use Rattle.pcap_frames.specs.declared.fault.ReadRefusal.{ReadRefusal}
+use Rattle.pcap_frames.specs.declared.fault.ReadRefusal.TheVariants as refusals
+use Rattle.frame_records.specs.{HasRefused}
+use Rattle.recovery.specs.declared.fault.OpenFault.{OpenFault}
+use Rattle.report_text.specs.declared.session_fault.SessionFault.{SessionFault}
+use Rattle.report_text.specs.declared.session_fault.SessionFault.TheVariants as session
+use Rattle.hhh_output.specs.declared.reports.Reported.{Reported}
+use Rattle.command_words.specs.{AskFor}
+use Rattle.command_words.specs.declared.command.Command.{Command}
+use Rattle.command_words.specs.declared.command.Command.TheVariants.{Weigh, Report, Format, Audit, Make, Demo}
+use Rattle.command_words.specs.declared.settings.Settings.{Settings}
+use Rattle.hhh_engine.specs.Auditing.{HasNoBytes, SaysOf}
+use Rattle.hhh_engine.specs.Ending.{Ends, FailedDisk, FailedToRead, OfDisk, RefusedCapture, SourceFailed, SourceFaults}
+use Rattle.hhh_engine.specs.Ending.{StopsInOrder, source_faults}
+use Rattle.hhh_engine.specs.Inputs.{AskToUse, InputBytes, IsCapture, MayUseStore, ReadsCapture, ReadsSession, WasRead}
+use Rattle.hhh_engine.specs.Session.{Keeping, Rules}
+use Rattle.hhh_engine.specs.Status.{status_of, status_of_session}
+use Rattle.hhh_engine.specs.declared.status.Status.{Status}
+use Rattle.hhh_engine.specs.declared.status.Status.TheVariants.{Done, BadWords, BadCapture, ReadFault, WriteFault}
+use Rattle.hhh_engine.specs.declared.status.Status.TheVariants.{DiskFault, NotFormatted, Damaged, OtherSettings}
+use Rattle.hhh_engine.specs.declared.status.Status.TheVariants.{OtherCapture, AuditNo, BadReport, OutOfMemory}
+use Rattle.hhh_engine.proofs.StatusLemmas.{EndsAs}
+
+-- ---- the steps of an audit
+
+-- no records were read of its capture
+pub no_records : {T : Type 0} (read : InputBytes) (left : Option (List ℕ)) (before now : SourceFaults) (text : T)
+    (refusal : ReadRefusal) → HasRefused left before.capture now.capture refusal
+    → StopsInOrder ⊤ ⊤ read before now text text (status_of refusal)
+no_records read left before now text (refusals.Capture fault) refused = (tt, refl)
+no_records read left before now text refusals.ReadFault refused =
+    inl (record { reads = tt; rose = refused; text_unread = refl })
+no_records read left before now text refusals.OutOfMemory refused = tt
+
+-- its text was not read
+pub no_bytes : {T : Type 0} (read : InputBytes) (before now : SourceFaults) (text text_read : T) (status : Status)
+    → IsAtEnd read.capture_left → IfSome read.capture IsCapture → now.capture ≡ before.capture
+    → HasNoBytes before.text now.text status → StopsInOrder ⊤ ⊤ read before now text text_read status
+no_bytes read before now text text_read Done at_end is_capture same none = absurd none
+no_bytes read before now text text_read (BadWords kind) at_end is_capture same none = absurd none
+no_bytes read before now text text_read (BadCapture fault) at_end is_capture same none = absurd none
+no_bytes read before now text text_read ReadFault at_end is_capture same none =
+    inr (record { reads = tt; rose = none; capture_kept = same; read_to_end = at_end; accepted = is_capture })
+no_bytes read before now text text_read WriteFault at_end is_capture same none = absurd none
+no_bytes read before now text text_read DiskFault at_end is_capture same none = absurd none
+no_bytes read before now text text_read NotFormatted at_end is_capture same none = absurd none
+no_bytes read before now text text_read (Damaged slot) at_end is_capture same none = absurd none
+no_bytes read before now text text_read (OtherSettings stored asked) at_end is_capture same none = absurd none
+no_bytes read before now text text_read (OtherCapture stored asked) at_end is_capture same none = absurd none
+no_bytes read before now text text_read (AuditNo report verdict) at_end is_capture same none = absurd none
+no_bytes read before now text text_read (BadReport fault) at_end is_capture same none = absurd none
+no_bytes read before now text text_read OutOfMemory at_end is_capture same none = tt
+
+-- its text is not that of a session
+pub no_session : {T : Type 0} (read : InputBytes) (before now : SourceFaults) (text text_read : T) (fault : SessionFault)
+    → StopsInOrder ⊤ ⊤ read before now text text_read (status_of_session fault)
+no_session read before now text text_read (session.Text fault) = tt
+no_session read before now text text_read session.OutOfMemory = tt
+
+-- the audit was made
+pub audit_was_made : {T : Type 0} (read : InputBytes) (before now : SourceFaults) (text text_read : T)
+    (settings : Settings) (lists : List (List RecordValue)) (reports : List Reported) (written : List ℕ) (status : Status)
+    → SaysOf settings lists reports written status → StopsInOrder ⊤ ⊤ read before now text text_read status
+audit_was_made read before now text text_read settings lists reports written Done says = tt
+audit_was_made read before now text text_read settings lists reports written (BadWords kind) says = absurd says
+audit_was_made read before now text text_read settings lists reports written (BadCapture fault) says = absurd says
+audit_was_made read before now text text_read settings lists reports written ReadFault says = absurd says
+audit_was_made read before now text text_read settings lists reports written WriteFault says = absurd says
+audit_was_made read before now text text_read settings lists reports written DiskFault says = absurd says
+audit_was_made read before now text text_read settings lists reports written NotFormatted says = absurd says
+audit_was_made read before now text text_read settings lists reports written (Damaged slot) says = absurd says
+audit_was_made read before now text text_read settings lists reports written (OtherSettings stored asked) says =
+    absurd says
+audit_was_made read before now text text_read settings lists reports written (OtherCapture stored asked) says =
+    absurd says
+audit_was_made read before now text text_read settings lists reports written (AuditNo report verdict) says = tt
+audit_was_made read before now text text_read settings lists reports written (BadReport fault) says = absurd says
+audit_was_made read before now text text_read settings lists reports written OutOfMemory says = absurd says
+
+-- ---- the commands
+
+-- what a command reads may be said in other words
+source_failed_of : {T : Type 0} (Reads ReadsText Other OtherText : Type 0) (read : InputBytes)
+    (before now : SourceFaults) (text text_read : T) → (Reads → Other) → (ReadsText → OtherText)
+    → SourceFailed Reads ReadsText read before now text text_read
+    → SourceFailed Other OtherText read before now text text_read
+source_failed_of Reads ReadsText Other OtherText read before now text text_read reads reads_text failed =
+    ⊎_elim
+    (λ is. inl (record { reads = reads is.reads; rose = is.rose; text_unread = is.text_unread }))
+    (λ is. inr (record {
+      reads = reads_text is.reads;
+      rose = is.rose;
+      capture_kept = is.capture_kept;
+      read_to_end = is.read_to_end;
+      accepted = is.accepted;
+    })) failed
+
+pub in_order_of : {T : Type 0} (Reads ReadsText Other OtherText : Type 0) (read : InputBytes)
+    (before now : SourceFaults) (text text_read : T) (status : Status) → (Reads → Other) → (ReadsText → OtherText)
+    → StopsInOrder Reads ReadsText read before now text text_read status
+    → StopsInOrder Other OtherText read before now text text_read status
+in_order_of Reads ReadsText Other OtherText read before now text text_read Done reads reads_text stops = tt
+in_order_of Reads ReadsText Other OtherText read before now text text_read (BadWords kind) reads reads_text stops = tt
+in_order_of Reads ReadsText Other OtherText read before now text text_read (BadCapture fault) reads reads_text stops =
+    (reads stops.0, stops.1)
+in_order_of Reads ReadsText Other OtherText read before now text text_read ReadFault reads reads_text stops =
+    source_failed_of Reads ReadsText Other OtherText read before now text text_read reads reads_text stops
+in_order_of Reads ReadsText Other OtherText read before now text text_read WriteFault reads reads_text stops = tt
+in_order_of Reads ReadsText Other OtherText read before now text text_read DiskFault reads reads_text stops = tt
+in_order_of Reads ReadsText Other OtherText read before now text text_read NotFormatted reads reads_text stops = tt
+in_order_of Reads ReadsText Other OtherText read before now text text_read (Damaged slot) reads reads_text stops = tt
+in_order_of Reads ReadsText Other OtherText read before now text text_read (OtherSettings stored asked) reads reads_text
+    stops = tt
+in_order_of Reads ReadsText Other OtherText read before now text text_read (OtherCapture stored asked) reads reads_text
+    stops = tt
+in_order_of Reads ReadsText Other OtherText read before now text text_read (AuditNo report verdict) reads reads_text
+    stops = tt
+in_order_of Reads ReadsText Other OtherText read before now text text_read (BadReport fault) reads reads_text stops = tt
+in_order_of Reads ReadsText Other OtherText read before now text text_read OutOfMemory reads reads_text stops = tt
+
+-- how a command ended that reads a capture and no text: whatever the faults of a text's source are, its own rose
+pub capture_alone : {K T : Type 0} (IsText IsPart : List ℕ → Type 0) (ReadToEnd Accepted DiskRose DiskSame : Type 0)
+    (Refused : OpenFault → Type 0) (Audited : Status → Type 0) (capture : Option (List ℕ)) (before now other : ℕ)
+    (sink written : K) (old new : Option (List ℕ)) (write_before write_now : ℕ) (status : Status) (Reads ReadsText : Type 0)
+    (read : InputBytes) (text : T) → Reads
+    → Ends IsText IsPart ReadToEnd Accepted DiskRose DiskSame Refused Audited capture (source_faults before 0)
+    (source_faults now 0) sink written old new write_before write_now status
+    → StopsInOrder Reads ReadsText read (source_faults before other) (source_faults now other) text text status
+capture_alone IsText IsPart ReadToEnd Accepted DiskRose DiskSame Refused Audited capture before now other sink written old
+    new write_before write_now Done Reads ReadsText read text reads ends = tt
+capture_alone IsText IsPart ReadToEnd Accepted DiskRose DiskSame Refused Audited capture before now other sink written old
+    new write_before write_now (BadWords kind) Reads ReadsText read text reads ends = tt
+capture_alone IsText IsPart ReadToEnd Accepted DiskRose DiskSame Refused Audited capture before now other sink written old
+    new write_before write_now (BadCapture fault) Reads ReadsText read text reads ends = (reads, refl)
+capture_alone IsText IsPart ReadToEnd Accepted DiskRose DiskSame Refused Audited capture before now other sink written old
+    new write_before write_now ReadFault Reads ReadsText read text reads ends =
+    ⊎_elim
+    (λ (rose : Rose before now). inl (record { reads = reads; rose = rose; text_unread = refl }))
+    (λ (rose : Rose 0 0). absurd (omega (arith, rose))) ends.0
+capture_alone IsText IsPart ReadToEnd Accepted DiskRose DiskSame Refused Audited capture before now other sink written old
+    new write_before write_now WriteFault Reads ReadsText read text reads ends = tt
+capture_alone IsText IsPart ReadToEnd Accepted DiskRose DiskSame Refused Audited capture before now other sink written old
+    new write_before write_now DiskFault Reads ReadsText read text reads ends = tt
+capture_alone IsText IsPart ReadToEnd Accepted DiskRose DiskSame Refused Audited capture before now other sink written old
+    new write_before write_now NotFormatted Reads ReadsText read text reads ends = tt
+capture_alone IsText IsPart ReadToEnd Accepted DiskRose DiskSame Refused Audited capture before now other sink written old
+    new write_before write_now (Damaged slot) Reads ReadsText read text reads ends = tt
+capture_alone IsText IsPart ReadToEnd Accepted DiskRose DiskSame Refused Audited capture before now other sink written old
+    new write_before write_now (OtherSettings stored asked) Reads ReadsText read text reads ends = tt
+capture_alone IsText IsPart ReadToEnd Accepted DiskRose DiskSame Refused Audited capture before now other sink written old
+    new write_before write_now (OtherCapture stored asked) Reads ReadsText read text reads ends = tt
+capture_alone IsText IsPart ReadToEnd Accepted DiskRose DiskSame Refused Audited capture before now other sink written old
+    new write_before write_now (AuditNo report verdict) Reads ReadsText read text reads ends = tt
+capture_alone IsText IsPart ReadToEnd Accepted DiskRose DiskSame Refused Audited capture before now other sink written old
+    new write_before write_now (BadReport fault) Reads ReadsText read text reads ends = tt
+capture_alone IsText IsPart ReadToEnd Accepted DiskRose DiskSame Refused Audited capture before now other sink written old
+    new write_before write_now OutOfMemory Reads ReadsText read text reads ends = tt
+
+-- and one that reads neither: it ends at no fault of them
+pub neither_read : {K T : Type 0} (IsText IsPart : List ℕ → Type 0) (ReadToEnd Accepted DiskRose DiskSame : Type 0)
+    (Refused : OpenFault → Type 0) (Audited : Status → Type 0) (capture : Option (List ℕ)) (sink written : K)
+    (old new : Option (List ℕ)) (write_before write_now : ℕ) (status : Status) (Reads ReadsText : Type 0)
+    (read : InputBytes) (before now : SourceFaults) (text : T)
+    → ((fault : CaptureFault) → status ≡ BadCapture fault → ⊥)
+    → Ends IsText IsPart ReadToEnd Accepted DiskRose DiskSame Refused Audited capture (source_faults 0 0)
+    (source_faults 0 0) sink written old new write_before write_now status
+    → StopsInOrder Reads ReadsText read before now text text status
+neither_read IsText IsPart ReadToEnd Accepted DiskRose DiskSame Refused Audited capture sink written old new write_before
+    write_now Done Reads ReadsText read before now text none ends = tt
+neither_read IsText IsPart ReadToEnd Accepted DiskRose DiskSame Refused Audited capture sink written old new write_before
+    write_now (BadWords kind) Reads ReadsText read before now text none ends = tt
+neither_read IsText IsPart ReadToEnd Accepted DiskRose DiskSame Refused Audited capture sink written old new write_before
+    write_now (BadCapture fault) Reads ReadsText read before now text none ends = absurd (none fault refl)
+neither_read IsText IsPart ReadToEnd Accepted DiskRose DiskSame Refused Audited capture sink written old new write_before
+    write_now ReadFault Reads ReadsText read before now text none ends =
+    absurd (⊎_elim (λ (rose : Rose 0 0). omega (arith, rose)) (λ (rose : Rose 0 0). omega (arith, rose)) ends.0)
+neither_read IsText IsPart ReadToEnd Accepted DiskRose DiskSame Refused Audited capture sink written old new write_before
+    write_now WriteFault Reads ReadsText read before now text none ends = tt
+neither_read IsText IsPart ReadToEnd Accepted DiskRose DiskSame Refused Audited capture sink written old new write_before
+    write_now DiskFault Reads ReadsText read before now text none ends = tt
+neither_read IsText IsPart ReadToEnd Accepted DiskRose DiskSame Refused Audited capture sink written old new write_before
+    write_now NotFormatted Reads ReadsText read before now text none ends = tt
+neither_read IsText IsPart ReadToEnd Accepted DiskRose DiskSame Refused Audited capture sink written old new write_before
+    write_now (Damaged slot) Reads ReadsText read before now text none ends = tt
+neither_read IsText IsPart ReadToEnd Accepted DiskRose DiskSame Refused Audited capture sink written old new write_before
+    write_now (OtherSettings stored asked) Reads ReadsText read before now text none ends = tt
+neither_read IsText IsPart ReadToEnd Accepted DiskRose DiskSame Refused Audited capture sink written old new write_before
+    write_now (OtherCapture stored asked) Reads ReadsText read before now text none ends = tt
+neither_read IsText IsPart ReadToEnd Accepted DiskRose DiskSame Refused Audited capture sink written old new write_before
+    write_now (AuditNo report verdict) Reads ReadsText read before now text none ends = tt
+neither_read IsText IsPart ReadToEnd Accepted DiskRose DiskSame Refused Audited capture sink written old new write_before
+    write_now (BadReport fault) Reads ReadsText read before now text none ends = tt
+neither_read IsText IsPart ReadToEnd Accepted DiskRose DiskSame Refused Audited capture sink written old new write_before
+    write_now OutOfMemory Reads ReadsText read before now text none ends = tt
+
+-- the command that a variant is reads what the variant reads
+pub order_as : {T : Type 0} (command other : Command) (read : InputBytes) (before now : SourceFaults)
+    (text text_read : T) (status : Status) → command ≡ other
+    → StopsInOrder (ReadsCapture other) (ReadsSession other) read before now text text_read status
+    → StopsInOrder (ReadsCapture command) (ReadsSession command) read before now text text_read status
+order_as command other read before now text text_read status is stops =
+    subst (λ c. StopsInOrder (ReadsCapture c) (ReadsSession c) read before now text text_read status) (sym is) stops
+
+-- ---- the top call
+
+-- the arguments ask for what their command uses
+asked_to_use : (Uses : Command → Type 0) (words : List (List ℕ)) (command : Command) → AskFor words command
+    → Uses command → AskToUse Uses words
+asked_to_use Uses words command asked uses = record { command = command; asked = asked; uses = uses }
+
+-- the capture was refused
+pub refused_capture_as : {T K D : Type 0} (rules : Rules) (keeping : Keeping) (words : List (List ℕ))
+    (command : Command) (given : InputBytes) (store_now : Option (List ℕ)) (ReadToEnd DiskRose : Type 0)
+    (before now : SourceFaults) (text text_read : T) (sink written : K) (disk stands : D) (old new : Option (List ℕ))
+    (write_before write_now : ℕ) (status : Status) (fault : CaptureFault) → AskFor words command
+    → status ≡ BadCapture fault
+    → StopsInOrder (ReadsCapture command) (ReadsSession command) given before now text text_read status
+    → EndsAs rules keeping command given store_now ReadToEnd DiskRose (stands ≡ disk) before now sink written old new
+    write_before write_now status
+    → RefusedCapture words given.capture fault text text_read sink written disk stands
+refused_capture_as rules keeping words command given store_now ReadToEnd DiskRose before now text text_read sink written
+    disk stands old new write_before write_now status fault asked is stops ends =
+    let order = subst (StopsInOrder (ReadsCapture command) (ReadsSession command) given before now text text_read) is stops in
+    let ended = subst (EndsAs rules keeping command given store_now ReadToEnd DiskRose (stands ≡ disk) before now sink
+    written old new write_before write_now) is ends in
+    record {
+      asked = asked_to_use ReadsCapture words command asked order.0;
+      first_fault = ended.0;
+      text_unread = order.1;
+      unwritten = ended.1;
+      untouched = ended.2;
+    }
+
+-- a source failed
+pub failed_to_read_as : {T K D : Type 0} (rules : Rules) (keeping : Keeping) (words : List (List ℕ))
+    (command : Command) (given : InputBytes) (store_now : Option (List ℕ)) (ReadToEnd DiskRose : Type 0)
+    (before now : SourceFaults) (text text_read : T) (sink written : K) (disk stands : D) (old new : Option (List ℕ))
+    (write_before write_now : ℕ) (status : Status) → AskFor words command → status ≡ ReadFault
+    → StopsInOrder (ReadsCapture command) (ReadsSession command) given before now text text_read status
+    → EndsAs rules keeping command given store_now ReadToEnd DiskRose (stands ≡ disk) before now sink written old new
+    write_before write_now status
+    → FailedToRead words given before now text text_read sink written disk stands
+failed_to_read_as rules keeping words command given store_now ReadToEnd DiskRose before now text text_read sink written
+    disk stands old new write_before write_now status asked is stops ends =
+    let order = subst (StopsInOrder (ReadsCapture command) (ReadsSession command) given before now text text_read) is stops in
+    let ended = subst (EndsAs rules keeping command given store_now ReadToEnd DiskRose (stands ≡ disk) before now sink
+    written old new write_before write_now) is ends in
+    record {
+      failed = source_failed_of (ReadsCapture command) (ReadsSession command) (AskToUse ReadsCapture words)
+          (AskToUse ReadsSession words) given before now text text_read
+          (asked_to_use ReadsCapture words command asked) (asked_to_use ReadsSession words command asked) order;
+      unwritten = ended.1;
+      untouched = ended.2;
+    }
+
+-- only a command that may use a store has a disk that fails
+may_use_store : (command : Command) (Happened : Type 0) → OfDisk command Happened → MayUseStore command × Happened
+may_use_store (Weigh prefix settings) Happened happened = absurd happened
+may_use_store (Report settings) Happened happened = (tt, happened)
+may_use_store (Format settings) Happened happened = (tt, happened)
+may_use_store (Audit settings) Happened happened = absurd happened
+may_use_store (Make seed frames) Happened happened = absurd happened
+may_use_store (Demo seed frames settings) Happened happened = absurd happened
+
+-- the disk failed
+pub failed_disk_as : {K : Type 0} (rules : Rules) (keeping : Keeping) (words : List (List ℕ)) (command : Command)
+    (given : InputBytes) (store_now : Option (List ℕ)) (DiskSame : Type 0) (disk_before disk_now : ℕ)
+    (before now : SourceFaults) (sink written : K) (old new : Option (List ℕ)) (write_before write_now : ℕ)
+    (status : Status) → AskFor words command → status ≡ DiskFault
+    → EndsAs rules keeping command given store_now (WasRead command given)
+    (OfDisk command (Rose disk_before disk_now)) DiskSame before now sink written old new write_before write_now status
+    → FailedDisk rules words given sink written old new disk_before disk_now
+failed_disk_as rules keeping words command given store_now DiskSame disk_before disk_now before now sink written old new
+    write_before write_now status asked is ends =
+    let ended = subst (EndsAs rules keeping command given store_now (WasRead command given)
+    (OfDisk command (Rose disk_before disk_now)) DiskSame before now sink written old new write_before write_now) is ends in
+    let used = may_use_store command (Rose disk_before disk_now) ended.3 in
+    record {
+      asked = asked_to_use MayUseStore words command asked used.0;
+      rose = used.1;
+      in_part = ⊎_elim
+          (λ (unwritten : written ≡ sink). inl unwritten)
+          (λ part. inr (record { command = command; asked = asked; read_to_end = ended.0; answer = part })) ended.2;
+    }
