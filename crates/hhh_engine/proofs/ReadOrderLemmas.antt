@@ -5,9 +5,6 @@ use Rattle.std.specs.Io.KnownBytes.{IsAtEnd}
 use Rattle.outside_io.specs.{Rose}
 use Rattle.prefix_lattice.specs.{RecordValue}
 use Rattle.pcap_frames.specs.declared.fault.CaptureFault.{CaptureFault}
-use Rattle.pcap_frames.specs.declared.fault.ReadRefusal.{ReadRefusal}
-use Rattle.pcap_frames.specs.declared.fault.ReadRefusal.TheVariants as refusals
-use Rattle.frame_records.specs.{HasRefused}
 use Rattle.recovery.specs.declared.fault.OpenFault.{OpenFault}
 use Rattle.report_text.specs.declared.session_fault.SessionFault.{SessionFault}
 use Rattle.report_text.specs.declared.session_fault.SessionFault.TheVariants as session
@@ -21,7 +18,7 @@ use Rattle.hhh_engine.specs.Ending.{Ends, FailedDisk, FailedToRead, OfDisk, Refu
 use Rattle.hhh_engine.specs.Ending.{StopsInOrder, source_faults}
 use Rattle.hhh_engine.specs.Inputs.{AskToUse, InputBytes, IsCapture, MayUseStore, ReadsCapture, ReadsSession, WasRead}
 use Rattle.hhh_engine.specs.Session.{Keeping, Rules}
-use Rattle.hhh_engine.specs.Status.{status_of, status_of_session}
+use Rattle.hhh_engine.specs.Status.{status_of_session}
 use Rattle.hhh_engine.specs.declared.status.Status.{Status}
 use Rattle.hhh_engine.specs.declared.status.Status.TheVariants.{Done, BadWords, BadCapture, ReadFault, WriteFault}
 use Rattle.hhh_engine.specs.declared.status.Status.TheVariants.{DiskFault, NotFormatted, Damaged, OtherSettings}
@@ -29,15 +26,6 @@ use Rattle.hhh_engine.specs.declared.status.Status.TheVariants.{OtherCapture, Au
 use Rattle.hhh_engine.proofs.StatusLemmas.{EndsAs}
 
 -- ---- the steps of an audit
-
--- no records were read of its capture
-pub no_records : {T : Type 0} (read : InputBytes) (left : Option (List ℕ)) (before now : SourceFaults) (text : T)
-    (refusal : ReadRefusal) → HasRefused left before.capture now.capture refusal
-    → StopsInOrder ⊤ ⊤ read before now text text (status_of refusal)
-no_records read left before now text (refusals.Capture fault) refused = (tt, refl)
-no_records read left before now text refusals.ReadFault refused =
-    inl (record { reads = tt; rose = refused; text_unread = refl })
-no_records read left before now text refusals.OutOfMemory refused = tt
 
 -- its text was not read
 pub no_bytes : {T : Type 0} (read : InputBytes) (before now : SourceFaults) (text text_read : T) (status : Status)
@@ -102,29 +90,6 @@ source_failed_of Reads ReadsText Other OtherText read before now text text_read 
       accepted = is.accepted;
     })) failed
 
-pub in_order_of : {T : Type 0} (Reads ReadsText Other OtherText : Type 0) (read : InputBytes)
-    (before now : SourceFaults) (text text_read : T) (status : Status) → (Reads → Other) → (ReadsText → OtherText)
-    → StopsInOrder Reads ReadsText read before now text text_read status
-    → StopsInOrder Other OtherText read before now text text_read status
-in_order_of Reads ReadsText Other OtherText read before now text text_read Done reads reads_text stops = tt
-in_order_of Reads ReadsText Other OtherText read before now text text_read (BadWords kind) reads reads_text stops = tt
-in_order_of Reads ReadsText Other OtherText read before now text text_read (BadCapture fault) reads reads_text stops =
-    (reads stops.0, stops.1)
-in_order_of Reads ReadsText Other OtherText read before now text text_read ReadFault reads reads_text stops =
-    source_failed_of Reads ReadsText Other OtherText read before now text text_read reads reads_text stops
-in_order_of Reads ReadsText Other OtherText read before now text text_read WriteFault reads reads_text stops = tt
-in_order_of Reads ReadsText Other OtherText read before now text text_read DiskFault reads reads_text stops = tt
-in_order_of Reads ReadsText Other OtherText read before now text text_read NotFormatted reads reads_text stops = tt
-in_order_of Reads ReadsText Other OtherText read before now text text_read (Damaged slot) reads reads_text stops = tt
-in_order_of Reads ReadsText Other OtherText read before now text text_read (OtherSettings stored asked) reads reads_text
-    stops = tt
-in_order_of Reads ReadsText Other OtherText read before now text text_read (OtherCapture stored asked) reads reads_text
-    stops = tt
-in_order_of Reads ReadsText Other OtherText read before now text text_read (AuditNo report verdict) reads reads_text
-    stops = tt
-in_order_of Reads ReadsText Other OtherText read before now text text_read (BadReport fault) reads reads_text stops = tt
-in_order_of Reads ReadsText Other OtherText read before now text text_read OutOfMemory reads reads_text stops = tt
-
 -- how a command ended that reads a capture and no text: whatever the faults of a text's source are, its own rose
 pub capture_alone : {K T : Type 0} (IsText IsPart : List ℕ → Type 0) (ReadToEnd Accepted DiskRose DiskSame : Type 0)
     (Refused : OpenFault → Type 0) (Audited : Status → Type 0) (capture : Option (List ℕ)) (before now other : ℕ)
@@ -164,41 +129,22 @@ capture_alone IsText IsPart ReadToEnd Accepted DiskRose DiskSame Refused Audited
     new write_before write_now OutOfMemory Reads ReadsText read text reads ends = tt
 
 -- and one that reads neither: it ends at no fault of them
-pub neither_read : {K T : Type 0} (IsText IsPart : List ℕ → Type 0) (ReadToEnd Accepted DiskRose DiskSame : Type 0)
-    (Refused : OpenFault → Type 0) (Audited : Status → Type 0) (capture : Option (List ℕ)) (sink written : K)
-    (old new : Option (List ℕ)) (write_before write_now : ℕ) (status : Status) (Reads ReadsText : Type 0)
-    (read : InputBytes) (before now : SourceFaults) (text : T)
-    → ((fault : CaptureFault) → status ≡ BadCapture fault → ⊥)
-    → Ends IsText IsPart ReadToEnd Accepted DiskRose DiskSame Refused Audited capture (source_faults 0 0)
-    (source_faults 0 0) sink written old new write_before write_now status
+pub neither_read : {T : Type 0} (Reads ReadsText : Type 0) (read : InputBytes) (before now : SourceFaults) (text : T)
+    (status : Status) → ((fault : CaptureFault) → status ≡ BadCapture fault → ⊥) → (status ≡ ReadFault → ⊥)
     → StopsInOrder Reads ReadsText read before now text text status
-neither_read IsText IsPart ReadToEnd Accepted DiskRose DiskSame Refused Audited capture sink written old new write_before
-    write_now Done Reads ReadsText read before now text none ends = tt
-neither_read IsText IsPart ReadToEnd Accepted DiskRose DiskSame Refused Audited capture sink written old new write_before
-    write_now (BadWords kind) Reads ReadsText read before now text none ends = tt
-neither_read IsText IsPart ReadToEnd Accepted DiskRose DiskSame Refused Audited capture sink written old new write_before
-    write_now (BadCapture fault) Reads ReadsText read before now text none ends = absurd (none fault refl)
-neither_read IsText IsPart ReadToEnd Accepted DiskRose DiskSame Refused Audited capture sink written old new write_before
-    write_now ReadFault Reads ReadsText read before now text none ends =
-    absurd (⊎_elim (λ (rose : Rose 0 0). omega (arith, rose)) (λ (rose : Rose 0 0). omega (arith, rose)) ends.0)
-neither_read IsText IsPart ReadToEnd Accepted DiskRose DiskSame Refused Audited capture sink written old new write_before
-    write_now WriteFault Reads ReadsText read before now text none ends = tt
-neither_read IsText IsPart ReadToEnd Accepted DiskRose DiskSame Refused Audited capture sink written old new write_before
-    write_now DiskFault Reads ReadsText read before now text none ends = tt
-neither_read IsText IsPart ReadToEnd Accepted DiskRose DiskSame Refused Audited capture sink written old new write_before
-    write_now NotFormatted Reads ReadsText read before now text none ends = tt
-neither_read IsText IsPart ReadToEnd Accepted DiskRose DiskSame Refused Audited capture sink written old new write_before
-    write_now (Damaged slot) Reads ReadsText read before now text none ends = tt
-neither_read IsText IsPart ReadToEnd Accepted DiskRose DiskSame Refused Audited capture sink written old new write_before
-    write_now (OtherSettings stored asked) Reads ReadsText read before now text none ends = tt
-neither_read IsText IsPart ReadToEnd Accepted DiskRose DiskSame Refused Audited capture sink written old new write_before
-    write_now (OtherCapture stored asked) Reads ReadsText read before now text none ends = tt
-neither_read IsText IsPart ReadToEnd Accepted DiskRose DiskSame Refused Audited capture sink written old new write_before
-    write_now (AuditNo report verdict) Reads ReadsText read before now text none ends = tt
-neither_read IsText IsPart ReadToEnd Accepted DiskRose DiskSame Refused Audited capture sink written old new write_before
-    write_now (BadReport fault) Reads ReadsText read before now text none ends = tt
-neither_read IsText IsPart ReadToEnd Accepted DiskRose DiskSame Refused Audited capture sink written old new write_before
-    write_now OutOfMemory Reads ReadsText read before now text none ends = tt
+neither_read Reads ReadsText read before now text Done no_capture no_read = tt
+neither_read Reads ReadsText read before now text (BadWords kind) no_capture no_read = tt
+neither_read Reads ReadsText read before now text (BadCapture fault) no_capture no_read = absurd (no_capture fault refl)
+neither_read Reads ReadsText read before now text ReadFault no_capture no_read = absurd (no_read refl)
+neither_read Reads ReadsText read before now text WriteFault no_capture no_read = tt
+neither_read Reads ReadsText read before now text DiskFault no_capture no_read = tt
+neither_read Reads ReadsText read before now text NotFormatted no_capture no_read = tt
+neither_read Reads ReadsText read before now text (Damaged slot) no_capture no_read = tt
+neither_read Reads ReadsText read before now text (OtherSettings stored asked) no_capture no_read = tt
+neither_read Reads ReadsText read before now text (OtherCapture stored asked) no_capture no_read = tt
+neither_read Reads ReadsText read before now text (AuditNo report verdict) no_capture no_read = tt
+neither_read Reads ReadsText read before now text (BadReport fault) no_capture no_read = tt
+neither_read Reads ReadsText read before now text OutOfMemory no_capture no_read = tt
 
 -- the command that a variant is reads what the variant reads
 pub order_as : {T : Type 0} (command other : Command) (read : InputBytes) (before now : SourceFaults)

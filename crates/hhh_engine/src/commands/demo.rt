@@ -18,7 +18,7 @@ ghost use Rattle.hhh_engine.specs.Ending.{Ends, SourceFaults};
 ghost use Rattle.hhh_engine.specs.Feed.{IsOpened};
 ghost use Rattle.hhh_engine.specs.NoText.{HasNoText};
 ghost use Rattle.hhh_engine.specs.Session.{IsShown, ends_of};
-ghost use Rattle.hhh_engine.specs.declared.status.Status.TheVariants.{BadCapture};
+ghost use Rattle.hhh_engine.specs.declared.status.Status.TheVariants.{BadCapture, ReadFault};
 
 use crate::commands::dealing::deal_records;
 use crate::commands::feed::plan_of;
@@ -60,6 +60,7 @@ pub(crate) fn demo<R: Threads + Wait + Sync, K: Sink, G: Gate + Sync>(
         ⊤ ⊤ ⊥ ⊤ (λ fault. ⊥) (λ status. ⊥) capture faults faults
         sink.old sink.new (K.taken sink.old) (K.taken sink.new) (K.faults sink.old) (K.faults sink.new) result }
     ensures no_capture { (fault : CaptureFault) → result ≡ BadCapture fault → ⊥ }
+    ensures no_read_fault { result ≡ ReadFault → ⊥ }
 {
     let text = match demo_text(rt, alloc, seed, frames, settings, gate, dealers) {
         Ok(text) => text,

@@ -7,7 +7,7 @@ ghost use Rattle.command_words.specs.{AreLimited};
 ghost use Rattle.hhh_engine.specs.Answer.{IsCutShort, formatted_text};
 ghost use Rattle.hhh_engine.specs.Ending.{Ends, FormatEnds, SourceFaults};
 ghost use Rattle.hhh_engine.specs.Saves.{store_settings};
-ghost use Rattle.hhh_engine.specs.declared.status.Status.TheVariants.{BadCapture, DiskFault};
+ghost use Rattle.hhh_engine.specs.declared.status.Status.TheVariants.{BadCapture, ReadFault, DiskFault};
 
 use crate::commands::base::store_settings;
 use crate::{Settings, Status};
@@ -25,6 +25,7 @@ pub(crate) fn format<K: Sink, D: Disk>(settings: &Settings, sink: &mut K, disk: 
     ensures store { FormatEnds (store_settings settings.now) (D.reads disk.new) (D.image_now disk.new)
         sink.old sink.new disk.old disk.new result }
     ensures no_capture { (fault : CaptureFault) → result ≡ BadCapture fault → ⊥ }
+    ensures no_read_fault { result ≡ ReadFault → ⊥ }
     ensures told { (result ≡ DiskFault → ⊥) → D.faults disk.new ≡ D.faults disk.old }
 {
     formatted_stores_are_empty();

@@ -5,7 +5,7 @@ ghost use Rattle.pcap_frames.specs.declared.fault.CaptureFault.{CaptureFault};
 ghost use Rattle.traffic_maker.specs.{made_capture, most_made};
 ghost use Rattle.hhh_engine.specs.Answer.{IsCutShort};
 ghost use Rattle.hhh_engine.specs.Ending.{Ends, SourceFaults};
-ghost use Rattle.hhh_engine.specs.declared.status.Status.TheVariants.{BadCapture};
+ghost use Rattle.hhh_engine.specs.declared.status.Status.TheVariants.{BadCapture, ReadFault};
 
 use crate::Status;
 use outside_io::Sink;
@@ -17,6 +17,7 @@ pub(crate) fn make<K: Sink>(seed: u64, frames: u32, sink: &mut K) -> Status
         (IsCutShort (λ text. text ≡ made_capture seed frames)) ⊤ ⊤ ⊥ ⊤ (λ fault. ⊥) (λ status. ⊥) capture faults faults
         sink.old sink.new (K.taken sink.old) (K.taken sink.new) (K.faults sink.old) (K.faults sink.new) result }
     ensures no_capture { (fault : CaptureFault) → result ≡ BadCapture fault → ⊥ }
+    ensures no_read_fault { result ≡ ReadFault → ⊥ }
 {
     match traffic_maker::make(seed, frames, sink) {
         Ok(()) => Status::Done,

@@ -1,10 +1,10 @@
-use Rattle.std.proofs.Common.{None, refl}
+use Rattle.std.proofs.Common.{refl}
 use Rattle.command_words.specs.declared.command.Command.TheVariants.{Weigh, Report, Format, Audit, Make, Demo}
-use Rattle.hhh_engine.specs.Ending.{source_faults}
+use Rattle.hhh_engine.specs.Ending.{RefusesStore}
 use Rattle.hhh_engine.specs.Inputs.{inputs}
 use Rattle.hhh_engine.specs.Saves.{kept_in}
 use Rattle.hhh_engine.proofs.AuditEndLemmas.{audit_ends_as}
-use Rattle.hhh_engine.proofs.ReadOrderLemmas.{capture_alone, in_order_of, neither_read, order_as}
+use Rattle.hhh_engine.proofs.ReadOrderLemmas.{capture_alone, neither_read, order_as}
 use Rattle.hhh_engine.proofs.StatusLemmas.{ends_as, ends_beside}
 use Rattle.hhh_engine.proofs.top_call.answer.Goals as goal
 
@@ -61,13 +61,15 @@ returns-in-Weigh-clause-order g c =
 pub returns-in-Report-clause-order : goal.returns-in-Report-clause-order
 returns-in-Report-clause-order g c =
     order_as c.args.command.now (Report c.in-Report.settings) _ _ _ _ _ c.report.result c.in-Report.is
-    (capture_alone _ _ _ _ _ _ _ _ _ _ _ _ _ _ _ _ _ _ c.report.result _ _ _ _ tt (c.report.ensures.ends 0))
+    (capture_alone _ _ _ _ _ _
+    (RefusesStore c.in-Report.settings _ (g.S.Source.left c.args.capture.now) (g.D.Disk.reads c.args.disk.now)
+    (g.D.Disk.reads c.report.new.disk)) (λ status. ⊥) _ _ _ _ _ _ _ _ _ _ c.report.result _ _ _ _ tt
+    (c.report.ensures.ends 0))
 
 pub returns-in-Format-clause-order : goal.returns-in-Format-clause-order
 returns-in-Format-clause-order g c =
     order_as c.args.command.now (Format c.in-Format.settings) _ _ _ _ _ c.format.result c.in-Format.is
-    (neither_read _ _ _ _ _ _ _ _ _ _ _ _ _ _ _ c.format.result _ _ _ _ _ _ c.format.ensures.no_capture
-    (c.format.ensures.ends None (source_faults 0 0)))
+    (neither_read _ _ _ _ _ _ c.format.result c.format.ensures.no_capture c.format.ensures.no_read_fault)
 
 pub returns-in-Audit-clause-order : goal.returns-in-Audit-clause-order
 returns-in-Audit-clause-order g c =
@@ -77,12 +79,10 @@ returns-in-Audit-clause-order g c =
 pub returns-in-Make-clause-order : goal.returns-in-Make-clause-order
 returns-in-Make-clause-order g c =
     order_as c.args.command.now (Make c.in-Make.seed c.in-Make.frames) _ _ _ _ _ c.make.result c.in-Make.is
-    (neither_read _ _ _ _ _ _ (λ fault. ⊥) (λ status. ⊥) _ _ _ _ _ _ _ c.make.result _ _ _ _ _ _
-    c.make.ensures.no_capture (c.make.ensures.ends None (source_faults 0 0)))
+    (neither_read _ _ _ _ _ _ c.make.result c.make.ensures.no_capture c.make.ensures.no_read_fault)
 
 pub returns-in-Demo-clause-order : goal.returns-in-Demo-clause-order
 returns-in-Demo-clause-order g c =
     order_as c.args.command.now (Demo c.in-Demo.seed c.in-Demo.frames c.in-Demo.settings) _ _ _ _ _ c.demo.result
     c.in-Demo.is
-    (neither_read _ _ _ _ _ _ (λ fault. ⊥) (λ status. ⊥) _ _ _ _ _ _ _ c.demo.result _ _ _ _ _ _
-    c.demo.ensures.no_capture (c.demo.ensures.ends None (source_faults 0 0)))
+    (neither_read _ _ _ _ _ _ c.demo.result c.demo.ensures.no_capture c.demo.ensures.no_read_fault)
