@@ -168,8 +168,7 @@ fn read_table(alloc: Global, capacity: u32, bytes: &[u8]) -> Result<(Flat, &[u8]
     Ok((table, rest))
 }
 
-// So many entries that these bytes begin with, in a vector with room for a table of the capacity, and the bytes after
-// them.
+// The first `count` entries of these bytes, in a vector with room for a table of the capacity, and the bytes after them.
 fn read_entries(
     alloc: Global,
     capacity: u32,

@@ -2,7 +2,7 @@
 
 use shard_state::Cut;
 
-/// A saved cut, with its place among the saves of a store, and what tells whose cut it is.
+/// A saved cut, with its sequence among the saves of a store, and the digest of its records.
 #[derive(Debug, Drop)]
 pub struct Saved {
     /// Which save of the store it is, from 1 to 2^62.

@@ -80,7 +80,7 @@ fn check_header(rt: &impl Abort, settings: StoreSettings, front: [u8; 10], room:
 
 #[test]
 fn other_headers_are_refused(rt: HostRuntime) {
-    // A place in the header, and a byte there that no header has.
+    // An offset in the header, and a byte there that no header has.
     let rows = [
         (0, 0x47),
         (3, 0x54),
@@ -188,7 +188,7 @@ fn encode_again(rt: &impl Abort, alloc: Global, saved: &Saved) -> Result<Vec<u8>
 fn damaged_bodies_are_refused(rt: HostRuntime) -> Result<(), Fail> {
     let alloc = rt.alloc();
     let body = packet_body(alloc)?;
-    // A place in the body, and a byte there with which it is none: in the length, the sequence, the position, the first
+    // An offset in the body, and a byte there with which it is none: in the length, the sequence, the position, the first
     // total, the first number of entries, the key of all traffic, its count, its error, and the last total.
     let rows = [
         (0, 0xff),
@@ -301,7 +301,7 @@ fn make_store<D: Disk>(alloc: Global, disk: &mut D) -> Result<Saver, Fail>
     Ok(Saver::new(alloc, slots, SMALLEST, DIGEST, &None)?)
 }
 
-// So many packets.
+// `count` packets.
 fn packets(alloc: Global, count: usize) -> Result<RecordList, AllocError>
     ensures { IfOk result (λ list. length list ≡ count) }
 {

@@ -17,7 +17,7 @@ pub enum Command {
     Format(Settings),
     /// `audit`: the verdict on each report of a session's text, against the plain records.
     Audit(Settings),
-    /// `make SEED FRAMES`: a capture of so many frames, made from the seed.
+    /// `make SEED FRAMES`: the capture that a seed and a number of frames determine.
     Make {
         seed: u64,
         frames: u32,

@@ -20,7 +20,7 @@ use std::alloc::Global;
 pub struct PathTexts {
     /// The path of the capture: a file, or `-` for standard input, which is the default.
     pub capture: PathText,
-    /// The path of a text of reports.
+    /// The path of the text of a session.
     pub report: PathText,
     /// The path of the store.
     pub store: PathText,

@@ -16,8 +16,8 @@ pub enum WordsKind {
     /// The first argument is not the name of a command.
     #[error("unknown command")]
     UnknownCommand,
-    /// The arguments after the command are not its positionals, each once, and options of its own, each at
-    /// most once.
+    /// The arguments after the command are not its positionals, each once, and options of its own, each at most once and
+    /// the required ones among them.
     #[error("refused")]
     Refused,
     /// The texts of the prefix have this fault.

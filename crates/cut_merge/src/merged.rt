@@ -108,7 +108,7 @@ impl Merged {
 }
 
 // The tables of a node, merged over the shards of a cut. It stays a function of its own in the binary, so that
-// measurements can tell where merging begins.
+// measurements can see where merging begins.
 #[inline(never)]
 fn merge_node(alloc: Global, cut: &Cut, node: Node) -> Result<NodeMerge, AllocError>
     requires is_node { IsNode node }

@@ -90,8 +90,8 @@ pub(crate) fn not_justified(
     Ok(None)
 }
 
-// Whether a line is justified by this conditioned weight. Its closest lines are searched only where the width of its own
-// interval doesn't justify it, and their kept pairs only where theirs don't either.
+// Whether a line is justified by this conditioned weight. Its closest lines are searched only where one width, the total
+// over the capacity, doesn't justify it; their kept pairs are counted only where a width for each of them doesn't either.
 fn is_justified(
     alloc: Global,
     line: &Line,

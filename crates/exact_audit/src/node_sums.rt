@@ -45,7 +45,7 @@ pub(crate) fn sums_at(
     Ok(sums)
 }
 
-// Adds the weight of a record to the sums of a key, and to what is left of it unless the record is explained.
+// Adds the weight of a record to the sum of a key, and to its conditioned weight unless the record is explained.
 fn add(
     sums: &mut IndexMap<u64, Sums>,
     key: u64,

@@ -110,7 +110,7 @@ pub fn report_once<R: Wait, G: Gate>(
     Ok(report)
 }
 
-// The report of a cut that was just read.
+// The report of a cut that was read.
 fn report_at(alloc: Global, board: &Board, cut: &Cut, phi: u32) -> Result<Report, AllocError>
     requires cut { IsCutAt board.now.opening (positions_of cut.now) cut.now }
     requires some { 1 ≤ phi }

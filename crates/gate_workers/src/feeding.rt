@@ -11,8 +11,8 @@ use std::sync::atomic::AtomicU64;
 use std::thread;
 use std::time::Duration;
 
-// How long a worker sleeps that met no free shard with records left, in microseconds: less than a fold of 1,024 records
-// takes.
+// How long a worker sleeps that met no free shard with remaining records, in microseconds: less than a fold of 1,024
+// records takes.
 const NAP_MICROS: u64 = 200;
 
 /// Counts blocks of the board's shards, `block` records at a time, at least one, until all shards are at their ends.

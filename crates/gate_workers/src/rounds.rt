@@ -8,7 +8,7 @@ use pass_tokens::{Board, Pass};
 use std::alloc::Global;
 use std::sync::Wait;
 
-/// The rounds of the calling thread. What they need and what they do are told by the implementation.
+/// The rounds of the calling thread. The implementation states what they need and what they do.
 pub trait Rounds {
     /// What the rounds need of the board and of the pass's view.
     ghost ready: { Self → WordsValue → View → Type 0 };

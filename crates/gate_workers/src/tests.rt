@@ -88,7 +88,7 @@ fn calls<R: Wait, G: Gate>(
     reports
 }
 
-// Waits until a number is at least this, for so many turns at most. Whether it was.
+// Waits until a number is at least this, for a limited number of turns. Returns whether it was.
 fn reaches(number: &AtomicU64, least: u64) -> bool {
     for _ in 0..TURNS {
         if number.load(Ordering::SeqCst) >= least {
@@ -344,7 +344,7 @@ const GREATEST_BLOCK: usize = 1 << 34;
 
 const LEAST_BLOCK: usize = 1 << 20;
 
-// Takes so much of the address space that no stack of a thread fits into what is left. None of it is touched.
+// Takes enough of the address space that no stack of a thread fits into the rest. None of it is touched.
 fn take_address_space(alloc: Global) -> Result<Vec<Vec<u8>>, AllocError> {
     let mut taken = Vec::with_capacity(alloc, MOST_BLOCKS)?;
     let mut size = GREATEST_BLOCK;

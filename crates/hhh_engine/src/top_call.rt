@@ -66,7 +66,7 @@ use std::thread::Threads;
 /// session by these records alone. It writes one line: how many reports there are, if all are sound, else what is wrong
 /// with the first that is not.
 ///
-/// `make SEED FRAMES` writes the capture of that many frames that the seed makes.
+/// `make SEED FRAMES` writes the capture that the seed and the number of frames determine.
 ///
 /// `demo SEED FRAMES` makes that capture in memory, deals its records to shards, counts them by workers, reports on all of
 /// them, and audits the report. It writes a summary, which says that the audit found the report sound.
@@ -84,7 +84,7 @@ pub fn run<R: Threads + Wait + Sync, S: Source, T: Source, K: Sink, D: Disk, G: 
     dealers: &Dealers,
 ) -> Status
     // The text of the command was written for its inputs, which were read to their ends. What the text says of weights
-    // holds for the records themselves. What a report saved stands in its store, whatever a crash leaves.
+    // holds for the records themselves. What a report saved is in its store, whatever a crash leaves.
     ensures done { result ≡ Done → Answers (λ kind. ⟦<Dealer as Deals>⟧.may_answer (dealer_of kind dealers.now))
         (kept_in D.reads D.image_now D.moment D.image_since disk.old disk.new) (texts words.now)
         (inputs (S.left capture.old) (S.left capture.new) (T.left text.old) (T.left text.new) (D.reads disk.old)) (K.taken sink.old) (K.taken sink.new) }

@@ -18,7 +18,7 @@ use prefix_lattice::{Node, Prefix, prefixes_are_ordered, report_order_is_total};
 use std::alloc::{AllocError, Global};
 
 /// The lines that merged tables give, in the order of a report. It stays a function of its own in the binary, so that
-/// measurements can tell where it begins.
+/// measurements can see where it begins.
 #[inline(never)]
 pub(crate) fn select_lines(
     alloc: Global,

@@ -106,7 +106,7 @@ fn one_seat_holds_and_another_looks(rt: HostRuntime) -> Result<(), Fail> {
     Ok(())
 }
 
-// Folds the first shard record by record, at most so many turns. How many records were counted.
+// Folds the first shard record by record, in at most `turns` turns. Returns how many records were counted.
 fn folds_in_turns(words: &Words, mut seat: Seat, turns: u32) -> u64
     requires within { 0 < length words.now.opening }
     requires seat { IsSeatOf words.now seat }

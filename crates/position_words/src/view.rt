@@ -50,6 +50,6 @@ pub struct View {
     pub joins: LinkedList<u64>,
     /// The shard that it holds, if any.
     pub held: Option<Held>,
-    /// Whether it was joined to another, and knows nothing any more.
+    /// Whether it was joined to another, and knows nothing from then on.
     pub spent: bool,
 }

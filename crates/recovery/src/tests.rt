@@ -42,7 +42,7 @@ const OTHER_DIGEST: [u8; 32] = [
 // The last sequence that is opened: 64 below the last.
 const LAST_OPENED: u64 = 0x3fff_ffff_ffff_ffc0;
 
-// The settings of one shard with tables of so many entries, by bytes and dealt in turn.
+// The settings of one shard with tables of this capacity, by bytes and dealt in turn.
 fn settings_of(capacity: u16) -> Result<StoreSettings, Fail>
     ensures { IfOk result AreSettings }
 {
@@ -55,7 +55,7 @@ fn settings_of(capacity: u16) -> Result<StoreSettings, Fail>
     }
 }
 
-// So many records.
+// `count` records.
 fn records(alloc: Global, rec: Record, count: usize) -> Result<RecordList, AllocError>
     ensures { IfOk result (λ list. length list ≡ count) }
 {
@@ -73,7 +73,7 @@ fn by_place(place: u64, rec: Record, shards: u32) -> u32
     (place % u64::from(shards)) as u32
 }
 
-// So many records, dealt to one shard.
+// `count` records, dealt to one shard.
 fn dealt_of(alloc: Global, rec: Record, count: usize) -> Result<Dealt, Fail>
     requires { count ≤ 2 ^ 24 }
     ensures { IfOk result (λ dealt. length dealt ≡ 1) }
@@ -103,7 +103,7 @@ fn cut_of(alloc: Global, list: RecordList, capacity: u32) -> Result<Cut, AllocEr
     Ok(cut)
 }
 
-// The body of a cut of so many records, with tables of two entries.
+// The body of a cut of `count` records, with tables of two entries.
 fn body_of(
     alloc: Global,
     sequence: u64,
@@ -143,7 +143,7 @@ struct Found {
     position: Option<u64>,
 }
 
-// Opens a store of these bytes, of tables with so many entries, for so many dealt records.
+// Opens a store of these bytes, with tables of this capacity, for `count` dealt records.
 fn open(
     alloc: Global,
     bytes: Vec<u8>,
@@ -171,7 +171,7 @@ fn found_of(opened: Result<Opened, OpenFault>) -> Result<Found, OpenFault> {
     })
 }
 
-// The digest of so many dealt records under tables of two entries.
+// The digest of `count` dealt records under tables of two entries.
 fn small_digest(alloc: Global, rec: Record, count: usize) -> Result<[u8; 32], Fail>
     requires { count ≤ 2 ^ 24 }
 {
@@ -183,7 +183,7 @@ fn small_digest(alloc: Global, rec: Record, count: usize) -> Result<[u8; 32], Fa
     Ok(digest_of(&dealt, &settings))
 }
 
-// Opens a store that was just made, and saves a cut of the dealt packet.
+// Opens a new store, and saves a cut of the dealt packet.
 fn save_first<D: Disk>(alloc: Global, disk: &mut D) -> Result<Saver, Fail> {
     let settings = settings_of(512)?;
     let dealt = dealt_of(alloc, PACKET, 1)?;

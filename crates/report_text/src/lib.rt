@@ -1,4 +1,4 @@
-//! The text of reports and of the lines around them.
+//! The text of reports and of the lines around them, and the reader of the text of a session.
 #![tactic(auto)]
 
 mod laws;

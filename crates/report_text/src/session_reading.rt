@@ -75,7 +75,7 @@ struct Listed {
     frames: u64,
 }
 
-// The reports of a session over so many shards, and the line after them.
+// The reports of a session over this many shards, and the line after them.
 fn read_reports(
     alloc: Global,
     lines: &mut LineCursor<'_>,

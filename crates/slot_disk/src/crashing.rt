@@ -71,7 +71,7 @@ fn crash_range(
     put_over(image, start, &range)
 }
 
-// So many zero bytes.
+// `count` zero bytes.
 fn zeros(alloc: Global, count: usize) -> Result<Vec<u8>, AllocError>
     ensures { IfOk result (λ bytes. bytes.items ≡ zeros count) }
 {

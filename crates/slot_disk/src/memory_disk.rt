@@ -217,7 +217,7 @@ impl MemoryDisk {
     }
 }
 
-// Whether so many bytes at this offset are within the room.
+// Whether `count` bytes at this offset are within the room.
 fn fits_room(room: usize, place: u64, count: usize) -> bool
     ensures { result ≡ nat_le (place + count) room }
 {
@@ -228,7 +228,7 @@ fn fits_room(room: usize, place: u64, count: usize) -> bool
     count as u64 <= room - place
 }
 
-// Whether a record of this many steps and bytes has room for one more step with so many bytes.
+// Whether a record of this many steps and bytes has room for one more step with `count` bytes.
 fn fits_record(steps: usize, bytes: usize, log: usize, count: usize) -> bool
     requires { bytes ≤ log }
     ensures { result ≡ (nat_lt steps most_steps && nat_le (bytes + count) log) }

@@ -215,7 +215,7 @@ fn read_number<D: Disk>(disk: &mut D, place: u64) -> Result<Option<u64>, Failed>
     Ok(Some(BigEndian::read_u64(&head)))
 }
 
-// So many zero bytes.
+// `count` zero bytes.
 fn zero_bytes(alloc: Global, count: usize) -> Result<Vec<u8>, AllocError>
     ensures { IfOk result (λ bytes. vec_len bytes ≡ count) }
 {

@@ -14,7 +14,7 @@ pub(crate) enum StepKind {
     Synced,
 }
 
-/// One write or sync. The bytes of all writes stand in one list, each write's from its start on.
+/// One write or sync. The bytes of all writes are in one list, each write's from its start on.
 #[derive(Clone, Copy, Debug, PartialEq, Eq)]
 pub(crate) struct StepEntry {
     /// What was done.

@@ -16,7 +16,7 @@ const FIRST: [u8; 16] = [0, 0, 0, 0, 0, 0, 0, 16, 7, 7, 7, 7, 7, 7, 7, 7];
 // A length of 9 in 8 bytes, and a byte 5.
 const SECOND: [u8; 9] = [0, 0, 0, 0, 0, 0, 0, 9, 5];
 
-// A disk of these bytes with some room behind them.
+// A disk of these bytes, with some room after them.
 fn disk_of(alloc: Global, bytes: Vec<u8>, fuse: Option<u64>) -> Result<MemoryDisk, AllocError> {
     let room = bytes.len().max(96);
     MemoryDisk::with_room(alloc, room, 1_048_576, bytes, fuse, Vec::new(alloc))

@@ -7,7 +7,7 @@ use crate::nodes::{number_leaves, write_leaf};
 use std::alloc::{AllocError, Global};
 use std::marker::Model;
 
-/// A list of words, its leaves, of which the least is known at once. All nodes stand in one vector of
+/// A list of words, its leaves, of which the least is known at once. All nodes are in one vector of
 /// twice as many words as there are leaves, and each inner node is the lesser of its children.
 #[derive(Debug, Drop)]
 pub struct WinnerTree {

@@ -112,7 +112,7 @@ fn verdict_on(
     audit(alloc, plain, report, settings.capacity, settings.phi)
 }
 
-// The records of the capture of this many frames that a seed makes.
+// The records of the capture that a seed and a number of frames determine.
 fn made_records(alloc: Global, seed: u64, frames: u32, weigh: Weigh) -> Result<Records, AllocError>
     requires { (1 ≤ frames) × (frames ≤ most_made) }
     ensures records { IfOk result (λ records. (made : List FrameValue) × HasFrames (made_capture seed frames) made × AreRecordsOf weigh made records) }

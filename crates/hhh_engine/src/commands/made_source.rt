@@ -20,7 +20,7 @@ pub(crate) struct MadeSource {
 impl Model for MadeSource {
     ghost use Rattle.std.specs.Prelude.{◌≡◌, ℕ, List, []};
 
-    // The bytes that are left.
+    // The remaining bytes.
     ghost Value = { List ℕ };
 
     ghost view = { λ s. s.source.left };

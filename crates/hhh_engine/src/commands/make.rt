@@ -10,7 +10,7 @@ ghost use Rattle.hhh_engine.specs.declared.status.Status.TheVariants.{BadCapture
 use crate::Status;
 use outside_io::Sink;
 
-/// Writes the capture of this many frames that a seed makes.
+/// Writes the capture that a seed and a number of frames determine.
 pub(crate) fn make<K: Sink>(seed: u64, frames: u32, sink: &mut K) -> Status
     requires { (1 ≤ frames) × (frames ≤ most_made) }
     ensures ends { (capture : Option (List ℕ)) (faults : SourceFaults) → Ends (λ text. text ≡ made_capture seed frames)

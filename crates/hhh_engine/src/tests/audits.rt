@@ -225,7 +225,7 @@ const CHANGES: [Change; 16] = [
         "at 6 5\ntotal 11\nthreshold 6\nline 0.0.0.0/0 0.0.0.0/0 11 11\n",
         "report 1: left out 1.0.0.1/32 101.0.0.1/32 6\n",
     ),
-    // Without the first line's packets 5 are left, which is below the threshold.
+    // Without the first line's packets 5 remain, which is below the threshold.
     (
         "at 6 5\ntotal 11\nthreshold 6\nline 1.0.0.1/32 101.0.0.1/32 5 6\n",
         "good 1\n",

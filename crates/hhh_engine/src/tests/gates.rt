@@ -1,4 +1,4 @@
-//! Gates that hold threads, each hold for so many turns at most.
+//! Gates that hold threads, each hold for a limited number of turns.
 
 use gate_workers::Gate;
 use std::sync::atomic::{AtomicU64, Ordering};
@@ -49,7 +49,7 @@ impl Gate for Meeting {
     fn after_read(&self, _caller: u32, _round: u32) {}
 }
 
-// Holds the first read of each of two callers until so many folds were made, and the next fold until both have read.
+// Holds the first read of each of two callers until `folds` folds were made, and the next fold until both have read.
 #[derive(Drop)]
 pub(crate) struct Turnstile {
     folds: u64,

@@ -127,7 +127,7 @@ pub(crate) fn two_workers_feed_at_once<R: Abort + Threads + Wait + Sync>(
     Ok(())
 }
 
-// The calling thread and a caller each read after so many folds of one packet, and before the next one.
+// The calling thread and a caller each read after a given number of folds of one packet, and before the next one.
 pub(crate) fn a_round_reads_what_was_folded<R: Abort + Threads + Wait + Sync>(
     rt: &R,
     alloc: Global,
