@@ -1,15 +1,13 @@
 -- What `audit` does step by step, which no public contract cites.
 use Rattle.std.specs.Prelude.{⊤, ℕ, ◌≡◌, List, length, All, IfSome}
-use Rattle.std.specs.Io.KnownBytes.{IsAtEnd}
 use Rattle.outside_io.specs.{Rose}
 use Rattle.prefix_lattice.specs.{RecordValue}
 use Rattle.frame_records.specs.{IsRefusedFor}
 use Rattle.hhh_output.specs.declared.reports.Reported.{Reported}
-use Rattle.report_text.specs.{HasTextFault}
 use Rattle.command_words.specs.declared.settings.Settings.{Settings}
-use Rattle.hhh_engine.specs.Audit.{AreAudited, IsFirstUnsound, IsSoundOver, WasReadFor, sound_text, unsound_text}
+use Rattle.hhh_engine.specs.Audit.{AreAudited, IsFirstUnsound, IsSoundOver, sound_text, unsound_text}
 use Rattle.hhh_engine.specs.Ending.{OneRose, SourceFaults, TextRefusal}
-use Rattle.hhh_engine.specs.Inputs.{InputBytes, IsCapture, OfAudited}
+use Rattle.hhh_engine.specs.Inputs.{InputBytes, OfAudited}
 use Rattle.hhh_engine.specs.Session.{Rules}
 use Rattle.hhh_engine.specs.declared.commands.audit.Answer.{Answer}
 use Rattle.hhh_engine.specs.declared.commands.audit.Audited.{Audited}
