@@ -19,6 +19,8 @@ returns-in-Ok-clause-saved g c =
     (record {
       saver = ap Some done.saved;
       saves = one_save c.stores_open_to_one.ensures g.D.Disk.reads g.D.Disk.image_now g.D.Disk.moment
-          g.D.Disk.image_since saver c.args.cut.now c.args.disk.now c.save.new.disk can.settings can.stands done.known (subst (λ after. StandsFor (g.D.Disk.reads c.save.new.disk) (g.D.Disk.image_now c.save.new.disk) after) done.saved done.stands)
-          done.opens done.any_moment;
+          g.D.Disk.image_since saver c.args.cut.now c.args.disk.now c.save.new.disk can.settings can.stands
+          done.known
+          (subst (λ after. StandsFor (g.D.Disk.reads c.save.new.disk) (g.D.Disk.image_now c.save.new.disk) after)
+          done.saved done.stands) done.opens done.any_moment;
     })
