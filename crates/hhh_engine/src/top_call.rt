@@ -136,7 +136,8 @@ pub fn run<R: Threads + Wait + Sync, S: Source, T: Source, K: Sink, D: Disk, G: 
         → (result ≡ AuditNo report verdict) ⊎ ((result ≡ ReadFault) ⊎ ((result ≡ WriteFault) ⊎ (result ≡ OutOfMemory))) }
 
     // A fault of a source, the sink or the disk is reported only where it had one in this call. It is never ignored, nor
-    // reported as anything else. No text of a session is read before the capture was read to its end and accepted.
+    // reported as anything else. Where the capture's source failed, the text of a session is untouched; where the text's
+    // did, the capture was read to its end and accepted.
     ensures read_fault { result ≡ ReadFault → FailedToRead (texts words.now)
         (inputs (S.left capture.old) (S.left capture.new) (T.left text.old) (T.left text.new) (D.reads disk.old)) (source_faults (S.faults capture.old) (T.faults text.old))
         (source_faults (S.faults capture.new) (T.faults text.new)) text.old text.new sink.old sink.new disk.old disk.new }
