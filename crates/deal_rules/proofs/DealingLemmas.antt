@@ -1,6 +1,6 @@
 -- A dealing holds the records that were dealt.
 use Rattle.std.proofs.Common.{◌≡◌, ℕ, suc, zero, ◌+◌, ◌^◌, ◌<◌, ◌≤◌, eqb, true, false, cond, List, [], ◌∷◌, ◌++◌}
-use Rattle.std.proofs.Common.{length, map, filter, All, refl, sym, ap, ◌∙◌, subst, arith}
+use Rattle.std.proofs.Common.{length, map, filter, get_or, All, refl, sym, ap, ◌∙◌, subst, arith}
 use Rattle.std.specs.List.{zip, range_with_len, flat_map, sum_by}
 use Rattle.std.specs.List.Sorted.{IsPermutation}
 use Rattle.std.proofs.lemmas.Bool.{eqb-true, eqb-false, cond_both}
@@ -10,10 +10,12 @@ use Rattle.std.proofs.lemmas.List.Concat.{length-flat_map}
 use Rattle.std.proofs.lemmas.List.Sorted.{IsPermutation-refl, IsPermutation-sym, IsPermutation-trans}
 use Rattle.std.proofs.lemmas.List.Sorted.{IsPermutation-cons, IsPermutation-append_right, IsPermutation-middle}
 use Rattle.std.proofs.lemmas.List.Sorted.{length_permutation, sum_by-IsPermutation}
+use Rattle.std.proofs.lemmas.Grind.{same_number_lists}
+use Rattle.std.proofs.lemmas.Option.{slice_get-get_or}
 use Rattle.prefix_lattice.specs.{RecordValue, PrefixValue, covers, weight_of, total_weight}
 use Rattle.deal_rules.specs.declared.deal_kind.DealKind.{DealKind}
 use Rattle.deal_rules.proofs.ShardListLemmas.{length-dealing}
-use Rattle.deal_rules.specs.Dealing.{dealt_list, dealt_lists, AreDealt, IsDealing, AreShardLists}
+use Rattle.deal_rules.specs.Dealing.{dealt_list, dealt_lists, AreDealt, FollowRule, IsDealing, AreShardLists}
 
 -- the lists of so many shards, from shard `from` on, end to end
 abbrev joined : (ℕ → List RecordValue) → ℕ → ℕ → List RecordValue
@@ -168,3 +170,31 @@ AreShardLists-dealing kind may_answer shards records lists dealing some few smal
     let all : sum_by (λ list. length list) lists ≡ length records =
     counted shards records dealing.numbers lists dealing.dealt in
     record { some = omega (arith, long, some); few = omega (arith, long, few); small = omega (arith, all, small) }
+
+-- the number of each record, where the rule is a formula
+number_by_formula : (kind : DealKind) (formula : ℕ → RecordValue → ℕ → ℕ) (shards : ℕ) (records : List RecordValue)
+    (numbers : List ℕ) (place : ℕ) (d : RecordValue) → length numbers ≡ length records
+    → FollowRule kind (λ place rec shards number. number ≡ formula place rec shards) shards records numbers
+    → place < length numbers → get_or numbers place 0 ≡ formula place (get_or records place d) shards
+number_by_formula kind formula shards records numbers place d same follow within =
+    (follow place (get_or numbers place 0) (get_or records place d)
+    (slice_get-get_or records place d (omega (arith, within, same)))
+    (slice_get-get_or numbers place 0 within)).answered
+
+-- a rule that is a formula deals records in one way
+pub one_dealing : (kind : DealKind) (formula : ℕ → RecordValue → ℕ → ℕ) (shards : ℕ) (records : List RecordValue)
+    (lists others : List (List RecordValue))
+    → IsDealing kind (λ place rec shards number. number ≡ formula place rec shards) shards records lists
+    → IsDealing kind (λ place rec shards number. number ≡ formula place rec shards) shards records others
+    → lists ≡ others
+one_dealing kind formula shards records lists others dealing other =
+    let d : RecordValue = record { src = 0; dst = 0; weight = 0 } in
+    let long : length dealing.numbers ≡ length other.numbers = dealing.dealt.as_many ∙ sym other.dealt.as_many in
+    let numbers_are_one : dealing.numbers ≡ other.numbers =
+    same_number_lists dealing.numbers other.numbers long
+    (λ place within. number_by_formula kind formula shards records dealing.numbers place d dealing.dealt.as_many
+    dealing.ruled within
+    ∙ sym (number_by_formula kind formula shards records other.numbers place d other.dealt.as_many other.ruled
+    (omega (arith, within, long)))) in
+    dealing.dealt.parted ∙ ap (λ numbers. dealt_lists shards numbers records) numbers_are_one
+    ∙ sym other.dealt.parted

@@ -4,6 +4,7 @@ ghost use Rattle.std.specs.Prelude.{◌≡◌, ℕ, ◌≤◌, List, [], length,
 ghost use Rattle.std.specs.List.{flat_map, sum_by};
 ghost use Rattle.std.specs.List.Sorted.{IsPermutation};
 ghost use Rattle.prefix_lattice.specs.{PrefixValue, weight_of, total_weight, RecordValue, most_records, most_shards};
+ghost use Rattle.deal_rules.specs.declared.deal_kind.DealKind.{DealKind};
 ghost use Rattle.deal_rules.specs.Dealing.{AreDealt, IsDealing, dealt_lists};
 
 use crate::{Dealer, Deals, Dealt};
@@ -60,4 +61,12 @@ pub fn dealing_loses_nothing()
         → (prefix : PrefixValue) → sum_by (weight_of prefix) lists ≡ weight_of prefix records }
     ensures total { (shards : ℕ) (records : List RecordValue) (numbers : List ℕ) (lists : List (List RecordValue))
         → AreDealt shards records numbers lists → sum_by total_weight lists ≡ total_weight records }
+{}
+
+/// Where the rule is a formula, records are dealt in one way: two dealings of the same records to as many shards have
+/// the same lists.
+pub fn a_formula_deals_in_one_way()
+    ensures { (kind : DealKind) (formula : ℕ → RecordValue → ℕ → ℕ) (shards : ℕ) (records : List RecordValue) (lists others : List (List RecordValue))
+        → IsDealing kind (λ place rec shards number. number ≡ formula place rec shards) shards records lists
+        → IsDealing kind (λ place rec shards number. number ≡ formula place rec shards) shards records others → lists ≡ others }
 {}

@@ -19,6 +19,7 @@ pub mod AuditLemmas
 pub mod AuditEndLemmas
 pub mod WiderRulesLemmas
 pub mod LastReportLemmas
+pub mod DemoTextLemmas
 pub mod LastStoreLemmas
 pub mod OwnReportLemmas
 pub mod Examples

@@ -5,6 +5,7 @@ ghost use Rattle.prefix_lattice.specs.{RecordValue};
 ghost use Rattle.deal_rules.specs.{dealer_of};
 ghost use Rattle.deal_rules.specs.declared.deal_kind.DealKind.{DealKind};
 ghost use Rattle.hhh_engine.specs.Answer.{Answers, AnswersInPart};
+ghost use Rattle.hhh_engine.specs.Demo.{IsDemoText};
 ghost use Rattle.hhh_engine.specs.Ending.{FoundUnsound};
 ghost use Rattle.hhh_engine.specs.Inputs.{InputBytes};
 ghost use Rattle.pcap_frames.specs.{FrameValue};
@@ -21,8 +22,9 @@ ghost use Rattle.checkpoint.specs.{Belongs, IsOfLists, SavedValue, opened_sequen
 ghost use Rattle.hhh_engine.specs.Session.{AreSessionReports, IsSession, SessionReports, by_formula, ends_of, new_shards, part_text, reports_in, session_saves, session_text, start_of};
 ghost use Rattle.hhh_engine.specs.Saves.{OpensAmong, kept_in, last_saved, store_settings};
 
-use deal_rules::{Dealer, Dealers, Deals};
+use deal_rules::{Dealer, Dealers, Deals, a_formula_deals_in_one_way};
 use exact_audit::a_report_has_one_verdict;
+use frame_records::files_are_read_or_refused;
 use gate_workers::reported_cuts_represent;
 use hhh_output::{a_cut_has_one_report, standing_cuts_have_one_report};
 use report_text::same_reports_have_one_text;
@@ -120,3 +122,18 @@ pub fn own_reports_are_good<D: Disk>()
 pub fn made_captures_are_captures()
     ensures { (seed count : ℕ) → count ≤ most_made → (frames : List FrameValue) × HasFrames (made_capture seed count) frames × (length frames ≡ count) }
 {}
+
+/// The text of a demonstration depends on the seed, the number of frames, the shards, the capacity, the share, the dealing
+/// and the weighing alone, where each kind of dealing is a formula: whatever the number of workers, the block and the
+/// threads, its bytes are the same.
+pub fn demos_have_one_text()
+    ensures { (formula : DealKind → ℕ → RecordValue → ℕ → ℕ) (settings other : Settings) (seed frames : ℕ) (text other_text : List ℕ)
+        → settings.shards ≡ other.shards → settings.capacity ≡ other.capacity → settings.phi ≡ other.phi
+        → settings.deal ≡ other.deal → settings.weigh ≡ other.weigh
+        → IsDemoText settings (by_formula formula) seed frames text → IsDemoText other (by_formula formula) seed frames other_text
+        → text ≡ other_text }
+{
+    files_are_read_or_refused();
+    a_formula_deals_in_one_way();
+    a_cut_has_one_report();
+}

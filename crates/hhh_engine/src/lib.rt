@@ -13,7 +13,7 @@ pub use command_words::{
 pub use commands::LiveRounds;
 pub use exact_audit::Verdict;
 pub use laws::{
-    answers_follow_formulas, last_reports_are_one, last_saves_are_at_the_ends,
+    answers_follow_formulas, demos_have_one_text, last_reports_are_one, last_saves_are_at_the_ends,
     made_captures_are_captures, own_reports_are_good, resumed_sessions_end_alike, saves_belong,
     sessions_without_rounds_have_one_report,
 };

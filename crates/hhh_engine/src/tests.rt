@@ -4,6 +4,7 @@ ghost use Rattle.deal_rules.specs.{IsAsked};
 mod audits;
 mod captures;
 mod gates;
+mod indexed_lines;
 mod made;
 mod refusals;
 mod reports;
@@ -194,4 +195,11 @@ fn makes_traffic(rt: HostRuntime) -> Result<(), Fail> {
     made::makes_a_capture(&rt, alloc, &dealers)?;
     made::demonstrates(&rt, alloc, &dealers)?;
     made::demonstrates_the_same_with_one_worker(&rt, alloc, &dealers)
+}
+
+#[test]
+fn an_index_gives_what_a_plain_list_gives(rt: HostRuntime) -> Result<(), Fail> {
+    let alloc = rt.alloc();
+    let dealer = Dealer::new(DealKind::RoundRobin, Box::new(alloc, by_place)?);
+    indexed_lines::compares_the_lines_of_a_report(&rt, alloc, &dealer)
 }

@@ -1,0 +1,122 @@
+//! An index of the lines of a whole report, beside the plain list of them.
+
+ghost use Rattle.std.specs.Prelude.{◌≡◌, OnOk};
+ghost use Rattle.std.specs.List.{list_any};
+ghost use Rattle.prefix_lattice.specs.{under};
+
+use conditioned_bounds::{Intervals, LineIndex, bound, closest, kept_pairs};
+use cut_merge::Merged;
+use deal_rules::{Dealer, deal};
+use frame_records::{Weigh, read_records};
+use hhh_output::report_of;
+use outside_io::MemorySource;
+use prefix_lattice::{Prefix, Prefixes, prefixes_are_ordered};
+use shard_state::{Cut, ShardState};
+use std::alloc::{AllocError, Global};
+use std::process::Abort;
+use std::test::Fail;
+use traffic_maker::make_bytes;
+
+// The intervals of merged tables.
+#[derive(Clone, Copy)]
+struct MergedIntervals<'a> {
+    merged: &'a Merged,
+}
+
+impl Intervals for MergedIntervals<'_> {
+    ghost use Rattle.cut_merge.specs.{interval_for};
+
+    ghost low = { λ s prefix. (interval_for s.merged.now prefix).low };
+
+    ghost high = { λ s prefix. (interval_for s.merged.now prefix).high };
+
+    fn interval(&self, prefix: &Prefix) -> (u64, u64) {
+        self.merged.interval(prefix)
+    }
+}
+
+// The tables of 8 shards that count the records of 200,000 made frames.
+fn demo_cut(rt: &impl Abort, alloc: Global, dealer: &Dealer) -> Result<Cut, Fail> {
+    let bytes = make_bytes(alloc, 7, 200_000)?;
+    let mut capture = MemorySource::new(bytes, Vec::new(alloc), 65_536);
+    let records = read_records(alloc, &mut capture, Weigh::Bytes).map_err(|_| "a capture")?;
+    assert!(rt; records.list.len() <= 200_000);
+    let dealt = deal(alloc, &records.list, dealer, 8)?;
+    let mut cut = Cut::with_room(alloc, 8, 512)?;
+    for shard in 0..dealt.shards() {
+        let list = dealt.list(shard).copy(alloc)?;
+        let mut state = ShardState::start(alloc, list, 512)?;
+        state.fold_block(200_000);
+        assert!(rt; shard < cut.shards());
+        assert!(rt; cut.capacity() == state.capacity());
+        cut.copy_shard(shard, &state);
+    }
+    Ok(cut)
+}
+
+// Whether a prefix is under one of some lines, or is one of them.
+fn is_under_any(lines: &Prefixes, prefix: &Prefix) -> bool
+    ensures { result ≡ list_any (λ line. under prefix.now line) lines.now }
+{
+    lines.as_slice().iter().any(|line| prefix.under(line))
+}
+
+// Pushes a prefix that is under no line yet to both.
+fn push_new(
+    rt: &impl Abort,
+    lines: &mut Prefixes,
+    index: &mut LineIndex,
+    prefix: &Prefix,
+) -> Result<(), AllocError>
+    requires { lines.old ≡ index.old }
+    ensures { OnOk result (lines.new ≡ index.new) }
+{
+    prefixes_are_ordered();
+    assert!(rt; lines.len() < 28);
+    assert!(rt; !is_under_any(lines, prefix));
+    lines.push(*prefix)?;
+    index.push(prefix)
+}
+
+// Whether the index returns for a prefix what the plain calls return.
+fn agree(
+    rt: &impl Abort,
+    alloc: Global,
+    lines: &Prefixes,
+    index: &LineIndex,
+    prefix: &Prefix,
+    intervals: &MergedIntervals<'_>,
+) -> Result<(), Fail> {
+    let near = closest(alloc, prefix, lines)?;
+    assert_eq!(rt; index.closest(prefix)?.as_slice(), near.as_slice());
+    let parts = bound(alloc, prefix, lines, intervals)?;
+    assert_eq!(rt; parts.pairs, kept_pairs(alloc, &near)?.len() as u64);
+    assert_eq!(rt; index.bound(prefix, intervals)?, parts);
+    Ok(())
+}
+
+// The report has 28 lines, as that of `demo` over the same records.
+pub(crate) fn compares_the_lines_of_a_report(
+    rt: &impl Abort,
+    alloc: Global,
+    dealer: &Dealer,
+) -> Result<(), Fail> {
+    let cut = demo_cut(rt, alloc, dealer)?;
+    assert!(rt; cut.shards() <= 16);
+    assert!(rt; cut.capacity() == 512);
+    let report = report_of(alloc, &cut, 10_000)?;
+    assert_eq!(rt; report.lines.len(), 28);
+    let mut lines = Prefixes::new(alloc);
+    let mut index = LineIndex::new(alloc);
+    for line in report.lines.as_slice() {
+        push_new(rt, &mut lines, &mut index, &line.prefix)?;
+    }
+    let merged = Merged::of(alloc, &cut)?;
+    let intervals = MergedIntervals { merged: &merged };
+    let root = Prefix::parse(b"0.0.0.0/0", b"0.0.0.0/0").map_err(|_| "a prefix")?;
+    agree(rt, alloc, &lines, &index, &root, &intervals)?;
+    for prefix in lines.as_slice() {
+        agree(rt, alloc, &lines, &index, prefix, &intervals)?;
+    }
+    Ok(())
+}
