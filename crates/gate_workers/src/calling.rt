@@ -77,7 +77,7 @@ pub(crate) fn report_in_rounds<R: Wait, G: Gate>(
 
 /// Reads a cut of the board's shape with a pass, between two calls of the gate, and reports on it. `phi` is 1 to
 /// 1,000,000 parts per million, and wide enough for the capacity of the board's tables. After an error, which means that
-/// memory ran out, the pass has read each shard all the same, and the cut has what it read.
+/// memory ran out, the pass has read each shard all the same, and the cut keeps the shape of the board.
 pub fn report_once<R: Wait, G: Gate>(
     rt: &R,
     alloc: Global,
