@@ -12,8 +12,8 @@ mod selecting;
 mod thresholds;
 
 pub use laws::{
-    a_cut_has_one_report, reports_are_sound, reports_of_the_core_are_sound,
-    standing_cuts_have_one_report,
+    a_cut_has_one_report, lines_bound_other_positions, reports_are_sound,
+    reports_of_the_core_are_sound, standing_cuts_have_one_report,
 };
 pub use line::Line;
 pub use lines::Lines;
