@@ -11,7 +11,7 @@ was killed after some of its saves. Of each session is tested
   those of its report;
 - that it begins where its store stands, and ends with all records counted, and with the right counts of frames;
 - that its last report has the bytes of the first run with these settings, which had one worker and no store;
-- that its store then opens at the ends of the lists, by `store_bytes.py`;
+- that its store, if it isn't large, then opens at the ends of the lists, by `store_bytes.py`;
 - for one in ten of the shorter ones that `bench/audit.c` finds it good, or `plain_audit.py` where that can't deal as it was.
 
 Prints each session that fails, and at the end the counts. Needs cc.
@@ -29,9 +29,10 @@ import store_bytes
 
 HERE = Path(__file__).resolve().parent
 PER_SETTINGS = 20
-MOST_AUDITED = 150_000  # records of all reports of a session
-MOST_READ = 100_000  # room for entries of a table in all cuts of a session
-MOST_PLAIN = 200_000  # pairs of addresses that the plain audit sums in a session
+MOST_AUDITED = 60_000  # records of all reports of a session
+MOST_READ = 50_000  # room for entries of a table in all cuts of a session
+MOST_PLAIN = 100_000  # pairs of addresses that the plain audit sums in a session
+MOST_STORED = 500_000  # bytes of a store that `store_bytes.py` reads
 SECONDS = 120
 
 program, sessions, seed, captures = sys.argv[1], int(sys.argv[2]), int(sys.argv[3]), sys.argv[4:]
@@ -171,7 +172,7 @@ def run_session(settings, folder):
         audit = subprocess.run([program, "audit", "--capture", settings.path, *settings.words, "--report", text],
             capture_output=True, text=True, timeout=SECONDS)
         test((audit.returncode, audit.stdout) == (0, f"good {len(session.reports)}\n"), f"audit: {audit.stdout}{audit.stderr}")
-        if has_store:
+        if has_store and Path(store).stat().st_size <= MOST_STORED:
             opened = store_bytes.opening(Path(store).read_bytes(), settings.store, settings.lists, settings.digest)
             test(opened == (0, settings.ends), f"the store then opens to {opened}")
         counts["sessions"] += 1
