@@ -4,28 +4,25 @@
 Each run is `report --store` over the capture with eight rounds and small blocks. It is killed by SIGKILL, or ends before
 that; a run that was killed is begun again, and after one that ended the store is formatted anew. Each run must begin at
 the positions of the last whole `saved` line, or past them, and the last report of each that ends must be that of a run
-without a store. SIGKILL shows the death of a process alone, and nothing of what a power failure leaves.
+without a store. After each kill a run over a copy of the store must end well too, must begin where `store_bytes.py` says that
+the bytes of the store open to, and must have that last report. Prints each run that does otherwise, and at the end the
+counts. SIGKILL shows the death of a process alone, and nothing of what a power failure leaves.
 """
 
 import random
+import shutil
 import subprocess
 import sys
 import tempfile
 import time
 from pathlib import Path
 
+import session_text
+import store_bytes
+
 program, capture, kills = sys.argv[1], sys.argv[2], int(sys.argv[3])
+SETTINGS = (4, 512, "bytes", "round")
 REPORT = [program, "report", "--capture", capture, "--shards", "4", "--rounds", "8", "--block", "16"]
-
-
-def last_report(text):
-    """The last report of a session's text, from its line `report` to its line `done`."""
-    begin = text.rindex("report\n")
-    return text[begin:text.index("done\n", begin)]
-
-
-def positions(line):
-    return [int(word) for word in line.split()[1:]]
 
 
 def format_store(store):
@@ -33,42 +30,61 @@ def format_store(store):
 
 
 def run(store, output, seconds):
-    """Whether a run ended before it was killed, and its text."""
+    """How a run ended, or None if it was killed before, and its text."""
     with open(output, "w") as text:
         process = subprocess.Popen(REPORT + ["--store", store], stdout=text)
         try:
-            ended = process.wait(timeout=seconds) == 0
-            assert ended, f"a run ended with {process.returncode}"
+            status = process.wait(timeout=seconds)
         except subprocess.TimeoutExpired:
             process.kill()
             process.wait()
-            ended = False
-    return ended, Path(output).read_text()
+            status = None
+    return status, Path(output).read_text()
 
 
+def faults_of(store, output, status, text, floor):
+    """What is wrong with a run, and with the store of one that was killed, whose last save was at these positions."""
+    first = text.split("\n")[0] if "\n" in text else ""
+    if first and any(now < before for now, before in zip(session_text.numbers(first), floor)):
+        yield f"{first} after saved {floor}"
+    if status is not None:
+        if status or session_text.last_report(text) != wanted:
+            yield f"another last report, or status {status}"
+        return
+    saved = session_text.last_saved(text) or floor
+    status, opened = store_bytes.opening(Path(store).read_bytes(), SETTINGS, lists, digest)
+    if status or any(now < before for now, before in zip(opened, saved)):
+        yield f"the store opens to {status} {opened} after saved {saved}"
+    shutil.copyfile(store, store + ".copy")
+    status, text = run(store + ".copy", output, None)
+    if status or session_text.last_report(text) != wanted or session_text.numbers(text.split("\n")[0]) != opened:
+        yield f"status {status} over the copy, another last report or opened elsewhere than at {opened}"
+
+
+lists = session_text.deal(session_text.read_capture(capture), 4, "round", "bytes")
+digest = store_bytes.digest_of(SETTINGS, lists)
 with tempfile.TemporaryDirectory() as folder:
     store, output = f"{folder}/store", f"{folder}/output"
     begun = time.monotonic()
-    wanted = last_report(subprocess.run(REPORT, capture_output=True, text=True, check=True).stdout)
+    wanted = session_text.last_report(subprocess.run(REPORT, capture_output=True, text=True, check=True).stdout)
     longest = 1.5 * (time.monotonic() - begun)
     format_store(store)
-    floor, killed, ended_runs, resumed = [0] * 4, 0, 0, 0
+    floor, killed, ended_runs, resumed, copies, wrong = [0] * 4, 0, 0, 0, 0, 0
     while killed < kills:
-        ended, text = run(store, output, random.uniform(0, longest))
-        whole_lines = text.split("\n")[:-1]
-        if whole_lines:
-            opened = positions(whole_lines[0])
-            assert all(now >= before for now, before in zip(opened, floor)), f"opened {opened} after saved {floor}"
-            resumed += any(opened)
-            floor = opened
-        for line in whole_lines:
-            if line.startswith("saved"):
-                floor = positions(line)
-        if ended:
-            assert last_report(text) == wanted, "another last report"
+        status, text = run(store, output, random.uniform(0, longest))
+        for fault in faults_of(store, output, status, text, floor):
+            wrong += 1
+            print(fault, flush=True)
+        if "\n" in text:
+            resumed += any(session_text.numbers(text.split("\n")[0]))
+        floor = session_text.last_saved(text) or floor
+        if status is None:
+            killed += 1
+            copies += any(floor)
+        else:
             ended_runs += 1
             format_store(store)
             floor = [0] * 4
-        else:
-            killed += 1
-    print(f"{killed} runs killed, {resumed} begun past position 0, {ended_runs} ended with the report of a run without a store")
+print(f"{killed} runs killed, {copies} of them with a save past position 0, {resumed} runs begun past position 0, "
+    f"{ended_runs} ended with the report of a run without a store, {wrong} wrong")
+sys.exit(wrong > 0)

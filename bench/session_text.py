@@ -1,0 +1,136 @@
+"""Reads captures and the texts of sessions, for the trials: a plain reader beside the program's own.
+
+A prefix is a source, how many of its bytes are kept, a destination, and how many of its bytes are kept.
+"""
+
+import struct
+from dataclasses import dataclass, field
+from pathlib import Path
+
+
+@dataclass
+class Report:
+    positions: list
+    total: int
+    threshold: int
+    lines: list = field(default_factory=list)  # each a prefix, its low and its high
+
+
+@dataclass
+class Session:
+    opened: list
+    reports: list
+    saved: dict  # the positions of the lines `saved`, by the number of the report before them
+    frames: int
+    skipped: list
+
+
+@dataclass
+class Capture:
+    records: list  # each a source, a destination and a length on the wire
+    frames: int
+    skipped: list  # not IPv4, short, bad header
+
+
+def read_capture(path):
+    """The records and counts of a capture that is not refused."""
+    data = Path(path).read_bytes()
+    order = "<" if data[3] == 0xA1 else ">"
+    capture, at = Capture([], 0, [0, 0, 0]), 24
+    while at < len(data):
+        captured, wire = struct.unpack_from(order + "II", data, at + 8)
+        found = read_frame(data[at + 16:at + 16 + min(captured, 42)])
+        if isinstance(found, int):
+            capture.skipped[found] += 1
+        else:
+            capture.records.append((*found, max(captured, wire)))
+        capture.frames += 1
+        at += 16 + captured
+    return capture
+
+
+def read_frame(frame):
+    """The addresses of a frame, or for which reason it is skipped."""
+    place = 12
+    for _ in range(2):
+        if frame[place:place + 2] in (b"\x81\x00", b"\x88\xa8"):
+            place += 4
+    if len(frame) < place + 2:
+        return 1
+    if frame[place:place + 2] != b"\x08\x00":
+        return 0
+    header = frame[place + 2:]
+    if len(header) < 20:
+        return 1
+    if header[0] >> 4 != 4 or header[0] & 15 < 5:
+        return 2
+    return struct.unpack_from(">II", header, 12)
+
+
+def deal(capture, shards, dealing, weighing):
+    """The lists of the shards."""
+    lists = [[] for _ in range(shards)]
+    for place, (source, destination, wire) in enumerate(capture.records):
+        number = {"round": place, "source": source, "free": source ^ destination}[dealing]
+        lists[number % shards].append((source, destination, wire if weighing == "bytes" else 1))
+    return lists
+
+
+def numbers(line):
+    """The numbers of a line, after its first word."""
+    return [int(word) for word in line.split()[1:]]
+
+
+def read_side(text):
+    address, length = text.split("/")
+    bytes_of = [int(part) for part in address.split(".")]
+    return int.from_bytes(bytes(bytes_of), "big"), int(length) // 8
+
+
+def read_session(text):
+    """A session that isn't refused. Its frame is tested strictly, its lines are not."""
+    lines = text.split("\n")
+    assert lines[-1] == "" and lines[-2] == "end" and lines[0].startswith("opened "), "no whole session"
+    session = Session(numbers(lines[0]), [], {}, 0, [])
+    for line in lines[1:-2]:
+        word = line.split(" ")[0]
+        if word == "at":
+            session.reports.append(Report(numbers(line), 0, 0))
+        elif word == "total":
+            session.reports[-1].total = numbers(line)[0]
+        elif word == "threshold":
+            session.reports[-1].threshold = numbers(line)[0]
+        elif word == "line":
+            _, source, destination, low, high = line.split(" ")
+            prefix = (*read_side(source), *read_side(destination))
+            session.reports[-1].lines.append((prefix, int(low), int(high)))
+        elif word == "saved":
+            session.saved[len(session.reports) - 1] = numbers(line)
+        elif word == "frames":
+            session.frames = numbers(line)[0]
+        elif word == "skipped":
+            session.skipped = numbers(line)
+        else:
+            assert line in ("report", "done"), line
+    return session
+
+
+def last_report(text):
+    """The last report of a session's text, from its line `report` to its line `done`."""
+    begin = text.rindex("report\n")
+    return text[begin:text.index("done\n", begin)]
+
+
+def whole_reports(text):
+    """The whole reports of the beginning of a session, as a session's text, or none where there is no such report."""
+    done = text.rfind("done\n")
+    return None if done < 0 else text[:done] + "done\nframes 0\nskipped 0 0 0\nend\n"
+
+
+def last_saved(text):
+    """The positions of the last whole line `saved`, or of `opened` where there is none, or none."""
+    found = None
+    for line in text.split("\n")[:-1]:
+        if line.startswith(("opened", "saved")):
+            found = numbers(line)
+    return found
