@@ -92,7 +92,7 @@ abbrev pub EndsAudit : {K : Type 0} → Settings → Rules → InputBytes → (r
 EndsAudit settings rules given read_before read_now sink written old new write_before write_now status =
     Ends (λ answer. OfAudited given (λ file session. IsSoundSession settings rules file session answer))
     (λ front. OfAudited given (λ file session. IsCutShort (IsAuditText settings rules file session) front))
-    (IsAtEnd given.capture_left × IsAtEnd given.text_left) (IfSome given.capture IsCapture) ⊥ ⊤ (λ fault. ⊥)
+    (IsAtEnd given.capture_left × IsAtEnd given.text_left) (IfSome given.capture IsCapture) ⊥ ⊤ ⊤ (λ fault. ⊥)
     (AuditFinds settings rules given old new) given.capture read_before read_now sink written old new write_before
     write_now status
 
@@ -126,7 +126,7 @@ not_taken settings rules given read_before read_now sink old faults (AuditNo rep
 not_taken settings rules given read_before read_now sink old faults (BadReport fault) none told =
     (none, refl, tt, told (λ is. cc is), refl)
 not_taken settings rules given read_before read_now sink old faults OutOfMemory none told =
-    (inl refl, told (λ is. cc is), refl)
+    (inl (refl, tt), told (λ is. cc is), refl)
 
 -- what an audit says is its text, whether all reports are sound or not
 audit_text : (settings : Settings) (rules : Rules) (file bytes : List ℕ) (lists : List (List RecordValue))
@@ -273,15 +273,15 @@ written_answer settings rules given read_before read_now sink written old new wr
 
 -- how an audit ended, as a command beside a disk
 pub audit_ends_as : {K : Type 0} (settings : Settings) (rules : Rules) (keeping : Keeping) (given : InputBytes)
-    (store_now : Option (List ℕ)) (DiskSame : Type 0) (read_before read_now : SourceFaults) (sink written : K)
-    (old new : Option (List ℕ)) (write_before write_now : ℕ) (status : Status) → DiskSame
+    (AsBefore : Type 0) (DiskSame : Type 0) (read_before read_now : SourceFaults) (sink written : K)
+    (old new : Option (List ℕ)) (write_before write_now : ℕ) (status : Status) → DiskSame → AsBefore
     → EndsAudit settings rules given read_before read_now sink written old new write_before write_now status
-    → EndsAs rules keeping (Audit settings) given store_now (WasRead (Audit settings) given) ⊥ DiskSame read_before
+    → EndsAs rules keeping (Audit settings) given AsBefore (WasRead (Audit settings) given) ⊥ DiskSame read_before
     read_now sink written old new write_before write_now status
-audit_ends_as settings rules keeping given store_now DiskSame read_before read_now sink written old new write_before
-    write_now status same ends =
+audit_ends_as settings rules keeping given AsBefore DiskSame read_before read_now sink written old new write_before
+    write_now status same before ends =
     ends_beside (λ answer. OfAudited given (λ file session. IsSoundSession settings rules file session answer))
     (λ front. OfAudited given (λ file session. IsCutShort (IsAuditText settings rules file session) front))
-    (IsAtEnd given.capture_left × IsAtEnd given.text_left) (IfSome given.capture IsCapture) DiskSame (λ fault. ⊥)
+    (IsAtEnd given.capture_left × IsAtEnd given.text_left) (IfSome given.capture IsCapture) DiskSame AsBefore (λ fault. ⊥)
     (AuditFinds settings rules given old new) given.capture read_before read_now sink written old new write_before
-    write_now status same ends
+    write_now status same before ends

@@ -135,65 +135,65 @@ never_audited no_fault settings rules file bytes answer fault has =
 
 -- an audit of a text with a fault is refused for it, unless a source fails or memory runs out
 refuses_exactly : {K : Type 0} → NeverBoth → OneTextFault → NoFault
-    → (rules : Rules) (keeping : Keeping) (settings : Settings) (given : InputBytes) (store_now : Option (List ℕ))
+    → (rules : Rules) (keeping : Keeping) (settings : Settings) (given : InputBytes) (AsBefore : Type 0)
     (ReadToEnd DiskSame : Type 0) (read_before read_now : SourceFaults) (sink written : K) (old new : Option (List ℕ))
     (write_before write_now : ℕ) (status : Status) (file bytes : List ℕ) (frames : List FrameValue) (fault : TextFault)
     → given.capture ≡ Some file → HasFrames file frames → given.text ≡ Some bytes → HasTextFault bytes fault
-    → EndsAs rules keeping (Audit settings) given store_now ReadToEnd ⊥ DiskSame read_before read_now sink written old
+    → EndsAs rules keeping (Audit settings) given AsBefore ReadToEnd ⊥ DiskSame read_before read_now sink written old
     new write_before write_now status
     → (status ≡ BadReport fault) ⊎ ((status ≡ ReadFault) ⊎ (status ≡ OutOfMemory))
-refuses_exactly never_both one_fault no_fault rules keeping settings given store_now ReadToEnd DiskSame read_before
+refuses_exactly never_both one_fault no_fault rules keeping settings given AsBefore ReadToEnd DiskSame read_before
     read_now sink written old new write_before write_now Done file bytes frames fault is_file capture is_text has ends =
     let is =
     of_both given file bytes (λ f t. IsSoundSession settings rules f t ends.1.text) is_file is_text ends.1.is_text in
     absurd (no_fault bytes is.session fault is.audited.is_session is.audited.not_long has)
-refuses_exactly never_both one_fault no_fault rules keeping settings given store_now ReadToEnd DiskSame read_before
+refuses_exactly never_both one_fault no_fault rules keeping settings given AsBefore ReadToEnd DiskSame read_before
     read_now sink written old new write_before write_now (BadWords kind) file bytes frames fault is_file capture is_text has ends =
     absurd ends
-refuses_exactly never_both one_fault no_fault rules keeping settings given store_now ReadToEnd DiskSame read_before
+refuses_exactly never_both one_fault no_fault rules keeping settings given AsBefore ReadToEnd DiskSame read_before
     read_now sink written old new write_before write_now (BadCapture other) file bytes frames fault is_file capture is_text has ends =
     absurd (never_both file frames other capture (of_file given.capture file (λ f. IsRefusedFor f other) is_file ends.0))
-refuses_exactly never_both one_fault no_fault rules keeping settings given store_now ReadToEnd DiskSame read_before
+refuses_exactly never_both one_fault no_fault rules keeping settings given AsBefore ReadToEnd DiskSame read_before
     read_now sink written old new write_before write_now ReadFault file bytes frames fault is_file capture is_text has ends =
     inr (inl refl)
-refuses_exactly never_both one_fault no_fault rules keeping settings given store_now ReadToEnd DiskSame read_before
+refuses_exactly never_both one_fault no_fault rules keeping settings given AsBefore ReadToEnd DiskSame read_before
     read_now sink written old new write_before write_now WriteFault file bytes frames fault is_file capture is_text has ends =
     let is =
     of_both given file bytes (λ f t. IsCutShort (IsAuditText settings rules f t) ends.1.text) is_file is_text
     ends.1.is_text in
     absurd (never_audited no_fault settings rules file bytes is.text fault has is.is_text)
-refuses_exactly never_both one_fault no_fault rules keeping settings given store_now ReadToEnd DiskSame read_before
+refuses_exactly never_both one_fault no_fault rules keeping settings given AsBefore ReadToEnd DiskSame read_before
     read_now sink written old new write_before write_now DiskFault file bytes frames fault is_file capture is_text has ends =
     absurd ends.3
-refuses_exactly never_both one_fault no_fault rules keeping settings given store_now ReadToEnd DiskSame read_before
+refuses_exactly never_both one_fault no_fault rules keeping settings given AsBefore ReadToEnd DiskSame read_before
     read_now sink written old new write_before write_now NotFormatted file bytes frames fault is_file capture is_text has ends =
     absurd ends.0
-refuses_exactly never_both one_fault no_fault rules keeping settings given store_now ReadToEnd DiskSame read_before
+refuses_exactly never_both one_fault no_fault rules keeping settings given AsBefore ReadToEnd DiskSame read_before
     read_now sink written old new write_before write_now (Damaged slot) file bytes frames fault is_file capture is_text has ends =
     absurd ends.0
-refuses_exactly never_both one_fault no_fault rules keeping settings given store_now ReadToEnd DiskSame read_before
+refuses_exactly never_both one_fault no_fault rules keeping settings given AsBefore ReadToEnd DiskSame read_before
     read_now sink written old new write_before write_now (OtherSettings stored asked) file bytes frames fault is_file capture is_text has ends =
     absurd ends.0
-refuses_exactly never_both one_fault no_fault rules keeping settings given store_now ReadToEnd DiskSame read_before
+refuses_exactly never_both one_fault no_fault rules keeping settings given AsBefore ReadToEnd DiskSame read_before
     read_now sink written old new write_before write_now (OtherCapture stored asked) file bytes frames fault is_file capture is_text has ends =
     absurd ends.0
-refuses_exactly never_both one_fault no_fault rules keeping settings given store_now ReadToEnd DiskSame read_before
+refuses_exactly never_both one_fault no_fault rules keeping settings given AsBefore ReadToEnd DiskSame read_before
     read_now sink written old new write_before write_now (AuditNo report verdict) file bytes frames fault is_file capture is_text has ends =
     let is =
     of_both given file bytes (λ f t. IsUnsoundSession settings rules f t report verdict) is_file is_text ends.1.0 in
     absurd (no_fault bytes is.session fault is.audited.is_session is.audited.not_long has)
-refuses_exactly never_both one_fault no_fault rules keeping settings given store_now ReadToEnd DiskSame read_before
+refuses_exactly never_both one_fault no_fault rules keeping settings given AsBefore ReadToEnd DiskSame read_before
     read_now sink written old new write_before write_now (BadReport wrong) file bytes frames fault is_file capture is_text has ends =
     inl (ap BadReport (one_fault bytes wrong fault
     (of_file given.text bytes (λ t. HasTextFault t wrong) is_text ends.0.first_fault) has))
-refuses_exactly never_both one_fault no_fault rules keeping settings given store_now ReadToEnd DiskSame read_before
+refuses_exactly never_both one_fault no_fault rules keeping settings given AsBefore ReadToEnd DiskSame read_before
     read_now sink written old new write_before write_now OutOfMemory file bytes frames fault is_file capture is_text has ends =
     inr (inr refl)
 
 -- a session whose first report that is not sound is known, however the records are dealt, is found so, unless a source or
 -- the sink fails or memory runs out
 finds_exactly : {K : Type 0} → NeverBoth → NoFault → OneVerdict
-    → (rules : Rules) (keeping : Keeping) (settings : Settings) (given : InputBytes) (store_now : Option (List ℕ))
+    → (rules : Rules) (keeping : Keeping) (settings : Settings) (given : InputBytes) (AsBefore : Type 0)
     (ReadToEnd DiskSame : Type 0) (read_before read_now : SourceFaults) (sink written : K) (old new : Option (List ℕ))
     (write_before write_now : ℕ) (status : Status) (file bytes : List ℕ) (frames : List FrameValue) (known : Session)
     (report : ℕ) (verdict : Verdict)
@@ -201,10 +201,10 @@ finds_exactly : {K : Type 0} → NeverBoth → NoFault → OneVerdict
     → length bytes ≤ longest_text
     → ((lists : List (List RecordValue)) (session : Session) → AreAudited settings rules file bytes lists session
     → IsFirstUnsound settings lists session.reports report verdict)
-    → EndsAs rules keeping (Audit settings) given store_now ReadToEnd ⊥ DiskSame read_before read_now sink written old
+    → EndsAs rules keeping (Audit settings) given AsBefore ReadToEnd ⊥ DiskSame read_before read_now sink written old
     new write_before write_now status
     → (status ≡ AuditNo report verdict) ⊎ ((status ≡ ReadFault) ⊎ ((status ≡ WriteFault) ⊎ (status ≡ OutOfMemory)))
-finds_exactly never_both no_fault one rules keeping settings given store_now ReadToEnd DiskSame read_before read_now sink
+finds_exactly never_both no_fault one rules keeping settings given AsBefore ReadToEnd DiskSame read_before read_now sink
     written old new write_before write_now Done file bytes frames known report verdict is_file capture is_text is_session
     not_long first ends =
     let is =
@@ -212,55 +212,55 @@ finds_exactly never_both no_fault one rules keeping settings given store_now Rea
     let unsound = first is.lists is.session is.audited in
     absurd (not_sound one settings is.lists is.session.reports report verdict unsound
     (all_at (IsSoundOver settings is.lists) is.session.reports unsound.before unsound.reported unsound.is is.sound))
-finds_exactly never_both no_fault one rules keeping settings given store_now ReadToEnd DiskSame read_before read_now sink
+finds_exactly never_both no_fault one rules keeping settings given AsBefore ReadToEnd DiskSame read_before read_now sink
     written old new write_before write_now (BadWords kind) file bytes frames known report verdict is_file capture is_text is_session
     not_long first ends =
     absurd ends
-finds_exactly never_both no_fault one rules keeping settings given store_now ReadToEnd DiskSame read_before read_now sink
+finds_exactly never_both no_fault one rules keeping settings given AsBefore ReadToEnd DiskSame read_before read_now sink
     written old new write_before write_now (BadCapture other) file bytes frames known report verdict is_file capture is_text is_session
     not_long first ends =
     absurd (never_both file frames other capture (of_file given.capture file (λ f. IsRefusedFor f other) is_file ends.0))
-finds_exactly never_both no_fault one rules keeping settings given store_now ReadToEnd DiskSame read_before read_now sink
+finds_exactly never_both no_fault one rules keeping settings given AsBefore ReadToEnd DiskSame read_before read_now sink
     written old new write_before write_now ReadFault file bytes frames known report verdict is_file capture is_text is_session
     not_long first ends =
     inr (inl refl)
-finds_exactly never_both no_fault one rules keeping settings given store_now ReadToEnd DiskSame read_before read_now sink
+finds_exactly never_both no_fault one rules keeping settings given AsBefore ReadToEnd DiskSame read_before read_now sink
     written old new write_before write_now WriteFault file bytes frames known report verdict is_file capture is_text is_session
     not_long first ends =
     inr (inr (inl refl))
-finds_exactly never_both no_fault one rules keeping settings given store_now ReadToEnd DiskSame read_before read_now sink
+finds_exactly never_both no_fault one rules keeping settings given AsBefore ReadToEnd DiskSame read_before read_now sink
     written old new write_before write_now DiskFault file bytes frames known report verdict is_file capture is_text is_session
     not_long first ends =
     absurd ends.3
-finds_exactly never_both no_fault one rules keeping settings given store_now ReadToEnd DiskSame read_before read_now sink
+finds_exactly never_both no_fault one rules keeping settings given AsBefore ReadToEnd DiskSame read_before read_now sink
     written old new write_before write_now NotFormatted file bytes frames known report verdict is_file capture is_text is_session
     not_long first ends =
     absurd ends.0
-finds_exactly never_both no_fault one rules keeping settings given store_now ReadToEnd DiskSame read_before read_now sink
+finds_exactly never_both no_fault one rules keeping settings given AsBefore ReadToEnd DiskSame read_before read_now sink
     written old new write_before write_now (Damaged slot) file bytes frames known report verdict is_file capture is_text is_session
     not_long first ends =
     absurd ends.0
-finds_exactly never_both no_fault one rules keeping settings given store_now ReadToEnd DiskSame read_before read_now sink
+finds_exactly never_both no_fault one rules keeping settings given AsBefore ReadToEnd DiskSame read_before read_now sink
     written old new write_before write_now (OtherSettings stored asked) file bytes frames known report verdict is_file capture is_text is_session
     not_long first ends =
     absurd ends.0
-finds_exactly never_both no_fault one rules keeping settings given store_now ReadToEnd DiskSame read_before read_now sink
+finds_exactly never_both no_fault one rules keeping settings given AsBefore ReadToEnd DiskSame read_before read_now sink
     written old new write_before write_now (OtherCapture stored asked) file bytes frames known report verdict is_file capture is_text is_session
     not_long first ends =
     absurd ends.0
-finds_exactly never_both no_fault one rules keeping settings given store_now ReadToEnd DiskSame read_before read_now sink
+finds_exactly never_both no_fault one rules keeping settings given AsBefore ReadToEnd DiskSame read_before read_now sink
     written old new write_before write_now (AuditNo other_report other) file bytes frames known report verdict is_file capture is_text is_session
     not_long first ends =
     let is =
     of_both given file bytes (λ f t. IsUnsoundSession settings rules f t other_report other) is_file is_text ends.1.0 in
     inl (one_first one settings is.lists is.session.reports report other_report verdict other
     (first is.lists is.session is.audited) is.first)
-finds_exactly never_both no_fault one rules keeping settings given store_now ReadToEnd DiskSame read_before read_now sink
+finds_exactly never_both no_fault one rules keeping settings given AsBefore ReadToEnd DiskSame read_before read_now sink
     written old new write_before write_now (BadReport wrong) file bytes frames known report verdict is_file capture is_text is_session
     not_long first ends =
     absurd (no_fault bytes known wrong is_session not_long
     (of_file given.text bytes (λ t. HasTextFault t wrong) is_text ends.0.first_fault))
-finds_exactly never_both no_fault one rules keeping settings given store_now ReadToEnd DiskSame read_before read_now sink
+finds_exactly never_both no_fault one rules keeping settings given AsBefore ReadToEnd DiskSame read_before read_now sink
     written old new write_before write_now OutOfMemory file bytes frames known report verdict is_file capture is_text is_session
     not_long first ends =
     inr (inr (inr refl))
@@ -284,15 +284,15 @@ found_for rules words (Audit settings) given old new report verdict asked read f
 }
 
 pub found_as : {K : Type 0} (rules : Rules) (keeping : Keeping) (words : List (List ℕ)) (command : Command)
-    (given : InputBytes) (store_now : Option (List ℕ)) (DiskRose DiskSame : Type 0)
+    (given : InputBytes) (AsBefore : Type 0) (DiskRose DiskSame : Type 0)
     (read_before read_now : SourceFaults) (sink written : K) (old new : Option (List ℕ)) (write_before write_now : ℕ)
     (status : Status) (report : ℕ) (verdict : Verdict) → AskFor words command → status ≡ AuditNo report verdict
-    → EndsAs rules keeping command given store_now (WasRead command given) DiskRose DiskSame read_before read_now sink
+    → EndsAs rules keeping command given AsBefore (WasRead command given) DiskRose DiskSame read_before read_now sink
     written old new write_before write_now status
     → FoundUnsound rules words given report verdict old new
-found_as rules keeping words command given store_now DiskRose DiskSame read_before read_now sink written old new
+found_as rules keeping words command given AsBefore DiskRose DiskSame read_before read_now sink written old new
     write_before write_now status report verdict asked is ends =
-    let now = subst (EndsAs rules keeping command given store_now (WasRead command given) DiskRose DiskSame read_before
+    let now = subst (EndsAs rules keeping command given AsBefore (WasRead command given) DiskRose DiskSame read_before
     read_now sink written old new write_before write_now) is ends in
     found_for rules words command given old new report verdict asked now.0 now.1
 
@@ -321,55 +321,55 @@ refused_text rules words (Audit settings) given old new fault sink written disk 
 }
 
 pub refused_text_as : {K D : Type 0} (rules : Rules) (keeping : Keeping) (words : List (List ℕ)) (command : Command)
-    (given : InputBytes) (store_now : Option (List ℕ)) (ReadToEnd DiskRose : Type 0)
+    (given : InputBytes) (AsBefore : Type 0) (ReadToEnd DiskRose : Type 0)
     (read_before read_now : SourceFaults) (sink written : K) (disk stands : D) (old new : Option (List ℕ))
     (write_before write_now : ℕ) (status : Status) (fault : TextFault) → AskFor words command
     → status ≡ BadReport fault
-    → EndsAs rules keeping command given store_now ReadToEnd DiskRose (stands ≡ disk) read_before read_now sink written
+    → EndsAs rules keeping command given AsBefore ReadToEnd DiskRose (stands ≡ disk) read_before read_now sink written
     old new write_before write_now status
     → RefusedText words given fault sink written disk stands
-refused_text_as rules keeping words command given store_now ReadToEnd DiskRose read_before read_now sink written disk
+refused_text_as rules keeping words command given AsBefore ReadToEnd DiskRose read_before read_now sink written disk
     stands old new write_before write_now status fault asked is ends =
-    let now = subst (EndsAs rules keeping command given store_now ReadToEnd DiskRose (stands ≡ disk) read_before
+    let now = subst (EndsAs rules keeping command given AsBefore ReadToEnd DiskRose (stands ≡ disk) read_before
     read_now sink written old new write_before write_now) is ends in
     refused_text rules words command given old new fault sink written disk stands asked now.0 now.1 now.2
 
 -- the same of the command that was asked for, where it is an audit
 pub refuses_text_as : {K : Type 0} → NeverBoth → OneTextFault → NoFault
     → (rules : Rules) (keeping : Keeping) (settings : Settings) (read : Command) (given : InputBytes)
-    (store_now : Option (List ℕ)) (DiskRose DiskSame : Type 0)
+    (AsBefore : Type 0) (DiskRose DiskSame : Type 0)
     (read_before read_now : SourceFaults) (sink written : K) (old new : Option (List ℕ)) (write_before write_now : ℕ)
     (status : Status) (file bytes : List ℕ) (frames : List FrameValue) (fault : TextFault) → read ≡ Audit settings
     → given.capture ≡ Some file → HasFrames file frames → given.text ≡ Some bytes → HasTextFault bytes fault
-    → EndsAs rules keeping read given store_now (WasRead read given) (OfDisk read DiskRose) DiskSame read_before read_now sink
+    → EndsAs rules keeping read given AsBefore (WasRead read given) (OfDisk read DiskRose) DiskSame read_before read_now sink
     written old new write_before write_now status
     → (status ≡ BadReport fault) ⊎ ((status ≡ ReadFault) ⊎ (status ≡ OutOfMemory))
-refuses_text_as never_both one_fault no_fault rules keeping settings read given store_now DiskRose DiskSame
+refuses_text_as never_both one_fault no_fault rules keeping settings read given AsBefore DiskRose DiskSame
     read_before read_now sink written old new write_before write_now status file bytes frames fault same is_file capture
     is_text has ends =
-    refuses_exactly never_both one_fault no_fault rules keeping settings given store_now (WasRead (Audit settings) given)
+    refuses_exactly never_both one_fault no_fault rules keeping settings given AsBefore (WasRead (Audit settings) given)
     DiskSame read_before read_now sink written old new write_before write_now status file bytes frames fault is_file
     capture is_text has
-    (subst (λ c. EndsAs rules keeping c given store_now (WasRead c given) (OfDisk c DiskRose) DiskSame read_before read_now
+    (subst (λ c. EndsAs rules keeping c given AsBefore (WasRead c given) (OfDisk c DiskRose) DiskSame read_before read_now
     sink written old new write_before write_now status) same ends)
 
 pub finds_as : {K : Type 0} → NeverBoth → NoFault → OneVerdict
     → (rules : Rules) (keeping : Keeping) (settings : Settings) (read : Command) (given : InputBytes)
-    (store_now : Option (List ℕ)) (DiskRose DiskSame : Type 0)
+    (AsBefore : Type 0) (DiskRose DiskSame : Type 0)
     (read_before read_now : SourceFaults) (sink written : K) (old new : Option (List ℕ)) (write_before write_now : ℕ)
     (status : Status) (file bytes : List ℕ) (frames : List FrameValue) (known : Session) (report : ℕ) (verdict : Verdict)
     → read ≡ Audit settings → given.capture ≡ Some file → HasFrames file frames → given.text ≡ Some bytes
     → IsSessionText bytes known → length bytes ≤ longest_text
     → ((lists : List (List RecordValue)) (session : Session) → AreAudited settings rules file bytes lists session
     → IsFirstUnsound settings lists session.reports report verdict)
-    → EndsAs rules keeping read given store_now (WasRead read given) (OfDisk read DiskRose) DiskSame read_before read_now sink
+    → EndsAs rules keeping read given AsBefore (WasRead read given) (OfDisk read DiskRose) DiskSame read_before read_now sink
     written old new write_before write_now status
     → (status ≡ AuditNo report verdict) ⊎ ((status ≡ ReadFault) ⊎ ((status ≡ WriteFault) ⊎ (status ≡ OutOfMemory)))
-finds_as never_both no_fault one rules keeping settings read given store_now DiskRose DiskSame read_before
+finds_as never_both no_fault one rules keeping settings read given AsBefore DiskRose DiskSame read_before
     read_now sink written old new write_before write_now status file bytes frames known report verdict same is_file capture
     is_text is_session not_long first ends =
-    finds_exactly never_both no_fault one rules keeping settings given store_now (WasRead (Audit settings) given) DiskSame
+    finds_exactly never_both no_fault one rules keeping settings given AsBefore (WasRead (Audit settings) given) DiskSame
     read_before read_now sink written old new write_before write_now status file bytes frames known report verdict is_file
     capture is_text is_session not_long first
-    (subst (λ c. EndsAs rules keeping c given store_now (WasRead c given) (OfDisk c DiskRose) DiskSame read_before read_now
+    (subst (λ c. EndsAs rules keeping c given AsBefore (WasRead c given) (OfDisk c DiskRose) DiskSame read_before read_now
     sink written old new write_before write_now status) same ends)

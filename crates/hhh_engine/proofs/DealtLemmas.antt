@@ -1,5 +1,5 @@
 -- How a report over dealt lists ends: from its base and its session.
-use Rattle.std.proofs.Common.{◌≡◌, ◌∙◌, ◌⊎◌, inl, inr, ⊎_elim, ℕ, true, List, Option, None, Some, refl, sym, ap, subst}
+use Rattle.std.proofs.Common.{◌≡◌, ◌∙◌, ◌⊎◌, ◌++◌, [], inl, inr, ⊎_elim, ℕ, true, List, Option, None, Some, refl, sym, ap, subst}
 use Rattle.std.specs.Prelude.{IfSome, is_some}
 use Rattle.std.proofs.lemmas.Bool.{false≢true}
 use Rattle.outside_io.specs.{Rose}
@@ -15,58 +15,56 @@ use Rattle.hhh_engine.specs.Answer.{Writes}
 use Rattle.hhh_engine.specs.Feed.{EndsDealt, HasNoBase, IsFault, IsSaverFor, RefusesLists, WritesDealt}
 use Rattle.hhh_engine.specs.Feed.{WritesDealtInPart}
 use Rattle.hhh_engine.specs.Rounds.{Faults}
-use Rattle.hhh_engine.specs.Saves.{KeepsSaves, OpensAmong, Saves, kept_in, saved_after, store_settings}
-use Rattle.hhh_engine.specs.Session.{BeginsSession, GoesOnFrom, Keeping, RepresentsWhere, SpellsSession, opening_of}
+use Rattle.hhh_engine.specs.Saves.{KeepsSaves, OpensAmong, SavesInPart, kept_in, saved_after, store_settings}
+use Rattle.hhh_engine.specs.Session.{BeginsSession, GoesOnFrom, Keeping, RepresentsWhere, Saving, SpellsSession, opening_of}
 use Rattle.hhh_engine.specs.Status.{status_of_opening}
 use Rattle.hhh_engine.specs.declared.status.Status.{Status}
 use Rattle.hhh_engine.specs.declared.status.Status.TheVariants.{Done, BadWords, BadCapture, ReadFault, WriteFault}
 use Rattle.hhh_engine.specs.declared.status.Status.TheVariants.{DiskFault, NotFormatted, Damaged, OtherSettings}
 use Rattle.hhh_engine.specs.declared.status.Status.TheVariants.{OtherCapture, AuditNo, BadReport, OutOfMemory}
-use Rattle.hhh_engine.proofs.SessionTextLemmas.{nothing_in_part, spells_weaker}
+use Rattle.hhh_engine.proofs.SessionTextLemmas.{begins_weaker, nothing_in_part, spells_weaker}
 
 -- what a run keeps of its store, from the opening of the store and the saves after it
 pub run_keeps : {D : Type 0} (reads : D → Option (List ℕ)) (image_now : D → List ℕ → Type 0) (moment : D → ℕ)
     (image_since : D → ℕ → List ℕ → Type 0) (settings : Settings) (lists : List (List RecordValue))
-    (positions : List ℕ) (saver : Option SaverState) (cuts : List CutValue) (old mid new : D)
+    (positions : List ℕ) (saver : Option SaverState) (saved begun : List CutValue) (old mid new : D)
     → is_some saver ≡ settings.store → IfSome saver (IsSaverFor settings lists positions)
     → Leaves moment image_since old mid (image_now old) → reads mid ≡ reads old
-    → Saves reads image_now moment image_since saver cuts mid new → settings.store ≡ true
-    → kept_in reads image_now moment image_since old new (store_settings settings) lists cuts
-run_keeps reads image_now moment image_since settings lists positions None cuts old mid new has is leaves same saves used =
-    absurd (false≢true (has ∙ used))
-run_keeps reads image_now moment image_since settings lists positions (Some saver) cuts old mid new has is leaves same
-    saves used = λ bytes known.
+    → SavesInPart reads image_now moment image_since saver mid new saved begun → settings.store ≡ true
+    → kept_in reads image_now moment image_since old new (store_settings settings) lists saved begun
+run_keeps reads image_now moment image_since settings lists positions None saved begun old mid new has is leaves same saves
+    used = absurd (false≢true (has ∙ used))
+run_keeps reads image_now moment image_since settings lists positions (Some saver) saved begun old mid new has is leaves
+    same saves used = λ bytes known.
     let kept : KeepsSaves image_now moment image_since (store_settings settings)
-    (digest_of_lists (store_settings settings) lists) (λ image. ⊥) cuts mid new bytes =
+    (digest_of_lists (store_settings settings) lists) (λ image. ⊥) saved begun mid new bytes =
     subst (λ s. KeepsSaves image_now moment image_since s (digest_of_lists (store_settings settings) lists) (λ image. ⊥)
-    cuts mid new bytes) is.settings_are
-    (subst (λ d. KeepsSaves image_now moment image_since saver.settings d (λ image. ⊥) cuts mid new bytes) is.digest_is
-    (saves.kept bytes (same ∙ known))) in
-    let among : List ℕ → Type 0 = λ image. OpensAmong (store_settings settings) kept.leaves.opened
-    (saved_after (opened_sequence kept.leaves.opened) (digest_of_lists (store_settings settings) lists) cuts) image in
+    saved begun mid new bytes) is.settings_are
+    (subst (λ d. KeepsSaves image_now moment image_since saver.settings d (λ image. ⊥) saved begun mid new bytes)
+    is.digest_is (saves.kept bytes (same ∙ known))) in
+    let among : List ℕ → Type 0 = λ image. OpensAmong (store_settings settings) kept.opened
+    (saved_after (opened_sequence kept.opened) (digest_of_lists (store_settings settings) lists) (saved ++ begun)) image in
     record {
-      leaves = record {
-        opened = kept.leaves.opened;
-        opens = kept.leaves.opens;
-        any_moment = Leaves-trans moment image_since old mid new (λ image. image_now old image ⊎ among image)
-            (Leaves-weaker moment image_since old mid (image_now old) (λ image. image_now old image ⊎ among image) leaves
-            (λ image was. inl was))
-            (Leaves-weaker moment image_since mid new (λ image. ⊥ ⊎ among image)
-            (λ image. image_now old image ⊎ among image) kept.leaves.any_moment
-            (λ image. ⊎_elim (λ never. absurd never) (λ held. inr held)));
-      };
-      at_last = kept.at_last;
+      opened = kept.opened;
+      opens = kept.opens;
+      any_moment = Leaves-trans moment image_since old mid new (λ image. image_now old image ⊎ among image)
+          (Leaves-weaker moment image_since old mid (image_now old) (λ image. image_now old image ⊎ among image) leaves
+          (λ image was. inl was))
+          (Leaves-weaker moment image_since mid new (λ image. ⊥ ⊎ among image)
+          (λ image. image_now old image ⊎ among image) kept.any_moment
+          (λ image. ⊎_elim (λ never. absurd never) (λ held. inr held)));
+      afterwards = kept.afterwards;
     }
 
 -- a store that is refused for a fault that its bytes show
-refuses_lists : (settings : Settings) (lists : List (List RecordValue)) (store store_now : Option (List ℕ))
-    (fault : OpenFault) → store_now ≡ store → (fault ≡ opening.OutOfMemory → ⊥)
+refuses_lists : (settings : Settings) (lists : List (List RecordValue)) (store : Option (List ℕ)) (AsBefore : Type 0)
+    (fault : OpenFault) → AsBefore → (fault ≡ opening.OutOfMemory → ⊥)
     → (settings.store ≡ true) ⊎ (fault ≡ opening.OutOfMemory)
     → IfKnown store (λ image. IsRefused (store_settings settings) lists image fault)
-    → RefusesLists settings lists store store_now fault
-refuses_lists settings lists store store_now fault same other used refused = record {
+    → RefusesLists settings lists store AsBefore fault
+refuses_lists settings lists store AsBefore fault same other used refused = record {
   used = ⊎_elim (λ is. is) (λ no. absurd (other no)) used;
-  reads = same;
+  as_before = same;
   refused = refused;
 }
 
@@ -75,119 +73,135 @@ same_faults : (sink before now : ℕ) → now ≡ before
 same_faults sink before now same = ap (λ n. record { sink = sink; disk = n }) same
 
 fault_ends : {K : Type 0} (settings : Settings) (lists : List (List RecordValue)) (tail : List ℕ)
-    (keeping : Keeping) (store store_now : Option (List ℕ)) (sink : K) (old : Option (List ℕ))
-    (write_faults before now : ℕ) (fault : OpenFault) → store_now ≡ store
+    (keeping : Keeping) (store : Option (List ℕ)) (AsBefore : Type 0) (sink : K) (old : Option (List ℕ))
+    (write_faults before now : ℕ) (fault : OpenFault) → AsBefore
     → (settings.store ≡ true) ⊎ (fault ≡ opening.OutOfMemory)
     → IfKnown store (λ image. IsRefused (store_settings settings) lists image fault)
     → (fault ≡ opening.DiskFault → Rose before now) → ((fault ≡ opening.DiskFault → ⊥) → now ≡ before)
-    → EndsDealt settings lists tail keeping store store_now sink sink old old
+    → EndsDealt settings lists tail keeping store AsBefore sink sink old old
     (record { sink = write_faults; disk = before }) (record { sink = write_faults; disk = now }) (status_of_opening fault)
-fault_ends settings lists tail keeping store store_now sink old write_faults before now opening.DiskFault same used
-    refused rose kept = (inl refl, record { rose = rose refl; sink = refl })
-fault_ends settings lists tail keeping store store_now sink old write_faults before now opening.OutOfMemory same used
-    refused rose kept = (inl refl, same_faults write_faults before now (kept (λ is. cc is)))
-fault_ends settings lists tail keeping store store_now sink old write_faults before now opening.NotFormatted same
+fault_ends settings lists tail keeping store AsBefore sink old write_faults before now opening.DiskFault same used
+    refused rose kept = (inl (refl, same), record { rose = rose refl; sink = refl })
+fault_ends settings lists tail keeping store AsBefore sink old write_faults before now opening.OutOfMemory same used
+    refused rose kept = (inl (refl, same), same_faults write_faults before now (kept (λ is. cc is)))
+fault_ends settings lists tail keeping store AsBefore sink old write_faults before now opening.NotFormatted same
     used refused rose kept = (
-      refuses_lists settings lists store store_now opening.NotFormatted same (λ is. cc is) used refused,
+      refuses_lists settings lists store AsBefore opening.NotFormatted same (λ is. cc is) used refused,
       refl,
       same_faults write_faults before now (kept (λ is. cc is)),
     )
-fault_ends settings lists tail keeping store store_now sink old write_faults before now (opening.Damaged slot) same
+fault_ends settings lists tail keeping store AsBefore sink old write_faults before now (opening.Damaged slot) same
     used refused rose kept = (
-      refuses_lists settings lists store store_now (opening.Damaged slot) same (λ is. cc is) used refused,
+      refuses_lists settings lists store AsBefore (opening.Damaged slot) same (λ is. cc is) used refused,
       refl,
       same_faults write_faults before now (kept (λ is. cc is)),
     )
-fault_ends settings lists tail keeping store store_now sink old write_faults before now (opening.OtherSettings stored asked) same
+fault_ends settings lists tail keeping store AsBefore sink old write_faults before now (opening.OtherSettings stored asked) same
     used refused rose kept = (
-      refuses_lists settings lists store store_now (opening.OtherSettings stored asked) same (λ is. cc is) used refused,
+      refuses_lists settings lists store AsBefore (opening.OtherSettings stored asked) same (λ is. cc is) used refused,
       refl,
       same_faults write_faults before now (kept (λ is. cc is)),
     )
-fault_ends settings lists tail keeping store store_now sink old write_faults before now (opening.OtherCapture stored asked) same
+fault_ends settings lists tail keeping store AsBefore sink old write_faults before now (opening.OtherCapture stored asked) same
     used refused rose kept = (
-      refuses_lists settings lists store store_now (opening.OtherCapture stored asked) same (λ is. cc is) used refused,
+      refuses_lists settings lists store AsBefore (opening.OtherCapture stored asked) same (λ is. cc is) used refused,
       refl,
       same_faults write_faults before now (kept (λ is. cc is)),
     )
 
 -- the store was refused, or there was no memory for the base
 pub no_base_ends : {K : Type 0} (settings : Settings) (lists : List (List RecordValue)) (tail : List ℕ)
-    (keeping : Keeping) (store store_now : Option (List ℕ)) (sink : K) (old : Option (List ℕ))
-    (write_faults before now : ℕ) (status : Status) → store_now ≡ store
+    (keeping : Keeping) (store : Option (List ℕ)) (AsBefore : Type 0) (sink : K) (old : Option (List ℕ))
+    (write_faults before now : ℕ) (status : Status) → AsBefore
     → HasNoBase settings lists store before now status
-    → EndsDealt settings lists tail keeping store store_now sink sink old old
+    → EndsDealt settings lists tail keeping store AsBefore sink sink old old
     (record { sink = write_faults; disk = before }) (record { sink = write_faults; disk = now }) status
-no_base_ends settings lists tail keeping store store_now sink old write_faults before now status same none =
-    subst (EndsDealt settings lists tail keeping store store_now sink sink old old
+no_base_ends settings lists tail keeping store AsBefore sink old write_faults before now status same none =
+    subst (EndsDealt settings lists tail keeping store AsBefore sink sink old old
     (record { sink = write_faults; disk = before }) (record { sink = write_faults; disk = now })) (sym none.status_is)
-    (fault_ends settings lists tail keeping store store_now sink old write_faults before now none.fault same none.used
+    (fault_ends settings lists tail keeping store AsBefore sink old write_faults before now none.fault same none.used
     none.refused none.rose none.kept)
 
 -- bytes of a session, from the base on
-part_dealt : {K : Type 0} (settings : Settings) (lists : List (List RecordValue)) (tail : List ℕ)
-    (store : Option (List ℕ)) (base : Option CutValue) (sink written : K) (old new : Option (List ℕ))
+part_dealt : (settings : Settings) (lists : List (List RecordValue)) (tail : List ℕ) (keeping : Keeping)
+    (store : Option (List ℕ)) (base : Option CutValue) (Kept : Saving) (old new : Option (List ℕ))
     → GoesOnFrom settings lists store base → RepresentsWhere lists base (opening_of settings.capacity lists base)
-    → Writes (BeginsSession (opening_of settings.capacity lists base) settings tail) old new
-    → WritesDealtInPart settings lists tail store old new
-part_dealt settings lists tail store base sink written old new begins represents part =
-    record { base = base; begins = begins; represents = represents; writes = part }
+    → ((saved begun : List CutValue) → Kept saved begun → settings.store ≡ true
+    → keeping (store_settings settings) lists saved begun)
+    → Writes (BeginsSession (opening_of settings.capacity lists base) settings Kept tail) old new
+    → WritesDealtInPart settings lists tail keeping store old new
+part_dealt settings lists tail keeping store base Kept old new begins represents keeps part = record {
+  base = base;
+  begins = begins;
+  represents = represents;
+  writes = record {
+    text = part.text;
+    is_text = begins_weaker (opening_of settings.capacity lists base) settings Kept
+        (λ saved begun. settings.store ≡ true → keeping (store_settings settings) lists saved begun) tail part.text keeps
+        part.is_text;
+    written = part.written;
+  };
+}
 
 -- the session broke off
 pub session_ends : {K : Type 0} (settings : Settings) (lists : List (List RecordValue)) (tail : List ℕ)
-    (keeping : Keeping) (store store_now : Option (List ℕ)) (base : Option CutValue) (sink written : K)
-    (old new : Option (List ℕ)) (before now : Faults) (status : Status)
+    (keeping : Keeping) (store : Option (List ℕ)) (AsBefore : Type 0) (base : Option CutValue) (Kept : Saving)
+    (Same : Type 0) (sink written : K) (old new : Option (List ℕ)) (before now : Faults) (status : Status)
     → GoesOnFrom settings lists store base → RepresentsWhere lists base (opening_of settings.capacity lists base)
-    → (written ≡ sink → new ≡ old)
-    → (written ≡ sink) ⊎ Writes (BeginsSession (opening_of settings.capacity lists base) settings tail) old new
+    → ((saved begun : List CutValue) → Kept saved begun → settings.store ≡ true
+    → keeping (store_settings settings) lists saved begun)
+    → (written ≡ sink → new ≡ old) → (Same → AsBefore × Kept [] [])
+    → ((written ≡ sink) × Same)
+    ⊎ Writes (BeginsSession (opening_of settings.capacity lists base) settings Kept tail) old new
     → IsFault before now status
-    → EndsDealt settings lists tail keeping store store_now sink written old new before now status
-session_ends settings lists tail keeping store store_now base sink written old new before now WriteFault begins represents
-    taken part fault = (
+    → EndsDealt settings lists tail keeping store AsBefore sink written old new before now status
+session_ends settings lists tail keeping store AsBefore base Kept Same sink written old new before now WriteFault begins
+    represents keeps taken unmoved part fault = (
       ⊎_elim
-          (λ same. part_dealt settings lists tail store base sink written old new begins represents
-          (nothing_in_part (opening_of settings.capacity lists base) settings tail old new (taken same)))
-          (λ some. part_dealt settings lists tail store base sink written old new begins represents some) part,
+          (λ same. part_dealt settings lists tail keeping store base Kept old new begins represents keeps
+          (nothing_in_part (opening_of settings.capacity lists base) settings Kept tail old new (taken same.0)
+          (unmoved same.1).1))
+          (λ some. part_dealt settings lists tail keeping store base Kept old new begins represents keeps some) part,
       fault,
     )
-session_ends settings lists tail keeping store store_now base sink written old new before now DiskFault begins represents
-    taken part fault = (
-      ⊎_elim (λ same. inl same)
-          (λ some. inr (part_dealt settings lists tail store base sink written old new begins represents some)) part,
+session_ends settings lists tail keeping store AsBefore base Kept Same sink written old new before now DiskFault begins
+    represents keeps taken unmoved part fault = (
+      ⊎_elim (λ same. inl (same.0, (unmoved same.1).0))
+          (λ some. inr (part_dealt settings lists tail keeping store base Kept old new begins represents keeps some)) part,
       fault,
     )
-session_ends settings lists tail keeping store store_now base sink written old new before now OutOfMemory begins
-    represents taken part fault = (
-      ⊎_elim (λ same. inl same)
-          (λ some. inr (part_dealt settings lists tail store base sink written old new begins represents some)) part,
+session_ends settings lists tail keeping store AsBefore base Kept Same sink written old new before now OutOfMemory begins
+    represents keeps taken unmoved part fault = (
+      ⊎_elim (λ same. inl (same.0, (unmoved same.1).0))
+          (λ some. inr (part_dealt settings lists tail keeping store base Kept old new begins represents keeps some)) part,
       fault,
     )
-session_ends settings lists tail keeping store store_now base sink written old new before now Done begins
-    represents taken part fault = absurd fault
-session_ends settings lists tail keeping store store_now base sink written old new before now (BadWords kind) begins
-    represents taken part fault = absurd fault
-session_ends settings lists tail keeping store store_now base sink written old new before now (BadCapture wrong) begins
-    represents taken part fault = absurd fault
-session_ends settings lists tail keeping store store_now base sink written old new before now ReadFault begins
-    represents taken part fault = absurd fault
-session_ends settings lists tail keeping store store_now base sink written old new before now NotFormatted begins
-    represents taken part fault = absurd fault
-session_ends settings lists tail keeping store store_now base sink written old new before now (Damaged slot) begins
-    represents taken part fault = absurd fault
-session_ends settings lists tail keeping store store_now base sink written old new before now (OtherSettings stored asked) begins
-    represents taken part fault = absurd fault
-session_ends settings lists tail keeping store store_now base sink written old new before now (OtherCapture stored asked) begins
-    represents taken part fault = absurd fault
-session_ends settings lists tail keeping store store_now base sink written old new before now (AuditNo report verdict) begins
-    represents taken part fault = absurd fault
-session_ends settings lists tail keeping store store_now base sink written old new before now (BadReport wrong) begins
-    represents taken part fault = absurd fault
+session_ends settings lists tail keeping store AsBefore base Kept Same sink written old new before now Done begins
+    represents keeps taken unmoved part fault = absurd fault
+session_ends settings lists tail keeping store AsBefore base Kept Same sink written old new before now (BadWords kind) begins
+    represents keeps taken unmoved part fault = absurd fault
+session_ends settings lists tail keeping store AsBefore base Kept Same sink written old new before now (BadCapture wrong) begins
+    represents keeps taken unmoved part fault = absurd fault
+session_ends settings lists tail keeping store AsBefore base Kept Same sink written old new before now ReadFault begins
+    represents keeps taken unmoved part fault = absurd fault
+session_ends settings lists tail keeping store AsBefore base Kept Same sink written old new before now NotFormatted begins
+    represents keeps taken unmoved part fault = absurd fault
+session_ends settings lists tail keeping store AsBefore base Kept Same sink written old new before now (Damaged slot) begins
+    represents keeps taken unmoved part fault = absurd fault
+session_ends settings lists tail keeping store AsBefore base Kept Same sink written old new before now (OtherSettings stored asked) begins
+    represents keeps taken unmoved part fault = absurd fault
+session_ends settings lists tail keeping store AsBefore base Kept Same sink written old new before now (OtherCapture stored asked) begins
+    represents keeps taken unmoved part fault = absurd fault
+session_ends settings lists tail keeping store AsBefore base Kept Same sink written old new before now (AuditNo report verdict) begins
+    represents keeps taken unmoved part fault = absurd fault
+session_ends settings lists tail keeping store AsBefore base Kept Same sink written old new before now (BadReport wrong) begins
+    represents keeps taken unmoved part fault = absurd fault
 
 -- the session was written whole
 pub writes_dealt : (settings : Settings) (lists : List (List RecordValue)) (tail : List ℕ) (keeping : Keeping)
     (store : Option (List ℕ)) (base : Option CutValue) (Kept : List CutValue → Type 0) (old new : Option (List ℕ))
     → GoesOnFrom settings lists store base → RepresentsWhere lists base (opening_of settings.capacity lists base)
-    → ((cuts : List CutValue) → Kept cuts → settings.store ≡ true → keeping (store_settings settings) lists cuts)
+    → ((cuts : List CutValue) → Kept cuts → settings.store ≡ true → keeping (store_settings settings) lists cuts [])
     → Writes (SpellsSession (opening_of settings.capacity lists base) settings Kept tail) old new
     → WritesDealt settings lists tail keeping store old new
 writes_dealt settings lists tail keeping store base Kept old new begins represents keeps writes = record {
@@ -197,7 +211,8 @@ writes_dealt settings lists tail keeping store base Kept old new begins represen
   writes = record {
     text = writes.text;
     is_text = spells_weaker (opening_of settings.capacity lists base) settings Kept
-        (λ cuts. settings.store ≡ true → keeping (store_settings settings) lists cuts) tail writes.text keeps writes.is_text;
+        (λ cuts. settings.store ≡ true → keeping (store_settings settings) lists cuts []) tail writes.text keeps
+        writes.is_text;
     written = writes.written;
   };
 }

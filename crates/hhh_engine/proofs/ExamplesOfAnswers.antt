@@ -16,7 +16,7 @@ use Rattle.hhh_engine.specs.Inputs.{AskNotToUse, AskToUse, CanBeAnswered, HasKno
 use Rattle.hhh_engine.specs.Inputs.{UsesStore, WasAccepted, WasRead, inputs}
 use Rattle.hhh_engine.specs.Ending.{Ends, FailedDisk, FailedToRead, FailedToWrite, FormatEnds, RefusedCapture, SourceFailed}
 use Rattle.hhh_engine.specs.Ending.{OfDisk, OneRose, RefusedWords, RefusesFor, RefusesStore, WasAnswered, WroteInPart}
-use Rattle.hhh_engine.specs.Ending.{source_faults}
+use Rattle.hhh_engine.specs.Ending.{UnlessFormat, source_faults}
 use Rattle.recovery.specs.declared.fault.OpenFault.{OpenFault}
 use Rattle.recovery.specs.declared.fault.OpenFault.TheVariants as opening
 use Rattle.hhh_engine.specs.Saves.{store_settings}
@@ -146,7 +146,7 @@ session_was_written = record {
 
 -- a sink with room for 12 bytes took a part of the first line
 pub session_was_written_in_part :
-    AnswersInPart in_turn words (inputs (Some header) (Some []) None None None) (Some []) (Some (codes "opened 0 0 0"))
+    AnswersInPart in_turn keeps_nothing words (inputs (Some header) (Some []) None None None) (Some []) (Some (codes "opened 0 0 0"))
 session_was_written_in_part = record {
   command = report_command settings;
   asked = asks_for_a_report;
@@ -171,7 +171,7 @@ weight_in_part = record {
 }
 
 pub weight_in_part_is_an_answer_in_part :
-    IsAnswerInPart in_turn (Weigh prefix settings) (inputs (Some file) (Some []) None None None) (codes "low 10")
+    IsAnswerInPart in_turn keeps_nothing (Weigh prefix settings) (inputs (Some file) (Some []) None None None) (codes "low 10")
 weight_in_part_is_an_answer_in_part = weight_in_part
 
 -- `format` writes one line, whatever its inputs are
@@ -182,7 +182,8 @@ pub format_answers_in_a_line :
     IsAnswer in_turn keeps_nothing (Format settings) (inputs None None None None None) (codes "formatted\n")
 format_answers_in_a_line = refl
 
-pub format_is_cut_short : IsAnswerInPart in_turn (Format settings) (inputs None None None None None) (codes "format")
+pub format_is_cut_short :
+    IsAnswerInPart in_turn keeps_nothing (Format settings) (inputs None None None None None) (codes "format")
 format_is_cut_short = record {
   text = formatted_text;
   is_text = refl;
@@ -281,29 +282,41 @@ pub no_source_failed : OneRose (source_faults 3 0) (source_faults 3 0) → ⊥
 no_source_failed rose = ⊎_elim (λ capture. omega (arith, capture)) (λ text. omega (arith, text)) rose
 
 pub sink_failed_in_the_session :
-    FailedToWrite in_turn words (inputs (Some header) (Some []) None None None) (Some []) (Some (codes "opened 0 0 0")) 3 4
+    FailedToWrite in_turn keeps_nothing words (inputs (Some header) (Some []) None None None) (Some [])
+    (Some (codes "opened 0 0 0")) 3 4
 sink_failed_in_the_session = record { rose = omega arith; in_part = session_was_written_in_part }
 
 -- a disk fails before anything is written, or after a part
-pub nothing_was_written_in_part : WroteInPart {K = List ℕ} in_turn [] (inputs None None None None None) [] [] (Some []) (Some [])
-nothing_was_written_in_part = inl refl
+pub nothing_was_written_in_part :
+    WroteInPart {K = List ℕ} in_turn keeps_nothing [] (inputs None None None None None) ⊤ [] [] (Some []) (Some [])
+nothing_was_written_in_part = inl (refl, tt)
+
+-- then the disk is as before
+pub disk_changed_before_the_first_byte :
+    WroteInPart {K = List ℕ} in_turn keeps_nothing [] (inputs None None None None None) ⊥ [] (codes "o") (Some [])
+    (Some (codes "o")) → AnswersInPart in_turn keeps_nothing [] (inputs None None None None None) (Some [])
+    (Some (codes "o"))
+disk_changed_before_the_first_byte (inl nothing) = absurd nothing.1
+disk_changed_before_the_first_byte (inr part) = part
 
 pub disk_failed_in_the_session :
-    FailedDisk {K = List ℕ} in_turn words (inputs (Some header) (Some []) None None None) [] (codes "opened 0 0 0") (Some [])
-    (Some (codes "opened 0 0 0")) 3 4
+    FailedDisk {K = List ℕ} in_turn keeps_nothing words (inputs (Some header) (Some []) None None None) ⊥ []
+    (codes "opened 0 0 0") (Some []) (Some (codes "opened 0 0 0")) 3 4
 disk_failed_in_the_session = record {
-  asked = record { command = report_command settings; asked = asks_for_a_report; uses = tt };
+  command = report_command settings;
+  asked = asks_for_a_report;
+  may_use = tt;
   rose = omega arith;
   in_part = inr session_was_written_in_part;
 }
 
 -- where no store is asked for, none is refused
 pub no_store_is_refused : (fault : OpenFault)
-    → RefusesStore settings in_turn (Some header) None None fault → ⊥
+    → RefusesStore settings in_turn (Some header) None ⊤ fault → ⊥
 no_store_is_refused fault refuses = cc refuses.0
 
 pub format_refuses_no_store : (fault : OpenFault)
-    → RefusesFor (Format settings) in_turn (inputs None None None None None) None fault → ⊥
+    → RefusesFor (Format settings) in_turn (inputs None None None None None) ⊤ fault → ⊥
 format_refuses_no_store fault refuses = refuses
 
 -- where the disk fails, `format` writes nothing; where memory runs out, the disk is as before too
@@ -347,7 +360,7 @@ audited status = status ≡ AuditNo 2 BadTotal
 -- how it ended with these counts of faults of its capture and its sink, and these bytes in the sink
 abbrev ends_with : (read_before read_now : ℕ) → List ℕ → (write_before write_now : ℕ) → Status → Type 0
 ends_with read_before read_now written write_before write_now status =
-    Ends {K = List ℕ} yes part ⊤ ⊤ ⊤ ⊤ unformatted audited (Some []) (source_faults read_before 0)
+    Ends {K = List ℕ} yes part ⊤ ⊤ ⊤ ⊤ ⊤ unformatted audited (Some []) (source_faults read_before 0)
     (source_faults read_now 0) [] written (Some []) (Some written) write_before write_now status
 
 pub command_that_wrote_its_text :
@@ -375,7 +388,7 @@ bad_words_end_no_command ended = ended
 
 -- memory may run out before anything is written
 pub memory_that_ran_out : ends_with 0 0 [] 0 0 OutOfMemory
-memory_that_ran_out = (inl refl, refl, refl)
+memory_that_ran_out = (inl (refl, tt), refl, refl)
 
 -- the disk may fail after a part of the text
 pub command_whose_disk_failed :
@@ -415,3 +428,10 @@ audit_uses_no_disk happened = happened
 
 pub report_may_use_a_disk : OfDisk (report_command settings) ⊤
 report_may_use_a_disk = tt
+
+-- where no byte was written, a store that was to be opened is as before, and one that `format` began to make need not be
+pub report_leaves_a_disk_as_before : UnlessFormat (report_command settings) ⊥ → ⊥
+report_leaves_a_disk_as_before as_before = as_before
+
+pub format_may_have_begun_a_store : UnlessFormat (Format settings) ⊥
+format_may_have_begun_a_store = tt

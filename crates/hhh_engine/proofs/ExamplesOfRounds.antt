@@ -1,6 +1,6 @@
 -- Worked examples of the rounds of the calling thread, and of the feed around them, over four shards without records.
-use Rattle.std.proofs.Common.{◌≡◌, ◌≤◌, ℕ, zero, suc, List, [], ◌∷◌, ◌++◌, Some, None, length, refl, sym, ap, subst}
-use Rattle.std.proofs.Common.{codes, arith, Bool, true, false, inl, inr}
+use Rattle.std.proofs.Common.{◌≡◌, ◌≤◌, ℕ, zero, suc, List, [], ◌∷◌, Some, None, length, refl, sym, ap, subst}
+use Rattle.std.proofs.Common.{codes, arith, Bool, true, false, inl, inr, ◌∙◌}
 use Rattle.std.specs.Fmt.{digits}
 use Rattle.std.proofs.lemmas.List.Elements.{All-nil, All-cons, All-from_recursion}
 use Rattle.std.proofs.lemmas.Option.{same_Some}
@@ -12,9 +12,9 @@ use Rattle.pass_tokens.specs.{IsOdd, SeatValue, ShardRead, WordsValue, after_rea
 use Rattle.gate_workers.specs.{Calls, HasSeenEnds, IsReportAt, ReadsOnce, View, cut_at}
 use Rattle.gate_workers.specs.declared.gathered.Gathered.{Gathered}
 use Rattle.report_text.specs.{tail_text}
-use Rattle.hhh_engine.specs.Session.{AreReportsOf, part_text, parts_text}
+use Rattle.hhh_engine.specs.Session.{AreReportsOf, BreaksOffInRounds, Saving, part_text, parts_text}
 use Rattle.hhh_engine.specs.Rounds.{BreakOff, BreaksRound, DiskFailed, EndRounds, Faults, ReadsInVain, ReportsOnce}
-use Rattle.hhh_engine.specs.Rounds.{SinkFailed, WritesRoundInPart, WritesRounds, WritesUnsaved}
+use Rattle.hhh_engine.specs.Rounds.{SinkFailed, WritesLineInPart, WritesReportInPart, WritesRounds, WritesUnsaved}
 use Rattle.hhh_engine.specs.Feed.{IsDealtCapture, IsFault, IsFed, IsGathered, IsOpened, IsSaveFault, StartsBeforeEnds}
 use Rattle.hhh_engine.specs.Feed.{WritesRoundsInPart, reports_of}
 use Rattle.hhh_engine.specs.declared.commands.session.Opened.{Opened}
@@ -55,6 +55,10 @@ disk_did_not_fail failed = omega (arith, failed.rose)
 abbrev none_saved : List CutValue → Type 0
 none_saved cuts = cuts ≡ []
 
+-- nor one begun
+abbrev none_begun : Saving
+none_begun saved begun = (saved ≡ []) × (begun ≡ [])
+
 -- no round was made
 
 no_calls : Calls opening 10000 0 first first []
@@ -87,12 +91,12 @@ no_round_writes_nothing = record {
   kept = refl;
 }
 
-pub no_round_of_none : EndRounds opening 10000 0 first first false none_saved (Some []) (Some []) calm calm None
+pub no_round_of_none : EndRounds opening 10000 0 first first false none_saved none_begun (Some []) (Some []) calm calm None
 no_round_of_none = (no_round_writes_nothing, refl)
 
 -- a fault would have ended them
 pub fault_without_a_stop :
-    EndRounds opening 10000 0 first first false none_saved (Some []) (Some []) calm sink_rose None → ⊥
+    EndRounds opening 10000 0 first first false none_saved none_begun (Some []) (Some []) calm sink_rose None → ⊥
 fault_without_a_stop ended = let same : 4 ≡ 3 = ap (λ (faults : Faults). faults.sink) ended.1 in omega (arith, same)
 
 -- ---- a round
@@ -141,7 +145,7 @@ one_round_is_written = record {
   kept = refl;
 }
 
-pub one_round_of_one : EndRounds opening 10000 1 first after_one false none_saved (Some [])
+pub one_round_of_one : EndRounds opening 10000 1 first after_one false none_saved none_begun (Some [])
     (Some (part_text false last)) calm calm None
 one_round_of_one = (one_round_is_written, refl)
 
@@ -166,9 +170,9 @@ pub report_of_one_round : ReportsOnce opening 10000 first after_one report
 report_of_one_round = record { calls = one_call; sound = λ bases. nothing_is_sound }
 
 -- a sink with room for 7 bytes took the first line of the report
-pub round_in_part : WritesRoundInPart opening 10000 first after_one false (Some []) (Some (codes "report\n"))
+pub report_in_part : WritesReportInPart opening 10000 first after_one none_begun (Some []) (Some (codes "report\n"))
 unfolding digits
-round_in_part = record {
+report_in_part = record {
   report = report;
   reports = report_of_one_round;
   written = record {
@@ -177,74 +181,99 @@ round_in_part = record {
     cut = omega arith;
     appended = refl;
   };
+  kept = (refl, refl);
 }
 
--- with a store the line of the saved positions may be missing
-pub round_without_its_last_line :
-    WritesRoundInPart opening 10000 first after_one true (Some []) (Some (part_text false last))
+-- of the line of the saved positions none may be written, though the cut was saved
+abbrev saved_the_one : Saving
+saved_the_one saved begun = one_saved saved × (begun ≡ [])
+
+pub line_in_part :
+    WritesLineInPart opening 10000 first after_one true saved_the_one (Some []) (Some (part_text false last))
 unfolding digits
-round_without_its_last_line = record {
+line_in_part = record {
   report = report;
   reports = report_of_one_round;
+  between = Some (part_text false last);
+  whole = refl;
   written = record {
-    front = part_text false last;
+    front = [];
     is_beginning = (codes "saved 0 0 0 0\n", refl);
     cut = omega arith;
     appended = refl;
   };
+  kept = (refl, refl);
 }
 
--- and where the disk fails, it is
-pub unsaved_round : WritesUnsaved opening 10000 first after_one (Some []) (Some (part_text false last))
+-- and where the disk fails, the save may not be over
+abbrev begun_the_one : Saving
+begun_the_one saved begun = (saved ≡ []) × one_saved begun
+
+pub unsaved_round : WritesUnsaved opening 10000 first after_one begun_the_one (Some []) (Some (part_text false last))
 unfolding digits
-unsaved_round = record { report = report; reports = report_of_one_round; written = refl }
+unsaved_round = record { report = report; reports = report_of_one_round; written = refl; kept = (refl, refl) }
+
+-- a save that was over is none that was begun
+pub saved_round_is_not_unsaved :
+    WritesUnsaved opening 10000 first after_one saved_the_one (Some []) (Some (part_text false last)) → ⊥
+saved_round_is_not_unsaved unsaved = cc unsaved.kept.1
 
 pub each_shard_was_read_once : ReadsOnce opening first after_one
 each_shard_was_read_once = record { reads = reads; as_many = refl; odd = no_losses; view = refl }
 
-pub round_in_vain : ReadsInVain opening first after_one (Some []) (Some [])
-round_in_vain = record { reads = each_shard_was_read_once; unwritten = refl }
+pub round_in_vain : ReadsInVain opening first after_one none_begun (Some []) (Some [])
+round_in_vain = record { reads = each_shard_was_read_once; unwritten = refl; kept = (refl, refl) }
 
-pub round_in_vain_writes_nothing : ReadsInVain opening first after_one (Some []) (Some (codes "report\n")) → ⊥
+pub round_in_vain_writes_nothing : ReadsInVain opening first after_one none_begun (Some []) (Some (codes "report\n")) → ⊥
 round_in_vain_writes_nothing vain = cc vain.unwritten
 
 pub sink_breaks_a_round :
-    BreaksRound opening 10000 first after_one false (Some []) (Some (codes "report\n")) calm sink_rose WriteFault
-sink_breaks_a_round = (round_in_part, sink_failed)
+    BreaksRound opening 10000 first after_one false none_begun (Some []) (Some (codes "report\n")) calm sink_rose
+    WriteFault
+sink_breaks_a_round = (inl report_in_part, sink_failed)
+
+pub sink_breaks_the_line :
+    BreaksRound opening 10000 first after_one true saved_the_one (Some []) (Some (part_text false last)) calm sink_rose
+    WriteFault
+sink_breaks_the_line = (inr line_in_part, sink_failed)
 
 -- a sink that failed has counted it
 pub sink_that_did_not_fail :
-    BreaksRound opening 10000 first after_one false (Some []) (Some (codes "report\n")) calm calm WriteFault → ⊥
+    BreaksRound opening 10000 first after_one false none_begun (Some []) (Some (codes "report\n")) calm calm WriteFault → ⊥
 sink_that_did_not_fail breaks = omega (arith, breaks.1.rose)
 
 pub disk_breaks_a_round :
-    BreaksRound opening 10000 first after_one true (Some []) (Some (part_text false last)) calm disk_rose DiskFault
+    BreaksRound opening 10000 first after_one true begun_the_one (Some []) (Some (part_text false last)) calm disk_rose
+    DiskFault
 disk_breaks_a_round = (refl, unsaved_round, disk_failed)
 
 -- without a store no disk is written to
 pub disk_breaks_no_round_without_a_store :
-    BreaksRound opening 10000 first after_one false (Some []) (Some (part_text false last)) calm disk_rose DiskFault → ⊥
+    BreaksRound opening 10000 first after_one false begun_the_one (Some []) (Some (part_text false last)) calm disk_rose
+    DiskFault → ⊥
 disk_breaks_no_round_without_a_store breaks = cc breaks.0
 
 pub memory_breaks_a_round :
-    BreaksRound opening 10000 first after_one false (Some []) (Some []) calm calm OutOfMemory
+    BreaksRound opening 10000 first after_one false none_begun (Some []) (Some []) calm calm OutOfMemory
 memory_breaks_a_round = (inl round_in_vain, refl)
 
 -- memory may also run out in a save
 pub memory_breaks_a_save :
-    BreaksRound opening 10000 first after_one true (Some []) (Some (part_text false last)) calm calm OutOfMemory
+    BreaksRound opening 10000 first after_one true begun_the_one (Some []) (Some (part_text false last)) calm calm
+    OutOfMemory
 memory_breaks_a_save = (inr (refl, unsaved_round), refl)
 
-pub success_breaks_no_round : BreaksRound opening 10000 first after_one false (Some []) (Some []) calm calm Done → ⊥
+pub success_breaks_no_round :
+    BreaksRound opening 10000 first after_one false none_begun (Some []) (Some []) calm calm Done → ⊥
 success_breaks_no_round breaks = breaks
 
 pub source_breaks_no_round :
-    BreaksRound opening 10000 first after_one false (Some []) (Some []) calm sink_rose ReadFault → ⊥
+    BreaksRound opening 10000 first after_one false none_begun (Some []) (Some []) calm sink_rose ReadFault → ⊥
 source_breaks_no_round breaks = breaks
 
 -- the first of two rounds broke off
 pub first_round_broke_off :
-    BreakOff opening 10000 2 first after_one false (Some []) (Some (codes "report\n")) calm sink_rose WriteFault
+    BreakOff opening 10000 2 first after_one false none_begun (Some []) (Some (codes "report\n")) calm sink_rose WriteFault
 first_round_broke_off = record {
   whole = 0;
   few = omega arith;
@@ -255,12 +284,13 @@ first_round_broke_off = record {
 }
 
 pub no_round_breaks_off :
-    BreakOff opening 10000 0 first after_one false (Some []) (Some (codes "report\n")) calm sink_rose WriteFault → ⊥
+    BreakOff opening 10000 0 first after_one false none_begun (Some []) (Some (codes "report\n")) calm sink_rose WriteFault
+    → ⊥
 no_round_breaks_off breaks = omega (arith, breaks.few)
 
 pub two_rounds_ended_in_the_first :
-    EndRounds opening 10000 2 first after_one false none_saved (Some []) (Some (codes "report\n")) calm sink_rose
-    (Some WriteFault)
+    EndRounds opening 10000 2 first after_one false none_saved none_begun (Some []) (Some (codes "report\n")) calm
+    sink_rose (Some WriteFault)
 two_rounds_ended_in_the_first = first_round_broke_off
 
 -- ---- the feed
@@ -383,24 +413,30 @@ pub fed_with_another_cut : (seat : SeatValue) (fed : Fed)
 fed_with_another_cut seat fed is = cc is.shape.as_many
 
 -- a sink with room for 7 bytes took the first line of the only round's report
-pub rounds_in_part : WritesRoundsInPart opening running (Some []) (Some (codes "report\n"))
+pub rounds_in_part : WritesRoundsInPart opening running none_begun (Some []) (Some (codes "report\n"))
 unfolding digits
 rounds_in_part = record {
-  rounds = last ∷ [];
-  few = omega arith;
-  are_rounds = one_report_with 1 1;
   front = codes "report\n";
-  begins = (codes "at 0 0 0 0\ntotal 0\nthreshold 1\ndone\n", refl);
+  breaks_off = inr (record {
+    rounds = [];
+    next = last;
+    few = omega arith;
+    are_reports = one_report_with 1 1;
+    more = codes "report\n";
+    breaks_off = inl (((codes "at 0 0 0 0\ntotal 0\nthreshold 1\ndone\n", refl), omega arith), (refl, refl));
+    written = refl;
+  });
   written = refl;
 }
 
 -- without rounds nothing of them is written
-pub no_rounds_in_part : WritesRoundsInPart opening settings (Some []) (Some (codes "report\n")) → ⊥
-no_rounds_in_part in_part =
-    none in_part.rounds in_part.few in_part.front in_part.begins.0 in_part.begins.1 in_part.written
+pub no_rounds_in_part : WritesRoundsInPart opening settings none_begun (Some []) (Some (codes "report\n")) → ⊥
+no_rounds_in_part in_part = none in_part.front in_part.breaks_off in_part.written
   where
-    none : (rounds : List Reported) → length rounds ≤ 0 → (front rest : List ℕ)
-        → parts_text false rounds ≡ front ++ rest → codes "report\n" ≡ front → ⊥
-    none [] few [] rest begins written = cc written
-    none [] few (byte ∷ front) rest begins written = cc begins
-    none (one ∷ rounds) few front rest begins written = omega (arith, few)
+    whole : (rounds : List Reported) → length rounds ≤ 0 → codes "report\n" ≡ parts_text false rounds → ⊥
+    whole [] few written = cc written
+    whole (one ∷ rounds) few written = omega (arith, few)
+
+    none : (text : List ℕ) → BreaksOffInRounds opening settings none_begun text → codes "report\n" ≡ text → ⊥
+    none text (inl between) written = whole between.rounds between.few (written ∙ between.written)
+    none text (inr within) written = omega (arith, within.few)

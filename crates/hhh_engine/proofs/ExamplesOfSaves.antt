@@ -23,10 +23,10 @@ use Rattle.command_words.specs.declared.settings.Settings.{Settings}
 use Rattle.hhh_engine.specs.Ending.{HoldsEmptyStore}
 use Rattle.hhh_engine.specs.Feed.{GoesOn, HasNoBase, IsSaverFor}
 use Rattle.hhh_engine.specs.Inputs.{IsStoreOf}
-use Rattle.hhh_engine.specs.Saves.{FitsBoard, KeepsSaves, LeavesSaves, OpensAmong, Saves, after_saves, kept_in}
-use Rattle.hhh_engine.specs.Saves.{last_saved, saved_after, store_settings}
-use Rattle.hhh_engine.specs.Session.{GoesOnFrom, SessionReports, ends_of, new_shards, opening_of, part_text}
-use Rattle.hhh_engine.specs.Session.{resumed_shards, saved_cuts, session_saves, session_text, start_of}
+use Rattle.hhh_engine.specs.Saves.{FitsBoard, IsAsBefore, KeepsSaves, OpensAmong, Saves, SavesInPart, after_saves}
+use Rattle.hhh_engine.specs.Saves.{kept_in, last_saved, saved_after, store_settings}
+use Rattle.hhh_engine.specs.Session.{GoesOnFrom, SessionReports, calling_reports, ends_of, last_positions, new_shards}
+use Rattle.hhh_engine.specs.Session.{opening_of, part_text, resumed_shards, saved_cuts, session_saves, session_text, start_of}
 use Rattle.hhh_engine.specs.declared.status.Status.TheVariants.{NotFormatted}
 use Rattle.hhh_engine.proofs.Examples.{packet}
 use Rattle.hhh_engine.proofs.ExamplesOfSessions.{last, opening as four_shards, settings}
@@ -113,21 +113,36 @@ disk_was_emptied (inr opens) = omega (arith, opens.2.long)
 abbrev image_since : ℕ → ℕ → List ℕ → Type 0
 image_since disk moment image = image ≡ formatted
 
-abbrev pub no_saves_leave_the_store :
-    LeavesSaves {D = ℕ} (λ disk. disk) image_since one (9 ∷ []) (λ image. ⊥) [] 7 7 formatted
-no_saves_leave_the_store = record {
+pub no_saves_keep_the_store :
+    KeepsSaves {D = ℕ} (λ disk image. image ≡ formatted) (λ disk. disk) image_since one (9 ∷ []) (λ image. ⊥) [] [] 7 7
+    formatted
+no_saves_keep_the_store = record {
   opened = None;
   opens = formatted_opens_to_nothing;
   any_moment = Leaves-none (λ disk. disk) image_since 7 (λ image. ⊥ ⊎ OpensAmong one None [] image)
       (λ image is. inr (subst (λ bytes. Opens one bytes None) (sym is) formatted_opens_to_nothing));
+  afterwards = λ image is. subst (λ bytes. Opens one bytes None) (sym is) formatted_opens_to_nothing;
 }
 
-pub no_saves_keep_the_store :
-    KeepsSaves {D = ℕ} (λ disk image. image ≡ formatted) (λ disk. disk) image_since one (9 ∷ []) (λ image. ⊥) [] 7 7
-    formatted
-no_saves_keep_the_store = record {
-  leaves = no_saves_leave_the_store;
-  at_last = λ image is. subst (λ bytes. Opens one bytes None) (sym is) formatted_opens_to_nothing;
+-- a save that was not over may have left the store as it was
+pub save_was_not_over :
+    KeepsSaves {D = ℕ} (λ disk image. image ≡ formatted) (λ disk. disk) image_since one (9 ∷ []) (λ image. ⊥) []
+    (none_counted ∷ []) 7 7 formatted
+save_was_not_over = record {
+  opened = None;
+  opens = formatted_opens_to_nothing;
+  any_moment = Leaves-none (λ disk. disk) image_since 7
+      (λ image. ⊥ ⊎ OpensAmong one None (saved_after 0 (9 ∷ []) (none_counted ∷ [])) image)
+      (λ image is. inr (inl (subst (λ bytes. Opens one bytes None) (sym is) formatted_opens_to_nothing)));
+  afterwards = λ image is. inl (subst (λ bytes. Opens one bytes None) (sym is) formatted_opens_to_nothing);
+}
+
+-- without a save a crash leaves what it could have left before
+pub disk_is_as_before : IsAsBefore {D = ℕ} (λ disk. Some formatted) (λ disk image. image ≡ formatted) (λ disk. disk)
+    image_since 7 7
+disk_is_as_before = record {
+  same_reads = refl;
+  any_moment = Leaves-none (λ disk. disk) image_since 7 (λ image. image ≡ formatted) (λ image is. is);
 }
 
 -- the saver of the formatted store, after two saves
@@ -145,9 +160,13 @@ pub nothing_is_saved_without_a_saver :
     Saves {D = ℕ} (λ disk. None) (λ disk image. ⊤) (λ disk. disk) image_since None [] 7 8 → ⊥
 nothing_is_saved_without_a_saver same = omega (arith, same)
 
+pub nothing_is_begun_without_a_saver :
+    SavesInPart {D = ℕ} (λ disk. None) (λ disk image. ⊤) (λ disk. disk) image_since None 7 8 [] (none_counted ∷ []) → ⊥
+nothing_is_begun_without_a_saver part = let same = part.unused refl in omega (arith, same)
+
 -- where nothing is known of a disk, nothing is said of what it keeps
 pub unknown_disk_keeps_anything :
-    kept_in {D = ℕ} (λ disk. None) (λ disk image. ⊤) (λ disk. disk) image_since 7 8 one [] (none_counted ∷ [])
+    kept_in {D = ℕ} (λ disk. None) (λ disk image. ⊤) (λ disk. disk) image_since 7 8 one [] (none_counted ∷ []) []
 unknown_disk_keeps_anything bytes told = absurd (cc told)
 
 -- what `format` leaves
@@ -250,8 +269,15 @@ reports = record { rounds = []; callers = []; last = of_the_packet }
 abbrev records : Records
 records = record { list = packet ∷ []; frames = 1; not_ipv4 = 0; short = 0; bad_header = 0 }
 
+-- its positions are those of the last save, and before it those at the start
+pub positions_of_the_last_report : last_positions (0 ∷ []) (of_the_packet ∷ []) ≡ 1 ∷ []
+positions_of_the_last_report = refl
+
+pub positions_before_a_report : last_positions (0 ∷ []) [] ≡ 0 ∷ []
+positions_before_a_report = refl
+
 -- its only cut is saved under the sequence after that of the store
-pub saves_of_a_session : session_saves one_shard (resumed ∷ []) (Some (saved 4 one_counted)) reports
+pub saves_of_a_session : session_saves one_shard (resumed ∷ []) (Some (saved 4 one_counted)) (calling_reports reports)
     ≡ record { sequence = 5; digest = digest_of_lists one lists; cut = cut_at (resumed ∷ []) (1 ∷ []) } ∷ []
 saves_of_a_session = refl
 

@@ -28,7 +28,7 @@ use Rattle.report_text.specs.{tail_text}
 use Rattle.command_words.specs.declared.settings.Settings.{Settings}
 use Rattle.hhh_engine.specs.Session.{AreDealtFrom, AreReportsOf, AreSessionReports, BeginsSession, BreaksOffInRounds}
 use Rattle.hhh_engine.specs.Session.{BreaksOffLater, GoesOnFrom, IsSession, IsSessionInPart, IsShown, Keeping}
-use Rattle.hhh_engine.specs.Session.{NeverFall, RepresentsWhere, Rules, SessionReports, SpellsSession, calling_reports}
+use Rattle.hhh_engine.specs.Session.{NeverFall, RepresentsWhere, Rules, Saving, SessionReports, SpellsSession, calling_reports}
 use Rattle.hhh_engine.specs.Session.{callers_text, new_shards, opening_of, part_text, parts_text, rest_text}
 use Rattle.hhh_engine.specs.Session.{saved_text, session_text, start_of}
 use Rattle.hhh_engine.proofs.Examples.{header, two_shards}
@@ -54,7 +54,7 @@ in_turn kind place rec shards number = number ≡ place % shards
 
 -- a disk of which nothing holds, whatever was saved: it is asked of no run without a store
 abbrev pub keeps_nothing : Keeping
-keeps_nothing asked dealt cuts = ⊥
+keeps_nothing asked dealt saved begun = ⊥
 
 pub header_is_a_capture : HasFrames header []
 unfolding number_at magic_order
@@ -395,49 +395,62 @@ session_over_the_header = record {
 
 -- ---- a session that broke off
 
+-- without a store nothing is saved
+abbrev pub saves_nothing : Saving
+saves_nothing saved begun = (saved ≡ []) × (begun ≡ [])
+
 -- a sink with room for 12 bytes took a part of the first line
-pub broken_off_in_the_first_line : BreaksOffInRounds opening settings (codes "opened 0 0 0")
+pub first_bytes_of_the_session :
+    BeginsSession opening settings saves_nothing (tail_text records) (codes "opened 0 0 0")
 unfolding digits
-broken_off_in_the_first_line = record {
-  rounds = [];
-  few = omega arith;
-  are_reports = no_reports;
-  begins = (codes " 0\n", refl);
-}
+first_bytes_of_the_session = inl (((codes " 0\n", refl), omega arith), (refl, refl))
 
 -- and one with room for 22 bytes a part of the report of the first round
-pub broken_off_in_a_round : BreaksOffInRounds opening running (codes "opened 0 0 0 0\nreport\n")
+pub broken_off_in_a_round : BreaksOffInRounds opening running saves_nothing (codes "report\n")
 unfolding digits
-broken_off_in_a_round = record {
-  rounds = last ∷ [];
+broken_off_in_a_round = inr (record {
+  rounds = [];
+  next = last;
   few = omega arith;
   are_reports = one_report_with 1 1;
-  begins = (codes "at 0 0 0 0\ntotal 0\nthreshold 1\ndone\n", refl);
-}
+  more = codes "report\n";
+  breaks_off = inl (((codes "at 0 0 0 0\ntotal 0\nthreshold 1\ndone\n", refl), omega arith), (refl, refl));
+  written = refl;
+})
+
+pub bytes_of_a_round : BeginsSession opening running saves_nothing (tail_text records) (codes "opened 0 0 0 0\nreport\n")
+unfolding digits
+bytes_of_a_round = inr (inl (codes "report\n", broken_off_in_a_round, refl))
 
 -- no session begins with a report
-pub session_without_a_first_line : BreaksOffInRounds opening settings (codes "report\n") → ⊥
+pub session_without_a_first_line :
+    BeginsSession opening settings saves_nothing (tail_text records) (codes "report\n") → ⊥
 unfolding digits
-session_without_a_first_line breaks =
-    let same : 111 ≡ 114 = ap (λ bytes. get_or bytes 0 0) breaks.begins.1 in omega (arith, same)
+session_without_a_first_line (inl (first, kept)) =
+    let same : 111 ≡ 114 = ap (λ bytes. get_or bytes 0 0) first.0.1 in omega (arith, same)
+session_without_a_first_line (inr (inl (more, rounds, parted))) =
+    let same : 114 ≡ 111 = ap (λ bytes. get_or bytes 0 0) parted in omega (arith, same)
+session_without_a_first_line (inr (inr later)) =
+    let same : 114 ≡ 111 = ap (λ bytes. get_or bytes 0 0) later.written in omega (arith, same)
 
-pub broken_off_in_the_last_lines : BreaksOffLater opening settings (tail_text records)
+-- the last lines broke off
+pub broken_off_in_the_last_lines : BreaksOffLater opening settings saves_nothing (tail_text records)
     (codes "opened 0 0 0 0\nreport\nat 0 0 0 0\ntotal 0\nthreshold 1\ndone\nframes")
+unfolding digits
 broken_off_in_the_last_lines = record {
-  text = text;
-  is_session = session_is_spelled;
-  begins = (codes " 0\nskipped 0 0 0\nend\n", refl);
-  cut = omega arith;
+  reports = reports;
+  are_reports = reports_of_the_session;
+  more = codes "report\nat 0 0 0 0\ntotal 0\nthreshold 1\ndone\nframes";
+  breaks_off = inr (inr (codes "frames", ((codes " 0\nskipped 0 0 0\nend\n", refl), omega arith), refl, (refl, refl)));
+  written = refl;
 }
 
-pub first_bytes_of_the_session : BeginsSession opening settings (tail_text records) (codes "opened 0 0 0")
-first_bytes_of_the_session = inl broken_off_in_the_first_line
-
-pub most_bytes_of_the_session : BeginsSession opening settings (tail_text records)
+pub most_bytes_of_the_session : BeginsSession opening settings saves_nothing (tail_text records)
     (codes "opened 0 0 0 0\nreport\nat 0 0 0 0\ntotal 0\nthreshold 1\ndone\nframes")
-most_bytes_of_the_session = inr broken_off_in_the_last_lines
+most_bytes_of_the_session = inr (inr broken_off_in_the_last_lines)
 
-pub session_in_part : IsSessionInPart settings in_turn None header (codes "opened 0 0 0")
+pub session_in_part : IsSessionInPart settings in_turn keeps_nothing None header (codes "opened 0 0 0")
+unfolding digits
 session_in_part = record {
   records = records;
   lists = lists;
@@ -445,5 +458,5 @@ session_in_part = record {
   base = None;
   begins = begins_anew None;
   represents = new_shards_represent;
-  begun = first_bytes_of_the_session;
+  begun = inl (((codes " 0\n", refl), omega arith), λ used. absurd (cc used));
 }

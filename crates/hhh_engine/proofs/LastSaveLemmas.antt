@@ -9,16 +9,16 @@ use Rattle.hhh_output.specs.declared.reports.Reported.{Reported}
 use Rattle.pass_tokens.specs.{WordsValue, first_view}
 use Rattle.gate_workers.specs.{IsReportAt, View, cut_at}
 use Rattle.gate_workers.specs.declared.gathered.Called.{Called}
-use Rattle.checkpoint.specs.{AreSettings, SaverState, after_save, last_sequence}
+use Rattle.checkpoint.specs.{AreSettings, SaverState, StoresOpenToOne, after_save, last_sequence}
 use Rattle.command_words.specs.declared.settings.Settings.{Settings}
 use Rattle.hhh_engine.specs.Feed.{CanSaveCut, IsRest, StartsBeforeEnds}
-use Rattle.hhh_engine.specs.Saves.{CanSave, Saves, SavesInTurn, after_saves}
+use Rattle.hhh_engine.specs.Saves.{CanSave, Saves, SavesInPart, SavesInTurn, after_saves}
 use Rattle.hhh_engine.specs.Session.{AreReportsOf, IsShown, ends_of, saved_cuts, start_of}
 use Rattle.hhh_engine.specs.declared.commands.session.Rest.{Rest}
-use Rattle.hhh_engine.proofs.SavesLemmas.{sequence_rises, settings_stay}
+use Rattle.hhh_engine.proofs.SavesLemmas.{part_follows, sequence_rises, settings_stay}
 use Rattle.hhh_engine.proofs.SeenLemmas.{cut_at_positions, each_not_past, not_past_each, not_past_long}
 use Rattle.hhh_engine.proofs.SessionLemmas.{first_has_seen_starts}
-use Rattle.hhh_engine.proofs.SessionTextLemmas.{within_ends}
+use Rattle.hhh_engine.proofs.SessionTextLemmas.{FollowsSaves, within_ends}
 
 -- a saver that may make more saves may make fewer
 pub can_save_fewer : (reads : Option (List ℕ)) (possible : List ℕ → Type 0) (opening : List ShardValue)
@@ -129,3 +129,38 @@ session_kept reads image_now moment image_since opening store rounds last cut (S
     (subst (λ c. Saves reads image_now moment image_since (Some saver) (map position rounds ++ c ∷ []) old new) is
     (subst (λ b. SavesInTurn reads image_now moment image_since (Some saver) after old new
     (saved_cuts b opening rounds ++ cut ∷ [])) (sym used) saves).saves))
+
+-- what became of all cuts of a session whose last save, or what follows it, broke off
+pub rest_in_part : StoresOpenToOne → {D : Type 0} (reads : D → Option (List ℕ)) (image_now : D → List ℕ → Type 0)
+    (moment : D → ℕ) (image_since : D → ℕ → List ℕ → Type 0) (opening : List ShardValue) (store : Bool)
+    (rounds : List Reported) (last : Reported) (cut : CutValue) (saver between : Option SaverState) (old mid new : D)
+    → is_some saver ≡ store → cut ≡ cut_at opening last.report.positions
+    → IfSome saver (λ saver. AreSettings saver.settings)
+    → ((disk : D) (bytes : List ℕ) → reads disk ≡ Some bytes → image_now disk bytes)
+    → SavesInTurn reads image_now moment image_since saver between old mid (saved_cuts store opening rounds)
+    → FollowsSaves store opening rounds last cut (SavesInPart reads image_now moment image_since between mid new)
+    (SavesInPart reads image_now moment image_since saver old new)
+rest_in_part one reads image_now moment image_since opening store rounds last cut None between old mid new used is are
+    is_image saves =
+    let same : (saved begun : List CutValue) → SavesInPart reads image_now moment image_since between mid new saved begun
+    → new ≡ old = λ saved begun part. part.unused saves.saver ∙ saves.saves in (
+      λ part. record { unused = λ none. same [] [] part; kept = tt },
+      λ part. record { unused = λ none. same [] (cut ∷ []) part; kept = tt },
+      λ part. record { unused = λ none. same (cut ∷ []) [] part; kept = tt },
+    )
+rest_in_part one reads image_now moment image_since opening store rounds last cut (Some saver) between old mid new used is
+    are is_image saves =
+    let cuts : List CutValue = saved_cuts store opening rounds in
+    let same : cut ∷ [] ≡ saved_cuts store opening (last ∷ []) =
+    ap (λ c. c ∷ []) is ∙ ap (λ b. saved_cuts b opening (last ∷ [])) used in
+    let all : (saved begun : List CutValue) → SavesInPart reads image_now moment image_since between mid new saved begun
+    → SavesInPart reads image_now moment image_since (Some saver) old new (cuts ++ saved) begun =
+    λ saved begun.
+    part_follows one reads image_now moment image_since (Some saver) between cuts saved begun old mid new are is_image
+    saves in (
+      all [] [],
+      λ part. subst (SavesInPart reads image_now moment image_since (Some saver) old new (cuts ++ [])) same
+          (all [] (cut ∷ []) part),
+      λ part. subst (λ list. SavesInPart reads image_now moment image_since (Some saver) old new (cuts ++ list) []) same
+          (all (cut ∷ []) [] part),
+    )

@@ -84,15 +84,15 @@ cuts_represent represent opening settings reports shards bases shown =
     All-map (λ cut. CutRepresents cut (lists_of opening)) (λ (r : Reported). cut_at opening r.report.positions) reports
     (λ k d lt. represent opening settings.phi _ shards (shown k d lt).is_report bases)
 
-pub session_belongs : CutsRepresent → (opening : List ShardValue) (settings : Settings) (reports : SessionReports)
+pub session_belongs : CutsRepresent → (opening : List ShardValue) (settings : Settings) (reports : List Reported)
     (opened : Option SavedValue) (image : List ℕ) → AreShards opening → BasesRepresent opening
-    → AreSessionReports opening settings reports → IsOfLists (store_settings settings) (lists_of opening) opened
+    → All (IsShown opening settings) reports → IsOfLists (store_settings settings) (lists_of opening) opened
     → OpensAmong (store_settings settings) opened (session_saves settings opening opened reports) image
     → Belongs (store_settings settings) (lists_of opening) image
-session_belongs represent opening settings reports opened image shards bases are of_lists among =
+session_belongs represent opening settings reports opened image shards bases shown of_lists among =
     among_belongs (store_settings settings) (lists_of opening) opened (opened_sequence opened)
-    (saved_cuts true opening (calling_reports reports)) image of_lists
-    (cuts_represent represent opening settings (calling_reports reports) shards bases are.calling.shown) among
+    (saved_cuts true opening reports) image of_lists
+    (cuts_represent represent opening settings reports shards bases shown) among
 
 -- the last of some saves
 last_is : (opened : Option SavedValue) (sequence : ℕ) (digest : List ℕ) (cuts : List CutValue) (cut : CutValue)
@@ -105,7 +105,7 @@ last_is opened sequence digest (first ∷ cuts) cut =
 
 pub last_at_ends : (opening : List ShardValue) (settings : Settings) (reports : SessionReports)
     (opened : Option SavedValue) → AreSessionReports opening settings reports
-    → IsSomeAnd (last_saved opened (session_saves settings opening opened reports)) (λ saved.
+    → IsSomeAnd (last_saved opened (session_saves settings opening opened (calling_reports reports))) (λ saved.
     (positions_of saved.cut ≡ ends_of opening) × (saved.sequence ≡ opened_sequence opened + (settings.rounds + 1)))
 last_at_ends opening settings reports opened are =
     let f : Reported → CutValue = λ reported. cut_at opening reported.report.positions in

@@ -21,6 +21,7 @@ pub mod WiderRulesLemmas
 pub mod LastReportLemmas
 pub mod DemoTextLemmas
 pub mod LastStoreLemmas
+pub mod StoppedSaveLemmas
 pub mod OwnReportLemmas
 pub mod Examples
 pub mod ExamplesOfStatuses

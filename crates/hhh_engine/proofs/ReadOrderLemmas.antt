@@ -1,5 +1,5 @@
 -- In what order a command reads its inputs: the capture, and then the text of a session.
-use Rattle.std.proofs.Common.{◌≡◌, ◌⊎◌, ℕ, List, Option, IfSome, inl, inr, refl, sym, subst, arith, ⊎_elim}
+use Rattle.std.proofs.Common.{◌≡◌, ℕ, List, Option, IfSome, inl, inr, refl, sym, subst, arith, ⊎_elim}
 use Rattle.std.specs.Prelude.{⊤}
 use Rattle.std.specs.Io.KnownBytes.{IsAtEnd}
 use Rattle.outside_io.specs.{Rose}
@@ -15,7 +15,7 @@ use Rattle.command_words.specs.declared.command.Command.TheVariants.{Weigh, Repo
 use Rattle.command_words.specs.declared.settings.Settings.{Settings}
 use Rattle.hhh_engine.specs.Auditing.{HasNoBytes, SaysOf}
 use Rattle.hhh_engine.specs.Ending.{Ends, FailedDisk, FailedToRead, OfDisk, RefusedCapture, SourceFailed, SourceFaults}
-use Rattle.hhh_engine.specs.Ending.{StopsInOrder, source_faults}
+use Rattle.hhh_engine.specs.Ending.{StopsInOrder, UnlessFormat, source_faults}
 use Rattle.hhh_engine.specs.Inputs.{AskToUse, InputBytes, IsCapture, MayUseStore, ReadsCapture, ReadsSession, WasRead}
 use Rattle.hhh_engine.specs.Session.{Keeping, Rules}
 use Rattle.hhh_engine.specs.Status.{status_of_session}
@@ -91,41 +91,41 @@ source_failed_of Reads ReadsText Other OtherText read before now text text_read 
     })) failed
 
 -- how a command ended that reads a capture and no text: whatever the faults of a text's source are, its own rose
-pub capture_alone : {K T : Type 0} (IsText IsPart : List ℕ → Type 0) (ReadToEnd Accepted DiskRose DiskSame : Type 0)
+pub capture_alone : {K T : Type 0} (IsText IsPart : List ℕ → Type 0) (ReadToEnd Accepted DiskRose DiskSame AsBefore : Type 0)
     (Refused : OpenFault → Type 0) (Audited : Status → Type 0) (capture : Option (List ℕ)) (before now other : ℕ)
     (sink written : K) (old new : Option (List ℕ)) (write_before write_now : ℕ) (status : Status) (Reads ReadsText : Type 0)
     (read : InputBytes) (text : T) → Reads
-    → Ends IsText IsPart ReadToEnd Accepted DiskRose DiskSame Refused Audited capture (source_faults before 0)
+    → Ends IsText IsPart ReadToEnd Accepted DiskRose DiskSame AsBefore Refused Audited capture (source_faults before 0)
     (source_faults now 0) sink written old new write_before write_now status
     → StopsInOrder Reads ReadsText read (source_faults before other) (source_faults now other) text text status
-capture_alone IsText IsPart ReadToEnd Accepted DiskRose DiskSame Refused Audited capture before now other sink written old
+capture_alone IsText IsPart ReadToEnd Accepted DiskRose DiskSame AsBefore Refused Audited capture before now other sink written old
     new write_before write_now Done Reads ReadsText read text reads ends = tt
-capture_alone IsText IsPart ReadToEnd Accepted DiskRose DiskSame Refused Audited capture before now other sink written old
+capture_alone IsText IsPart ReadToEnd Accepted DiskRose DiskSame AsBefore Refused Audited capture before now other sink written old
     new write_before write_now (BadWords kind) Reads ReadsText read text reads ends = tt
-capture_alone IsText IsPart ReadToEnd Accepted DiskRose DiskSame Refused Audited capture before now other sink written old
+capture_alone IsText IsPart ReadToEnd Accepted DiskRose DiskSame AsBefore Refused Audited capture before now other sink written old
     new write_before write_now (BadCapture fault) Reads ReadsText read text reads ends = (reads, refl)
-capture_alone IsText IsPart ReadToEnd Accepted DiskRose DiskSame Refused Audited capture before now other sink written old
+capture_alone IsText IsPart ReadToEnd Accepted DiskRose DiskSame AsBefore Refused Audited capture before now other sink written old
     new write_before write_now ReadFault Reads ReadsText read text reads ends =
     ⊎_elim
     (λ (rose : Rose before now). inl (record { reads = reads; rose = rose; text_unread = refl }))
     (λ (rose : Rose 0 0). absurd (omega (arith, rose))) ends.0
-capture_alone IsText IsPart ReadToEnd Accepted DiskRose DiskSame Refused Audited capture before now other sink written old
+capture_alone IsText IsPart ReadToEnd Accepted DiskRose DiskSame AsBefore Refused Audited capture before now other sink written old
     new write_before write_now WriteFault Reads ReadsText read text reads ends = tt
-capture_alone IsText IsPart ReadToEnd Accepted DiskRose DiskSame Refused Audited capture before now other sink written old
+capture_alone IsText IsPart ReadToEnd Accepted DiskRose DiskSame AsBefore Refused Audited capture before now other sink written old
     new write_before write_now DiskFault Reads ReadsText read text reads ends = tt
-capture_alone IsText IsPart ReadToEnd Accepted DiskRose DiskSame Refused Audited capture before now other sink written old
+capture_alone IsText IsPart ReadToEnd Accepted DiskRose DiskSame AsBefore Refused Audited capture before now other sink written old
     new write_before write_now NotFormatted Reads ReadsText read text reads ends = tt
-capture_alone IsText IsPart ReadToEnd Accepted DiskRose DiskSame Refused Audited capture before now other sink written old
+capture_alone IsText IsPart ReadToEnd Accepted DiskRose DiskSame AsBefore Refused Audited capture before now other sink written old
     new write_before write_now (Damaged slot) Reads ReadsText read text reads ends = tt
-capture_alone IsText IsPart ReadToEnd Accepted DiskRose DiskSame Refused Audited capture before now other sink written old
+capture_alone IsText IsPart ReadToEnd Accepted DiskRose DiskSame AsBefore Refused Audited capture before now other sink written old
     new write_before write_now (OtherSettings stored asked) Reads ReadsText read text reads ends = tt
-capture_alone IsText IsPart ReadToEnd Accepted DiskRose DiskSame Refused Audited capture before now other sink written old
+capture_alone IsText IsPart ReadToEnd Accepted DiskRose DiskSame AsBefore Refused Audited capture before now other sink written old
     new write_before write_now (OtherCapture stored asked) Reads ReadsText read text reads ends = tt
-capture_alone IsText IsPart ReadToEnd Accepted DiskRose DiskSame Refused Audited capture before now other sink written old
+capture_alone IsText IsPart ReadToEnd Accepted DiskRose DiskSame AsBefore Refused Audited capture before now other sink written old
     new write_before write_now (AuditNo report verdict) Reads ReadsText read text reads ends = tt
-capture_alone IsText IsPart ReadToEnd Accepted DiskRose DiskSame Refused Audited capture before now other sink written old
+capture_alone IsText IsPart ReadToEnd Accepted DiskRose DiskSame AsBefore Refused Audited capture before now other sink written old
     new write_before write_now (BadReport fault) Reads ReadsText read text reads ends = tt
-capture_alone IsText IsPart ReadToEnd Accepted DiskRose DiskSame Refused Audited capture before now other sink written old
+capture_alone IsText IsPart ReadToEnd Accepted DiskRose DiskSame AsBefore Refused Audited capture before now other sink written old
     new write_before write_now OutOfMemory Reads ReadsText read text reads ends = tt
 
 -- and one that reads neither: it ends at no fault of them
@@ -163,18 +163,18 @@ asked_to_use Uses words command asked uses = record { command = command; asked =
 
 -- the capture was refused
 pub refused_capture_as : {T K D : Type 0} (rules : Rules) (keeping : Keeping) (words : List (List ℕ))
-    (command : Command) (given : InputBytes) (store_now : Option (List ℕ)) (ReadToEnd DiskRose : Type 0)
+    (command : Command) (given : InputBytes) (AsBefore : Type 0) (ReadToEnd DiskRose : Type 0)
     (before now : SourceFaults) (text text_read : T) (sink written : K) (disk stands : D) (old new : Option (List ℕ))
     (write_before write_now : ℕ) (status : Status) (fault : CaptureFault) → AskFor words command
     → status ≡ BadCapture fault
     → StopsInOrder (ReadsCapture command) (ReadsSession command) given before now text text_read status
-    → EndsAs rules keeping command given store_now ReadToEnd DiskRose (stands ≡ disk) before now sink written old new
+    → EndsAs rules keeping command given AsBefore ReadToEnd DiskRose (stands ≡ disk) before now sink written old new
     write_before write_now status
     → RefusedCapture words given.capture fault text text_read sink written disk stands
-refused_capture_as rules keeping words command given store_now ReadToEnd DiskRose before now text text_read sink written
+refused_capture_as rules keeping words command given AsBefore ReadToEnd DiskRose before now text text_read sink written
     disk stands old new write_before write_now status fault asked is stops ends =
     let order = subst (StopsInOrder (ReadsCapture command) (ReadsSession command) given before now text text_read) is stops in
-    let ended = subst (EndsAs rules keeping command given store_now ReadToEnd DiskRose (stands ≡ disk) before now sink
+    let ended = subst (EndsAs rules keeping command given AsBefore ReadToEnd DiskRose (stands ≡ disk) before now sink
     written old new write_before write_now) is ends in
     record {
       asked = asked_to_use ReadsCapture words command asked order.0;
@@ -186,17 +186,17 @@ refused_capture_as rules keeping words command given store_now ReadToEnd DiskRos
 
 -- a source failed
 pub failed_to_read_as : {T K D : Type 0} (rules : Rules) (keeping : Keeping) (words : List (List ℕ))
-    (command : Command) (given : InputBytes) (store_now : Option (List ℕ)) (ReadToEnd DiskRose : Type 0)
+    (command : Command) (given : InputBytes) (AsBefore : Type 0) (ReadToEnd DiskRose : Type 0)
     (before now : SourceFaults) (text text_read : T) (sink written : K) (disk stands : D) (old new : Option (List ℕ))
     (write_before write_now : ℕ) (status : Status) → AskFor words command → status ≡ ReadFault
     → StopsInOrder (ReadsCapture command) (ReadsSession command) given before now text text_read status
-    → EndsAs rules keeping command given store_now ReadToEnd DiskRose (stands ≡ disk) before now sink written old new
+    → EndsAs rules keeping command given AsBefore ReadToEnd DiskRose (stands ≡ disk) before now sink written old new
     write_before write_now status
     → FailedToRead words given before now text text_read sink written disk stands
-failed_to_read_as rules keeping words command given store_now ReadToEnd DiskRose before now text text_read sink written
+failed_to_read_as rules keeping words command given AsBefore ReadToEnd DiskRose before now text text_read sink written
     disk stands old new write_before write_now status asked is stops ends =
     let order = subst (StopsInOrder (ReadsCapture command) (ReadsSession command) given before now text text_read) is stops in
-    let ended = subst (EndsAs rules keeping command given store_now ReadToEnd DiskRose (stands ≡ disk) before now sink
+    let ended = subst (EndsAs rules keeping command given AsBefore ReadToEnd DiskRose (stands ≡ disk) before now sink
     written old new write_before write_now) is ends in
     record {
       failed = source_failed_of (ReadsCapture command) (ReadsSession command) (AskToUse ReadsCapture words)
@@ -217,21 +217,23 @@ may_use_store (Demo seed frames settings) Happened happened = absurd happened
 
 -- the disk failed
 pub failed_disk_as : {K : Type 0} (rules : Rules) (keeping : Keeping) (words : List (List ℕ)) (command : Command)
-    (given : InputBytes) (store_now : Option (List ℕ)) (DiskSame : Type 0) (disk_before disk_now : ℕ)
+    (given : InputBytes) (AsBefore : Type 0) (DiskSame : Type 0) (disk_before disk_now : ℕ)
     (before now : SourceFaults) (sink written : K) (old new : Option (List ℕ)) (write_before write_now : ℕ)
     (status : Status) → AskFor words command → status ≡ DiskFault
-    → EndsAs rules keeping command given store_now (WasRead command given)
+    → EndsAs rules keeping command given AsBefore (WasRead command given)
     (OfDisk command (Rose disk_before disk_now)) DiskSame before now sink written old new write_before write_now status
-    → FailedDisk rules words given sink written old new disk_before disk_now
-failed_disk_as rules keeping words command given store_now DiskSame disk_before disk_now before now sink written old new
+    → FailedDisk rules keeping words given AsBefore sink written old new disk_before disk_now
+failed_disk_as rules keeping words command given AsBefore DiskSame disk_before disk_now before now sink written old new
     write_before write_now status asked is ends =
-    let ended = subst (EndsAs rules keeping command given store_now (WasRead command given)
+    let ended = subst (EndsAs rules keeping command given AsBefore (WasRead command given)
     (OfDisk command (Rose disk_before disk_now)) DiskSame before now sink written old new write_before write_now) is ends in
     let used = may_use_store command (Rose disk_before disk_now) ended.3 in
     record {
-      asked = asked_to_use MayUseStore words command asked used.0;
+      command = command;
+      asked = asked;
+      may_use = used.0;
       rose = used.1;
       in_part = ⊎_elim
-          (λ (unwritten : written ≡ sink). inl unwritten)
+          (λ (nothing : (written ≡ sink) × UnlessFormat command AsBefore). inl nothing)
           (λ part. inr (record { command = command; asked = asked; read_to_end = ended.0; answer = part })) ended.2;
     }

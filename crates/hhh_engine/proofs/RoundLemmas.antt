@@ -1,9 +1,11 @@
 -- The rounds of the calling thread, and the texts of their reports.
 use Rattle.std.proofs.Common.{◌≡◌, ◌∙◌, ◌≤◌, ◌<◌, ◌+◌, ℕ, List, [], ◌∷◌, ◌++◌, Option, None, Some, All, refl, sym, ap, subst, arith}
-use Rattle.std.proofs.Common.{Bool, true, false, inr, ap₂}
+use Rattle.std.proofs.Common.{Bool, true, false, ◌⊎◌, inl, inr, ⊎_elim, ap₂}
 use Rattle.std.specs.Prelude.{⊤, is_some, option_map}
-use Rattle.std.proofs.lemmas.List.{length-append}
-use Rattle.outside_io.specs.{AppendsBeginning, Rose}
+use Rattle.std.proofs.Common.{Ok, Err}
+use Rattle.std.specs.Result.{IfErr, IsErrAnd}
+use Rattle.std.specs.declared.result.Result.{Result}
+use Rattle.outside_io.specs.{Rose}
 use Rattle.std.proofs.Common.{length, append-nil, append_assoc}
 use Rattle.std.specs.List.{flat_map}
 use Rattle.std.specs.Io.KnownBytes.{Appends}
@@ -14,11 +16,12 @@ use Rattle.prefix_lattice.specs.{most_records}
 use Rattle.hhh_output.specs.{IsSound}
 use Rattle.hhh_output.specs.declared.report.Report.{Report}
 use Rattle.hhh_output.specs.declared.reports.Reported.{Reported}
-use Rattle.gate_workers.specs.{Calls, IsReportAt, View, states_at}
+use Rattle.gate_workers.specs.{Calls, IsReportAt, ReadsOnce, View, states_at}
 use Rattle.report_text.specs.{ArePositions}
 use Rattle.hhh_engine.specs.Feed.{IsSaveFault}
-use Rattle.hhh_engine.specs.Rounds.{BreakOff, BreaksRound, EndRounds, Faults, WritesRoundInPart, WritesRounds, WritesUnsaved}
-use Rattle.hhh_engine.specs.Session.{part_text, parts_text, saved_cuts}
+use Rattle.hhh_engine.specs.Rounds.{BreakOff, BreaksRound, EndRounds, Faults, ReadsInVain, WritesLineInPart}
+use Rattle.hhh_engine.specs.Rounds.{WritesReportInPart, WritesRounds, WritesUnsaved}
+use Rattle.hhh_engine.specs.Session.{Saving, after_saves_of, part_text, parts_text, saved_cuts}
 use Rattle.hhh_engine.specs.declared.status.Status.{Status}
 use Rattle.hhh_engine.specs.declared.status.Status.TheVariants.{Done, BadWords, BadCapture, ReadFault, WriteFault}
 use Rattle.hhh_engine.specs.declared.status.Status.TheVariants.{DiskFault, NotFormatted, Damaged, OtherSettings}
@@ -130,7 +133,7 @@ writes_more opening phi rounds more before middle now store First Second Both ol
 }
 
 -- rounds of which less is said
-writes_weaker : (opening : List ShardValue) (phi rounds : ℕ) (before now : View) (store : Bool)
+abbrev writes_weaker : (opening : List ShardValue) (phi rounds : ℕ) (before now : View) (store : Bool)
     (Kept : List CutValue → Type 0) (old new : Option (List ℕ))
     → WritesRounds opening phi rounds before now store Kept old new
     → WritesRounds opening phi rounds before now store (λ cuts. ⊤) old new
@@ -144,29 +147,94 @@ writes_weaker opening phi rounds before now store Kept old new written = record 
 
 -- all rounds were made, as the shards that a view names tell
 pub all_made : (opening shards : List ShardValue) (phi made rounds : ℕ) (before now : View) (store : Bool)
-    (Kept : List CutValue → Type 0) (old new : Option (List ℕ)) (faults_before faults_now : Faults)
-    (stop : Option Status) → shards ≡ opening → stop ≡ None → made ≡ rounds
+    (Kept : List CutValue → Type 0) (KeptInPart : Saving) (old new : Option (List ℕ))
+    (faults_before faults_now : Faults) (stop : Option Status) → shards ≡ opening → stop ≡ None → made ≡ rounds
     → faults_now ≡ faults_before → WritesRounds opening phi made before now store Kept old new
-    → EndRounds shards phi rounds before now store Kept old new faults_before faults_now stop
-all_made opening shards phi made rounds before now store Kept old new faults_before faults_now stop same none all faults
-    written =
-    subst (λ s. EndRounds shards phi rounds before now store Kept old new faults_before faults_now s) (sym none) (
+    → EndRounds shards phi rounds before now store Kept KeptInPart old new faults_before faults_now stop
+all_made opening shards phi made rounds before now store Kept KeptInPart old new faults_before faults_now stop same none
+    all faults written =
+    subst (λ s. EndRounds shards phi rounds before now store Kept KeptInPart old new faults_before faults_now s) (sym none) (
       subst (λ ss. WritesRounds ss phi rounds before now store Kept old new) (sym same)
           (subst (λ n. WritesRounds opening phi n before now store Kept old new) all written),
       faults,
     )
 
+-- a round whose cut wasn't saved, of which less is said
+unsaved_weaker : (opening : List ShardValue) (phi : ℕ) (before now : View) (Kept Less : Saving)
+    (old new : Option (List ℕ)) → ((saved begun : List CutValue) → Kept saved begun → Less saved begun)
+    → WritesUnsaved opening phi before now Kept old new → WritesUnsaved opening phi before now Less old new
+unsaved_weaker opening phi before now Kept Less old new less unsaved = record {
+  report = unsaved.report;
+  reports = unsaved.reports;
+  written = unsaved.written;
+  kept = less [] (saved_cuts true opening (record { report = unsaved.report; saved = None } ∷ [])) unsaved.kept;
+}
+
+-- a round that broke off, of which less is said
+breaks_weaker : (opening : List ShardValue) (phi : ℕ) (before now : View) (store : Bool) (Kept Less : Saving)
+    (old new : Option (List ℕ)) (faults_before faults_now : Faults) (status : Status)
+    → ((saved begun : List CutValue) → Kept saved begun → Less saved begun)
+    → BreaksRound opening phi before now store Kept old new faults_before faults_now status
+    → BreaksRound opening phi before now store Less old new faults_before faults_now status
+breaks_weaker opening phi before now store Kept Less old new faults_before faults_now WriteFault less broken = (
+  ⊎_elim
+      (λ (part : WritesReportInPart opening phi before now Kept old new). inl (record {
+        report = part.report;
+        reports = part.reports;
+        written = part.written;
+        kept = less [] [] part.kept;
+      }))
+      (λ (part : WritesLineInPart opening phi before now store Kept old new). inr (record {
+        report = part.report;
+        reports = part.reports;
+        between = part.between;
+        whole = part.whole;
+        written = part.written;
+        kept = less (saved_cuts store opening (record { report = part.report; saved = None } ∷ [])) [] part.kept;
+      })) broken.0,
+  broken.1,
+)
+breaks_weaker opening phi before now store Kept Less old new faults_before faults_now DiskFault less broken =
+    (broken.0, unsaved_weaker opening phi before now Kept Less old new less broken.1, broken.2)
+breaks_weaker opening phi before now store Kept Less old new faults_before faults_now OutOfMemory less broken = (
+  ⊎_elim
+      (λ (vain : ReadsInVain opening before now Kept old new).
+      inl (record { reads = vain.reads; unwritten = vain.unwritten; kept = less [] [] vain.kept }))
+      (λ unsaved. inr (unsaved.0, unsaved_weaker opening phi before now Kept Less old new less unsaved.1)) broken.0,
+  broken.1,
+)
+breaks_weaker opening phi before now store Kept Less old new faults_before faults_now Done less broken = absurd broken
+breaks_weaker opening phi before now store Kept Less old new faults_before faults_now (BadWords kind) less broken =
+    absurd broken
+breaks_weaker opening phi before now store Kept Less old new faults_before faults_now (BadCapture wrong) less broken =
+    absurd broken
+breaks_weaker opening phi before now store Kept Less old new faults_before faults_now ReadFault less broken =
+    absurd broken
+breaks_weaker opening phi before now store Kept Less old new faults_before faults_now NotFormatted less broken =
+    absurd broken
+breaks_weaker opening phi before now store Kept Less old new faults_before faults_now (Damaged slot) less broken =
+    absurd broken
+breaks_weaker opening phi before now store Kept Less old new faults_before faults_now (OtherSettings stored asked) less
+    broken = absurd broken
+breaks_weaker opening phi before now store Kept Less old new faults_before faults_now (OtherCapture stored asked) less
+    broken = absurd broken
+breaks_weaker opening phi before now store Kept Less old new faults_before faults_now (AuditNo report verdict) less
+    broken = absurd broken
+breaks_weaker opening phi before now store Kept Less old new faults_before faults_now (BadReport wrong) less broken =
+    absurd broken
+
 -- a round broke off
 pub one_broke_off : (opening shards : List ShardValue) (phi share made rounds : ℕ) (before middle now : View)
-    (store stored : Bool) (Kept : List CutValue → Type 0) (old between new : Option (List ℕ))
-    (faults_before faults_between faults_now : Faults) (status : Status)
+    (store stored : Bool) (Kept : List CutValue → Type 0) (KeptInRound KeptInPart : Saving)
+    (old between new : Option (List ℕ)) (faults_before faults_between faults_now : Faults) (status : Status)
     → shards ≡ opening → share ≡ phi → stored ≡ store → faults_between ≡ faults_before → made < rounds
+    → ((cuts saved begun : List CutValue) → Kept cuts → KeptInRound saved begun → KeptInPart (cuts ++ saved) begun)
     → WritesRounds opening phi made before middle store Kept old between
-    → BreaksRound opening share middle now stored between new faults_between faults_now status
-    → BreakOff shards phi rounds before now store old new faults_before faults_now status
-one_broke_off opening shards phi share made rounds before middle now store stored Kept old between new faults_before
-    faults_between faults_now status same same_share same_store same_faults few written broken =
-    subst (λ ss. BreakOff ss phi rounds before now store old new faults_before faults_now status) (sym same)
+    → BreaksRound opening share middle now stored KeptInRound between new faults_between faults_now status
+    → BreakOff shards phi rounds before now store KeptInPart old new faults_before faults_now status
+one_broke_off opening shards phi share made rounds before middle now store stored Kept KeptInRound KeptInPart old between
+    new faults_before faults_between faults_now status same same_share same_store same_faults few both written broken =
+    subst (λ ss. BreakOff ss phi rounds before now store KeptInPart old new faults_before faults_now status) (sym same)
     (record {
       whole = made;
       few = few;
@@ -174,89 +242,75 @@ one_broke_off opening shards phi share made rounds before middle now store store
       between = between;
       written = writes_weaker opening phi made before middle store Kept old between written;
       broken =
-          subst (λ b. BreaksRound opening phi middle now b between new faults_before faults_now status) same_store
-          (subst (λ n. BreaksRound opening n middle now stored between new faults_before faults_now status) same_share
-          (subst (λ f. BreaksRound opening share middle now stored between new f faults_now status) same_faults broken));
+          breaks_weaker opening phi middle now store KeptInRound (after_saves_of store opening written.reports KeptInPart)
+          between new faults_before faults_now status
+          (λ saved begun kept. both (saved_cuts store opening written.reports) saved begun written.kept kept)
+          (subst (λ b. BreaksRound opening phi middle now b KeptInRound between new faults_before faults_now status)
+          same_store
+          (subst (λ n. BreaksRound opening n middle now stored KeptInRound between new faults_before faults_now status)
+          same_share
+          (subst (λ f. BreaksRound opening share middle now stored KeptInRound between new f faults_now status) same_faults
+          broken)));
     })
 
--- a strict prefix of a report's text is one of the text and the line after it
-pub begins_part : (old new : Option (List ℕ)) (text line : List ℕ) → AppendsBeginning old new text
-    → AppendsBeginning old new (text ++ line)
-begins_part old new text line begun =
-    let short : length begun.front < length text = begun.cut in
-    record {
-      front = begun.front;
-      is_beginning = (
-        begun.is_beginning.0 ++ line,
-        ap (λ t. t ++ line) begun.is_beginning.1 ∙ append_assoc begun.front begun.is_beginning.0 line,
-      );
-      cut = omega (arith, short, length-append text line);
-      appended = begun.appended;
-    }
-
--- a whole text, and a strict prefix of the line after it
-pub begins_line : (old between new : Option (List ℕ)) (text line : List ℕ) → Appends old between text
-    → AppendsBeginning between new line → AppendsBeginning old new (text ++ line)
-begins_line old between new text line first begun =
-    let short : length begun.front < length line = begun.cut in
-    record {
-      front = text ++ begun.front;
-      is_beginning = (
-        begun.is_beginning.0,
-        ap (λ t. text ++ t) begun.is_beginning.1 ∙ sym (append_assoc text begun.front begun.is_beginning.0),
-      );
-      cut = omega (arith, short, length-append text begun.front, length-append text line);
-      appended = Appends-trans old between new text begun.front first begun.appended;
-    }
-
 -- the sink failed in a round
-pub sink_broke : (opening : List ShardValue) (phi : ℕ) (before now : View) (store : Bool) (old new : Option (List ℕ))
-    (sink_before sink_between sink_now disk_before disk_now : ℕ) (status : Status)
+pub sink_broke : (opening : List ShardValue) (phi : ℕ) (before now : View) (store : Bool) (Kept : Saving)
+    (old new : Option (List ℕ)) (sink_before sink_between sink_now disk_before disk_now : ℕ) (status : Status)
     → (status ≡ WriteFault) × Rose sink_between sink_now → sink_between ≡ sink_before → disk_now ≡ disk_before
-    → WritesRoundInPart opening phi before now store old new
-    → BreaksRound opening phi before now store old new (record { sink = sink_before; disk = disk_before })
+    → WritesReportInPart opening phi before now Kept old new ⊎ WritesLineInPart opening phi before now store Kept old new
+    → BreaksRound opening phi before now store Kept old new (record { sink = sink_before; disk = disk_before })
     (record { sink = sink_now; disk = disk_now }) status
-sink_broke opening phi before now store old new sink_before sink_between sink_now disk_before disk_now status failed
+sink_broke opening phi before now store Kept old new sink_before sink_between sink_now disk_before disk_now status failed
     earlier same part =
-    subst (BreaksRound opening phi before now store old new (record { sink = sink_before; disk = disk_before })
+    subst (BreaksRound opening phi before now store Kept old new (record { sink = sink_before; disk = disk_before })
     (record { sink = sink_now; disk = disk_now })) (sym failed.0)
     (part, record { rose = subst (λ n. Rose n sink_now) earlier failed.1; disk = same })
 
 -- the cut of a round wasn't saved
-pub save_broke : (opening : List ShardValue) (phi : ℕ) (before now : View) (store : Bool) (old new : Option (List ℕ))
-    (sink_before sink_now disk_before disk_now : ℕ) (status : Status)
+pub save_broke : (opening : List ShardValue) (phi : ℕ) (before now : View) (store : Bool) (Kept : Saving)
+    (old new : Option (List ℕ)) (sink_before sink_now disk_before disk_now : ℕ) (status : Status)
     → store ≡ true → IsSaveFault disk_before disk_now status → sink_now ≡ sink_before
-    → WritesUnsaved opening phi before now old new
-    → BreaksRound opening phi before now store old new (record { sink = sink_before; disk = disk_before })
+    → WritesUnsaved opening phi before now Kept old new
+    → BreaksRound opening phi before now store Kept old new (record { sink = sink_before; disk = disk_before })
     (record { sink = sink_now; disk = disk_now }) status
-save_broke opening phi before now store old new sink_before sink_now disk_before disk_now DiskFault used fault same
+save_broke opening phi before now store Kept old new sink_before sink_now disk_before disk_now DiskFault used fault same
     unsaved =
     (used, unsaved, record { rose = fault; sink = same })
-save_broke opening phi before now store old new sink_before sink_now disk_before disk_now OutOfMemory used fault same
+save_broke opening phi before now store Kept old new sink_before sink_now disk_before disk_now OutOfMemory used fault same
     unsaved =
     (inr (used, unsaved), ap₂ (λ s d. record { sink = s; disk = d }) same fault)
-save_broke opening phi before now store old new sink_before sink_now disk_before disk_now Done used fault same unsaved =
+save_broke opening phi before now store Kept old new sink_before sink_now disk_before disk_now Done used fault same unsaved =
     absurd fault
-save_broke opening phi before now store old new sink_before sink_now disk_before disk_now (BadWords kind) used fault same
+save_broke opening phi before now store Kept old new sink_before sink_now disk_before disk_now (BadWords kind) used fault same
     unsaved = absurd fault
-save_broke opening phi before now store old new sink_before sink_now disk_before disk_now (BadCapture wrong) used fault
+save_broke opening phi before now store Kept old new sink_before sink_now disk_before disk_now (BadCapture wrong) used fault
     same unsaved = absurd fault
-save_broke opening phi before now store old new sink_before sink_now disk_before disk_now ReadFault used fault same
+save_broke opening phi before now store Kept old new sink_before sink_now disk_before disk_now ReadFault used fault same
     unsaved = absurd fault
-save_broke opening phi before now store old new sink_before sink_now disk_before disk_now WriteFault used fault same
+save_broke opening phi before now store Kept old new sink_before sink_now disk_before disk_now WriteFault used fault same
     unsaved = absurd fault
-save_broke opening phi before now store old new sink_before sink_now disk_before disk_now NotFormatted used fault same
+save_broke opening phi before now store Kept old new sink_before sink_now disk_before disk_now NotFormatted used fault same
     unsaved = absurd fault
-save_broke opening phi before now store old new sink_before sink_now disk_before disk_now (Damaged slot) used fault same
+save_broke opening phi before now store Kept old new sink_before sink_now disk_before disk_now (Damaged slot) used fault same
     unsaved = absurd fault
-save_broke opening phi before now store old new sink_before sink_now disk_before disk_now (OtherSettings stored asked)
+save_broke opening phi before now store Kept old new sink_before sink_now disk_before disk_now (OtherSettings stored asked)
     used fault same unsaved = absurd fault
-save_broke opening phi before now store old new sink_before sink_now disk_before disk_now (OtherCapture stored asked)
+save_broke opening phi before now store Kept old new sink_before sink_now disk_before disk_now (OtherCapture stored asked)
     used fault same unsaved = absurd fault
-save_broke opening phi before now store old new sink_before sink_now disk_before disk_now (AuditNo report verdict) used
+save_broke opening phi before now store Kept old new sink_before sink_now disk_before disk_now (AuditNo report verdict) used
     fault same unsaved = absurd fault
-save_broke opening phi before now store old new sink_before sink_now disk_before disk_now (BadReport wrong) used fault
+save_broke opening phi before now store Kept old new sink_before sink_now disk_before disk_now (BadReport wrong) used fault
     same unsaved = absurd fault
+
+-- memory ran out before a round was written
+pub memory_broke : {T : Type 0} (result : Result T Status) (opening : List ShardValue) (phi : ℕ) (before now : View)
+    (store : Bool) (Kept : Saving) (old : Option (List ℕ)) (faults : Faults)
+    → IsErrAnd result (λ status. status ≡ OutOfMemory) → ReadsOnce opening before now → Kept [] []
+    → IfErr result (BreaksRound opening phi before now store Kept old old faults faults)
+memory_broke (Ok value) opening phi before now store Kept old faults none reads kept = tt
+memory_broke (Err status) opening phi before now store Kept old faults is reads kept =
+    subst (BreaksRound opening phi before now store Kept old old faults faults) (sym is)
+    (inl (record { reads = reads; unwritten = refl; kept = kept }), refl)
 
 -- a saver stays, or none does
 pub same_store : {A : Type 0} (before after : Option A) (f : A → A) → after ≡ option_map f before

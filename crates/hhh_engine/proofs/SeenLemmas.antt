@@ -239,3 +239,8 @@ pub allowed : (reads : Option (List ℕ)) (possible : List ℕ → Type 0) (open
     → IfSome saver (λ saver. AreSettings saver.settings)
 allowed reads possible opening view count None can = tt
 allowed reads possible opening view count (Some saver) can = can.fits.settings
+
+pub stands_of_cut : (reads : Option (List ℕ)) (possible : List ℕ → Type 0) (cut : CutValue) (saver : Option SaverState)
+    → IfSome saver (CanSaveCut reads possible cut) → IfSome saver (StandsFor reads possible)
+stands_of_cut reads possible cut None can = tt
+stands_of_cut reads possible cut (Some saver) can = can.stands

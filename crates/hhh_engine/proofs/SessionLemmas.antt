@@ -1,7 +1,7 @@
 -- The reports of a session, by what threads did.
-use Rattle.std.proofs.Common.{Bool, false, ⊎_elim}
+use Rattle.std.proofs.Common.{Bool, true, false, ⊎_elim}
 use Rattle.std.proofs.Common.{◌≡◌, ◌∙◌, ◌≤◌, ◌<◌, ◌+◌, ◌⊎◌, inl, inr, ℕ, List, [], ◌∷◌, ◌++◌, Option, None, Some}
-use Rattle.std.proofs.Common.{Ok, Err, All, refl, sym, ap, ap₂, subst, arith, length, map, append_assoc, append-nil, get_or, take, zero, suc, slice_get}
+use Rattle.std.proofs.Common.{Ok, Err, All, refl, sym, ap, ap₂, subst, arith, length, map, append-nil, get_or, take, zero, suc, slice_get}
 use Rattle.std.specs.Prelude.{slice_index}
 use Rattle.std.specs.Result.{IfErr, IfOk, OnErr, OnOk}
 use Rattle.std.specs.List.Sorted.{IsNonDecreasing}
@@ -11,7 +11,6 @@ use Rattle.std.proofs.KnownBytes.{Appends-trans, Appends-nil}
 use Rattle.std.proofs.lemmas.List.{length-map, take_more}
 use Rattle.std.proofs.lemmas.List.Elements.{All-map, All-append, All-cons, All-head, All-nil, All-tail}
 use Rattle.std.proofs.lemmas.List.Sorted.{IsNonDecreasingBy-short}
-use Rattle.outside_io.specs.{IsBeginning}
 use Rattle.shard_state.specs.{BasesRepresent, CutValue, IsShard, ShardValue, capacity_of, lists_of, state_at}
 use Rattle.hhh_output.specs.{IsSound}
 use Rattle.hhh_output.specs.declared.report.Report.{Report}
@@ -24,14 +23,15 @@ use Rattle.gate_workers.specs.declared.plan.ThreadPlan.{ThreadPlan}
 use Rattle.command_words.specs.declared.settings.Settings.{Settings}
 use Rattle.report_text.specs.{report_text}
 use Rattle.hhh_engine.specs.Feed.{WritesRoundsInPart, reports_of}
-use Rattle.hhh_engine.specs.Rounds.{BreakOff, EndRounds, Faults, ReadsInVain, ReportsOnce, WritesRounds, WritesUnsaved}
-use Rattle.hhh_engine.specs.Session.{AreReportsOf, IsShown, callers_text, ends_of, part_text, parts_text, saved_cuts}
-use Rattle.hhh_engine.specs.Session.{saved_text, start_of}
+use Rattle.hhh_engine.specs.Rounds.{BreakOff, EndRounds, Faults, ReadsInVain, ReportsOnce, WritesLineInPart}
+use Rattle.hhh_engine.specs.Rounds.{WritesReportInPart, WritesRounds, WritesUnsaved}
+use Rattle.hhh_engine.specs.Session.{AreReportsOf, BreaksOffAround, IsShown, Saving, after_saves_of, callers_text, ends_of}
+use Rattle.hhh_engine.specs.Session.{part_text, parts_text, saved_cuts, saved_text, start_of}
 use Rattle.hhh_engine.specs.declared.status.Status.{Status}
 use Rattle.hhh_engine.specs.declared.status.Status.TheVariants.{Done, BadWords, BadCapture, ReadFault, WriteFault}
 use Rattle.hhh_engine.specs.declared.status.Status.TheVariants.{DiskFault, NotFormatted, Damaged, OtherSettings}
 use Rattle.hhh_engine.specs.declared.status.Status.TheVariants.{OtherCapture, AuditNo, BadReport, OutOfMemory}
-use Rattle.hhh_engine.proofs.RoundLemmas.{CallsFollow, flat_map-append, one_part, report_of_call}
+use Rattle.hhh_engine.proofs.RoundLemmas.{CallsFollow, flat_map-append, report_of_call, saved_cuts-none}
 use Rattle.hhh_engine.proofs.SeenLemmas.{calls_many, one_read}
 
 -- a view has seen the positions at which shards start, and no others
@@ -75,21 +75,22 @@ reports_of_calls opening settings rounds before now reports alike seen calls sou
       (calls.never_fall shard (omega (arith, inside, many))));
 }
 
--- whole rounds, and one more that was begun
-begun_more : (opening : List ShardValue) (settings : Settings) (whole rounds : ℕ) (before middle now : View)
-    (old between new : Option (List ℕ)) (reports : List Reported) (report : Report) (front : List ℕ)
+-- whole rounds, and one more that broke off
+within_round : (opening : List ShardValue) (settings : Settings) (whole : ℕ) (before middle now : View) (Kept : Saving)
+    (old between new : Option (List ℕ)) (reports : List Reported) (report : Report) (more : List ℕ)
     → capacity_of opening ≡ settings.capacity → HasSeenStarts opening before → CallsFollow opening before
     → whole < settings.rounds → Calls opening settings.phi whole before middle reports
     → (BasesRepresent opening → AreSound opening settings.phi reports)
     → Appends old between (parts_text settings.store reports)
     → ReportsOnce opening settings.phi middle now report
-    → IsBeginning front (part_text settings.store (record { report = report; saved = None }))
-    → Appends between new front → WritesRoundsInPart opening settings old new
-begun_more opening settings whole rounds before middle now old between new reports report front alike seen follow few made
-    sound written once begins more =
+    → BreaksOffAround (report_text report) (saved_text settings.store report.positions)
+    (saved_cuts settings.store opening (record { report = report; saved = None } ∷ []))
+    (after_saves_of settings.store opening reports Kept) more
+    → Appends between new more → WritesRoundsInPart opening settings Kept old new
+within_round opening settings whole before middle now Kept old between new reports report more alike seen follow few made
+    sound written once breaks_off appended =
     let next : Reported = record { report = report; saved = None } in
     let all : List Reported = reports ++ next ∷ [] in
-    let store : Bool = settings.store in
     let calls : Calls opening settings.phi (whole + 1) before now all =
     follow settings.phi whole 1 middle now reports (next ∷ []) made once.calls in
     let are_sound : BasesRepresent opening → AreSound opening settings.phi all =
@@ -101,159 +102,190 @@ begun_more opening settings whole rounds before middle now old between new repor
     (All-nil (λ (reported : Reported). IsSound reported.report (lists_of opening) (capacity_of opening) settings.phi))) in
     let are : AreReportsOf opening settings (whole + 1) all =
     reports_of_calls opening settings (whole + 1) before now all alike seen calls are_sound in
+    let many : length reports ≡ whole = calls_many opening settings.phi whole before middle reports made in
     record {
-      rounds = all;
-      few = omega (arith, few, are.as_many);
-      are_rounds = subst (λ n. AreReportsOf opening settings n all) (sym are.as_many) are;
-      front = parts_text store reports ++ front;
-      begins = (
-        begins.0,
-        flat_map-append (part_text store) reports (next ∷ [])
-            ∙ ap (λ text. parts_text store reports ++ text) (one_part store next ∙ begins.1)
-            ∙ sym (append_assoc (parts_text store reports) front begins.0),
-      );
-      written = Appends-trans old between new (parts_text store reports) front written more;
+      front = parts_text settings.store reports ++ more;
+      breaks_off = inr (record {
+        rounds = reports;
+        next = next;
+        few = omega (arith, few, many);
+        are_reports = subst (λ n. AreReportsOf opening settings (n + 1) all) (sym many) are;
+        more = more;
+        breaks_off = breaks_off;
+        written = refl;
+      });
+      written = Appends-trans old between new (parts_text settings.store reports) more written appended;
     }
 
--- whole rounds, and a text without the line after it
-begun_unsaved : (opening : List ShardValue) (settings : Settings) (whole rounds : ℕ) (before middle now : View)
-    (old between new : Option (List ℕ)) (reports : List Reported)
-    → capacity_of opening ≡ settings.capacity → HasSeenStarts opening before → CallsFollow opening before
-    → whole < settings.rounds → Calls opening settings.phi whole before middle reports
-    → (BasesRepresent opening → AreSound opening settings.phi reports)
-    → Appends old between (parts_text settings.store reports)
-    → WritesUnsaved opening settings.phi middle now between new → WritesRoundsInPart opening settings old new
-begun_unsaved opening settings whole rounds before middle now old between new reports alike seen follow few made sound
-    written last =
-    begun_more opening settings whole rounds before middle now old between new reports last.report
-    (report_text last.report) alike seen follow few made sound written last.reports
-    (saved_text settings.store last.report.positions, refl) last.written
-
 -- whole rounds, and nothing more
-begun_none : (opening : List ShardValue) (settings : Settings) (whole : ℕ) (before middle : View)
+between_rounds : (opening : List ShardValue) (settings : Settings) (whole : ℕ) (before middle : View) (Kept : Saving)
     (old between new : Option (List ℕ)) (reports : List Reported)
     → capacity_of opening ≡ settings.capacity → HasSeenStarts opening before
     → whole ≤ settings.rounds → Calls opening settings.phi whole before middle reports
     → (BasesRepresent opening → AreSound opening settings.phi reports)
     → Appends old between (parts_text settings.store reports) → new ≡ between
-    → WritesRoundsInPart opening settings old new
-begun_none opening settings whole before middle old between new reports alike seen few made sound written same =
+    → Kept (saved_cuts settings.store opening reports) [] → WritesRoundsInPart opening settings Kept old new
+between_rounds opening settings whole before middle Kept old between new reports alike seen few made sound written same
+    kept =
     let are : AreReportsOf opening settings whole reports =
     reports_of_calls opening settings whole before middle reports alike seen made sound in
     record {
-      rounds = reports;
-      few = omega (arith, few, are.as_many);
-      are_rounds = subst (λ n. AreReportsOf opening settings n reports) (sym are.as_many) are;
       front = parts_text settings.store reports;
-      begins = ([], sym (append-nil (parts_text settings.store reports)));
+      breaks_off = inl (record {
+        rounds = reports;
+        few = omega (arith, few, are.as_many);
+        are_reports = subst (λ n. AreReportsOf opening settings n reports) (sym are.as_many) are;
+        written = refl;
+        kept = kept;
+      });
       written = subst (λ o. Appends old o (parts_text settings.store reports)) (sym same) written;
     }
 
--- rounds that broke off: whole reports, and a beginning of one more
-broken_in_part : (opening : List ShardValue) (settings : Settings) (before now : View) (old new : Option (List ℕ))
-    (faults_before faults_now : Faults) (status : Status) → capacity_of opening ≡ settings.capacity
-    → HasSeenStarts opening before → CallsFollow opening before
-    → BreakOff opening settings.phi settings.rounds before now settings.store old new faults_before faults_now status
-    → WritesRoundsInPart opening settings old new
-broken_in_part opening settings before now old new faults_before faults_now WriteFault alike seen follow off =
+-- whole rounds, and a report whose cut wasn't saved
+unsaved_in_part : (opening : List ShardValue) (settings : Settings) (before now : View) (Kept : Saving)
+    (old new : Option (List ℕ)) (faults_before faults_now : Faults) (status : Status)
+    → capacity_of opening ≡ settings.capacity → HasSeenStarts opening before → CallsFollow opening before
+    → (off : BreakOff opening settings.phi settings.rounds before now settings.store Kept old new faults_before faults_now
+    status) → settings.store ≡ true
+    → WritesUnsaved opening settings.phi off.middle now
+    (after_saves_of settings.store opening off.written.reports Kept) off.between new
+    → WritesRoundsInPart opening settings Kept old new
+unsaved_in_part opening settings before now Kept old new faults_before faults_now status alike seen follow off used
+    unsaved =
     let whole = off.written in
-    let last = off.broken.0 in
-    begun_more opening settings off.whole settings.rounds before off.middle now old off.between new whole.reports
-    last.report last.written.front alike seen follow off.few whole.calls whole.sound whole.written last.reports
-    last.written.is_beginning last.written.appended
-broken_in_part opening settings before now old new faults_before faults_now DiskFault alike seen follow off =
+    let next : Reported = record { report = unsaved.report; saved = None } in
+    within_round opening settings off.whole before off.middle now Kept old off.between new whole.reports unsaved.report
+    (report_text unsaved.report) alike seen follow off.few whole.calls whole.sound whole.written unsaved.reports
+    (inr (inl (
+      refl,
+      subst (λ store. after_saves_of settings.store opening whole.reports Kept [] (saved_cuts store opening (next ∷ [])))
+          (sym used) unsaved.kept,
+    ))) unsaved.written
+
+-- rounds that broke off: whole ones, and one more that broke off
+broken_in_part : (opening : List ShardValue) (settings : Settings) (before now : View) (Kept : Saving)
+    (old new : Option (List ℕ)) (faults_before faults_now : Faults) (status : Status)
+    → capacity_of opening ≡ settings.capacity → HasSeenStarts opening before → CallsFollow opening before
+    → BreakOff opening settings.phi settings.rounds before now settings.store Kept old new faults_before faults_now status
+    → WritesRoundsInPart opening settings Kept old new
+broken_in_part opening settings before now Kept old new faults_before faults_now WriteFault alike seen follow off =
     let whole = off.written in
-    begun_unsaved opening settings off.whole settings.rounds before off.middle now old off.between new whole.reports
-    alike seen follow off.few whole.calls whole.sound whole.written off.broken.1
-broken_in_part opening settings before now old new faults_before faults_now OutOfMemory alike seen follow off =
+    let After : Saving = after_saves_of settings.store opening whole.reports Kept in
+    ⊎_elim
+    (λ (part : WritesReportInPart opening settings.phi off.middle now After off.between new).
+    within_round opening settings off.whole before off.middle now Kept old off.between new whole.reports part.report
+    part.written.front alike seen follow off.few whole.calls whole.sound whole.written part.reports
+    (inl ((part.written.is_beginning, part.written.cut), part.kept)) part.written.appended)
+    (λ (part : WritesLineInPart opening settings.phi off.middle now settings.store After off.between new).
+    let text : List ℕ = report_text part.report in
+    let line : List ℕ = part.written.front in
+    within_round opening settings off.whole before off.middle now Kept old off.between new whole.reports part.report
+    (text ++ line) alike seen follow off.few whole.calls whole.sound whole.written part.reports
+    (inr (inr (line, (part.written.is_beginning, part.written.cut), refl, part.kept)))
+    (Appends-trans off.between part.between new text line part.whole part.written.appended)) off.broken.0
+broken_in_part opening settings before now Kept old new faults_before faults_now DiskFault alike seen follow off =
+    unsaved_in_part opening settings before now Kept old new faults_before faults_now DiskFault alike seen follow off
+    off.broken.0 off.broken.1
+broken_in_part opening settings before now Kept old new faults_before faults_now OutOfMemory alike seen follow off =
     let whole = off.written in
     let few : off.whole < settings.rounds = off.few in
     ⊎_elim
-    (λ (vain : ReadsInVain opening off.middle now off.between new).
-    begun_none opening settings off.whole before off.middle old off.between new whole.reports alike seen
-    (omega (arith, few)) whole.calls whole.sound whole.written vain.unwritten)
+    (λ (vain : ReadsInVain opening off.middle now (after_saves_of settings.store opening whole.reports Kept) off.between new).
+    between_rounds opening settings off.whole before off.middle Kept old off.between new whole.reports alike seen
+    (omega (arith, few)) whole.calls whole.sound whole.written vain.unwritten
+    (subst (λ cuts. Kept cuts []) (append-nil (saved_cuts settings.store opening whole.reports)) vain.kept))
     (λ unsaved.
-    begun_unsaved opening settings off.whole settings.rounds before off.middle now old off.between new whole.reports
-    alike seen follow off.few whole.calls whole.sound whole.written unsaved.1) off.broken.0
-broken_in_part opening settings before now old new faults_before faults_now Done alike seen follow off =
+    unsaved_in_part opening settings before now Kept old new faults_before faults_now OutOfMemory alike seen follow off
+    unsaved.0 unsaved.1) off.broken.0
+broken_in_part opening settings before now Kept old new faults_before faults_now Done alike seen follow off =
     absurd off.broken
-broken_in_part opening settings before now old new faults_before faults_now (BadWords kind) alike seen follow off =
+broken_in_part opening settings before now Kept old new faults_before faults_now (BadWords kind) alike seen follow off =
     absurd off.broken
-broken_in_part opening settings before now old new faults_before faults_now (BadCapture fault) alike seen follow off =
+broken_in_part opening settings before now Kept old new faults_before faults_now (BadCapture fault) alike seen follow
+    off = absurd off.broken
+broken_in_part opening settings before now Kept old new faults_before faults_now ReadFault alike seen follow off =
     absurd off.broken
-broken_in_part opening settings before now old new faults_before faults_now ReadFault alike seen follow off =
+broken_in_part opening settings before now Kept old new faults_before faults_now NotFormatted alike seen follow off =
     absurd off.broken
-broken_in_part opening settings before now old new faults_before faults_now NotFormatted alike seen follow off =
+broken_in_part opening settings before now Kept old new faults_before faults_now (Damaged slot) alike seen follow off =
     absurd off.broken
-broken_in_part opening settings before now old new faults_before faults_now (Damaged slot) alike seen follow off =
-    absurd off.broken
-broken_in_part opening settings before now old new faults_before faults_now (OtherSettings stored asked) alike seen
+broken_in_part opening settings before now Kept old new faults_before faults_now (OtherSettings stored asked) alike seen
     follow off = absurd off.broken
-broken_in_part opening settings before now old new faults_before faults_now (OtherCapture stored asked) alike seen
+broken_in_part opening settings before now Kept old new faults_before faults_now (OtherCapture stored asked) alike seen
     follow off = absurd off.broken
-broken_in_part opening settings before now old new faults_before faults_now (AuditNo report verdict) alike seen
+broken_in_part opening settings before now Kept old new faults_before faults_now (AuditNo report verdict) alike seen
     follow off = absurd off.broken
-broken_in_part opening settings before now old new faults_before faults_now (BadReport fault) alike seen follow off =
-    absurd off.broken
+broken_in_part opening settings before now Kept old new faults_before faults_now (BadReport fault) alike seen follow
+    off = absurd off.broken
 
--- rounds that ended, whole or not
+-- rounds that ended, whole or not. What became of the cuts of whole rounds is also known where they are a part of a session
 ended_in_part : (opening : List ShardValue) (settings : Settings) (before now : View)
-    (Kept : List CutValue → Type 0) (old new : Option (List ℕ))
+    (Kept : List CutValue → Type 0) (KeptInPart : Saving) (old new : Option (List ℕ))
     (faults_before faults_now : Faults) (stop : Option Status) → capacity_of opening ≡ settings.capacity
     → HasSeenStarts opening before → CallsFollow opening before
-    → EndRounds opening settings.phi settings.rounds before now settings.store Kept old new faults_before faults_now stop
-    → WritesRoundsInPart opening settings old new
-ended_in_part opening settings before now Kept old new faults_before faults_now None alike seen follow ended =
+    → ((cuts : List CutValue) → Kept cuts → KeptInPart cuts [])
+    → EndRounds opening settings.phi settings.rounds before now settings.store Kept KeptInPart old new faults_before
+    faults_now stop
+    → WritesRoundsInPart opening settings KeptInPart old new
+ended_in_part opening settings before now Kept KeptInPart old new faults_before faults_now None alike seen follow part
+    ended =
     let whole = ended.0 in
-    begun_none opening settings settings.rounds before now old new new whole.reports alike seen (omega arith) whole.calls
-    whole.sound whole.written refl
-ended_in_part opening settings before now Kept old new faults_before faults_now (Some status) alike seen follow ended =
-    broken_in_part opening settings before now old new faults_before faults_now status alike seen follow ended
+    between_rounds opening settings settings.rounds before now KeptInPart old new new whole.reports alike seen (omega arith)
+    whole.calls whole.sound whole.written refl (part (saved_cuts settings.store opening whole.reports) whole.kept)
+ended_in_part opening settings before now Kept KeptInPart old new faults_before faults_now (Some status) alike seen
+    follow part ended =
+    broken_in_part opening settings before now KeptInPart old new faults_before faults_now status alike seen follow ended
 
 -- no round was begun
-none_in_part : (opening : List ShardValue) (settings : Settings) (old new : Option (List ℕ)) → new ≡ old
-    → WritesRoundsInPart opening settings old new
-none_in_part opening settings old new same = record {
-  rounds = [];
-  few = omega arith;
-  are_rounds = record {
-    as_many = refl;
-    shown = All-nil (IsShown opening settings);
-    never_fall = λ shard inside. IsNonDecreasingBy-short (λ x. x) (slice_index (start_of opening) shard ∷ []) (omega arith);
-  };
+none_in_part : (opening : List ShardValue) (settings : Settings) (Kept : Saving) (old new : Option (List ℕ))
+    → new ≡ old → Kept [] [] → WritesRoundsInPart opening settings Kept old new
+none_in_part opening settings Kept old new same kept = record {
   front = [];
-  begins = ([], refl);
+  breaks_off = inl (record {
+    rounds = [];
+    few = omega arith;
+    are_reports = record {
+      as_many = refl;
+      shown = All-nil (IsShown opening settings);
+      never_fall = λ shard inside. IsNonDecreasingBy-short (λ x. x) (slice_index (start_of opening) shard ∷ []) (omega arith);
+    };
+    written = refl;
+    kept = subst (λ cuts. Kept cuts []) (sym (saved_cuts-none settings.store opening)) kept;
+  });
   written = subst (λ o. Appends old o []) (sym same) (Appends-nil old);
 }
 
 -- what the rounds of the calling thread leave, where the threads of a plan were run over a new board, or memory ran out
 -- before they were
 pub feed_in_part : (same : Type 0) (relates : View → View → Type 0) (opening : List ShardValue) (settings : Settings)
-    (passes : ℕ) (view : View) (Kept : List CutValue → Type 0) (old new : Option (List ℕ))
+    (passes : ℕ) (view : View) (Kept : List CutValue → Type 0) (KeptInPart : Saving) (old new : Option (List ℕ))
     (faults_before faults_now : Faults) (stop : Option Status)
     → view ≡ first_view opening → capacity_of opening ≡ settings.capacity
     → ((before now : View) → relates before now → EndRounds before.opening settings.phi settings.rounds before now
-    settings.store Kept old new faults_before faults_now stop)
+    settings.store Kept KeptInPart old new faults_before faults_now stop)
     → ((phi rounds more : ℕ) (before middle now : View) (reports later : List Reported)
     → length before.trails ≡ length opening → Calls opening phi rounds before middle reports
     → Calls opening phi more middle now later → Calls opening phi (rounds + more) before now (reports ++ later))
-    → (same → new ≡ old) → same ⊎ GoesOnce relates passes view → WritesRoundsInPart opening settings old new
-feed_in_part same relates opening settings passes view Kept old new faults_before faults_now stop first alike ends
-    follow unmoved (inl is_same) = none_in_part opening settings old new (unmoved is_same)
-feed_in_part same relates opening settings passes view Kept old new faults_before faults_now stop first alike ends
-    follow unmoved (inr once) =
+    → ((cuts : List CutValue) → Kept cuts → KeptInPart cuts [])
+    → (same → (new ≡ old) × KeptInPart [] []) → same ⊎ GoesOnce relates passes view
+    → WritesRoundsInPart opening settings KeptInPart old new
+feed_in_part same relates opening settings passes view Kept KeptInPart old new faults_before faults_now stop first alike
+    ends follow part unmoved (inl is_same) =
+    none_in_part opening settings KeptInPart old new (unmoved is_same).0 (unmoved is_same).1
+feed_in_part same relates opening settings passes view Kept KeptInPart old new faults_before faults_now stop first alike
+    ends follow part unmoved (inr once) =
     let before : View = record view { splits = view.splits + passes } in
     let seen : HasSeenStarts opening before =
     ap (λ (v : View). map (λ trail. trail.seen) v.trails) first ∙ first_has_seen_starts opening in
     let many : length before.trails ≡ length opening =
     ap (λ (v : View). length v.trails) first ∙ length-map opening _ in
-    let ended : EndRounds before.opening settings.phi settings.rounds before once.now settings.store Kept old new
-    faults_before faults_now stop = ends before once.now once.does in
-    ended_in_part opening settings before once.now Kept old new faults_before faults_now stop alike seen
+    let ended : EndRounds before.opening settings.phi settings.rounds before once.now settings.store Kept KeptInPart old
+    new faults_before faults_now stop = ends before once.now once.does in
+    ended_in_part opening settings before once.now Kept KeptInPart old new faults_before faults_now stop alike seen
     (λ phi rounds more middle now reports later one two.
-    follow phi rounds more before middle now reports later many one two)
-    (subst (λ shards. EndRounds shards settings.phi settings.rounds before once.now settings.store Kept old new
-    faults_before faults_now stop) (ap (λ (v : View). v.opening) first) ended)
+    follow phi rounds more before middle now reports later many one two) part
+    (subst (λ shards. EndRounds shards settings.phi settings.rounds before once.now settings.store Kept KeptInPart old
+    new faults_before faults_now stop) (ap (λ (v : View). v.opening) first) ended)
 
 -- either the threads were run, or memory ran out before
 pub once_or_not : {E : Type 0} (same : Type 0) (relates : View → View → Type 0) (opening : List ShardValue)
@@ -270,24 +302,27 @@ on_err (Err error) P holds = holds
 
 -- the share, the rounds and the store that settings ask for
 pub ended_as_set : (shards : List ShardValue) (share phi made rounds : ℕ) (before now : View) (stored store : Bool)
-    (Kept : List CutValue → Type 0) (old new : Option (List ℕ)) (faults_before faults_now : Faults)
-    (stop : Option Status) → share ≡ phi → made ≡ rounds → stored ≡ store
-    → EndRounds shards share made before now stored Kept old new faults_before faults_now stop
-    → EndRounds shards phi rounds before now store Kept old new faults_before faults_now stop
-ended_as_set shards share phi made rounds before now stored store Kept old new faults_before faults_now stop same_share
-    same_rounds same_store ended =
-    subst (λ b. EndRounds shards phi rounds before now b Kept old new faults_before faults_now stop) same_store
-    (subst (λ n. EndRounds shards phi n before now stored Kept old new faults_before faults_now stop) same_rounds
-    (subst (λ n. EndRounds shards n made before now stored Kept old new faults_before faults_now stop) same_share ended))
+    (Kept : List CutValue → Type 0) (KeptInPart : Saving) (old new : Option (List ℕ))
+    (faults_before faults_now : Faults) (stop : Option Status) → share ≡ phi → made ≡ rounds → stored ≡ store
+    → EndRounds shards share made before now stored Kept KeptInPart old new faults_before faults_now stop
+    → EndRounds shards phi rounds before now store Kept KeptInPart old new faults_before faults_now stop
+ended_as_set shards share phi made rounds before now stored store Kept KeptInPart old new faults_before faults_now stop
+    same_share same_rounds same_store ended =
+    subst (λ b. EndRounds shards phi rounds before now b Kept KeptInPart old new faults_before faults_now stop) same_store
+    (subst (λ n. EndRounds shards phi n before now stored Kept KeptInPart old new faults_before faults_now stop)
+    same_rounds
+    (subst (λ n. EndRounds shards n made before now stored Kept KeptInPart old new faults_before faults_now stop)
+    same_share ended))
 
 -- rounds that were not stopped were all made
 pub ended_whole : (shards : List ShardValue) (phi rounds : ℕ) (before now : View) (store : Bool)
-    (Kept : List CutValue → Type 0) (old new : Option (List ℕ)) (faults_before faults_now : Faults)
-    (stop : Option Status) → stop ≡ None
-    → EndRounds shards phi rounds before now store Kept old new faults_before faults_now stop
+    (Kept : List CutValue → Type 0) (KeptInPart : Saving) (old new : Option (List ℕ))
+    (faults_before faults_now : Faults) (stop : Option Status) → stop ≡ None
+    → EndRounds shards phi rounds before now store Kept KeptInPart old new faults_before faults_now stop
     → WritesRounds shards phi rounds before now store Kept old new
-ended_whole shards phi rounds before now store Kept old new faults_before faults_now stop none ended =
-    (subst (λ s. EndRounds shards phi rounds before now store Kept old new faults_before faults_now s) none ended).0
+ended_whole shards phi rounds before now store Kept KeptInPart old new faults_before faults_now stop none ended =
+    (subst (λ s. EndRounds shards phi rounds before now store Kept KeptInPart old new faults_before faults_now s) none
+    ended).0
 
 -- what the threads bring back, where the rounds of the calling thread were all made
 pub gathered_whole : (relates : View → View → Type 0) (opening : List ShardValue) (settings : Settings)

@@ -1,16 +1,17 @@
 -- The bytes of a session, as they are written.
 use Rattle.std.proofs.Common.{◌≡◌, ◌∙◌, ◌≤◌, ◌<◌, ◌+◌, ◌-◌, inl, inr, ℕ, zero, suc, List, [], ◌∷◌, ◌++◌, Option, All}
-use Rattle.std.proofs.Common.{refl, sym, ap, ap₂, subst, arith, length, map, append_assoc, append-nil, get_or}
-use Rattle.std.specs.Prelude.{slice_index}
+use Rattle.std.proofs.Common.{refl, sym, ap, ap₂, subst, arith, length, map, append_assoc, get_or}
+use Rattle.std.specs.Prelude.{codes, decimal, slice_index}
+use Rattle.std.specs.List.{join_with_byte}
+use Rattle.prefix_lattice.specs.{space}
 use Rattle.std.specs.List.Sorted.{IsNonDecreasing}
 use Rattle.std.specs.Io.KnownBytes.{Appends}
 use Rattle.std.proofs.KnownBytes.{Appends-nil, Appends-trans}
 use Rattle.std.proofs.lemmas.List.{length-append, length-map, map-append}
 use Rattle.std.proofs.lemmas.List.Elements.{All-append, All-cons, All-head, All-map, All-nil, All-tail}
-use Rattle.std.proofs.lemmas.List.Sorted.{IsNonDecreasingBy-push, IsNonDecreasingBy-short}
-use Rattle.outside_io.specs.{AppendsBeginning, IsBeginning}
+use Rattle.std.proofs.lemmas.List.Sorted.{IsNonDecreasingBy-push}
+use Rattle.outside_io.specs.{AppendsBeginning}
 use Rattle.std.proofs.Common.{Bool}
-use Rattle.std.specs.Prelude.{⊤}
 use Rattle.shard_state.specs.{CutValue, IsShard, ShardValue, state_at}
 use Rattle.hhh_output.specs.declared.reports.Reported.{Reported}
 use Rattle.gate_workers.specs.{states_at}
@@ -20,68 +21,48 @@ use Rattle.report_text.specs.{mark_text, report_text}
 use Rattle.report_text.specs.declared.mark.Mark.TheVariants.{Opened}
 use Rattle.hhh_engine.specs.Answer.{Writes}
 use Rattle.hhh_engine.specs.Feed.{IsFed, IsRest, StartsBeforeEnds, WritesRoundsInPart, reports_of}
-use Rattle.hhh_engine.specs.Session.{AreReportsOf, BeginsSession, IsShown, SpellsSession, calling_reports, callers_text}
-use Rattle.hhh_engine.specs.Session.{ends_of, parts_text, saved_cuts, saved_text, start_of}
-use Rattle.gate_workers.specs.declared.gathered.Called.{Called}
+use Rattle.hhh_engine.specs.Session.{AreReportsOf, AreSessionReports, BeginsSession, BreaksOffAround, BreaksOffInRounds}
+use Rattle.hhh_engine.specs.Session.{IsShown, IsStrictBeginning, Saving, SpellsSession, after_saves_of, calling_reports}
+use Rattle.hhh_engine.specs.Session.{callers_text, ends_of, parts_text, saved_cuts, saved_text, start_of}
 use Rattle.hhh_engine.specs.declared.commands.feed.Fed.{Fed}
 use Rattle.hhh_engine.specs.declared.commands.session.Rest.{Rest}
 
--- no report at all
-no_reports : (opening : List ShardValue) (settings : Settings) → AreReportsOf opening settings 0 []
-no_reports opening settings = record {
-  as_many = refl;
-  shown = All-nil (IsShown opening settings);
-  never_fall = λ shard inside.
-      IsNonDecreasingBy-short (λ x. x) (slice_index (start_of opening) shard ∷ []) (omega arith);
-}
-
 -- the first line was written in part
-pub line_in_part : (opening : List ShardValue) (settings : Settings) (tail line : List ℕ) (old new : Option (List ℕ))
-    → line ≡ mark_text Opened (start_of opening) → AppendsBeginning old new line
-    → Writes (BeginsSession opening settings tail) old new
-line_in_part opening settings tail line old new is written = record {
+pub line_in_part : (opening : List ShardValue) (settings : Settings) (Kept : Saving) (tail line : List ℕ)
+    (old new : Option (List ℕ)) → line ≡ mark_text Opened (start_of opening) → AppendsBeginning old new line → Kept [] []
+    → Writes (BeginsSession opening settings Kept tail) old new
+line_in_part opening settings Kept tail line old new is written kept = record {
   text = written.front;
-  is_text = inl record {
-    rounds = [];
-    few = omega arith;
-    are_reports = no_reports opening settings;
-    begins =
-        subst (IsBeginning written.front) (is ∙ sym (append-nil (mark_text Opened (start_of opening))))
-        written.is_beginning;
-  };
+  is_text = inl (subst (IsStrictBeginning written.front) is (written.is_beginning, written.cut), kept);
   written = written.appended;
 }
 
 -- the first line, and rounds in part
-pub rounds_in_part : (opening : List ShardValue) (settings : Settings) (tail line : List ℕ)
+pub rounds_in_part : (opening : List ShardValue) (settings : Settings) (Kept : Saving) (tail line : List ℕ)
     (old between new : Option (List ℕ)) → line ≡ mark_text Opened (start_of opening) → Appends old between line
-    → WritesRoundsInPart opening settings between new → Writes (BeginsSession opening settings tail) old new
-rounds_in_part opening settings tail line old between new is first part = record {
+    → WritesRoundsInPart opening settings Kept between new → Writes (BeginsSession opening settings Kept tail) old new
+rounds_in_part opening settings Kept tail line old between new is first part = record {
   text = line ++ part.front;
-  is_text = inl record {
-    rounds = part.rounds;
-    few = part.few;
-    are_reports = part.are_rounds;
-    begins = (
-      part.begins.0,
-      ap₂ (λ a b. a ++ b) (sym is) part.begins.1 ∙ sym (append_assoc line part.front part.begins.0),
-    );
-  };
+  is_text = inr (inl (part.front, part.breaks_off, ap (λ first. first ++ part.front) is));
   written = Appends-trans old between new line part.front first part.written;
 }
 
 -- rounds that were made whole, as rounds in part
-pub fed_in_part : (board : WordsValue) (settings : Settings) (Kept : List CutValue → Type 0) (old new : Option (List ℕ))
-    (fed : Fed) → IsFed board settings Kept old new fed → WritesRoundsInPart board.opening settings old new
-fed_in_part board settings Kept old new fed is =
+pub fed_in_part : (board : WordsValue) (settings : Settings) (Kept : List CutValue → Type 0) (KeptInPart : Saving)
+    (old new : Option (List ℕ)) (fed : Fed) → ((cuts : List CutValue) → Kept cuts → KeptInPart cuts [])
+    → IsFed board settings Kept old new fed → WritesRoundsInPart board.opening settings KeptInPart old new
+fed_in_part board settings Kept KeptInPart old new fed part is =
     let gathered = is.gathered in
     let many : length gathered.rounds ≡ settings.rounds = gathered.are_rounds.as_many in
     record {
-      rounds = gathered.rounds;
-      few = omega (arith, many);
-      are_rounds = subst (λ n. AreReportsOf board.opening settings n gathered.rounds) (sym many) gathered.are_rounds;
       front = parts_text settings.store gathered.rounds;
-      begins = ([], sym (append-nil (parts_text settings.store gathered.rounds)));
+      breaks_off = inl (record {
+        rounds = gathered.rounds;
+        few = omega (arith, many);
+        are_reports = subst (λ n. AreReportsOf board.opening settings n gathered.rounds) (sym many) gathered.are_rounds;
+        written = refl;
+        kept = part (saved_cuts settings.store board.opening gathered.rounds) gathered.kept;
+      });
       written = gathered.written;
     }
 
@@ -140,6 +121,20 @@ spells_weaker opening settings Kept Less tail text less session = record {
   kept = less (saved_cuts settings.store opening (calling_reports session.reports)) session.kept;
 }
 
+-- the reports of a whole session
+reports_of_session : (board : WordsValue) (settings : Settings) (Fed_kept : List CutValue → Type 0) (tail : List ℕ)
+    (old new : Option (List ℕ)) (fed : Fed) (rest : Rest) → StartsBeforeEnds board.opening
+    → (is : IsFed board settings Fed_kept old new fed) → (end : IsRest board settings fed.gathered.called.items tail rest)
+    → AreSessionReports board.opening settings
+    (record { rounds = is.gathered.rounds; callers = reports_of fed.gathered.called.items; last = end.last })
+reports_of_session board settings Fed_kept tail old new fed rest starts is end = record {
+  calling = with_last board.opening settings settings.rounds is.gathered.rounds end.last starts is.gathered.are_rounds
+      end.shown end.at_ends;
+  at_ends = end.at_ends;
+  as_many = length-map fed.gathered.called.items _ ∙ is.gathered.as_many;
+  callers = is.gathered.callers;
+}
+
 -- a whole session
 pub spells_session : (board : WordsValue) (settings : Settings) (Fed_kept Kept : List CutValue → Type 0)
     (tail line : List ℕ) (old new : Option (List ℕ)) (fed : Fed) (rest : Rest)
@@ -162,19 +157,10 @@ spells_session board settings Fed_kept Kept tail line old new fed rest starts is
         callers = reports_of fed.gathered.called.items;
         last = end.last;
       };
-      are_reports = record {
-        calling = with_last board.opening settings settings.rounds is.gathered.rounds end.last starts
-            is.gathered.are_rounds end.shown end.at_ends;
-        at_ends = end.at_ends;
-        as_many = length-reports fed ∙ is.gathered.as_many;
-        callers = is.gathered.callers;
-      };
+      are_reports = reports_of_session board settings Fed_kept tail old new fed rest starts is end;
       spelled = ap₂ (λ a b. a ++ (parts_text store is.gathered.rounds ++ b)) is_line texts;
       kept = kept;
     }
-  where
-    length-reports : (fed : Fed) → length (reports_of fed.gathered.called.items) ≡ length fed.gathered.called.items
-    length-reports fed = length-map fed.gathered.called.items _
 
 -- the whole session was written
 pub session_whole : (opening : List ShardValue) (settings : Settings) (Kept : List CutValue → Type 0)
@@ -189,65 +175,121 @@ session_whole opening settings Kept tail line rounds rest old first second new s
       Appends-trans old first new line (rounds ++ rest) one (Appends-trans first second new rounds rest two three);
 }
 
+-- two texts with a save between them that broke off, as the texts and the cut are known otherwise, of which less is said
+around_as : (before after other_before other_after : List ℕ) (cut other_cut : List CutValue) (Kept Less : Saving)
+    (front : List ℕ) → before ≡ other_before → after ≡ other_after → (Kept [] [] → Less [] [])
+    → (Kept [] cut → Less [] other_cut) → (Kept cut [] → Less other_cut [])
+    → BreaksOffAround before after cut Kept front → BreaksOffAround other_before other_after other_cut Less front
+around_as before after other_before other_after cut other_cut Kept Less front same_before same_after none begun saved
+    (inl (short, kept)) = inl (subst (IsStrictBeginning front) same_before short, none kept)
+around_as before after other_before other_after cut other_cut Kept Less front same_before same_after none begun saved
+    (inr (inl (whole, kept))) = inr (inl (whole ∙ same_before, begun kept))
+around_as before after other_before other_after cut other_cut Kept Less front same_before same_after none begun saved
+    (inr (inr (more, short, parted, kept))) =
+    inr (inr (more, subst (IsStrictBeginning more) same_after short, parted ∙ ap (λ text. text ++ more) same_before, saved kept))
+
+-- what became of the last cut of a session (Rest) is what became of all its cuts (Kept), after those of its rounds
+abbrev pub FollowsSaves : Bool → List ShardValue → List Reported → Reported → CutValue → (Rest Kept : Saving) → Type 0
+FollowsSaves store opening rounds last cut Rest Kept =
+    (Rest [] [] → after_saves_of store opening rounds Kept [] [])
+    × (Rest [] (cut ∷ []) → after_saves_of store opening rounds Kept [] (saved_cuts store opening (last ∷ [])))
+    × (Rest (cut ∷ []) [] → after_saves_of store opening rounds Kept (saved_cuts store opening (last ∷ [])) [])
+
 -- the session was written but for a part of its rest
-pub session_in_part : (opening : List ShardValue) (settings : Settings) (tail line rounds rest : List ℕ)
-    (old first second new : Option (List ℕ)) → SpellsSession opening settings (λ cuts. ⊤) tail (line ++ (rounds ++ rest))
-    → Appends old first line → Appends first second rounds → AppendsBeginning second new rest
-    → Writes (BeginsSession opening settings tail) old new
-session_in_part opening settings tail line rounds rest old first second new spelled one two three =
-    let shorter : length three.front < length rest = three.cut in
+pub session_in_part : (board : WordsValue) (settings : Settings) (Fed_kept : List CutValue → Type 0)
+    (KeptInRest KeptInPart : Saving) (tail line : List ℕ) (old first second new : Option (List ℕ)) (fed : Fed)
+    (rest : Rest) → StartsBeforeEnds board.opening → line ≡ mark_text Opened (start_of board.opening)
+    → (is : IsFed board settings Fed_kept first second fed)
+    → (end : IsRest board settings fed.gathered.called.items tail rest) → Appends old first line
+    → FollowsSaves settings.store board.opening is.gathered.rounds end.last rest.cut KeptInRest KeptInPart
+    → Writes (BreaksOffAround rest.front.items rest.back.items (rest.cut ∷ []) KeptInRest) second new
+    → Writes (BeginsSession board.opening settings KeptInPart tail) old new
+session_in_part board settings Fed_kept KeptInRest KeptInPart tail line old first second new fed rest starts is_line is
+    end one kept part =
+    let rounds : List ℕ = parts_text settings.store is.gathered.rounds in
     record {
-      text = line ++ (rounds ++ three.front);
-      is_text = inr record {
-        text = line ++ (rounds ++ rest);
-        is_session = spelled;
-        begins = (
-          three.is_beginning.0,
-          ap (λ r. line ++ (rounds ++ r)) three.is_beginning.1
-              ∙ ap (λ r. line ++ r) (sym (append_assoc rounds three.front three.is_beginning.0))
-              ∙ sym (append_assoc line (rounds ++ three.front) three.is_beginning.0),
-        );
-        cut = omega (
-          arith,
-          shorter,
-          length-append line (rounds ++ three.front),
-          length-append rounds three.front,
-          length-append line (rounds ++ rest),
-          length-append rounds rest,
-        );
-      };
+      text = line ++ (rounds ++ part.text);
+      is_text = inr (inr (record {
+        reports = record {
+          rounds = is.gathered.rounds;
+          callers = reports_of fed.gathered.called.items;
+          last = end.last;
+        };
+        are_reports = reports_of_session board settings Fed_kept tail first second fed rest starts is end;
+        more = part.text;
+        breaks_off = around_as rest.front.items rest.back.items
+            (callers_text (reports_of fed.gathered.called.items) ++ report_text end.last.report)
+            (saved_text settings.store end.last.report.positions ++ tail) (rest.cut ∷ [])
+            (saved_cuts settings.store board.opening (end.last ∷ [])) KeptInRest
+            (after_saves_of settings.store board.opening is.gathered.rounds KeptInPart) part.text end.front_is end.back_is
+            kept.0 kept.1 kept.2 part.is_text;
+        written = ap (λ text. text ++ (rounds ++ part.text)) is_line;
+      }));
       written =
-          Appends-trans old first new line (rounds ++ three.front) one
-          (Appends-trans first second new rounds three.front two three.appended);
+          Appends-trans old first new line (rounds ++ part.text) one
+          (Appends-trans first second new rounds part.text is.gathered.written part.written);
     }
 
--- a text without what follows it
-pub without_more : (old new : Option (List ℕ)) (front back : List ℕ) → 0 < length back → Appends old new front
-    → AppendsBeginning old new (front ++ back)
-without_more old new front back more written = record {
-  front = front;
-  is_beginning = (back, refl);
-  cut = omega (arith, more, length-append front back);
-  appended = written;
-}
+-- a session that broke off, of which less is said
+around_weaker : (before after : List ℕ) (cut : List CutValue) (Kept Less : Saving) (front : List ℕ)
+    → ((saved begun : List CutValue) → Kept saved begun → Less saved begun)
+    → BreaksOffAround before after cut Kept front → BreaksOffAround before after cut Less front
+around_weaker before after cut Kept Less front less breaks =
+    around_as before after before after cut cut Kept Less front refl refl (less [] []) (less [] cut) (less cut []) breaks
 
--- what a session ends with isn't empty
-pub more_behind : (board : WordsValue) (settings : Settings) (called : List Called) (tail : List ℕ) (rest : Rest)
-    → 0 < length tail → IsRest board settings called tail rest → 0 < length rest.back.items
-more_behind board settings called tail rest more end =
-    let saved : List ℕ = saved_text settings.store end.last.report.positions in
-    subst (λ (text : List ℕ). 0 < length text) (sym end.back_is) (omega (arith, more, length-append saved tail))
+rounds_weaker : (opening : List ShardValue) (settings : Settings) (Kept Less : Saving) (front : List ℕ)
+    → ((saved begun : List CutValue) → Kept saved begun → Less saved begun)
+    → BreaksOffInRounds opening settings Kept front → BreaksOffInRounds opening settings Less front
+rounds_weaker opening settings Kept Less front less (inl between) = inl (record {
+  rounds = between.rounds;
+  few = between.few;
+  are_reports = between.are_reports;
+  written = between.written;
+  kept = less (saved_cuts settings.store opening between.rounds) [] between.kept;
+})
+rounds_weaker opening settings Kept Less front less (inr within) = inr (record {
+  rounds = within.rounds;
+  next = within.next;
+  few = within.few;
+  are_reports = within.are_reports;
+  more = within.more;
+  breaks_off = around_weaker (report_text within.next.report)
+      (saved_text settings.store within.next.report.positions) (saved_cuts settings.store opening (within.next ∷ []))
+      (after_saves_of settings.store opening within.rounds Kept)
+      (after_saves_of settings.store opening within.rounds Less) within.more
+      (λ saved begun. less (saved_cuts settings.store opening within.rounds ++ saved) begun) within.breaks_off;
+  written = within.written;
+})
+
+pub begins_weaker : (opening : List ShardValue) (settings : Settings) (Kept Less : Saving) (tail front : List ℕ)
+    → ((saved begun : List CutValue) → Kept saved begun → Less saved begun)
+    → BeginsSession opening settings Kept tail front → BeginsSession opening settings Less tail front
+begins_weaker opening settings Kept Less tail front less (inl (short, kept)) = inl (short, less [] [] kept)
+begins_weaker opening settings Kept Less tail front less (inr (inl (more, rounds, parted))) =
+    inr (inl (more, rounds_weaker opening settings Kept Less more less rounds, parted))
+begins_weaker opening settings Kept Less tail front less (inr (inr later)) = inr (inr (record {
+  reports = later.reports;
+  are_reports = later.are_reports;
+  more = later.more;
+  breaks_off = around_weaker (callers_text later.reports.callers ++ report_text later.reports.last.report)
+      (saved_text settings.store later.reports.last.report.positions ++ tail)
+      (saved_cuts settings.store opening (later.reports.last ∷ []))
+      (after_saves_of settings.store opening later.reports.rounds Kept)
+      (after_saves_of settings.store opening later.reports.rounds Less) later.more
+      (λ saved begun. less (saved_cuts settings.store opening later.reports.rounds ++ saved) begun) later.breaks_off;
+  written = later.written;
+}))
+
+-- the first line of a session isn't empty
+first_line_is_some : (positions : List ℕ) → 0 < length (mark_text Opened positions)
+first_line_is_some positions =
+    omega (arith, length-append (join_with_byte space (codes "opened" ∷ map decimal positions)) (codes "\n"))
 
 -- no byte was written
-pub nothing_in_part : (opening : List ShardValue) (settings : Settings) (tail : List ℕ) (old new : Option (List ℕ))
-    → new ≡ old → Writes (BeginsSession opening settings tail) old new
-nothing_in_part opening settings tail old new same = record {
+pub nothing_in_part : (opening : List ShardValue) (settings : Settings) (Kept : Saving) (tail : List ℕ)
+    (old new : Option (List ℕ)) → new ≡ old → Kept [] [] → Writes (BeginsSession opening settings Kept tail) old new
+nothing_in_part opening settings Kept tail old new same kept = record {
   text = [];
-  is_text = inl record {
-    rounds = [];
-    few = omega arith;
-    are_reports = no_reports opening settings;
-    begins = (mark_text Opened (start_of opening) ++ [], refl);
-  };
+  is_text = inl (((mark_text Opened (start_of opening), refl), first_line_is_some (start_of opening)), kept);
   written = subst (λ o. Appends old o []) (sym same) (Appends-nil old);
 }

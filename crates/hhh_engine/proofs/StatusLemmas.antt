@@ -1,5 +1,5 @@
 -- How a command can end.
-use Rattle.std.proofs.Common.{◌≡◌, ◌⊎◌, ◌≤◌, ℕ, true, List, [], length, Option, Some, IfSome, inl, inr, refl, sym, ap, subst}
+use Rattle.std.proofs.Common.{◌≡◌, ◌⊎◌, ◌≤◌, ℕ, true, List, [], length, Option, Some, IfSome, inl, inr, ⊎_elim, refl, sym, ap, subst}
 use Rattle.outside_io.specs.{Rose}
 use Rattle.prefix_lattice.specs.{RecordValue}
 use Rattle.pcap_frames.specs.{FrameValue}
@@ -24,7 +24,7 @@ use Rattle.exact_audit.specs.declared.verdict.Verdict.{Verdict}
 use Rattle.hhh_engine.specs.Audit.{IsAuditText, IsSoundSession, IsUnsoundSession}
 use Rattle.hhh_engine.specs.Answer.{IsAnswer, IsAnswerInPart, IsCutShort, IsWeightTextInPart}
 use Rattle.hhh_engine.specs.Ending.{Ends, FindsFor, IsRefusedStore, OfDisk, OneRose, RefusedStore, RefusesFor}
-use Rattle.hhh_engine.specs.Ending.{RefusesStore, SourceFaults, WasAnswered}
+use Rattle.hhh_engine.specs.Ending.{RefusesStore, SourceFaults, UnlessFormat, WasAnswered}
 use Rattle.hhh_engine.specs.Inputs.{CanBeAnswered, HasKnownCapture, HasKnownStore, IsCapture, ReadsCapture}
 use Rattle.hhh_engine.specs.Inputs.{InputBytes, WasAccepted, WasRead}
 use Rattle.hhh_engine.specs.Saves.{store_settings}
@@ -72,35 +72,35 @@ captured rules keeping (Make seed frames) given file text reads known answer = a
 captured rules keeping (Demo seed frames settings) given file text reads known answer = absurd reads
 
 -- and a part of a text
-captured_in_part : (rules : Rules) (command : Command) (given : InputBytes) (file front : List ℕ)
-    → ReadsCapture command → given.capture ≡ Some file → IsAnswerInPart rules command given front
+captured_in_part : (rules : Rules) (keeping : Keeping) (command : Command) (given : InputBytes) (file front : List ℕ)
+    → ReadsCapture command → given.capture ≡ Some file → IsAnswerInPart rules keeping command given front
     → IsCapture file
-captured_in_part rules (Weigh prefix settings) given file front reads known answer =
+captured_in_part rules keeping (Weigh prefix settings) given file front reads known answer =
     let is = of_file given.capture file (λ f. IsWeightTextInPart prefix settings.weigh f front) known answer in
     (is.is_text.frames, is.is_text.capture)
-captured_in_part rules (Report settings) given file front reads known answer =
-    let is = of_file given.capture file (λ f. IsSessionInPart settings rules given.store f front) known answer in
+captured_in_part rules keeping (Report settings) given file front reads known answer =
+    let is = of_file given.capture file (λ f. IsSessionInPart settings rules keeping given.store f front) known answer in
     (is.dealt.frames, is.dealt.capture)
-captured_in_part rules (Format settings) given file front reads known answer = absurd reads
-captured_in_part rules (Audit settings) given file front reads known answer =
+captured_in_part rules keeping (Format settings) given file front reads known answer = absurd reads
+captured_in_part rules keeping (Audit settings) given file front reads known answer =
     (of_file given.capture file
     (λ f. IsCapture f × IfSome given.text (λ session. IsCutShort (IsAuditText settings rules f session) front))
     known answer).0
-captured_in_part rules (Make seed frames) given file front reads known answer = absurd reads
-captured_in_part rules (Demo seed frames settings) given file front reads known answer = absurd reads
+captured_in_part rules keeping (Make seed frames) given file front reads known answer = absurd reads
+captured_in_part rules keeping (Demo seed frames settings) given file front reads known answer = absurd reads
 
 -- and a store is refused over captures alone
-captured_refused : (rules : Rules) (command : Command) (given : InputBytes) (store_now : Option (List ℕ)) (file : List ℕ)
-    (fault : OpenFault) → given.capture ≡ Some file → RefusesFor command rules given store_now fault
+captured_refused : (rules : Rules) (command : Command) (given : InputBytes) (AsBefore : Type 0) (file : List ℕ)
+    (fault : OpenFault) → given.capture ≡ Some file → RefusesFor command rules given AsBefore fault
     → IsCapture file
-captured_refused rules (Weigh prefix settings) given store_now file fault known refuses = absurd refuses
-captured_refused rules (Report settings) given store_now file fault known refuses =
+captured_refused rules (Weigh prefix settings) given AsBefore file fault known refuses = absurd refuses
+captured_refused rules (Report settings) given AsBefore file fault known refuses =
     let is = of_file given.capture file (λ f. IsRefusedStore settings rules given.store f fault) known refuses.2 in
     (is.dealt.frames, is.dealt.capture)
-captured_refused rules (Format settings) given store_now file fault known refuses = absurd refuses
-captured_refused rules (Audit settings) given store_now file fault known refuses = absurd refuses
-captured_refused rules (Make seed frames) given store_now file fault known refuses = absurd refuses
-captured_refused rules (Demo seed frames settings) given store_now file fault known refuses = absurd refuses
+captured_refused rules (Format settings) given AsBefore file fault known refuses = absurd refuses
+captured_refused rules (Audit settings) given AsBefore file fault known refuses = absurd refuses
+captured_refused rules (Make seed frames) given AsBefore file fault known refuses = absurd refuses
+captured_refused rules (Demo seed frames settings) given AsBefore file fault known refuses = absurd refuses
 
 -- and an audit that ends by what it found read a capture
 captured_found : (rules : Rules) (command : Command) (given : InputBytes) (old new : Option (List ℕ)) (file : List ℕ)
@@ -138,71 +138,71 @@ accepted (Make seed frames) given file reads known was = absurd reads
 accepted (Demo seed frames settings) given file reads known was = absurd reads
 
 -- how a command over these inputs ended
-abbrev pub EndsAs : {K : Type 0} → Rules → Keeping → Command → (given : InputBytes) (store_now : Option (List ℕ))
+abbrev pub EndsAs : {K : Type 0} → Rules → Keeping → Command → (given : InputBytes) (AsBefore : Type 0)
     → (ReadToEnd DiskRose DiskSame : Type 0) → (read_before read_now : SourceFaults) → (sink written : K)
     → (old new : Option (List ℕ)) → (write_before write_now : ℕ) → Status → Type 0
-EndsAs rules keeping command given store_now ReadToEnd DiskRose DiskSame read_before read_now sink written old
+EndsAs rules keeping command given AsBefore ReadToEnd DiskRose DiskSame read_before read_now sink written old
     new write_before write_now status =
-    Ends (IsAnswer rules keeping command given) (IsAnswerInPart rules command given)
-    ReadToEnd (WasAccepted command given) DiskRose DiskSame
-    (RefusesFor command rules given store_now) (FindsFor command rules given old new) given.capture read_before read_now
+    Ends (IsAnswer rules keeping command given) (IsAnswerInPart rules keeping command given)
+    ReadToEnd (WasAccepted command given) DiskRose DiskSame (UnlessFormat command AsBefore)
+    (RefusesFor command rules given AsBefore) (FindsFor command rules given old new) given.capture read_before read_now
     sink written old new write_before write_now status
 
 -- a command that reads a capture over a file with a fault is refused for it, unless the source fails or memory runs out
 pub refused_for : {K : Type 0} → NeverBoth → OneFault
-    → (rules : Rules) (keeping : Keeping) (command : Command) (given : InputBytes) (store_now : Option (List ℕ))
+    → (rules : Rules) (keeping : Keeping) (command : Command) (given : InputBytes) (AsBefore : Type 0)
     (ReadToEnd DiskRose DiskSame : Type 0) (read_before read_now : SourceFaults)
     (sink written : K) (old new : Option (List ℕ)) (write_before write_now : ℕ) (status : Status) (file : List ℕ)
     (fault : CaptureFault) → ReadsCapture command → given.capture ≡ Some file → IsRefusedFor file fault
-    → EndsAs rules keeping command given store_now ReadToEnd DiskRose DiskSame read_before read_now sink written
+    → EndsAs rules keeping command given AsBefore ReadToEnd DiskRose DiskSame read_before read_now sink written
     old new write_before write_now status
     → (status ≡ BadCapture fault) ⊎ ((status ≡ ReadFault) ⊎ (status ≡ OutOfMemory))
-refused_for never_both one_fault rules keeping command given store_now ReadToEnd DiskRose DiskSame read_before
+refused_for never_both one_fault rules keeping command given AsBefore ReadToEnd DiskRose DiskSame read_before
     read_now sink written old new write_before write_now Done file fault reads known has ends =
     let capture = captured rules keeping command given file ends.1.text reads known ends.1.is_text in
     absurd (never_both file capture.0 fault capture.1 has)
-refused_for never_both one_fault rules keeping command given store_now ReadToEnd DiskRose DiskSame read_before
+refused_for never_both one_fault rules keeping command given AsBefore ReadToEnd DiskRose DiskSame read_before
     read_now sink written old new write_before write_now (BadWords kind) file fault reads known has ends =
     absurd ends
-refused_for never_both one_fault rules keeping command given store_now ReadToEnd DiskRose DiskSame read_before
+refused_for never_both one_fault rules keeping command given AsBefore ReadToEnd DiskRose DiskSame read_before
     read_now sink written old new write_before write_now (BadCapture other) file fault reads known has ends =
     inl (ap BadCapture (one_fault file fault other has (of_file given.capture file (λ f. IsRefusedFor f other) known ends.0)))
-refused_for never_both one_fault rules keeping command given store_now ReadToEnd DiskRose DiskSame read_before
+refused_for never_both one_fault rules keeping command given AsBefore ReadToEnd DiskRose DiskSame read_before
     read_now sink written old new write_before write_now ReadFault file fault reads known has ends =
     inr (inl refl)
-refused_for never_both one_fault rules keeping command given store_now ReadToEnd DiskRose DiskSame read_before
+refused_for never_both one_fault rules keeping command given AsBefore ReadToEnd DiskRose DiskSame read_before
     read_now sink written old new write_before write_now WriteFault file fault reads known has ends =
-    let capture = captured_in_part rules command given file ends.1.text reads known ends.1.is_text in
+    let capture = captured_in_part rules keeping command given file ends.1.text reads known ends.1.is_text in
     absurd (never_both file capture.0 fault capture.1 has)
-refused_for never_both one_fault rules keeping command given store_now ReadToEnd DiskRose DiskSame read_before
+refused_for never_both one_fault rules keeping command given AsBefore ReadToEnd DiskRose DiskSame read_before
     read_now sink written old new write_before write_now DiskFault file fault reads known has ends =
     let capture = accepted command given file reads known ends.1 in
     absurd (never_both file capture.0 fault capture.1 has)
-refused_for never_both one_fault rules keeping command given store_now ReadToEnd DiskRose DiskSame read_before
+refused_for never_both one_fault rules keeping command given AsBefore ReadToEnd DiskRose DiskSame read_before
     read_now sink written old new write_before write_now NotFormatted file fault reads known has ends =
-    let capture = captured_refused rules command given store_now file opening.NotFormatted known ends.0 in
+    let capture = captured_refused rules command given AsBefore file opening.NotFormatted known ends.0 in
     absurd (never_both file capture.0 fault capture.1 has)
-refused_for never_both one_fault rules keeping command given store_now ReadToEnd DiskRose DiskSame read_before
+refused_for never_both one_fault rules keeping command given AsBefore ReadToEnd DiskRose DiskSame read_before
     read_now sink written old new write_before write_now (Damaged slot) file fault reads known has ends =
-    let capture = captured_refused rules command given store_now file (opening.Damaged slot) known ends.0 in
+    let capture = captured_refused rules command given AsBefore file (opening.Damaged slot) known ends.0 in
     absurd (never_both file capture.0 fault capture.1 has)
-refused_for never_both one_fault rules keeping command given store_now ReadToEnd DiskRose DiskSame read_before
+refused_for never_both one_fault rules keeping command given AsBefore ReadToEnd DiskRose DiskSame read_before
     read_now sink written old new write_before write_now (OtherSettings stored asked) file fault reads known has ends =
-    let capture = captured_refused rules command given store_now file (opening.OtherSettings stored asked) known ends.0 in
+    let capture = captured_refused rules command given AsBefore file (opening.OtherSettings stored asked) known ends.0 in
     absurd (never_both file capture.0 fault capture.1 has)
-refused_for never_both one_fault rules keeping command given store_now ReadToEnd DiskRose DiskSame read_before
+refused_for never_both one_fault rules keeping command given AsBefore ReadToEnd DiskRose DiskSame read_before
     read_now sink written old new write_before write_now (OtherCapture stored asked) file fault reads known has ends =
-    let capture = captured_refused rules command given store_now file (opening.OtherCapture stored asked) known ends.0 in
+    let capture = captured_refused rules command given AsBefore file (opening.OtherCapture stored asked) known ends.0 in
     absurd (never_both file capture.0 fault capture.1 has)
-refused_for never_both one_fault rules keeping command given store_now ReadToEnd DiskRose DiskSame read_before
+refused_for never_both one_fault rules keeping command given AsBefore ReadToEnd DiskRose DiskSame read_before
     read_now sink written old new write_before write_now (AuditNo report verdict) file fault reads known has ends =
     let capture = captured_found rules command given old new file report verdict known ends.1 in
     absurd (never_both file capture.0 fault capture.1 has)
-refused_for never_both one_fault rules keeping command given store_now ReadToEnd DiskRose DiskSame read_before
+refused_for never_both one_fault rules keeping command given AsBefore ReadToEnd DiskRose DiskSame read_before
     read_now sink written old new write_before write_now (BadReport wrong) file fault reads known has ends =
     let capture = captured_before rules command given old new file wrong known ends.0 in
     absurd (never_both file capture.0 fault capture.1 has)
-refused_for never_both one_fault rules keeping command given store_now ReadToEnd DiskRose DiskSame read_before
+refused_for never_both one_fault rules keeping command given AsBefore ReadToEnd DiskRose DiskSame read_before
     read_now sink written old new write_before write_now OutOfMemory file fault reads known has ends =
     inr (inr refl)
 
@@ -226,10 +226,10 @@ known_capture rules (Demo seed frames settings) given file fault never_both read
 
 -- a store of the records isn't refused
 never_refused : OpeningsAreDecided → BelongingStoresAreOpened → (rules : Rules) (settings : Settings)
-    (given : InputBytes) (store_now : Option (List ℕ)) (fault : OpenFault) → AreLimited settings
+    (given : InputBytes) (AsBefore : Type 0) (fault : OpenFault) → AreLimited settings
     → HasKnownCapture given.capture → (settings.store ≡ true → HasKnownStore settings rules given)
-    → IsShown fault → RefusesStore settings rules given.capture given.store store_now fault → ⊥
-never_refused decided opened rules settings given store_now fault limited capture can shown refuses =
+    → IsShown fault → RefusesStore settings rules given.capture given.store AsBefore fault → ⊥
+never_refused decided opened rules settings given AsBefore fault limited capture can shown refuses =
     let is_store = can refuses.0 in
     let is = of_file given.capture capture.file (λ f. IsRefusedStore settings rules given.store f fault) capture.told refuses.2 in
     let belongs = is_store.belongs capture.file is.records is.lists capture.told is.dealt in
@@ -238,20 +238,20 @@ never_refused decided opened rules settings given store_now fault limited captur
     (is.refused is_store.image is_store.told)
 
 never_refused_for : OpeningsAreDecided → BelongingStoresAreOpened → (rules : Rules) (command : Command)
-    (given : InputBytes) (store_now : Option (List ℕ)) (fault : OpenFault) → IsLimited command
+    (given : InputBytes) (AsBefore : Type 0) (fault : OpenFault) → IsLimited command
     → CanBeAnswered rules command given → IsShown fault
-    → RefusesFor command rules given store_now fault → ⊥
-never_refused_for decided opened rules (Weigh prefix settings) given store_now fault limited can shown refuses =
+    → RefusesFor command rules given AsBefore fault → ⊥
+never_refused_for decided opened rules (Weigh prefix settings) given AsBefore fault limited can shown refuses =
     refuses
-never_refused_for decided opened rules (Report settings) given store_now fault limited can shown refuses =
-    never_refused decided opened rules settings given store_now fault limited.0 can.0 can.1 shown refuses
-never_refused_for decided opened rules (Format settings) given store_now fault limited can shown refuses =
+never_refused_for decided opened rules (Report settings) given AsBefore fault limited can shown refuses =
+    never_refused decided opened rules settings given AsBefore fault limited.0 can.0 can.1 shown refuses
+never_refused_for decided opened rules (Format settings) given AsBefore fault limited can shown refuses =
     refuses
-never_refused_for decided opened rules (Audit settings) given store_now fault limited can shown refuses =
+never_refused_for decided opened rules (Audit settings) given AsBefore fault limited can shown refuses =
     refuses
-never_refused_for decided opened rules (Make seed frames) given store_now fault limited can shown refuses =
+never_refused_for decided opened rules (Make seed frames) given AsBefore fault limited can shown refuses =
     refuses
-never_refused_for decided opened rules (Demo seed frames settings) given store_now fault limited can shown refuses =
+never_refused_for decided opened rules (Demo seed frames settings) given AsBefore fault limited can shown refuses =
     refuses
 
 -- no text of a session that is not too long has a fault
@@ -296,56 +296,56 @@ found_answers rules (Audit settings) given old new report verdict finds = inr (r
 -- over known inputs in their formats and with no fault of source, sink or disk, a command is answered unless memory runs
 -- out. BadCapture comes of commands alone that read a capture
 answered : {K : Type 0} → NeverBoth → OpeningsAreDecided → BelongingStoresAreOpened → NoFault
-    → (rules : Rules) (keeping : Keeping) (command : Command) (given : InputBytes) (store_now : Option (List ℕ))
+    → (rules : Rules) (keeping : Keeping) (command : Command) (given : InputBytes) (AsBefore : Type 0)
     (ReadToEnd DiskRose DiskSame : Type 0) (read_before read_now : SourceFaults)
     (sink written : K) (old new : Option (List ℕ)) (write_before write_now : ℕ) (status : Status)
     → IsLimited command → CanBeAnswered rules command given → (OneRose read_before read_now → ⊥)
     → (Rose write_before write_now → ⊥) → (DiskRose → ⊥)
     → ((fault : CaptureFault) → status ≡ BadCapture fault → ReadsCapture command)
-    → EndsAs rules keeping command given store_now ReadToEnd DiskRose DiskSame read_before read_now sink written
+    → EndsAs rules keeping command given AsBefore ReadToEnd DiskRose DiskSame read_before read_now sink written
     old new write_before write_now status
     → WasAnswered command status ⊎ (status ≡ OutOfMemory)
-answered never_both decided opened no_fault rules keeping command given store_now ReadToEnd DiskRose DiskSame
+answered never_both decided opened no_fault rules keeping command given AsBefore ReadToEnd DiskRose DiskSame
     read_before read_now sink written old new write_before write_now Done limited can no_read no_write no_disk reads ends =
     inl (done_answers command)
-answered never_both decided opened no_fault rules keeping command given store_now ReadToEnd DiskRose DiskSame
+answered never_both decided opened no_fault rules keeping command given AsBefore ReadToEnd DiskRose DiskSame
     read_before read_now sink written old new write_before write_now (BadWords kind) limited can no_read no_write no_disk reads ends =
     absurd ends
-answered never_both decided opened no_fault rules keeping command given store_now ReadToEnd DiskRose DiskSame
+answered never_both decided opened no_fault rules keeping command given AsBefore ReadToEnd DiskRose DiskSame
     read_before read_now sink written old new write_before write_now (BadCapture fault) limited can no_read no_write no_disk reads ends =
     absurd (known_capture rules command given [] fault never_both (reads fault refl) can ends.0)
-answered never_both decided opened no_fault rules keeping command given store_now ReadToEnd DiskRose DiskSame
+answered never_both decided opened no_fault rules keeping command given AsBefore ReadToEnd DiskRose DiskSame
     read_before read_now sink written old new write_before write_now ReadFault limited can no_read no_write no_disk reads ends =
     absurd (no_read ends.0)
-answered never_both decided opened no_fault rules keeping command given store_now ReadToEnd DiskRose DiskSame
+answered never_both decided opened no_fault rules keeping command given AsBefore ReadToEnd DiskRose DiskSame
     read_before read_now sink written old new write_before write_now WriteFault limited can no_read no_write no_disk reads ends =
     absurd (no_write ends.2)
-answered never_both decided opened no_fault rules keeping command given store_now ReadToEnd DiskRose DiskSame
+answered never_both decided opened no_fault rules keeping command given AsBefore ReadToEnd DiskRose DiskSame
     read_before read_now sink written old new write_before write_now DiskFault limited can no_read no_write no_disk reads ends =
     absurd (no_disk ends.3)
-answered never_both decided opened no_fault rules keeping command given store_now ReadToEnd DiskRose DiskSame
+answered never_both decided opened no_fault rules keeping command given AsBefore ReadToEnd DiskRose DiskSame
     read_before read_now sink written old new write_before write_now NotFormatted limited can no_read no_write no_disk reads ends =
-    absurd (never_refused_for decided opened rules command given store_now opening.NotFormatted limited can
+    absurd (never_refused_for decided opened rules command given AsBefore opening.NotFormatted limited can
     (record { not_of_disk = λ is. cc is; not_of_memory = λ is. cc is }) ends.0)
-answered never_both decided opened no_fault rules keeping command given store_now ReadToEnd DiskRose DiskSame
+answered never_both decided opened no_fault rules keeping command given AsBefore ReadToEnd DiskRose DiskSame
     read_before read_now sink written old new write_before write_now (Damaged slot) limited can no_read no_write no_disk reads ends =
-    absurd (never_refused_for decided opened rules command given store_now (opening.Damaged slot) limited can
+    absurd (never_refused_for decided opened rules command given AsBefore (opening.Damaged slot) limited can
     (record { not_of_disk = λ is. cc is; not_of_memory = λ is. cc is }) ends.0)
-answered never_both decided opened no_fault rules keeping command given store_now ReadToEnd DiskRose DiskSame
+answered never_both decided opened no_fault rules keeping command given AsBefore ReadToEnd DiskRose DiskSame
     read_before read_now sink written old new write_before write_now (OtherSettings stored asked) limited can no_read no_write no_disk reads ends =
-    absurd (never_refused_for decided opened rules command given store_now (opening.OtherSettings stored asked) limited can
+    absurd (never_refused_for decided opened rules command given AsBefore (opening.OtherSettings stored asked) limited can
     (record { not_of_disk = λ is. cc is; not_of_memory = λ is. cc is }) ends.0)
-answered never_both decided opened no_fault rules keeping command given store_now ReadToEnd DiskRose DiskSame
+answered never_both decided opened no_fault rules keeping command given AsBefore ReadToEnd DiskRose DiskSame
     read_before read_now sink written old new write_before write_now (OtherCapture stored asked) limited can no_read no_write no_disk reads ends =
-    absurd (never_refused_for decided opened rules command given store_now (opening.OtherCapture stored asked) limited can
+    absurd (never_refused_for decided opened rules command given AsBefore (opening.OtherCapture stored asked) limited can
     (record { not_of_disk = λ is. cc is; not_of_memory = λ is. cc is }) ends.0)
-answered never_both decided opened no_fault rules keeping command given store_now ReadToEnd DiskRose DiskSame
+answered never_both decided opened no_fault rules keeping command given AsBefore ReadToEnd DiskRose DiskSame
     read_before read_now sink written old new write_before write_now (AuditNo report verdict) limited can no_read no_write no_disk reads ends =
     inl (found_answers rules command given old new report verdict ends.1)
-answered never_both decided opened no_fault rules keeping command given store_now ReadToEnd DiskRose DiskSame
+answered never_both decided opened no_fault rules keeping command given AsBefore ReadToEnd DiskRose DiskSame
     read_before read_now sink written old new write_before write_now (BadReport fault) limited can no_read no_write no_disk reads ends =
     absurd (never_faulty no_fault rules command given old new fault can ends.0)
-answered never_both decided opened no_fault rules keeping command given store_now ReadToEnd DiskRose DiskSame
+answered never_both decided opened no_fault rules keeping command given AsBefore ReadToEnd DiskRose DiskSame
     read_before read_now sink written old new write_before write_now OutOfMemory limited can no_read no_write no_disk reads ends =
     inr refl
 
@@ -357,61 +357,61 @@ same_command result error command read (inr is) was = cc (is, was)
 
 -- a report whose store is refused
 report_refused : {K : Type 0} (rules : Rules) (words : List (List ℕ)) (command : Command)
-    (given : InputBytes) (store_now : Option (List ℕ)) (fault : OpenFault) (sink written : K) → AskFor words command
-    → WasRead command given → RefusesFor command rules given store_now fault
-    → written ≡ sink → RefusedStore rules words given fault sink written store_now
-report_refused rules words (Weigh prefix settings) given store_now fault sink written asked read refuses same =
+    (given : InputBytes) (AsBefore : Type 0) (fault : OpenFault) (sink written : K) → AskFor words command
+    → WasRead command given → RefusesFor command rules given AsBefore fault
+    → written ≡ sink → RefusedStore rules words given fault sink written AsBefore
+report_refused rules words (Weigh prefix settings) given AsBefore fault sink written asked read refuses same =
     absurd refuses
-report_refused rules words (Report settings) given store_now fault sink written asked read refuses same = record {
+report_refused rules words (Report settings) given AsBefore fault sink written asked read refuses same = record {
   settings = settings;
   asked = asked;
   used = refuses.0;
   read_to_end = read;
   refused = refuses.2;
   unwritten = same;
-  reads = refuses.1;
+  as_before = refuses.1;
 }
-report_refused rules words (Format settings) given store_now fault sink written asked read refuses same =
+report_refused rules words (Format settings) given AsBefore fault sink written asked read refuses same =
     absurd refuses
-report_refused rules words (Audit settings) given store_now fault sink written asked read refuses same =
+report_refused rules words (Audit settings) given AsBefore fault sink written asked read refuses same =
     absurd refuses
-report_refused rules words (Make seed frames) given store_now fault sink written asked read refuses same =
+report_refused rules words (Make seed frames) given AsBefore fault sink written asked read refuses same =
     absurd refuses
-report_refused rules words (Demo seed frames settings) given store_now fault sink written asked read refuses same =
+report_refused rules words (Demo seed frames settings) given AsBefore fault sink written asked read refuses same =
     absurd refuses
 
 -- what a status that names a fault of a store says
 pub refused_as : {K : Type 0} (rules : Rules) (keeping : Keeping) (words : List (List ℕ)) (command : Command)
-    (given : InputBytes) (store_now : Option (List ℕ)) (DiskRose DiskSame : Type 0) (read_before read_now : SourceFaults)
+    (given : InputBytes) (AsBefore : Type 0) (DiskRose DiskSame : Type 0) (read_before read_now : SourceFaults)
     (sink written : K) (old new : Option (List ℕ)) (write_before write_now : ℕ) (status : Status) (fault : OpenFault)
     → AskFor words command → IsShown fault → status ≡ status_of_opening fault
-    → EndsAs rules keeping command given store_now (WasRead command given) DiskRose DiskSame
+    → EndsAs rules keeping command given AsBefore (WasRead command given) DiskRose DiskSame
     read_before read_now sink written old new write_before write_now status
-    → RefusedStore rules words given fault sink written store_now
-refused_as rules keeping words command given store_now DiskRose DiskSame read_before read_now sink written old
+    → RefusedStore rules words given fault sink written AsBefore
+refused_as rules keeping words command given AsBefore DiskRose DiskSame read_before read_now sink written old
     new write_before write_now status opening.NotFormatted asked shown is ends =
-    let now = subst (EndsAs rules keeping command given store_now (WasRead command given)
+    let now = subst (EndsAs rules keeping command given AsBefore (WasRead command given)
     DiskRose DiskSame read_before read_now sink written old new write_before write_now) is ends in
-    report_refused rules words command given store_now opening.NotFormatted sink written asked now.1 now.0 now.2
-refused_as rules keeping words command given store_now DiskRose DiskSame read_before read_now sink written old
+    report_refused rules words command given AsBefore opening.NotFormatted sink written asked now.1 now.0 now.2
+refused_as rules keeping words command given AsBefore DiskRose DiskSame read_before read_now sink written old
     new write_before write_now status (opening.Damaged slot) asked shown is ends =
-    let now = subst (EndsAs rules keeping command given store_now (WasRead command given)
+    let now = subst (EndsAs rules keeping command given AsBefore (WasRead command given)
     DiskRose DiskSame read_before read_now sink written old new write_before write_now) is ends in
-    report_refused rules words command given store_now (opening.Damaged slot) sink written asked now.1 now.0 now.2
-refused_as rules keeping words command given store_now DiskRose DiskSame read_before read_now sink written old
+    report_refused rules words command given AsBefore (opening.Damaged slot) sink written asked now.1 now.0 now.2
+refused_as rules keeping words command given AsBefore DiskRose DiskSame read_before read_now sink written old
     new write_before write_now status (opening.OtherSettings stored asked_for) asked shown is ends =
-    let now = subst (EndsAs rules keeping command given store_now (WasRead command given)
+    let now = subst (EndsAs rules keeping command given AsBefore (WasRead command given)
     DiskRose DiskSame read_before read_now sink written old new write_before write_now) is ends in
-    report_refused rules words command given store_now (opening.OtherSettings stored asked_for) sink written asked now.1 now.0 now.2
-refused_as rules keeping words command given store_now DiskRose DiskSame read_before read_now sink written old
+    report_refused rules words command given AsBefore (opening.OtherSettings stored asked_for) sink written asked now.1 now.0 now.2
+refused_as rules keeping words command given AsBefore DiskRose DiskSame read_before read_now sink written old
     new write_before write_now status (opening.OtherCapture stored asked_for) asked shown is ends =
-    let now = subst (EndsAs rules keeping command given store_now (WasRead command given)
+    let now = subst (EndsAs rules keeping command given AsBefore (WasRead command given)
     DiskRose DiskSame read_before read_now sink written old new write_before write_now) is ends in
-    report_refused rules words command given store_now (opening.OtherCapture stored asked_for) sink written asked now.1 now.0 now.2
-refused_as rules keeping words command given store_now DiskRose DiskSame read_before read_now sink written old
+    report_refused rules words command given AsBefore (opening.OtherCapture stored asked_for) sink written asked now.1 now.0 now.2
+refused_as rules keeping words command given AsBefore DiskRose DiskSame read_before read_now sink written old
     new write_before write_now status opening.DiskFault asked shown is ends =
     absurd (shown.not_of_disk refl)
-refused_as rules keeping words command given store_now DiskRose DiskSame read_before read_now sink written old
+refused_as rules keeping words command given AsBefore DiskRose DiskSame read_before read_now sink written old
     new write_before write_now status opening.OutOfMemory asked shown is ends =
     absurd (shown.not_of_memory refl)
 
@@ -428,13 +428,13 @@ never_begun decided rules settings store file image fault records lists base lim
     (begins.opens used image known) shown (refused records lists dealt)
 
 -- the fault for which such a store is refused
-same_fault : OpeningsAreDecided → (rules : Rules) (settings : Settings) (given : InputBytes) (store_now : Option (List ℕ))
+same_fault : OpeningsAreDecided → (rules : Rules) (settings : Settings) (given : InputBytes) (AsBefore : Type 0)
     (file image : List ℕ) (fault other : OpenFault) → AreLimited settings → given.capture ≡ Some file → given.store ≡ Some image
     → IsShown fault → IsShown other
     → ((records : Records) (lists : List (List RecordValue)) → AreDealtFrom settings rules file records lists
     → IsRefused (store_settings settings) lists image fault)
-    → RefusesStore settings rules given.capture given.store store_now other → other ≡ fault
-same_fault decided rules settings given store_now file image fault other limited known is_store shown is_shown
+    → RefusesStore settings rules given.capture given.store AsBefore other → other ≡ fault
+same_fault decided rules settings given AsBefore file image fault other limited known is_store shown is_shown
     refused refuses =
     let is = of_file given.capture file (λ f. IsRefusedStore settings rules given.store f other) known refuses.2 in
     (decided (store_settings settings) is.lists image (allowed_settings settings limited)).one_fault other fault is_shown
@@ -442,79 +442,79 @@ same_fault decided rules settings given store_now file image fault other limited
 
 -- a report whose store is refused, however the records are dealt, ends so, unless source or disk fail or memory runs out
 refuses_exactly : {K : Type 0} → NeverBoth → OpeningsAreDecided
-    → (rules : Rules) (keeping : Keeping) (settings : Settings) (given : InputBytes) (store_now : Option (List ℕ))
+    → (rules : Rules) (keeping : Keeping) (settings : Settings) (given : InputBytes) (AsBefore : Type 0)
     (ReadToEnd DiskRose DiskSame : Type 0) (read_before read_now : SourceFaults)
     (sink written : K) (old new : Option (List ℕ)) (write_before write_now : ℕ) (status : Status)
     (file image : List ℕ) (frames : List FrameValue) (fault : OpenFault) → AreLimited settings → settings.store ≡ true
     → given.capture ≡ Some file → HasFrames file frames → given.store ≡ Some image → IsShown fault
     → ((records : Records) (lists : List (List RecordValue)) → AreDealtFrom settings rules file records lists
     → IsRefused (store_settings settings) lists image fault)
-    → EndsAs rules keeping (Report settings) given store_now ReadToEnd DiskRose DiskSame read_before read_now sink
+    → EndsAs rules keeping (Report settings) given AsBefore ReadToEnd DiskRose DiskSame read_before read_now sink
     written old new write_before write_now status
     → (status ≡ status_of_opening fault)
     ⊎ ((status ≡ ReadFault) ⊎ ((status ≡ DiskFault) ⊎ (status ≡ OutOfMemory)))
-refuses_exactly never_both decided rules keeping settings given store_now ReadToEnd DiskRose DiskSame
+refuses_exactly never_both decided rules keeping settings given AsBefore ReadToEnd DiskRose DiskSame
     read_before read_now sink written old new write_before write_now Done file image frames fault limited used known
     capture is_store shown refused ends =
     let is = of_file given.capture file (λ f. IsSession settings rules keeping given.store f ends.1.text) known ends.1.is_text in
     absurd (never_begun decided rules settings given.store file image fault is.records is.lists is.base limited used is_store
     shown refused is.dealt is.begins)
-refuses_exactly never_both decided rules keeping settings given store_now ReadToEnd DiskRose DiskSame
+refuses_exactly never_both decided rules keeping settings given AsBefore ReadToEnd DiskRose DiskSame
     read_before read_now sink written old new write_before write_now (BadWords kind) file image frames fault limited used known
     capture is_store shown refused ends =
     absurd ends
-refuses_exactly never_both decided rules keeping settings given store_now ReadToEnd DiskRose DiskSame
+refuses_exactly never_both decided rules keeping settings given AsBefore ReadToEnd DiskRose DiskSame
     read_before read_now sink written old new write_before write_now (BadCapture other) file image frames fault limited used known
     capture is_store shown refused ends =
     absurd (never_both file frames other capture (of_file given.capture file (λ f. IsRefusedFor f other) known ends.0))
-refuses_exactly never_both decided rules keeping settings given store_now ReadToEnd DiskRose DiskSame
+refuses_exactly never_both decided rules keeping settings given AsBefore ReadToEnd DiskRose DiskSame
     read_before read_now sink written old new write_before write_now ReadFault file image frames fault limited used known
     capture is_store shown refused ends =
     inr (inl refl)
-refuses_exactly never_both decided rules keeping settings given store_now ReadToEnd DiskRose DiskSame
+refuses_exactly never_both decided rules keeping settings given AsBefore ReadToEnd DiskRose DiskSame
     read_before read_now sink written old new write_before write_now WriteFault file image frames fault limited used known
     capture is_store shown refused ends =
-    let is = of_file given.capture file (λ f. IsSessionInPart settings rules given.store f ends.1.text) known ends.1.is_text in
+    let is = of_file given.capture file (λ f. IsSessionInPart settings rules keeping given.store f ends.1.text) known ends.1.is_text in
     absurd (never_begun decided rules settings given.store file image fault is.records is.lists is.base limited used is_store
     shown refused is.dealt is.begins)
-refuses_exactly never_both decided rules keeping settings given store_now ReadToEnd DiskRose DiskSame
+refuses_exactly never_both decided rules keeping settings given AsBefore ReadToEnd DiskRose DiskSame
     read_before read_now sink written old new write_before write_now DiskFault file image frames fault limited used known
     capture is_store shown refused ends =
     inr (inr (inl refl))
-refuses_exactly never_both decided rules keeping settings given store_now ReadToEnd DiskRose DiskSame
+refuses_exactly never_both decided rules keeping settings given AsBefore ReadToEnd DiskRose DiskSame
     read_before read_now sink written old new write_before write_now (AuditNo report verdict) file image frames fault limited used known
     capture is_store shown refused ends =
     absurd ends.1
-refuses_exactly never_both decided rules keeping settings given store_now ReadToEnd DiskRose DiskSame
+refuses_exactly never_both decided rules keeping settings given AsBefore ReadToEnd DiskRose DiskSame
     read_before read_now sink written old new write_before write_now (BadReport wrong) file image frames fault limited used known
     capture is_store shown refused ends =
     absurd ends.0
-refuses_exactly never_both decided rules keeping settings given store_now ReadToEnd DiskRose DiskSame
+refuses_exactly never_both decided rules keeping settings given AsBefore ReadToEnd DiskRose DiskSame
     read_before read_now sink written old new write_before write_now OutOfMemory file image frames fault limited used known
     capture is_store shown refused ends =
     inr (inr (inr refl))
-refuses_exactly never_both decided rules keeping settings given store_now ReadToEnd DiskRose DiskSame
+refuses_exactly never_both decided rules keeping settings given AsBefore ReadToEnd DiskRose DiskSame
     read_before read_now sink written old new write_before write_now NotFormatted file image frames fault limited used known
     capture is_store shown refused ends =
-    inl (ap status_of_opening (same_fault decided rules settings given store_now file image fault
+    inl (ap status_of_opening (same_fault decided rules settings given AsBefore file image fault
     opening.NotFormatted limited known is_store shown
     (record { not_of_disk = λ is. cc is; not_of_memory = λ is. cc is }) refused ends.0))
-refuses_exactly never_both decided rules keeping settings given store_now ReadToEnd DiskRose DiskSame
+refuses_exactly never_both decided rules keeping settings given AsBefore ReadToEnd DiskRose DiskSame
     read_before read_now sink written old new write_before write_now (Damaged slot) file image frames fault limited used known
     capture is_store shown refused ends =
-    inl (ap status_of_opening (same_fault decided rules settings given store_now file image fault
+    inl (ap status_of_opening (same_fault decided rules settings given AsBefore file image fault
     (opening.Damaged slot) limited known is_store shown
     (record { not_of_disk = λ is. cc is; not_of_memory = λ is. cc is }) refused ends.0))
-refuses_exactly never_both decided rules keeping settings given store_now ReadToEnd DiskRose DiskSame
+refuses_exactly never_both decided rules keeping settings given AsBefore ReadToEnd DiskRose DiskSame
     read_before read_now sink written old new write_before write_now (OtherSettings stored asked) file image frames fault limited used known
     capture is_store shown refused ends =
-    inl (ap status_of_opening (same_fault decided rules settings given store_now file image fault
+    inl (ap status_of_opening (same_fault decided rules settings given AsBefore file image fault
     (opening.OtherSettings stored asked) limited known is_store shown
     (record { not_of_disk = λ is. cc is; not_of_memory = λ is. cc is }) refused ends.0))
-refuses_exactly never_both decided rules keeping settings given store_now ReadToEnd DiskRose DiskSame
+refuses_exactly never_both decided rules keeping settings given AsBefore ReadToEnd DiskRose DiskSame
     read_before read_now sink written old new write_before write_now (OtherCapture stored asked) file image frames fault limited used known
     capture is_store shown refused ends =
-    inl (ap status_of_opening (same_fault decided rules settings given store_now file image fault
+    inl (ap status_of_opening (same_fault decided rules settings given AsBefore file image fault
     (opening.OtherCapture stored asked) limited known is_store shown
     (record { not_of_disk = λ is. cc is; not_of_memory = λ is. cc is }) refused ends.0))
 
@@ -536,26 +536,26 @@ no_store_fault words.OutOfMemory status opening.OutOfMemory shown is was = absur
 
 -- the same of the command that was asked for
 pub answered_as : {K : Type 0} → NeverBoth → OpeningsAreDecided → BelongingStoresAreOpened → NoFault
-    → (rules : Rules) (keeping : Keeping) (command read : Command) (given : InputBytes) (store_now : Option (List ℕ))
+    → (rules : Rules) (keeping : Keeping) (command read : Command) (given : InputBytes) (AsBefore : Type 0)
     (ReadToEnd DiskRose DiskSame : Type 0) (read_before read_now : SourceFaults)
     (sink written : K) (old new : Option (List ℕ)) (write_before write_now : ℕ) (status : Status)
     → read ≡ command → IsLimited read → CanBeAnswered rules command given
     → (OneRose read_before read_now → ⊥) → (Rose write_before write_now → ⊥) → (DiskRose → ⊥)
     → ((fault : CaptureFault) → status ≡ BadCapture fault → ReadsCapture read)
-    → EndsAs rules keeping read given store_now ReadToEnd DiskRose DiskSame read_before read_now sink written
+    → EndsAs rules keeping read given AsBefore ReadToEnd DiskRose DiskSame read_before read_now sink written
     old new write_before write_now status
     → WasAnswered command status ⊎ (status ≡ OutOfMemory)
-answered_as never_both decided opened no_fault rules keeping command read given store_now ReadToEnd DiskRose DiskSame
+answered_as never_both decided opened no_fault rules keeping command read given AsBefore ReadToEnd DiskRose DiskSame
     read_before read_now sink written old new write_before write_now status same limited can no_read no_write no_disk reads
     ends =
     subst (λ c. WasAnswered c status ⊎ (status ≡ OutOfMemory)) same
-    (answered never_both decided opened no_fault rules keeping read given store_now ReadToEnd DiskRose DiskSame
+    (answered never_both decided opened no_fault rules keeping read given AsBefore ReadToEnd DiskRose DiskSame
     read_before read_now sink written old new write_before write_now status limited
     (subst (λ c. CanBeAnswered rules c given) (sym same) can) no_read no_write no_disk reads ends)
 
 pub refuses_as : {K : Type 0} → NeverBoth → OpeningsAreDecided
     → (rules : Rules) (keeping : Keeping) (settings : Settings) (read : Command)
-    (given : InputBytes) (store_now : Option (List ℕ))
+    (given : InputBytes) (AsBefore : Type 0)
     (ReadToEnd DiskRose DiskSame : Type 0) (read_before read_now : SourceFaults)
     (sink written : K) (old new : Option (List ℕ)) (write_before write_now : ℕ) (status : Status)
     (file image : List ℕ) (frames : List FrameValue) (fault : OpenFault)
@@ -563,66 +563,67 @@ pub refuses_as : {K : Type 0} → NeverBoth → OpeningsAreDecided
     → given.capture ≡ Some file → HasFrames file frames → given.store ≡ Some image → IsShown fault
     → ((records : Records) (lists : List (List RecordValue)) → AreDealtFrom settings rules file records lists
     → IsRefused (store_settings settings) lists image fault)
-    → EndsAs rules keeping read given store_now ReadToEnd DiskRose DiskSame read_before read_now sink
+    → EndsAs rules keeping read given AsBefore ReadToEnd DiskRose DiskSame read_before read_now sink
     written old new write_before write_now status
     → (status ≡ status_of_opening fault)
     ⊎ ((status ≡ ReadFault) ⊎ ((status ≡ DiskFault) ⊎ (status ≡ OutOfMemory)))
-refuses_as never_both decided rules keeping settings read given store_now ReadToEnd DiskRose DiskSame
+refuses_as never_both decided rules keeping settings read given AsBefore ReadToEnd DiskRose DiskSame
     read_before read_now sink written old new write_before write_now status file image frames fault same limited used
     known capture is_store shown refused ends =
-    refuses_exactly never_both decided rules keeping settings given store_now ReadToEnd DiskRose DiskSame
+    refuses_exactly never_both decided rules keeping settings given AsBefore ReadToEnd DiskRose DiskSame
     read_before read_now sink written old new write_before write_now status file image frames fault
     (subst IsLimited same limited).0 used known capture is_store shown refused
-    (subst (λ c. EndsAs rules keeping c given store_now ReadToEnd DiskRose DiskSame read_before read_now sink
+    (subst (λ c. EndsAs rules keeping c given AsBefore ReadToEnd DiskRose DiskSame read_before read_now sink
     written old new write_before write_now status) same ends)
 
 -- how a command ended that uses no disk, beside one
-pub ends_beside : {K : Type 0} (IsText IsPart : List ℕ → Type 0) (ReadToEnd Accepted DiskSame : Type 0)
+pub ends_beside : {K : Type 0} (IsText IsPart : List ℕ → Type 0) (ReadToEnd Accepted DiskSame AsBefore : Type 0)
     (Refused : OpenFault → Type 0) (Audited : Status → Type 0) (capture : Option (List ℕ))
     (read_before read_now : SourceFaults) (sink written : K) (old new : Option (List ℕ)) (write_before write_now : ℕ)
-    (status : Status) → DiskSame
-    → Ends IsText IsPart ReadToEnd Accepted ⊥ ⊤ Refused Audited capture read_before read_now sink written old new
+    (status : Status) → DiskSame → AsBefore
+    → Ends IsText IsPart ReadToEnd Accepted ⊥ ⊤ ⊤ Refused Audited capture read_before read_now sink written old new
     write_before write_now status
-    → Ends IsText IsPart ReadToEnd Accepted ⊥ DiskSame Refused Audited capture read_before read_now sink written old new
+    → Ends IsText IsPart ReadToEnd Accepted ⊥ DiskSame AsBefore Refused Audited capture read_before read_now sink written old new
     write_before write_now status
-ends_beside IsText IsPart ReadToEnd Accepted DiskSame Refused Audited capture read_before read_now sink written old new
-    write_before write_now Done same ends = ends
-ends_beside IsText IsPart ReadToEnd Accepted DiskSame Refused Audited capture read_before read_now sink written old new
-    write_before write_now (BadWords kind) same ends = ends
-ends_beside IsText IsPart ReadToEnd Accepted DiskSame Refused Audited capture read_before read_now sink written old new
-    write_before write_now (BadCapture fault) same ends = (ends.0, ends.1, same, ends.3, ends.4)
-ends_beside IsText IsPart ReadToEnd Accepted DiskSame Refused Audited capture read_before read_now sink written old new
-    write_before write_now ReadFault same ends = (ends.0, ends.1, same, ends.3)
-ends_beside IsText IsPart ReadToEnd Accepted DiskSame Refused Audited capture read_before read_now sink written old new
-    write_before write_now WriteFault same ends = ends
-ends_beside IsText IsPart ReadToEnd Accepted DiskSame Refused Audited capture read_before read_now sink written old new
-    write_before write_now DiskFault same ends = ends
-ends_beside IsText IsPart ReadToEnd Accepted DiskSame Refused Audited capture read_before read_now sink written old new
-    write_before write_now NotFormatted same ends = ends
-ends_beside IsText IsPart ReadToEnd Accepted DiskSame Refused Audited capture read_before read_now sink written old new
-    write_before write_now (Damaged slot) same ends = ends
-ends_beside IsText IsPart ReadToEnd Accepted DiskSame Refused Audited capture read_before read_now sink written old new
-    write_before write_now (OtherSettings stored asked) same ends = ends
-ends_beside IsText IsPart ReadToEnd Accepted DiskSame Refused Audited capture read_before read_now sink written old new
-    write_before write_now (OtherCapture stored asked) same ends = ends
-ends_beside IsText IsPart ReadToEnd Accepted DiskSame Refused Audited capture read_before read_now sink written old new
-    write_before write_now (AuditNo report verdict) same ends = ends
-ends_beside IsText IsPart ReadToEnd Accepted DiskSame Refused Audited capture read_before read_now sink written old new
-    write_before write_now (BadReport fault) same ends = (ends.0, ends.1, same, ends.3, ends.4)
-ends_beside IsText IsPart ReadToEnd Accepted DiskSame Refused Audited capture read_before read_now sink written old new
-    write_before write_now OutOfMemory same ends = ends
+ends_beside IsText IsPart ReadToEnd Accepted DiskSame AsBefore Refused Audited capture read_before read_now sink written old new
+    write_before write_now Done same before ends = ends
+ends_beside IsText IsPart ReadToEnd Accepted DiskSame AsBefore Refused Audited capture read_before read_now sink written old new
+    write_before write_now (BadWords kind) same before ends = ends
+ends_beside IsText IsPart ReadToEnd Accepted DiskSame AsBefore Refused Audited capture read_before read_now sink written old new
+    write_before write_now (BadCapture fault) same before ends = (ends.0, ends.1, same, ends.3, ends.4)
+ends_beside IsText IsPart ReadToEnd Accepted DiskSame AsBefore Refused Audited capture read_before read_now sink written old new
+    write_before write_now ReadFault same before ends = (ends.0, ends.1, same, ends.3)
+ends_beside IsText IsPart ReadToEnd Accepted DiskSame AsBefore Refused Audited capture read_before read_now sink written old new
+    write_before write_now WriteFault same before ends = ends
+ends_beside IsText IsPart ReadToEnd Accepted DiskSame AsBefore Refused Audited capture read_before read_now sink written old new
+    write_before write_now DiskFault same before ends = absurd ends.3
+ends_beside IsText IsPart ReadToEnd Accepted DiskSame AsBefore Refused Audited capture read_before read_now sink written old new
+    write_before write_now NotFormatted same before ends = ends
+ends_beside IsText IsPart ReadToEnd Accepted DiskSame AsBefore Refused Audited capture read_before read_now sink written old new
+    write_before write_now (Damaged slot) same before ends = ends
+ends_beside IsText IsPart ReadToEnd Accepted DiskSame AsBefore Refused Audited capture read_before read_now sink written old new
+    write_before write_now (OtherSettings stored asked) same before ends = ends
+ends_beside IsText IsPart ReadToEnd Accepted DiskSame AsBefore Refused Audited capture read_before read_now sink written old new
+    write_before write_now (OtherCapture stored asked) same before ends = ends
+ends_beside IsText IsPart ReadToEnd Accepted DiskSame AsBefore Refused Audited capture read_before read_now sink written old new
+    write_before write_now (AuditNo report verdict) same before ends = ends
+ends_beside IsText IsPart ReadToEnd Accepted DiskSame AsBefore Refused Audited capture read_before read_now sink written old new
+    write_before write_now (BadReport fault) same before ends = (ends.0, ends.1, same, ends.3, ends.4)
+ends_beside IsText IsPart ReadToEnd Accepted DiskSame AsBefore Refused Audited capture read_before read_now sink written old new
+    write_before write_now OutOfMemory same before ends =
+    (⊎_elim (λ unwritten. inl (unwritten.0, before)) (λ part. inr part) ends.0, ends.1, ends.2)
 
 -- how the command ended that this one is
 pub ends_as : {K : Type 0} (rules : Rules) (keeping : Keeping) (command named : Command) (given : InputBytes)
-    (store_now : Option (List ℕ)) (DiskRose DiskSame : Type 0) (read_before read_now : SourceFaults)
+    (AsBefore : Type 0) (DiskRose DiskSame : Type 0) (read_before read_now : SourceFaults)
     (sink written : K) (old new : Option (List ℕ)) (write_before write_now : ℕ) (status : Status) → command ≡ named
-    → EndsAs rules keeping named given store_now (WasRead named given) (OfDisk named DiskRose) DiskSame read_before
+    → EndsAs rules keeping named given AsBefore (WasRead named given) (OfDisk named DiskRose) DiskSame read_before
     read_now sink written old new write_before write_now status
-    → EndsAs rules keeping command given store_now (WasRead command given) (OfDisk command DiskRose) DiskSame read_before
+    → EndsAs rules keeping command given AsBefore (WasRead command given) (OfDisk command DiskRose) DiskSame read_before
     read_now sink written old new write_before write_now status
-ends_as rules keeping command named given store_now DiskRose DiskSame read_before read_now sink written old new
+ends_as rules keeping command named given AsBefore DiskRose DiskSame read_before read_now sink written old new
     write_before write_now status is ends =
-    subst (λ c. EndsAs rules keeping c given store_now (WasRead c given) (OfDisk c DiskRose) DiskSame read_before
+    subst (λ c. EndsAs rules keeping c given AsBefore (WasRead c given) (OfDisk c DiskRose) DiskSame read_before
     read_now sink written old new write_before write_now status) (sym is) ends
 
 -- what happened to the disk of a command happened

@@ -65,11 +65,12 @@ wider_session narrow wide keeping settings store file text widen session = recor
   spelled = session.spelled;
 }
 
-wider_part : (narrow wide : Rules) (settings : Settings) (store : Option (List ℕ)) (file front : List ℕ)
+wider_part : (narrow wide : Rules) (keeping : Keeping) (settings : Settings) (store : Option (List ℕ))
+    (file front : List ℕ)
     → ((kind : DealKind) (place : ℕ) (rec : RecordValue) (shards number : ℕ) → narrow kind place rec shards number
     → wide kind place rec shards number)
-    → IsSessionInPart settings narrow store file front → IsSessionInPart settings wide store file front
-wider_part narrow wide settings store file front widen session = record {
+    → IsSessionInPart settings narrow keeping store file front → IsSessionInPart settings wide keeping store file front
+wider_part narrow wide keeping settings store file front widen session = record {
   records = session.records;
   lists = session.lists;
   dealt = wider_records narrow wide settings file session.records session.lists widen session.dealt;
@@ -159,22 +160,22 @@ wider_answer narrow wide keeping (Make seed frames) read text widen answer = ans
 wider_answer narrow wide keeping (Demo seed frames settings) read text widen answer =
     wider_demo narrow wide settings seed frames text widen answer
 
-wider_answer_in_part : (narrow wide : Rules) (command : Command) (read : InputBytes) (front : List ℕ)
+wider_answer_in_part : (narrow wide : Rules) (keeping : Keeping) (command : Command) (read : InputBytes) (front : List ℕ)
     → ((kind : DealKind) (place : ℕ) (rec : RecordValue) (shards number : ℕ) → narrow kind place rec shards number
     → wide kind place rec shards number)
-    → IsAnswerInPart narrow command read front → IsAnswerInPart wide command read front
-wider_answer_in_part narrow wide (Weigh prefix settings) read front widen answer = answer
-wider_answer_in_part narrow wide (Report settings) read front widen answer =
-    if_known read.capture (λ file. IsSessionInPart settings narrow read.store file front)
-    (λ file. IsSessionInPart settings wide read.store file front)
-    (λ file session. wider_part narrow wide settings read.store file front widen session) answer
-wider_answer_in_part narrow wide (Format settings) read front widen answer = answer
-wider_answer_in_part narrow wide (Audit settings) read front widen answer =
+    → IsAnswerInPart narrow keeping command read front → IsAnswerInPart wide keeping command read front
+wider_answer_in_part narrow wide keeping (Weigh prefix settings) read front widen answer = answer
+wider_answer_in_part narrow wide keeping (Report settings) read front widen answer =
+    if_known read.capture (λ file. IsSessionInPart settings narrow keeping read.store file front)
+    (λ file. IsSessionInPart settings wide keeping read.store file front)
+    (λ file session. wider_part narrow wide keeping settings read.store file front widen session) answer
+wider_answer_in_part narrow wide keeping (Format settings) read front widen answer = answer
+wider_answer_in_part narrow wide keeping (Audit settings) read front widen answer =
     of_audited_more read (λ file session. IsCutShort (IsAuditText settings narrow file session) front)
     (λ file session. IsCutShort (IsAuditText settings wide file session) front)
     (λ file session is. wider_audit_in_part narrow wide settings file session front widen is) answer
-wider_answer_in_part narrow wide (Make seed frames) read front widen answer = answer
-wider_answer_in_part narrow wide (Demo seed frames settings) read front widen answer = record {
+wider_answer_in_part narrow wide keeping (Make seed frames) read front widen answer = answer
+wider_answer_in_part narrow wide keeping (Demo seed frames settings) read front widen answer = record {
   text = answer.text;
   is_text = wider_demo narrow wide settings seed frames answer.text widen answer.is_text;
   begins = answer.begins;
@@ -197,17 +198,18 @@ wider_answers narrow wide keeping words read old new widen answers = record {
   };
 }
 
-pub wider_answers_in_part : (narrow wide : Rules) (words : List (List ℕ)) (read : InputBytes) (old new : Option (List ℕ))
+pub wider_answers_in_part : (narrow wide : Rules) (keeping : Keeping) (words : List (List ℕ)) (read : InputBytes)
+    (old new : Option (List ℕ))
     → ((kind : DealKind) (place : ℕ) (rec : RecordValue) (shards number : ℕ) → narrow kind place rec shards number
     → wide kind place rec shards number)
-    → AnswersInPart narrow words read old new → AnswersInPart wide words read old new
-wider_answers_in_part narrow wide words read old new widen answers = record {
+    → AnswersInPart narrow keeping words read old new → AnswersInPart wide keeping words read old new
+wider_answers_in_part narrow wide keeping words read old new widen answers = record {
   command = answers.command;
   asked = answers.asked;
   read_to_end = answers.read_to_end;
   answer = record {
     text = answers.answer.text;
-    is_text = wider_answer_in_part narrow wide answers.command read answers.answer.text widen answers.answer.is_text;
+    is_text = wider_answer_in_part narrow wide keeping answers.command read answers.answer.text widen answers.answer.is_text;
     written = answers.answer.written;
   };
 }

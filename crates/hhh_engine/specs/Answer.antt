@@ -42,16 +42,16 @@ abbrev pub IsWeightTextInPart : PrefixValue → Weighing → List ℕ → List �
 IsWeightTextInPart prefix weigh file front = IsCutShort (IsWeightText prefix weigh file) front
 
 -- bytes with which the text of a command begins, not all of it
-abbrev pub IsAnswerInPart : Rules → Command → InputBytes → List ℕ → Type 0
-IsAnswerInPart rules (Weigh prefix settings) read front =
+abbrev pub IsAnswerInPart : Rules → Keeping → Command → InputBytes → List ℕ → Type 0
+IsAnswerInPart rules keeping (Weigh prefix settings) read front =
     IfSome read.capture (λ file. IsWeightTextInPart prefix settings.weigh file front)
-IsAnswerInPart rules (Report settings) read front =
-    IfSome read.capture (λ file. IsSessionInPart settings rules read.store file front)
-IsAnswerInPart rules (Format settings) read front = IsCutShort (λ text. text ≡ formatted_text) front
-IsAnswerInPart rules (Audit settings) read front =
+IsAnswerInPart rules keeping (Report settings) read front =
+    IfSome read.capture (λ file. IsSessionInPart settings rules keeping read.store file front)
+IsAnswerInPart rules keeping (Format settings) read front = IsCutShort (λ text. text ≡ formatted_text) front
+IsAnswerInPart rules keeping (Audit settings) read front =
     OfAudited read (λ file session. IsCutShort (IsAuditText settings rules file session) front)
-IsAnswerInPart rules (Make seed frames) read front = IsCutShort (λ text. text ≡ made_capture seed frames) front
-IsAnswerInPart rules (Demo seed frames settings) read front = IsCutShort (IsDemoText settings rules seed frames) front
+IsAnswerInPart rules keeping (Make seed frames) read front = IsCutShort (λ text. text ≡ made_capture seed frames) front
+IsAnswerInPart rules keeping (Demo seed frames settings) read front = IsCutShort (IsDemoText settings rules seed frames) front
 
 -- bytes of this kind were appended to what the sink held
 pub record Writes (IsText : List ℕ → Type 0) (old new : Option (List ℕ)) : Type 0 where
@@ -68,9 +68,9 @@ pub record Answers (rules : Rules) (keeping : Keeping) (words : List (List ℕ))
   pub answer : Writes (IsAnswer rules keeping command read) old new
 
 -- bytes with which such a text begins, but not all of it, were written, after the inputs were read to their ends
-pub record AnswersInPart (rules : Rules) (words : List (List ℕ)) (read : InputBytes) (old new : Option (List ℕ))
-    : Type 0 where
+pub record AnswersInPart (rules : Rules) (keeping : Keeping) (words : List (List ℕ)) (read : InputBytes)
+    (old new : Option (List ℕ)) : Type 0 where
   pub command : Command
   pub asked : AskFor words command
   pub read_to_end : WasRead command read
-  pub answer : Writes (IsAnswerInPart rules command read) old new
+  pub answer : Writes (IsAnswerInPart rules keeping command read) old new

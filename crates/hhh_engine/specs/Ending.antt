@@ -24,7 +24,7 @@ use Rattle.hhh_engine.specs.Answer.{AnswersInPart, Writes}
 use Rattle.hhh_engine.specs.Audit.{IsUnsoundSession, WasReadFor, unsound_text}
 use Rattle.hhh_engine.specs.Inputs.{AskToUse, InputBytes, IsCapture, MayUseStore, OfAudited, ReadsCapture, ReadsSession, WasRead}
 use Rattle.hhh_engine.specs.Saves.{store_settings}
-use Rattle.hhh_engine.specs.Session.{AreDealtFrom, Rules}
+use Rattle.hhh_engine.specs.Session.{AreDealtFrom, Keeping, Rules}
 use Rattle.hhh_engine.specs.declared.status.Status.{Status}
 use Rattle.hhh_engine.specs.declared.status.Status.TheVariants.{Done, BadWords, BadCapture, ReadFault, WriteFault}
 use Rattle.hhh_engine.specs.declared.status.Status.TheVariants.{DiskFault, NotFormatted, Damaged, OtherSettings}
@@ -96,23 +96,35 @@ pub record FailedToRead {T K D : Type 0} (words : List (List ℕ)) (read : Input
   pub untouched : stands ≡ disk
 
 -- WriteFault: the sink's count of faults rose, and bytes with which the text of the command begins were written
-pub record FailedToWrite (rules : Rules) (words : List (List ℕ)) (read : InputBytes) (old new : Option (List ℕ))
-    (before now : ℕ) : Type 0 where
+pub record FailedToWrite (rules : Rules) (keeping : Keeping) (words : List (List ℕ)) (read : InputBytes)
+    (old new : Option (List ℕ)) (before now : ℕ) : Type 0 where
   pub rose : Rose before now
-  pub in_part : AnswersInPart rules words read old new
+  pub in_part : AnswersInPart rules keeping words read old new
 
--- the first bytes of the text of the command were written, or none
-abbrev pub WroteInPart : {K : Type 0} → Rules → List (List ℕ) → InputBytes → (sink written : K)
-    → (old new : Option (List ℕ)) → Type 0
-WroteInPart rules words read sink written old new = (written ≡ sink) ⊎ AnswersInPart rules words read old new
+-- bytes with which the text of the command begins were written; or none were, and the disk is as before
+abbrev pub WroteInPart : {K : Type 0} → Rules → Keeping → List (List ℕ) → InputBytes → (AsBefore : Type 0)
+    → (sink written : K) → (old new : Option (List ℕ)) → Type 0
+WroteInPart rules keeping words read AsBefore sink written old new =
+    ((written ≡ sink) × AsBefore) ⊎ AnswersInPart rules keeping words read old new
+
+-- of a command by which no byte was written: the disk is as before, but for a store that `format` began to make
+abbrev pub UnlessFormat : Command → (AsBefore : Type 0) → Type 0
+UnlessFormat (command.Weigh prefix settings) AsBefore = AsBefore
+UnlessFormat (command.Report settings) AsBefore = AsBefore
+UnlessFormat (command.Format settings) AsBefore = ⊤
+UnlessFormat (command.Audit settings) AsBefore = AsBefore
+UnlessFormat (command.Make seed frames) AsBefore = AsBefore
+UnlessFormat (command.Demo seed frames settings) AsBefore = AsBefore
 
 -- DiskFault: the command may use a store; the disk's count of faults rose, and bytes with which the text begins were
--- written, or none
-pub record FailedDisk {K : Type 0} (rules : Rules) (words : List (List ℕ)) (read : InputBytes) (sink written : K)
-    (old new : Option (List ℕ)) (before now : ℕ) : Type 0 where
-  pub asked : AskToUse MayUseStore words
+-- written; or none were, and a store that was to be opened is as before
+pub record FailedDisk {K : Type 0} (rules : Rules) (keeping : Keeping) (words : List (List ℕ)) (read : InputBytes)
+    (AsBefore : Type 0) (sink written : K) (old new : Option (List ℕ)) (before now : ℕ) : Type 0 where
+  pub command : Command
+  pub asked : AskFor words command
+  pub may_use : MayUseStore command
   pub rose : Rose before now
-  pub in_part : WroteInPart rules words read sink written old new
+  pub in_part : WroteInPart rules keeping words read (UnlessFormat command AsBefore) sink written old new
 
 -- over a capture, whose records are dealt, the store is refused for this fault, where the bytes of the disk are known
 pub record IsRefusedStore (settings : Settings) (rules : Rules) (store : Option (List ℕ)) (file : List ℕ)
@@ -123,16 +135,16 @@ pub record IsRefusedStore (settings : Settings) (rules : Rules) (store : Option 
   pub refused : IfKnown store (λ image. IsRefused (store_settings settings) lists image fault)
 
 -- NotFormatted, Damaged, OtherSettings, OtherCapture: a report with a store was asked for; the capture was read to its
--- end, the store was refused for this fault, nothing was written, and the disk reads as before
+-- end, the store was refused for this fault, nothing was written, and the disk is as before
 pub record RefusedStore {K : Type 0} (rules : Rules) (words : List (List ℕ)) (read : InputBytes) (fault : OpenFault)
-    (sink written : K) (store_now : Option (List ℕ)) : Type 0 where
+    (sink written : K) (AsBefore : Type 0) : Type 0 where
   pub settings : Settings
   pub asked : AskFor words (command.Report settings)
   pub used : settings.store ≡ true
   pub read_to_end : IsAtEnd read.capture_left
   pub refused : IfSome read.capture (λ file. IsRefusedStore settings rules read.store file fault)
   pub unwritten : written ≡ sink
-  pub reads : store_now ≡ read.store
+  pub as_before : AsBefore
 
 -- AuditNo: an audit was asked for, and the inputs were read to their ends; this report is the first of the session that
 -- is not sound, by this verdict, and the line that says so was written in full
@@ -186,21 +198,20 @@ FormatEnds settings reads possible sink written disk stands DiskFault = written 
 FormatEnds settings reads possible sink written disk stands OutOfMemory = (written ≡ sink) × (stands ≡ disk)
 FormatEnds settings reads possible sink written disk stands _ = ⊥
 
--- within the crate: a report with a store was asked for, the store is refused for this fault, and the disk reads as before
-abbrev pub RefusesStore : Settings → Rules → (capture store store_now : Option (List ℕ)) → OpenFault → Type 0
-RefusesStore settings rules capture store store_now fault =
-    (settings.store ≡ true) × (store_now ≡ store)
-    × IfSome capture (λ file. IsRefusedStore settings rules store file fault)
+-- within the crate: a report with a store was asked for, the store is refused for this fault, and the disk is as before
+abbrev pub RefusesStore : Settings → Rules → (capture store : Option (List ℕ)) → (AsBefore : Type 0) → OpenFault → Type 0
+RefusesStore settings rules capture store AsBefore fault =
+    (settings.store ≡ true) × AsBefore × IfSome capture (λ file. IsRefusedStore settings rules store file fault)
 
 -- within the crate: the same of any command: only a report opens a store
-abbrev pub RefusesFor : Command → Rules → InputBytes → (store_now : Option (List ℕ)) → OpenFault → Type 0
-RefusesFor (command.Weigh prefix settings) rules read store_now fault = ⊥
-RefusesFor (command.Report settings) rules read store_now fault =
-    RefusesStore settings rules read.capture read.store store_now fault
-RefusesFor (command.Format settings) rules read store_now fault = ⊥
-RefusesFor (command.Audit settings) rules read store_now fault = ⊥
-RefusesFor (command.Make seed frames) rules read store_now fault = ⊥
-RefusesFor (command.Demo seed frames settings) rules read store_now fault = ⊥
+abbrev pub RefusesFor : Command → Rules → InputBytes → (AsBefore : Type 0) → OpenFault → Type 0
+RefusesFor (command.Weigh prefix settings) rules read AsBefore fault = ⊥
+RefusesFor (command.Report settings) rules read AsBefore fault =
+    RefusesStore settings rules read.capture read.store AsBefore fault
+RefusesFor (command.Format settings) rules read AsBefore fault = ⊥
+RefusesFor (command.Audit settings) rules read AsBefore fault = ⊥
+RefusesFor (command.Make seed frames) rules read AsBefore fault = ⊥
+RefusesFor (command.Demo seed frames settings) rules read AsBefore fault = ⊥
 
 -- within the crate: this happened to the disk, which the command may use
 abbrev pub OfDisk : Command → Type 0 → Type 0
@@ -238,52 +249,53 @@ FindsFor (command.Audit settings) rules read old new status = AuditFinds setting
 
 -- within the crate: how a command ended. IsText says what is its text, IsPart which bytes begin it, ReadToEnd that its
 -- inputs were read to their ends, Accepted that they are in their formats, DiskRose that the disk's count of faults rose,
--- DiskSame that the disk is as before, Refused that its store is refused for a fault, and Audited what an audit found
-abbrev pub Ends : {K : Type 0} → (IsText IsPart : List ℕ → Type 0) → (ReadToEnd Accepted DiskRose DiskSame : Type 0)
-    → (Refused : OpenFault → Type 0) → (Audited : Status → Type 0) → (capture : Option (List ℕ))
+-- DiskSame that the disk is untouched, AsBefore that it is as before, Refused that its store is refused for a fault, and
+-- Audited what an audit found
+abbrev pub Ends : {K : Type 0} → (IsText IsPart : List ℕ → Type 0)
+    → (ReadToEnd Accepted DiskRose DiskSame AsBefore : Type 0) → (Refused : OpenFault → Type 0) → (Audited : Status → Type 0) → (capture : Option (List ℕ))
     → (read_before read_now : SourceFaults) → (sink written : K) → (old new : Option (List ℕ))
     → (write_before write_now : ℕ) → Status → Type 0
-Ends IsText IsPart ReadToEnd Accepted DiskRose DiskSame Refused Audited capture read_before read_now sink written old new write_before write_now
+Ends IsText IsPart ReadToEnd Accepted DiskRose DiskSame AsBefore Refused Audited capture read_before read_now sink written old new write_before write_now
     Done =
     ReadToEnd × Writes IsText old new × (read_now ≡ read_before) × (write_now ≡ write_before)
-Ends IsText IsPart ReadToEnd Accepted DiskRose DiskSame Refused Audited capture read_before read_now sink written old new write_before write_now
+Ends IsText IsPart ReadToEnd Accepted DiskRose DiskSame AsBefore Refused Audited capture read_before read_now sink written old new write_before write_now
     (BadWords kind) = ⊥
-Ends IsText IsPart ReadToEnd Accepted DiskRose DiskSame Refused Audited capture read_before read_now sink written old new write_before write_now
+Ends IsText IsPart ReadToEnd Accepted DiskRose DiskSame AsBefore Refused Audited capture read_before read_now sink written old new write_before write_now
     (BadCapture fault) =
     IfSome capture (λ file. IsRefusedFor file fault) × (written ≡ sink) × DiskSame × (read_now ≡ read_before)
     × (write_now ≡ write_before)
-Ends IsText IsPart ReadToEnd Accepted DiskRose DiskSame Refused Audited capture read_before read_now sink written old new write_before write_now
+Ends IsText IsPart ReadToEnd Accepted DiskRose DiskSame AsBefore Refused Audited capture read_before read_now sink written old new write_before write_now
     ReadFault =
     OneRose read_before read_now × (written ≡ sink) × DiskSame × (write_now ≡ write_before)
-Ends IsText IsPart ReadToEnd Accepted DiskRose DiskSame Refused Audited capture read_before read_now sink written old new write_before write_now
+Ends IsText IsPart ReadToEnd Accepted DiskRose DiskSame AsBefore Refused Audited capture read_before read_now sink written old new write_before write_now
     WriteFault =
     ReadToEnd × Writes IsPart old new × Rose write_before write_now × (read_now ≡ read_before)
-Ends IsText IsPart ReadToEnd Accepted DiskRose DiskSame Refused Audited capture read_before read_now sink written old new write_before write_now
+Ends IsText IsPart ReadToEnd Accepted DiskRose DiskSame AsBefore Refused Audited capture read_before read_now sink written old new write_before write_now
     DiskFault =
-    ReadToEnd × Accepted × ((written ≡ sink) ⊎ Writes IsPart old new) × DiskRose × (read_now ≡ read_before)
+    ReadToEnd × Accepted × (((written ≡ sink) × AsBefore) ⊎ Writes IsPart old new) × DiskRose × (read_now ≡ read_before)
     × (write_now ≡ write_before)
-Ends IsText IsPart ReadToEnd Accepted DiskRose DiskSame Refused Audited capture read_before read_now sink written old new write_before write_now
+Ends IsText IsPart ReadToEnd Accepted DiskRose DiskSame AsBefore Refused Audited capture read_before read_now sink written old new write_before write_now
     NotFormatted =
     Refused opening.NotFormatted × ReadToEnd × (written ≡ sink) × (read_now ≡ read_before) × (write_now ≡ write_before)
-Ends IsText IsPart ReadToEnd Accepted DiskRose DiskSame Refused Audited capture read_before read_now sink written old new write_before write_now
+Ends IsText IsPart ReadToEnd Accepted DiskRose DiskSame AsBefore Refused Audited capture read_before read_now sink written old new write_before write_now
     (Damaged slot) =
     Refused (opening.Damaged slot) × ReadToEnd × (written ≡ sink) × (read_now ≡ read_before)
     × (write_now ≡ write_before)
-Ends IsText IsPart ReadToEnd Accepted DiskRose DiskSame Refused Audited capture read_before read_now sink written old new write_before write_now
+Ends IsText IsPart ReadToEnd Accepted DiskRose DiskSame AsBefore Refused Audited capture read_before read_now sink written old new write_before write_now
     (OtherSettings stored asked) =
     Refused (opening.OtherSettings stored asked) × ReadToEnd × (written ≡ sink) × (read_now ≡ read_before)
     × (write_now ≡ write_before)
-Ends IsText IsPart ReadToEnd Accepted DiskRose DiskSame Refused Audited capture read_before read_now sink written old new write_before write_now
+Ends IsText IsPart ReadToEnd Accepted DiskRose DiskSame AsBefore Refused Audited capture read_before read_now sink written old new write_before write_now
     (OtherCapture stored asked) =
     Refused (opening.OtherCapture stored asked) × ReadToEnd × (written ≡ sink) × (read_now ≡ read_before)
     × (write_now ≡ write_before)
-Ends IsText IsPart ReadToEnd Accepted DiskRose DiskSame Refused Audited capture read_before read_now sink written old new write_before write_now
+Ends IsText IsPart ReadToEnd Accepted DiskRose DiskSame AsBefore Refused Audited capture read_before read_now sink written old new write_before write_now
     (AuditNo report verdict) =
     ReadToEnd × Audited (AuditNo report verdict) × (read_now ≡ read_before) × (write_now ≡ write_before)
-Ends IsText IsPart ReadToEnd Accepted DiskRose DiskSame Refused Audited capture read_before read_now sink written old new write_before write_now
+Ends IsText IsPart ReadToEnd Accepted DiskRose DiskSame AsBefore Refused Audited capture read_before read_now sink written old new write_before write_now
     (BadReport fault) =
     Audited (BadReport fault) × (written ≡ sink) × DiskSame × (read_now ≡ read_before) × (write_now ≡ write_before)
-Ends IsText IsPart ReadToEnd Accepted DiskRose DiskSame Refused Audited capture read_before read_now sink written old new write_before write_now
+Ends IsText IsPart ReadToEnd Accepted DiskRose DiskSame AsBefore Refused Audited capture read_before read_now sink written old new write_before write_now
     OutOfMemory =
-    ((written ≡ sink) ⊎ (ReadToEnd × Writes IsPart old new)) × (read_now ≡ read_before)
+    (((written ≡ sink) × AsBefore) ⊎ (ReadToEnd × Writes IsPart old new)) × (read_now ≡ read_before)
     × (write_now ≡ write_before)

@@ -1,7 +1,7 @@
 -- What `report` does after its capture was read, step by step, which no public contract cites.
-use Rattle.std.specs.Prelude.{ℕ, ◌≡◌, ◌+◌, ◌≤◌, ◌⊎◌, true, List, ◌++◌, length, map, All, Option, IfSome, slice_index, is_some}
+use Rattle.std.specs.Prelude.{ℕ, ◌≡◌, ◌+◌, ◌≤◌, ◌⊎◌, true, List, [], ◌++◌, length, map, All, Option, IfSome}
+use Rattle.std.specs.Prelude.{slice_index, is_some}
 use Rattle.std.specs.Io.KnownBytes.{Appends}
-use Rattle.outside_io.specs.{IsBeginning}
 use Rattle.prefix_lattice.specs.{RecordValue}
 use Rattle.shard_state.specs.{AreNotPast, CutValue, HasShape, ShardValue, capacity_of, positions_of}
 use Rattle.hhh_output.specs.declared.reports.Reported.{Reported}
@@ -20,8 +20,8 @@ use Rattle.recovery.specs.declared.fault.OpenFault.TheVariants as opening
 use Rattle.command_words.specs.declared.settings.Settings.{Settings}
 use Rattle.hhh_engine.specs.Rounds.{DiskFailed, Faults, SinkFailed}
 use Rattle.hhh_engine.specs.Saves.{store_settings}
-use Rattle.hhh_engine.specs.Session.{AreDealtFrom, AreReportsOf, BeginsSession, GoesOnFrom, IsShown, Keeping}
-use Rattle.hhh_engine.specs.Session.{RepresentsWhere, Rules, SpellsSession, callers_text, ends_of, opening_of}
+use Rattle.hhh_engine.specs.Session.{AreDealtFrom, AreReportsOf, BeginsSession, BreaksOffInRounds, GoesOnFrom, IsShown, Keeping}
+use Rattle.hhh_engine.specs.Session.{RepresentsWhere, Rules, Saving, SpellsSession, callers_text, ends_of, opening_of}
 use Rattle.hhh_engine.specs.Session.{parts_text, saved_cuts, saved_text, start_of}
 use Rattle.hhh_engine.specs.Answer.{Writes}
 use Rattle.hhh_engine.specs.Status.{status_of_opening}
@@ -84,45 +84,47 @@ pub record WritesDealt (settings : Settings) (lists : List (List RecordValue)) (
   pub begins : GoesOnFrom settings lists store base
   pub represents : RepresentsWhere lists base (opening_of settings.capacity lists base)
   pub writes : Writes (SpellsSession (opening_of settings.capacity lists base) settings
-      (λ cuts. settings.store ≡ true → keeping (store_settings settings) lists cuts) tail) old new
+      (λ cuts. settings.store ≡ true → keeping (store_settings settings) lists cuts []) tail) old new
 
--- bytes of it were written
+-- bytes of it were written, before it broke off
 pub record WritesDealtInPart (settings : Settings) (lists : List (List RecordValue)) (tail : List ℕ)
-    (store old new : Option (List ℕ)) : Type 0 where
+    (keeping : Keeping) (store old new : Option (List ℕ)) : Type 0 where
   pub base : Option CutValue
   pub begins : GoesOnFrom settings lists store base
   pub represents : RepresentsWhere lists base (opening_of settings.capacity lists base)
-  pub writes : Writes (BeginsSession (opening_of settings.capacity lists base) settings tail) old new
+  pub writes : Writes (BeginsSession (opening_of settings.capacity lists base) settings
+      (λ saved begun. settings.store ≡ true → keeping (store_settings settings) lists saved begun) tail) old new
 
--- a store is refused for this fault over dealt lists
-pub record RefusesLists (settings : Settings) (lists : List (List RecordValue)) (store store_now : Option (List ℕ))
-    (fault : OpenFault) : Type 0 where
+-- a store is refused for this fault over dealt lists, and its disk is as before
+pub record RefusesLists (settings : Settings) (lists : List (List RecordValue)) (store : Option (List ℕ))
+    (AsBefore : Type 0) (fault : OpenFault) : Type 0 where
   pub used : settings.store ≡ true
-  pub reads : store_now ≡ store
+  pub as_before : AsBefore
   pub refused : IfKnown store (λ image. IsRefused (store_settings settings) lists image fault)
 
--- how a report over dealt lists ended
+-- how a report over dealt lists ended. AsBefore says that the disk is as before
 abbrev pub EndsDealt : {K : Type 0} → Settings → List (List RecordValue) → List ℕ → Keeping
-    → (store store_now : Option (List ℕ)) → (sink written : K) → (old new : Option (List ℕ)) → (before now : Faults)
-    → Status → Type 0
-EndsDealt settings lists tail keeping store store_now sink written old new before now Done =
+    → (store : Option (List ℕ)) → (AsBefore : Type 0) → (sink written : K) → (old new : Option (List ℕ))
+    → (before now : Faults) → Status → Type 0
+EndsDealt settings lists tail keeping store AsBefore sink written old new before now Done =
     WritesDealt settings lists tail keeping store old new × (now ≡ before)
-EndsDealt settings lists tail keeping store store_now sink written old new before now WriteFault =
-    WritesDealtInPart settings lists tail store old new × SinkFailed before now
-EndsDealt settings lists tail keeping store store_now sink written old new before now DiskFault =
-    ((written ≡ sink) ⊎ WritesDealtInPart settings lists tail store old new) × DiskFailed before now
-EndsDealt settings lists tail keeping store store_now sink written old new before now NotFormatted =
-    RefusesLists settings lists store store_now opening.NotFormatted × (written ≡ sink) × (now ≡ before)
-EndsDealt settings lists tail keeping store store_now sink written old new before now (Damaged slot) =
-    RefusesLists settings lists store store_now (opening.Damaged slot) × (written ≡ sink) × (now ≡ before)
-EndsDealt settings lists tail keeping store store_now sink written old new before now (OtherSettings stored asked) =
-    RefusesLists settings lists store store_now (opening.OtherSettings stored asked) × (written ≡ sink)
+EndsDealt settings lists tail keeping store AsBefore sink written old new before now WriteFault =
+    WritesDealtInPart settings lists tail keeping store old new × SinkFailed before now
+EndsDealt settings lists tail keeping store AsBefore sink written old new before now DiskFault =
+    (((written ≡ sink) × AsBefore) ⊎ WritesDealtInPart settings lists tail keeping store old new)
+    × DiskFailed before now
+EndsDealt settings lists tail keeping store AsBefore sink written old new before now NotFormatted =
+    RefusesLists settings lists store AsBefore opening.NotFormatted × (written ≡ sink) × (now ≡ before)
+EndsDealt settings lists tail keeping store AsBefore sink written old new before now (Damaged slot) =
+    RefusesLists settings lists store AsBefore (opening.Damaged slot) × (written ≡ sink) × (now ≡ before)
+EndsDealt settings lists tail keeping store AsBefore sink written old new before now (OtherSettings stored asked) =
+    RefusesLists settings lists store AsBefore (opening.OtherSettings stored asked) × (written ≡ sink)
     × (now ≡ before)
-EndsDealt settings lists tail keeping store store_now sink written old new before now (OtherCapture stored asked) =
-    RefusesLists settings lists store store_now (opening.OtherCapture stored asked) × (written ≡ sink) × (now ≡ before)
-EndsDealt settings lists tail keeping store store_now sink written old new before now OutOfMemory =
-    ((written ≡ sink) ⊎ WritesDealtInPart settings lists tail store old new) × (now ≡ before)
-EndsDealt settings lists tail keeping store store_now sink written old new before now _ = ⊥
+EndsDealt settings lists tail keeping store AsBefore sink written old new before now (OtherCapture stored asked) =
+    RefusesLists settings lists store AsBefore (opening.OtherCapture stored asked) × (written ≡ sink) × (now ≡ before)
+EndsDealt settings lists tail keeping store AsBefore sink written old new before now OutOfMemory =
+    (((written ≡ sink) × AsBefore) ⊎ WritesDealtInPart settings lists tail keeping store old new) × (now ≡ before)
+EndsDealt settings lists tail keeping store AsBefore sink written old new before now _ = ⊥
 
 -- shards on a board whose records are not counted further yet, its first pass, and a cut of its shape
 pub record IsOpened (shards : List ShardValue) (opened : Opened) : Type 0 where
@@ -178,13 +180,11 @@ pub record CanSaveCut (reads : Option (List ℕ)) (possible : List ℕ → Type 
   pub shape : HasShape saver.settings.shards saver.settings.capacity cut
   pub no_earlier : AreNotPast saver.positions (positions_of cut)
 
--- bytes of some rounds of the calling thread were written, the last of which may have been cut short
-pub record WritesRoundsInPart (opening : List ShardValue) (settings : Settings) (old new : Option (List ℕ)) : Type 0 where
-  pub rounds : List Reported
-  pub few : length rounds ≤ settings.rounds
-  pub are_rounds : AreReportsOf opening settings (length rounds) rounds
+-- bytes of the calling thread's rounds were written, before they broke off
+pub record WritesRoundsInPart (opening : List ShardValue) (settings : Settings) (Kept : Saving)
+    (old new : Option (List ℕ)) : Type 0 where
   pub front : List ℕ
-  pub begins : IsBeginning front (parts_text settings.store rounds)
+  pub breaks_off : BreaksOffInRounds opening settings Kept front
   pub written : Appends old new front
 
 -- how the session broke off with a fault: a sink's, a disk's, or want of memory, which leaves the counts as they were

@@ -8,7 +8,7 @@ use Rattle.hhh_output.specs.declared.report.Report.{Report}
 use Rattle.hhh_output.specs.declared.reports.Reported.{Reported}
 use Rattle.gate_workers.specs.{AreSound, Calls, ReadsOnce, View}
 use Rattle.report_text.specs.{report_text}
-use Rattle.hhh_engine.specs.Session.{part_text, parts_text, saved_cuts}
+use Rattle.hhh_engine.specs.Session.{Saving, after_saves_of, parts_text, saved_cuts, saved_text}
 use Rattle.hhh_engine.specs.declared.status.Status.{Status}
 use Rattle.hhh_engine.specs.declared.status.Status.TheVariants.{WriteFault, DiskFault, OutOfMemory}
 
@@ -27,24 +27,39 @@ pub record ReportsOnce (opening : List ShardValue) (phi : ℕ) (before now : Vie
   pub calls : Calls opening phi 1 before now (record { report = report; saved = None } ∷ [])
   pub sound : BasesRepresent opening → IsSound report (lists_of opening) (capacity_of opening) phi
 
--- a round in which the sink failed: it took a strict prefix of the report's text and the line of the saved positions
-pub record WritesRoundInPart (opening : List ShardValue) (phi : ℕ) (before now : View) (store : Bool)
+-- a round that was cut short in its report's text: nothing was saved. Kept says what became of its cut, if it has one to
+-- save: that it was saved, or that its save was not over
+pub record WritesReportInPart (opening : List ShardValue) (phi : ℕ) (before now : View) (Kept : Saving)
     (old new : Option (List ℕ)) : Type 0 where
   pub report : Report
   pub reports : ReportsOnce opening phi before now report
-  pub written : AppendsBeginning old new (part_text store (record { report = report; saved = None }))
+  pub written : AppendsBeginning old new (report_text report)
+  pub kept : Kept [] []
 
--- a round in which the cut wasn't saved: the report's text was written whole, and no more
-pub record WritesUnsaved (opening : List ShardValue) (phi : ℕ) (before now : View) (old new : Option (List ℕ))
-    : Type 0 where
+-- a round in which the save of the cut failed: the report's text was written whole, and no more
+pub record WritesUnsaved (opening : List ShardValue) (phi : ℕ) (before now : View) (Kept : Saving)
+    (old new : Option (List ℕ)) : Type 0 where
   pub report : Report
   pub reports : ReportsOnce opening phi before now report
   pub written : Appends old new (report_text report)
+  pub kept : Kept [] (saved_cuts true opening (record { report = report; saved = None } ∷ []))
 
--- a round in which memory ran out: each shard was read once, and nothing was written
-pub record ReadsInVain (opening : List ShardValue) (before now : View) (old new : Option (List ℕ)) : Type 0 where
+-- a round that was cut short in the line of the saved positions: the cut was saved
+pub record WritesLineInPart (opening : List ShardValue) (phi : ℕ) (before now : View) (store : Bool) (Kept : Saving)
+    (old new : Option (List ℕ)) : Type 0 where
+  pub report : Report
+  pub reports : ReportsOnce opening phi before now report
+  pub between : Option (List ℕ)
+  pub whole : Appends old between (report_text report)
+  pub written : AppendsBeginning between new (saved_text store report.positions)
+  pub kept : Kept (saved_cuts store opening (record { report = report; saved = None } ∷ [])) []
+
+-- a round in which memory ran out: each shard was read once, and nothing was written or saved
+pub record ReadsInVain (opening : List ShardValue) (before now : View) (Kept : Saving) (old new : Option (List ℕ))
+    : Type 0 where
   pub reads : ReadsOnce opening before now
   pub unwritten : new ≡ old
+  pub kept : Kept [] []
 
 -- counts of faults: of the sink, and of the disk
 pub record Faults : Type 0 where
@@ -63,32 +78,34 @@ pub record DiskFailed (before now : Faults) : Type 0 where
 
 -- how a round broke off: the sink or the disk failed, and its count of faults rose, or memory ran out, and the counts are
 -- as before
-abbrev pub BreaksRound : (opening : List ShardValue) (phi : ℕ) (before now : View) (store : Bool)
+abbrev pub BreaksRound : (opening : List ShardValue) (phi : ℕ) (before now : View) (store : Bool) (Kept : Saving)
     (old new : Option (List ℕ)) (faults_before faults_now : Faults) → Status → Type 0
-BreaksRound opening phi before now store old new faults_before faults_now WriteFault =
-    WritesRoundInPart opening phi before now store old new × SinkFailed faults_before faults_now
-BreaksRound opening phi before now store old new faults_before faults_now DiskFault =
-    (store ≡ true) × WritesUnsaved opening phi before now old new × DiskFailed faults_before faults_now
-BreaksRound opening phi before now store old new faults_before faults_now OutOfMemory =
-    (ReadsInVain opening before now old new ⊎ ((store ≡ true) × WritesUnsaved opening phi before now old new))
+BreaksRound opening phi before now store Kept old new faults_before faults_now WriteFault =
+    (WritesReportInPart opening phi before now Kept old new ⊎ WritesLineInPart opening phi before now store Kept old new)
+    × SinkFailed faults_before faults_now
+BreaksRound opening phi before now store Kept old new faults_before faults_now DiskFault =
+    (store ≡ true) × WritesUnsaved opening phi before now Kept old new × DiskFailed faults_before faults_now
+BreaksRound opening phi before now store Kept old new faults_before faults_now OutOfMemory =
+    (ReadsInVain opening before now Kept old new ⊎ ((store ≡ true) × WritesUnsaved opening phi before now Kept old new))
     × (faults_now ≡ faults_before)
-BreaksRound opening phi before now store old new faults_before faults_now _ = ⊥
+BreaksRound opening phi before now store Kept old new faults_before faults_now _ = ⊥
 
 -- the rounds broke off before all were made: some were made whole, and the next one broke off
-pub record BreakOff (opening : List ShardValue) (phi rounds : ℕ) (before now : View) (store : Bool)
+pub record BreakOff (opening : List ShardValue) (phi rounds : ℕ) (before now : View) (store : Bool) (Kept : Saving)
     (old new : Option (List ℕ)) (faults_before faults_now : Faults) (status : Status) : Type 0 where
   pub whole : ℕ
   pub few : whole < rounds
   pub middle : View
   pub between : Option (List ℕ)
   pub written : WritesRounds opening phi whole before middle store (λ cuts. ⊤) old between
-  pub broken : BreaksRound opening phi middle now store between new faults_before faults_now status
+  pub broken : BreaksRound opening phi middle now store (after_saves_of store opening written.reports Kept) between new
+      faults_before faults_now status
 
 -- how the rounds of the calling thread ended: all were made, or one broke off, and its fault is kept
 abbrev pub EndRounds : (opening : List ShardValue) (phi rounds : ℕ) (before now : View) (store : Bool)
-    (Kept : List CutValue → Type 0) (old new : Option (List ℕ)) (faults_before faults_now : Faults) → Option Status
-    → Type 0
-EndRounds opening phi rounds before now store Kept old new faults_before faults_now None =
+    (Kept : List CutValue → Type 0) (KeptInPart : Saving) (old new : Option (List ℕ))
+    (faults_before faults_now : Faults) → Option Status → Type 0
+EndRounds opening phi rounds before now store Kept KeptInPart old new faults_before faults_now None =
     WritesRounds opening phi rounds before now store Kept old new × (faults_now ≡ faults_before)
-EndRounds opening phi rounds before now store Kept old new faults_before faults_now (Some status) =
-    BreakOff opening phi rounds before now store old new faults_before faults_now status
+EndRounds opening phi rounds before now store Kept KeptInPart old new faults_before faults_now (Some status) =
+    BreakOff opening phi rounds before now store KeptInPart old new faults_before faults_now status

@@ -1,5 +1,5 @@
 -- The saves of a run into its store, and what a stop may leave of the store.
-use Rattle.std.specs.Prelude.{ℕ, suc, ◌≡◌, ◌+◌, ◌≤◌, ◌⊎◌, List, [], ◌∷◌, fold, length, map, slice_get}
+use Rattle.std.specs.Prelude.{ℕ, suc, ◌≡◌, ◌+◌, ◌≤◌, ◌⊎◌, List, [], ◌∷◌, ◌++◌, fold, length, map, slice_get}
 use Rattle.std.specs.Prelude.{Option, None, Some, IfSome, option_map, is_some, refl}
 use Rattle.std.proofs.Common.{arith}
 use Rattle.shard_state.specs.{AreNotPast, CutValue, ShardValue, capacity_of}
@@ -37,30 +37,34 @@ OpensAmong settings opened [] image = Opens settings image opened
 OpensAmong settings opened (saved ∷ later) image =
     Opens settings image opened ⊎ OpensAmong settings (Some saved) later image
 
--- saves of these cuts into a store with these bytes, one after the other: a crash at any moment leaves what it could have
--- left before (Earlier), or a sound store that opens as the store did, or to one of the cuts
-pub record LeavesSaves {D : Type 0} (moment : D → ℕ) (image_since : D → ℕ → List ℕ → Type 0) (settings : StoreSettings)
-    (digest : List ℕ) (Earlier : List ℕ → Type 0) (cuts : List CutValue) (old new : D) (store : List ℕ) : Type 0 where
-  pub opened : Option SavedValue
-  pub opens : Opens settings store opened
-  pub any_moment : Leaves moment image_since old new
-      (λ image. Earlier image ⊎ OpensAmong settings opened (saved_after (opened_sequence opened) digest cuts) image)
-
--- and a crash after them leaves a sound store that opens to the last of the cuts, or as before where there was none
+-- saves of the cuts `saved`, and one of `begun` that was not over, if any: a crash at any moment leaves what was possible
+-- before (Earlier), or a sound store that opens as before or to one of them; one after them, a store that opens to the
+-- last one saved or to `begun`
 pub record KeepsSaves {D : Type 0} (image_now : D → List ℕ → Type 0) (moment : D → ℕ)
     (image_since : D → ℕ → List ℕ → Type 0) (settings : StoreSettings) (digest : List ℕ) (Earlier : List ℕ → Type 0)
-    (cuts : List CutValue) (old new : D) (store : List ℕ) : Type 0 where
-  pub leaves : LeavesSaves moment image_since settings digest Earlier cuts old new store
-  pub at_last : (image : List ℕ) → image_now new image
-      → Opens settings image (last_saved leaves.opened (saved_after (opened_sequence leaves.opened) digest cuts))
+    (saved begun : List CutValue) (old new : D) (store : List ℕ) : Type 0 where
+  pub opened : Option SavedValue
+  pub opens : Opens settings store opened
+  pub any_moment : Leaves moment image_since old new (λ image. Earlier image
+      ⊎ OpensAmong settings opened (saved_after (opened_sequence opened) digest (saved ++ begun)) image)
+  pub afterwards : (image : List ℕ) → image_now new image
+      → OpensAmong settings (last_saved opened (saved_after (opened_sequence opened) digest saved))
+      (saved_after (opened_sequence opened + length saved) digest begun) image
 
--- what a run keeps of the store on its disk, where its bytes are known, for the store's settings, the dealt lists and the
--- cuts that were saved of them
+-- what a run keeps of the store on its disk, where its bytes are known, for the store's settings, the dealt lists, the cuts
+-- that were saved of them, and one whose save was not over, if any
 abbrev pub kept_in : {D : Type 0} → (D → Option (List ℕ)) → (D → List ℕ → Type 0) → (D → ℕ)
-    → (D → ℕ → List ℕ → Type 0) → (old new : D) → StoreSettings → List (List RecordValue) → List CutValue → Type 0
-kept_in reads image_now moment image_since old new settings lists cuts =
+    → (D → ℕ → List ℕ → Type 0) → (old new : D) → StoreSettings → List (List RecordValue)
+    → (saved begun : List CutValue) → Type 0
+kept_in reads image_now moment image_since old new settings lists saved begun =
     IfKnown (reads old)
-    (KeepsSaves image_now moment image_since settings (digest_of_lists settings lists) (image_now old) cuts old new)
+    (KeepsSaves image_now moment image_since settings (digest_of_lists settings lists) (image_now old) saved begun old new)
+
+-- the disk reads as before, and a crash at any moment leaves what it could have left before
+pub record IsAsBefore {D : Type 0} (reads : D → Option (List ℕ)) (image_now : D → List ℕ → Type 0) (moment : D → ℕ)
+    (image_since : D → ℕ → List ℕ → Type 0) (old new : D) : Type 0 where
+  pub same_reads : reads new ≡ reads old
+  pub any_moment : Leaves moment image_since old new (image_now old)
 
 -- a saver after saves of these cuts
 abbrev pub after_saves : SaverState → List CutValue → SaverState
@@ -72,7 +76,7 @@ pub record SavesCuts {D : Type 0} (reads : D → Option (List ℕ)) (image_now :
   pub known : is_some (reads new) ≡ is_some (reads old)
   pub stands : StandsFor (reads new) (image_now new) (after_saves saver cuts)
   pub kept : IfKnown (reads old)
-      (KeepsSaves image_now moment image_since saver.settings saver.digest (λ image. ⊥) cuts old new)
+      (KeepsSaves image_now moment image_since saver.settings saver.digest (λ image. ⊥) cuts [] old new)
 
 -- what a run with or without a saver did to the disk: the saver saved these cuts, or nothing was done
 abbrev pub Saves : {D : Type 0} → (D → Option (List ℕ)) → (D → List ℕ → Type 0) → (D → ℕ)
@@ -80,6 +84,15 @@ abbrev pub Saves : {D : Type 0} → (D → Option (List ℕ)) → (D → List �
 Saves reads image_now moment image_since None cuts old new = new ≡ old
 Saves reads image_now moment image_since (Some saver) cuts old new =
     SavesCuts reads image_now moment image_since saver cuts old new
+
+-- what a run that broke off, with or without a saver, did to the disk: the saver saved the cuts `saved`, and its save of
+-- `begun`, if any, was not over; or nothing was done
+pub record SavesInPart {D : Type 0} (reads : D → Option (List ℕ)) (image_now : D → List ℕ → Type 0) (moment : D → ℕ)
+    (image_since : D → ℕ → List ℕ → Type 0) (saver : Option SaverState) (old new : D) (saved begun : List CutValue)
+    : Type 0 where
+  pub unused : saver ≡ None → new ≡ old
+  pub kept : IfSome saver (λ saver. IfKnown (reads old)
+      (KeepsSaves image_now moment image_since saver.settings saver.digest (λ image. ⊥) saved begun old new))
 
 -- such saves, and this is the saver after them
 pub record SavesInTurn {D : Type 0} (reads : D → Option (List ℕ)) (image_now : D → List ℕ → Type 0) (moment : D → ℕ)

@@ -1,5 +1,5 @@
 -- The session that `report` writes: reports of the running feed, and a last one over all records of a capture.
-use Rattle.std.specs.Prelude.{⊤, ℕ, ◌≡◌, ◌+◌, ◌<◌, ◌≤◌, ◌⊎◌, Bool, true, false, List, [], ◌∷◌, ◌++◌, length, map, All}
+use Rattle.std.specs.Prelude.{ℕ, ◌≡◌, ◌+◌, ◌<◌, ◌≤◌, ◌⊎◌, Bool, true, false, List, [], ◌∷◌, ◌++◌, length, map, All}
 use Rattle.std.specs.Prelude.{Option, None, Some, IfSome, if◌then◌else◌, slice_index}
 use Rattle.std.specs.List.{flat_map}
 use Rattle.std.specs.List.Sorted.{IsNonDecreasing}
@@ -118,11 +118,16 @@ abbrev pub saved_cuts : Bool → List ShardValue → List Reported → List CutV
 saved_cuts store opening reports =
     if store then map (λ reported. cut_at opening reported.report.positions) reports else []
 
--- what the cuts of a session are saved as, in a store that opened to this before
-abbrev pub session_saves : Settings → List ShardValue → Option SavedValue → SessionReports → List SavedValue
+-- what the cuts of these reports are saved as, in a store that opened to this before
+abbrev pub session_saves : Settings → List ShardValue → Option SavedValue → List Reported → List SavedValue
 session_saves settings opening opened reports =
     saved_after (opened_sequence opened) (digest_of_lists (store_settings settings) (lists_of opening))
-    (saved_cuts true opening (calling_reports reports))
+    (saved_cuts true opening reports)
+
+-- the positions of the last of these reports, or those at the start where there is none
+abbrev pub last_positions : List ℕ → List Reported → List ℕ
+last_positions start [] = start
+last_positions start (reported ∷ later) = last_positions reported.report.positions later
 
 -- the line that follows a report of the calling thread: with a store, the positions of the cut that was saved
 abbrev pub saved_text : Bool → List ℕ → List ℕ
@@ -159,28 +164,77 @@ pub record SpellsSession (opening : List ShardValue) (settings : Settings) (Kept
   pub spelled : text ≡ session_text settings.store (start_of opening) reports tail
   pub kept : Kept (saved_cuts settings.store opening (calling_reports reports))
 
--- bytes with which a session begins that broke off among its rounds: whole reports, and a beginning of one more
-pub record BreaksOffInRounds (opening : List ShardValue) (settings : Settings) (front : List ℕ) : Type 0 where
+-- bytes with which a text begins, but not all of it
+abbrev pub IsStrictBeginning : List ℕ → List ℕ → Type 0
+IsStrictBeginning front text = IsBeginning front text × (length front < length text)
+
+-- what became of the cuts that a session saves: those that were saved, and one whose save was not over, if any
+abbrev pub Saving : Type 1
+Saving = (saved begun : List CutValue) → Type 0
+
+-- bytes of two texts that are written with a save between them, where that broke off: in the first text, and nothing was
+-- saved; in the save of the cut, if there is one; or in the second text, after the save
+abbrev pub BreaksOffAround : (before after : List ℕ) → (cut : List CutValue) → Saving → (front : List ℕ) → Type 0
+BreaksOffAround before after cut Kept front =
+    (IsStrictBeginning front before × Kept [] [])
+    ⊎ (((front ≡ before) × Kept [] cut)
+    ⊎ ((more : List ℕ) × IsStrictBeginning more after × (front ≡ before ++ more) × Kept cut []))
+
+-- what became of the cuts of a session whose first ones are those of these reports, and were saved
+abbrev pub after_saves_of : Bool → List ShardValue → List Reported → Saving → Saving
+after_saves_of store opening reports Kept saved begun = Kept (saved_cuts store opening reports ++ saved) begun
+
+-- bytes of rounds of the calling thread that broke off between two rounds, or after the last one
+pub record BreaksOffBetween (opening : List ShardValue) (settings : Settings) (Kept : Saving) (front : List ℕ)
+    : Type 0 where
   pub rounds : List Reported
   pub few : length rounds ≤ settings.rounds
   pub are_reports : AreReportsOf opening settings (length rounds) rounds
-  pub begins : IsBeginning front (mark_text Opened (start_of opening) ++ parts_text settings.store rounds)
+  pub written : front ≡ parts_text settings.store rounds
+  pub kept : Kept (saved_cuts settings.store opening rounds) []
 
--- bytes with which a session begins whose reports were all made: some of its bytes, but not all
-pub record BreaksOffLater (opening : List ShardValue) (settings : Settings) (tail front : List ℕ) : Type 0 where
-  pub text : List ℕ
-  pub is_session : SpellsSession opening settings (λ cuts. ⊤) tail text
-  pub begins : IsBeginning front text
-  pub cut : length front < length text
+-- bytes of rounds that broke off within one: those before it were whole
+pub record BreaksOffWithin (opening : List ShardValue) (settings : Settings) (Kept : Saving) (front : List ℕ)
+    : Type 0 where
+  pub rounds : List Reported
+  pub next : Reported
+  pub few : length rounds < settings.rounds
+  pub are_reports : AreReportsOf opening settings (length rounds + 1) (rounds ++ next ∷ [])
+  pub more : List ℕ
+  pub breaks_off : BreaksOffAround (report_text next.report) (saved_text settings.store next.report.positions)
+      (saved_cuts settings.store opening (next ∷ [])) (after_saves_of settings.store opening rounds Kept) more
+  pub written : front ≡ parts_text settings.store rounds ++ more
 
--- bytes with which a session that broke off begins
-abbrev pub BeginsSession : List ShardValue → Settings → List ℕ → List ℕ → Type 0
-BeginsSession opening settings tail front =
-    BreaksOffInRounds opening settings front ⊎ BreaksOffLater opening settings tail front
+-- bytes of rounds that broke off
+abbrev pub BreaksOffInRounds : List ShardValue → Settings → Saving → List ℕ → Type 0
+BreaksOffInRounds opening settings Kept front =
+    BreaksOffBetween opening settings Kept front ⊎ BreaksOffWithin opening settings Kept front
 
--- what a run does to the disk of its store: for the store's settings, the dealt lists and the cuts that were saved
+-- bytes with which a session begins that broke off after its rounds, all of whose reports were made
+pub record BreaksOffLater (opening : List ShardValue) (settings : Settings) (Kept : Saving) (tail front : List ℕ)
+    : Type 0 where
+  pub reports : SessionReports
+  pub are_reports : AreSessionReports opening settings reports
+  pub more : List ℕ
+  pub breaks_off : BreaksOffAround (callers_text reports.callers ++ report_text reports.last.report)
+      (saved_text settings.store reports.last.report.positions ++ tail)
+      (saved_cuts settings.store opening (reports.last ∷ []))
+      (after_saves_of settings.store opening reports.rounds Kept) more
+  pub written : front ≡ mark_text Opened (start_of opening) ++ (parts_text settings.store reports.rounds ++ more)
+
+-- bytes with which a session begins that broke off: in its first line, when nothing was saved yet; in its rounds; or later.
+-- Kept says what became of the cuts that it saves
+abbrev pub BeginsSession : List ShardValue → Settings → Saving → (tail front : List ℕ) → Type 0
+BeginsSession opening settings Kept tail front =
+    (IsStrictBeginning front (mark_text Opened (start_of opening)) × Kept [] [])
+    ⊎ (((more : List ℕ) × BreaksOffInRounds opening settings Kept more
+    × (front ≡ mark_text Opened (start_of opening) ++ more))
+    ⊎ BreaksOffLater opening settings Kept tail front)
+
+-- what a run does to the disk of its store: for the store's settings, the dealt lists, the cuts that were saved, and one
+-- whose save was not over, if any
 abbrev pub Keeping : Type 1
-Keeping = StoreSettings → List (List RecordValue) → List CutValue → Type 0
+Keeping = StoreSettings → List (List RecordValue) → Saving
 
 -- the cut that a run goes on from represents its lists, so that each report is sound: where the cut was saved of them, or
 -- where there is none
@@ -198,15 +252,17 @@ pub record IsSession (settings : Settings) (rules : Rules) (keeping : Keeping) (
   pub begins : GoesOnFrom settings lists store base
   pub represents : RepresentsWhere lists base (opening_of settings.capacity lists base)
   pub spelled : SpellsSession (opening_of settings.capacity lists base) settings
-      (λ cuts. settings.store ≡ true → keeping (store_settings settings) lists cuts) (tail_text records) text
+      (λ cuts. settings.store ≡ true → keeping (store_settings settings) lists cuts []) (tail_text records) text
 
--- the bytes that were written of a session over a capture that broke off
-pub record IsSessionInPart (settings : Settings) (rules : Rules) (store : Option (List ℕ)) (file front : List ℕ)
-    : Type 0 where
+-- the bytes that were written of a session over a capture that broke off. With a store, each cut of the calling thread
+-- whose save was over is saved
+pub record IsSessionInPart (settings : Settings) (rules : Rules) (keeping : Keeping) (store : Option (List ℕ))
+    (file front : List ℕ) : Type 0 where
   pub records : Records
   pub lists : List (List RecordValue)
   pub dealt : AreDealtFrom settings rules file records lists
   pub base : Option CutValue
   pub begins : GoesOnFrom settings lists store base
   pub represents : RepresentsWhere lists base (opening_of settings.capacity lists base)
-  pub begun : BeginsSession (opening_of settings.capacity lists base) settings (tail_text records) front
+  pub begun : BeginsSession (opening_of settings.capacity lists base) settings
+      (λ saved begun. settings.store ≡ true → keeping (store_settings settings) lists saved begun) (tail_text records) front

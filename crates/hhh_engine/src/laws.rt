@@ -1,6 +1,6 @@
 //! Laws of what commands write, each the contract of a function that does nothing.
 
-ghost use Rattle.std.specs.Prelude.{◌≡◌, ℕ, ◌+◌, ◌++◌, ◌≤◌, List, length, All, Option, IfSome, IsSomeAnd};
+ghost use Rattle.std.specs.Prelude.{◌≡◌, ℕ, ◌+◌, ◌++◌, ◌≤◌, true, List, length, All, Option, IfSome, IsSomeAnd};
 ghost use Rattle.prefix_lattice.specs.{RecordValue};
 ghost use Rattle.deal_rules.specs.{dealer_of};
 ghost use Rattle.deal_rules.specs.declared.deal_kind.DealKind.{DealKind};
@@ -17,10 +17,11 @@ ghost use Rattle.exact_audit.specs.declared.verdict.Verdict.TheVariants.{Good};
 ghost use Rattle.command_words.specs.declared.settings.Settings.{Settings};
 ghost use Rattle.report_text.specs.{mark_text, report_text};
 ghost use Rattle.report_text.specs.declared.mark.Mark.TheVariants.{Opened};
-ghost use Rattle.shard_state.specs.{AreShards, BasesRepresent, CutRepresents, ShardValue, capacity_of, lists_of, positions_of};
-ghost use Rattle.checkpoint.specs.{Belongs, IsOfLists, SavedValue, opened_sequence};
-ghost use Rattle.hhh_engine.specs.Session.{AreSessionReports, IsSession, SessionReports, by_formula, ends_of, new_shards, part_text, reports_in, session_saves, session_text, start_of};
-ghost use Rattle.hhh_engine.specs.Saves.{OpensAmong, kept_in, last_saved, store_settings};
+ghost use Rattle.hhh_output.specs.declared.reports.Reported.{Reported};
+ghost use Rattle.shard_state.specs.{AreNotPast, AreShards, BasesRepresent, CutRepresents, ShardValue, capacity_of, lists_of, positions_of};
+ghost use Rattle.checkpoint.specs.{Belongs, IsOfLists, Opens, SavedValue, digest_of_lists, opened_positions, opened_sequence};
+ghost use Rattle.hhh_engine.specs.Session.{AreReportsOf, AreSessionReports, IsSession, IsShown, SessionReports, by_formula, calling_reports, ends_of, last_positions, new_shards, part_text, reports_in, saved_cuts, session_saves, session_text, start_of};
+ghost use Rattle.hhh_engine.specs.Saves.{OpensAmong, kept_in, last_saved, saved_after, store_settings};
 
 use deal_rules::{Dealer, Dealers, Deals, a_formula_deals_in_one_way};
 use exact_audit::a_report_has_one_verdict;
@@ -39,11 +40,12 @@ pub fn answers_follow_formulas<D: Disk>(dealers: &Dealers)
         → Answers (λ kind. ⟦<Dealer as Deals>⟧.may_answer (dealer_of kind dealers.now))
         (kept_in D.reads D.image_now D.moment D.image_since before now) words read old new
         → Answers (by_formula formula) (kept_in D.reads D.image_now D.moment D.image_since before now) words read old new }
-    ensures part { (formula : DealKind → ℕ → RecordValue → ℕ → ℕ) (words : List (List ℕ)) (read : InputBytes) (old new : Option (List ℕ))
+    ensures part { (formula : DealKind → ℕ → RecordValue → ℕ → ℕ) (before now : D) (words : List (List ℕ)) (read : InputBytes) (old new : Option (List ℕ))
         → ((kind : DealKind) (place : ℕ) (rec : RecordValue) (shards number : ℕ)
         → ⟦<Dealer as Deals>⟧.may_answer (dealer_of kind dealers.now) place rec shards number → number ≡ formula kind place rec shards)
-        → AnswersInPart (λ kind. ⟦<Dealer as Deals>⟧.may_answer (dealer_of kind dealers.now)) words read old new
-        → AnswersInPart (by_formula formula) words read old new }
+        → AnswersInPart (λ kind. ⟦<Dealer as Deals>⟧.may_answer (dealer_of kind dealers.now))
+        (kept_in D.reads D.image_now D.moment D.image_since before now) words read old new
+        → AnswersInPart (by_formula formula) (kept_in D.reads D.image_now D.moment D.image_since before now) words read old new }
     ensures found { (formula : DealKind → ℕ → RecordValue → ℕ → ℕ) (words : List (List ℕ)) (read : InputBytes) (report : ℕ) (verdict : Verdict)
         (old new : Option (List ℕ))
         → ((kind : DealKind) (place : ℕ) (rec : RecordValue) (shards number : ℕ)
@@ -86,11 +88,11 @@ pub fn resumed_sessions_end_alike()
     same_reports_have_one_text();
 }
 
-/// What the saves of a session may leave of a store belongs to the dealt lists, if the store did before and the shards
-/// began with tables of their records.
+/// What the saves of reports, whether a session was whole or broke off, may leave of a store belongs to the dealt lists, if
+/// the store did before and the shards began with tables of their records.
 pub fn saves_belong()
-    ensures { (opening : List ShardValue) (settings : Settings) (reports : SessionReports) (opened : Option SavedValue) (image : List ℕ)
-        → AreShards opening → BasesRepresent opening → AreSessionReports opening settings reports
+    ensures { (opening : List ShardValue) (settings : Settings) (reports : List Reported) (opened : Option SavedValue) (image : List ℕ)
+        → AreShards opening → BasesRepresent opening → All (IsShown opening settings) reports
         → IsOfLists (store_settings settings) (lists_of opening) opened
         → OpensAmong (store_settings settings) opened (session_saves settings opening opened reports) image
         → Belongs (store_settings settings) (lists_of opening) image }
@@ -103,8 +105,23 @@ pub fn saves_belong()
 pub fn last_saves_are_at_the_ends()
     ensures { (opening : List ShardValue) (settings : Settings) (reports : SessionReports) (opened : Option SavedValue)
         → AreSessionReports opening settings reports
-        → IsSomeAnd (last_saved opened (session_saves settings opening opened reports)) (λ saved.
+        → IsSomeAnd (last_saved opened (session_saves settings opening opened (calling_reports reports))) (λ saved.
         (positions_of saved.cut ≡ ends_of opening) × (saved.sequence ≡ opened_sequence opened + (settings.rounds + 1))) }
+{}
+
+/// After a session that broke off, whatever a crash leaves of its store opens to no earlier positions than those of the last
+/// report that was saved, or than those at the start where none was; and its sequence has risen by one at least for each
+/// report that was saved.
+pub fn stops_lose_no_save()
+    ensures { (opening : List ShardValue) (settings : Settings) (rounds begun : List Reported) (opened : Option SavedValue) (image : List ℕ)
+        → AreReportsOf opening settings (length (rounds ++ begun)) (rounds ++ begun)
+        → opened_positions (store_settings settings) opened ≡ start_of opening
+        → OpensAmong (store_settings settings) (last_saved opened (session_saves settings opening opened rounds))
+        (saved_after (opened_sequence opened + length (saved_cuts true opening rounds))
+        (digest_of_lists (store_settings settings) (lists_of opening)) (saved_cuts true opening begun)) image
+        → (found : Option SavedValue) × Opens (store_settings settings) image found
+        × (opened_sequence opened + length rounds ≤ opened_sequence found)
+        × AreNotPast (last_positions (start_of opening) rounds) (opened_positions (store_settings settings) found) }
 {}
 
 /// An audit of a session's reports over the dealt records finds each of them good, for the capacity and the share of the

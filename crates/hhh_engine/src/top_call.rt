@@ -20,10 +20,10 @@ ghost use Rattle.command_words.specs.declared.command.Command.TheVariants.{Repor
 ghost use Rattle.command_words.specs.declared.settings.Settings.{Settings};
 ghost use Rattle.command_words.specs.declared.words_kind.WordsKind.{WordsKind};
 ghost use Rattle.hhh_engine.specs.Answer.{Answers, AnswersInPart, IsAnswer, IsAnswerInPart};
-ghost use Rattle.hhh_engine.specs.Ending.{Ends, FailedDisk, FailedToRead, FailedToWrite, FindsFor, FormatEnds, FoundUnsound, IsUntouched, OfDisk, OneRose, RefusedCapture, RefusedStore, RefusedText, RefusedWords, RefusesFor, StopsInOrder, WasAnswered, WroteInPart, source_faults};
+ghost use Rattle.hhh_engine.specs.Ending.{Ends, FailedDisk, FailedToRead, FailedToWrite, FindsFor, FormatEnds, FoundUnsound, IsUntouched, OfDisk, OneRose, RefusedCapture, RefusedStore, RefusedText, RefusedWords, RefusesFor, StopsInOrder, UnlessFormat, WasAnswered, WroteInPart, source_faults};
 ghost use Rattle.hhh_engine.specs.Audit.{AreAudited, IsFirstUnsound};
 ghost use Rattle.hhh_engine.specs.Inputs.{AskNotToUse, AskToUse, CanBeAnswered, ReadsCapture, ReadsSession, UsesStore, WasAccepted, WasRead, inputs};
-ghost use Rattle.hhh_engine.specs.Saves.{kept_in, store_settings};
+ghost use Rattle.hhh_engine.specs.Saves.{IsAsBefore, kept_in, store_settings};
 ghost use Rattle.hhh_engine.specs.Session.{AreDealtFrom};
 ghost use Rattle.hhh_engine.specs.Status.{status_of_opening};
 ghost use Rattle.hhh_engine.specs.declared.status.Status.TheVariants.{Done, BadWords, BadCapture, ReadFault, WriteFault, DiskFault, AuditNo, BadReport, OutOfMemory};
@@ -105,7 +105,7 @@ pub fn run<R: Threads + Wait + Sync, S: Source, T: Source, K: Sink, D: Disk, G: 
     // memory runs out first.
     ensures refused_store { (fault : OpenFault) → IsShown fault → result ≡ status_of_opening fault
         → RefusedStore (λ kind. ⟦<Dealer as Deals>⟧.may_answer (dealer_of kind dealers.now)) (texts words.now) (inputs (S.left capture.old) (S.left capture.new) (T.left text.old) (T.left text.new) (D.reads disk.old))
-        fault sink.old sink.new (D.reads disk.new) }
+        fault sink.old sink.new (IsAsBefore D.reads D.image_now D.moment D.image_since disk.old disk.new) }
     ensures refuses_store { (settings : Settings) (file image : List ℕ) (frames : List FrameValue) (fault : OpenFault)
         → AskFor (texts words.now) (Report settings) → settings.store ≡ true → S.left capture.old ≡ Some file → HasFrames file frames
         → D.reads disk.old ≡ Some image → IsShown fault
@@ -142,11 +142,14 @@ pub fn run<R: Threads + Wait + Sync, S: Source, T: Source, K: Sink, D: Disk, G: 
         (inputs (S.left capture.old) (S.left capture.new) (T.left text.old) (T.left text.new) (D.reads disk.old)) (source_faults (S.faults capture.old) (T.faults text.old))
         (source_faults (S.faults capture.new) (T.faults text.new)) text.old text.new sink.old sink.new disk.old disk.new }
     ensures read_fault_told { (result ≡ ReadFault → ⊥) → source_faults (S.faults capture.new) (T.faults text.new) ≡ source_faults (S.faults capture.old) (T.faults text.old) }
-    ensures write_fault { result ≡ WriteFault → FailedToWrite (λ kind. ⟦<Dealer as Deals>⟧.may_answer (dealer_of kind dealers.now)) (texts words.now)
+    ensures write_fault { result ≡ WriteFault → FailedToWrite (λ kind. ⟦<Dealer as Deals>⟧.may_answer (dealer_of kind dealers.now))
+        (kept_in D.reads D.image_now D.moment D.image_since disk.old disk.new) (texts words.now)
         (inputs (S.left capture.old) (S.left capture.new) (T.left text.old) (T.left text.new) (D.reads disk.old)) (K.taken sink.old) (K.taken sink.new) (K.faults sink.old) (K.faults sink.new) }
     ensures write_fault_told { (result ≡ WriteFault → ⊥) → K.faults sink.new ≡ K.faults sink.old }
-    ensures disk_fault { result ≡ DiskFault → FailedDisk (λ kind. ⟦<Dealer as Deals>⟧.may_answer (dealer_of kind dealers.now)) (texts words.now)
-        (inputs (S.left capture.old) (S.left capture.new) (T.left text.old) (T.left text.new) (D.reads disk.old)) sink.old sink.new (K.taken sink.old) (K.taken sink.new)
+    ensures disk_fault { result ≡ DiskFault → FailedDisk (λ kind. ⟦<Dealer as Deals>⟧.may_answer (dealer_of kind dealers.now))
+        (kept_in D.reads D.image_now D.moment D.image_since disk.old disk.new) (texts words.now)
+        (inputs (S.left capture.old) (S.left capture.new) (T.left text.old) (T.left text.new) (D.reads disk.old))
+        (IsAsBefore D.reads D.image_now D.moment D.image_since disk.old disk.new) sink.old sink.new (K.taken sink.old) (K.taken sink.new)
         (D.faults disk.old) (D.faults disk.new) }
     ensures disk_fault_told { (result ≡ DiskFault → ⊥) → D.faults disk.new ≡ D.faults disk.old }
 
@@ -158,9 +161,11 @@ pub fn run<R: Threads + Wait + Sync, S: Source, T: Source, K: Sink, D: Disk, G: 
     ensures unused_capture { AskNotToUse ReadsCapture (texts words.now) → capture.new ≡ capture.old }
     ensures unused_text { AskNotToUse ReadsSession (texts words.now) → text.new ≡ text.old }
 
-    // Memory may run out at any time: nothing was written then, or a part of the text.
-    ensures out_of_memory { result ≡ OutOfMemory → WroteInPart (λ kind. ⟦<Dealer as Deals>⟧.may_answer (dealer_of kind dealers.now)) (texts words.now)
-        (inputs (S.left capture.old) (S.left capture.new) (T.left text.old) (T.left text.new) (D.reads disk.old)) sink.old sink.new (K.taken sink.old) (K.taken sink.new) }
+    // Memory may run out at any time: a part of the text was written then, or nothing, and the disk is as before.
+    ensures out_of_memory { result ≡ OutOfMemory → WroteInPart (λ kind. ⟦<Dealer as Deals>⟧.may_answer (dealer_of kind dealers.now))
+        (kept_in D.reads D.image_now D.moment D.image_since disk.old disk.new) (texts words.now)
+        (inputs (S.left capture.old) (S.left capture.new) (T.left text.old) (T.left text.new) (D.reads disk.old))
+        (IsAsBefore D.reads D.image_now D.moment D.image_since disk.old disk.new) sink.old sink.new (K.taken sink.old) (K.taken sink.new) }
 
     // With arguments that ask for a command, inputs in their formats and no fault of source, sink or disk, the command is
     // answered unless memory runs out.
@@ -199,11 +204,14 @@ fn answer<R: Threads + Wait + Sync, S: Source, T: Source, K: Sink, D: Disk, G: G
     requires { IsLimited command.now }
     ensures ends { Ends (IsAnswer (λ kind. ⟦<Dealer as Deals>⟧.may_answer (dealer_of kind dealers.now)) (kept_in D.reads D.image_now D.moment D.image_since disk.old disk.new)
         command.now (inputs (S.left capture.old) (S.left capture.new) (T.left text.old) (T.left text.new) (D.reads disk.old)))
-        (IsAnswerInPart (λ kind. ⟦<Dealer as Deals>⟧.may_answer (dealer_of kind dealers.now)) command.now (inputs (S.left capture.old) (S.left capture.new) (T.left text.old) (T.left text.new) (D.reads disk.old)))
+        (IsAnswerInPart (λ kind. ⟦<Dealer as Deals>⟧.may_answer (dealer_of kind dealers.now)) (kept_in D.reads D.image_now D.moment D.image_since disk.old disk.new)
+        command.now (inputs (S.left capture.old) (S.left capture.new) (T.left text.old) (T.left text.new) (D.reads disk.old)))
         (WasRead command.now (inputs (S.left capture.old) (S.left capture.new) (T.left text.old) (T.left text.new) (D.reads disk.old)))
         (WasAccepted command.now (inputs (S.left capture.old) (S.left capture.new) (T.left text.old) (T.left text.new) (D.reads disk.old)))
         (OfDisk command.now (Rose (D.faults disk.old) (D.faults disk.new))) (disk.new ≡ disk.old)
-        (RefusesFor command.now (λ kind. ⟦<Dealer as Deals>⟧.may_answer (dealer_of kind dealers.now)) (inputs (S.left capture.old) (S.left capture.new) (T.left text.old) (T.left text.new) (D.reads disk.old)) (D.reads disk.new))
+        (UnlessFormat command.now (IsAsBefore D.reads D.image_now D.moment D.image_since disk.old disk.new))
+        (RefusesFor command.now (λ kind. ⟦<Dealer as Deals>⟧.may_answer (dealer_of kind dealers.now)) (inputs (S.left capture.old) (S.left capture.new) (T.left text.old) (T.left text.new) (D.reads disk.old))
+        (IsAsBefore D.reads D.image_now D.moment D.image_since disk.old disk.new))
         (FindsFor command.now (λ kind. ⟦<Dealer as Deals>⟧.may_answer (dealer_of kind dealers.now))
         (inputs (S.left capture.old) (S.left capture.new) (T.left text.old) (T.left text.new) (D.reads disk.old)) (K.taken sink.old) (K.taken sink.new))
         (S.left capture.old) (source_faults (S.faults capture.old) (T.faults text.old)) (source_faults (S.faults capture.new) (T.faults text.new))

@@ -64,7 +64,7 @@ pub(crate) fn audit<S: Source, T: Source, K: Sink>(
         (λ file session. IsSoundSession settings.now (λ kind. ⟦<Dealer as Deals>⟧.may_answer (dealer_of kind dealers.now)) file session answer))
         (λ front. OfAudited (inputs (S.left capture.old) (S.left capture.new) (T.left text.old) (T.left text.new) store)
         (λ file session. IsCutShort (IsAuditText settings.now (λ kind. ⟦<Dealer as Deals>⟧.may_answer (dealer_of kind dealers.now)) file session) front))
-        (IsAtEnd (S.left capture.new) × IsAtEnd (T.left text.new)) (IfSome (S.left capture.old) IsCapture) ⊥ ⊤ (λ fault. ⊥)
+        (IsAtEnd (S.left capture.new) × IsAtEnd (T.left text.new)) (IfSome (S.left capture.old) IsCapture) ⊥ ⊤ ⊤ (λ fault. ⊥)
         (AuditFinds settings.now (λ kind. ⟦<Dealer as Deals>⟧.may_answer (dealer_of kind dealers.now))
         (inputs (S.left capture.old) (S.left capture.new) (T.left text.old) (T.left text.new) store) (K.taken sink.old) (K.taken sink.new))
         (S.left capture.old) (source_faults (S.faults capture.old) (T.faults text.old)) (source_faults (S.faults capture.new) (T.faults text.new))

@@ -57,7 +57,7 @@ pub(crate) fn demo<R: Threads + Wait + Sync, K: Sink, G: Gate + Sync>(
     ensures ends { (capture : Option (List ℕ)) (faults : SourceFaults) → Ends
         (IsDemoText settings.now (λ kind. ⟦<Dealer as Deals>⟧.may_answer (dealer_of kind dealers.now)) seed frames)
         (IsCutShort (IsDemoText settings.now (λ kind. ⟦<Dealer as Deals>⟧.may_answer (dealer_of kind dealers.now)) seed frames))
-        ⊤ ⊤ ⊥ ⊤ (λ fault. ⊥) (λ status. ⊥) capture faults faults
+        ⊤ ⊤ ⊥ ⊤ ⊤ (λ fault. ⊥) (λ status. ⊥) capture faults faults
         sink.old sink.new (K.taken sink.old) (K.taken sink.new) (K.faults sink.old) (K.faults sink.new) result }
     ensures no_capture { (fault : CaptureFault) → result ≡ BadCapture fault → ⊥ }
     ensures no_read_fault { result ≡ ReadFault → ⊥ }

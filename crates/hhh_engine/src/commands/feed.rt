@@ -5,7 +5,7 @@ ghost use Rattle.shard_state.specs.{HasShape, capacity_of};
 ghost use Rattle.pass_tokens.specs.{IsPassOf, first_view, view};
 ghost use Rattle.command_words.specs.{AreLimited, IsWide};
 ghost use Rattle.hhh_engine.specs.Feed.{IsFault, IsFed, IsGathered, WritesRoundsInPart};
-ghost use Rattle.hhh_engine.specs.Saves.{CanSave, SavesInTurn};
+ghost use Rattle.hhh_engine.specs.Saves.{CanSave, SavesInPart, SavesInTurn};
 
 use crate::commands::LiveRounds;
 use crate::{Settings, Status};
@@ -54,7 +54,8 @@ pub(crate) fn feed<'a, R: Threads + Wait + Sync, K: Sink, D: Disk, G: Gate + Syn
     ensures fed { IfOk result (IsFed board.now settings.now
         (SavesInTurn D.reads D.image_now D.moment D.image_since saver.old saver.new disk.old disk.new) (K.taken sink.old) (K.taken sink.new)) }
     ensures faults { OnOk result ((K.faults sink.new ≡ K.faults sink.old) × (D.faults disk.new ≡ D.faults disk.old)) }
-    ensures part { OnErr result (WritesRoundsInPart board.now.opening settings.now (K.taken sink.old) (K.taken sink.new)) }
+    ensures part { OnErr result (WritesRoundsInPart board.now.opening settings.now
+        (SavesInPart D.reads D.image_now D.moment D.image_since saver.old disk.old disk.new) (K.taken sink.old) (K.taken sink.new)) }
     ensures fault { IfErr result (IsFault (record { sink = K.faults sink.old; disk = D.faults disk.old })
         (record { sink = K.faults sink.new; disk = D.faults disk.new })) }
     ensures unused { saver.old ≡ None → (saver.new ≡ None) × (disk.new ≡ disk.old) }
@@ -108,7 +109,9 @@ fn run_feed<R: Threads + Wait + Sync, K: Sink, D: Disk, G: Gate + Sync>(
         (K.taken rounds.old.sink.now) (K.taken rounds.new.sink.now)) }
     ensures faults { OnOk result ((K.faults rounds.new.sink.now ≡ K.faults rounds.old.sink.now)
         × (D.faults rounds.new.disk.now ≡ D.faults rounds.old.disk.now)) }
-    ensures part { OnErr result (WritesRoundsInPart board.now.opening settings.now (K.taken rounds.old.sink.now) (K.taken rounds.new.sink.now)) }
+    ensures part { OnErr result (WritesRoundsInPart board.now.opening settings.now
+        (SavesInPart D.reads D.image_now D.moment D.image_since rounds.old.saver.now rounds.old.disk.now rounds.new.disk.now)
+        (K.taken rounds.old.sink.now) (K.taken rounds.new.sink.now)) }
     ensures fault { IfErr result (IsFault (record { sink = K.faults rounds.old.sink.now; disk = D.faults rounds.old.disk.now })
         (record { sink = K.faults rounds.new.sink.now; disk = D.faults rounds.new.disk.now })) }
     ensures unused { rounds.old.saver.now ≡ None → (rounds.new.saver.now ≡ None) × (rounds.new.disk.now ≡ rounds.old.disk.now) }

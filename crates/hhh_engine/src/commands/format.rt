@@ -20,7 +20,7 @@ use slot_disk::Disk;
 pub(crate) fn format<K: Sink, D: Disk>(settings: &Settings, sink: &mut K, disk: &mut D) -> Status
     requires { AreLimited settings.now }
     ensures ends { (capture : Option (List ℕ)) (faults : SourceFaults) → Ends (λ text. text ≡ formatted_text) (IsCutShort (λ text. text ≡ formatted_text)) ⊤ ⊤
-        (Rose (D.faults disk.old) (D.faults disk.new)) (disk.new ≡ disk.old) (λ fault. ⊥) (λ status. ⊥) capture faults faults
+        (Rose (D.faults disk.old) (D.faults disk.new)) (disk.new ≡ disk.old) ⊤ (λ fault. ⊥) (λ status. ⊥) capture faults faults
         sink.old sink.new (K.taken sink.old) (K.taken sink.new) (K.faults sink.old) (K.faults sink.new) result }
     ensures store { FormatEnds (store_settings settings.now) (D.reads disk.new) (D.image_now disk.new)
         sink.old sink.new disk.old disk.new result }

@@ -5,7 +5,7 @@ ghost use Rattle.shard_state.specs.{HasShape, capacity_of};
 ghost use Rattle.hhh_output.specs.{IsWideShare, million};
 ghost use Rattle.pass_tokens.specs.{IsPassOf, view};
 ghost use Rattle.hhh_engine.specs.Rounds.{BreaksRound, EndRounds, WritesRounds};
-ghost use Rattle.hhh_engine.specs.Saves.{CanSave, FitsBoard, SavesInTurn};
+ghost use Rattle.hhh_engine.specs.Saves.{CanSave, FitsBoard, SavesInPart, SavesInTurn};
 
 use crate::Status;
 use crate::commands::saving::{save_cut, saved_line};
@@ -50,7 +50,7 @@ impl<K: Sink, D: Disk, G: Gate> Rounds for LiveRounds<'_, K, D, G> {
     ghost use Rattle.shard_state.specs.{HasShape, capacity_of};
     ghost use Rattle.hhh_output.specs.{IsWideShare, million};
     ghost use Rattle.hhh_engine.specs.Rounds.{EndRounds};
-    ghost use Rattle.hhh_engine.specs.Saves.{CanSave, CanSave-later, SavesInTurn};
+    ghost use Rattle.hhh_engine.specs.Saves.{CanSave, CanSave-later, SavesInPart, SavesInTurn};
 
     ghost ready = { λ rounds board view. HasShape (length board.opening) (capacity_of board.opening) rounds.cut.now
         × (1 ≤ rounds.phi) × (rounds.phi ≤ million) × IsWideShare rounds.phi (capacity_of board.opening)
@@ -74,6 +74,7 @@ impl<K: Sink, D: Disk, G: Gate> Rounds for LiveRounds<'_, K, D, G> {
         × HasShape (length view.opening) (capacity_of view.opening) after.cut.now
         × EndRounds view.opening before.phi before.rounds view later (is_some before.saver.now)
         (SavesInTurn D.reads D.image_now D.moment D.image_since before.saver.now after.saver.now before.disk.now after.disk.now)
+        (SavesInPart D.reads D.image_now D.moment D.image_since before.saver.now before.disk.now after.disk.now)
         (K.taken before.sink.now) (K.taken after.sink.now)
         (record { sink = K.faults before.sink.now; disk = D.faults before.disk.now })
         (record { sink = K.faults after.sink.now; disk = D.faults after.disk.now }) after.stop
@@ -130,7 +131,8 @@ fn make_round<R: Wait, K: Sink, D: Disk, G: Gate>(
         (SavesInTurn D.reads D.image_now D.moment D.image_since saver.old saver.new disk.old disk.new) (K.taken sink.old) (K.taken sink.new)) }
     ensures fits { OnOk result (IfSome saver.new (FitsBoard board.now.opening (view pass.new))) }
     ensures faults { OnOk result ((K.faults sink.new ≡ K.faults sink.old) × (D.faults disk.new ≡ D.faults disk.old)) }
-    ensures broken { IfErr result (BreaksRound board.now.opening phi (view pass.old) (view pass.new) (is_some saver.old) (K.taken sink.old) (K.taken sink.new)
+    ensures broken { IfErr result (BreaksRound board.now.opening phi (view pass.old) (view pass.new) (is_some saver.old)
+        (SavesInPart D.reads D.image_now D.moment D.image_since saver.old disk.old disk.new) (K.taken sink.old) (K.taken sink.new)
         (record { sink = K.faults sink.old; disk = D.faults disk.old }) (record { sink = K.faults sink.new; disk = D.faults disk.new })) }
     ensures unused { saver.old ≡ None → (saver.new ≡ None) × (disk.new ≡ disk.old) }
     ensures shape { HasShape (length board.now.opening) (capacity_of board.now.opening) cut.new }

@@ -14,7 +14,7 @@ use outside_io::Sink;
 pub(crate) fn make<K: Sink>(seed: u64, frames: u32, sink: &mut K) -> Status
     requires { (1 ≤ frames) × (frames ≤ most_made) }
     ensures ends { (capture : Option (List ℕ)) (faults : SourceFaults) → Ends (λ text. text ≡ made_capture seed frames)
-        (IsCutShort (λ text. text ≡ made_capture seed frames)) ⊤ ⊤ ⊥ ⊤ (λ fault. ⊥) (λ status. ⊥) capture faults faults
+        (IsCutShort (λ text. text ≡ made_capture seed frames)) ⊤ ⊤ ⊥ ⊤ ⊤ (λ fault. ⊥) (λ status. ⊥) capture faults faults
         sink.old sink.new (K.taken sink.old) (K.taken sink.new) (K.faults sink.old) (K.faults sink.new) result }
     ensures no_capture { (fault : CaptureFault) → result ≡ BadCapture fault → ⊥ }
     ensures no_read_fault { result ≡ ReadFault → ⊥ }

@@ -9,7 +9,7 @@ ghost use Rattle.hhh_engine.specs.Ending.{Ends, RefusesStore, source_faults};
 ghost use Rattle.hhh_engine.specs.Feed.{EndsDealt, IsDealtCapture};
 ghost use Rattle.hhh_engine.specs.Inputs.{IsCapture};
 ghost use Rattle.hhh_engine.specs.NoText.{HasNoText};
-ghost use Rattle.hhh_engine.specs.Saves.{kept_in};
+ghost use Rattle.hhh_engine.specs.Saves.{IsAsBefore, kept_in};
 ghost use Rattle.hhh_engine.specs.Session.{IsSession, IsSessionInPart};
 ghost use Rattle.hhh_engine.specs.declared.status.Status.TheVariants.{DiskFault};
 
@@ -54,9 +54,11 @@ pub(crate) fn report<R: Threads + Wait + Sync, S: Source, K: Sink, D: Disk, G: G
         (λ kind. ⟦<Dealer as Deals>⟧.may_answer (dealer_of kind dealers.now))
         (kept_in D.reads D.image_now D.moment D.image_since disk.old disk.new) (D.reads disk.old) file text))
         (λ front. IfSome (S.left capture.old) (λ file. IsSessionInPart settings.now
-        (λ kind. ⟦<Dealer as Deals>⟧.may_answer (dealer_of kind dealers.now)) (D.reads disk.old) file front))
+        (λ kind. ⟦<Dealer as Deals>⟧.may_answer (dealer_of kind dealers.now)) (kept_in D.reads D.image_now D.moment D.image_since disk.old disk.new) (D.reads disk.old) file front))
         (IsAtEnd (S.left capture.new)) (IfSome (S.left capture.old) IsCapture) (Rose (D.faults disk.old) (D.faults disk.new)) (disk.new ≡ disk.old)
-        (RefusesStore settings.now (λ kind. ⟦<Dealer as Deals>⟧.may_answer (dealer_of kind dealers.now)) (S.left capture.old) (D.reads disk.old) (D.reads disk.new))
+        (IsAsBefore D.reads D.image_now D.moment D.image_since disk.old disk.new)
+        (RefusesStore settings.now (λ kind. ⟦<Dealer as Deals>⟧.may_answer (dealer_of kind dealers.now)) (S.left capture.old) (D.reads disk.old)
+        (IsAsBefore D.reads D.image_now D.moment D.image_since disk.old disk.new))
         (λ status. ⊥) (S.left capture.old) (source_faults (S.faults capture.old) other) (source_faults (S.faults capture.new) other)
         sink.old sink.new (K.taken sink.old) (K.taken sink.new) (K.faults sink.old) (K.faults sink.new) result }
     ensures told { (result ≡ DiskFault → ⊥) → D.faults disk.new ≡ D.faults disk.old }
@@ -84,7 +86,8 @@ fn report_dealt<R: Threads + Wait + Sync, K: Sink, D: Disk, G: Gate + Sync>(
     requires shards { length fed.dealt ≡ settings.now.shards }
     requires tail { 0 < length fed.tail.items }
     ensures ends { EndsDealt settings.now fed.dealt fed.tail.items
-        (kept_in D.reads D.image_now D.moment D.image_since disk.old disk.new) (D.reads disk.old) (D.reads disk.new)
+        (kept_in D.reads D.image_now D.moment D.image_since disk.old disk.new) (D.reads disk.old)
+        (IsAsBefore D.reads D.image_now D.moment D.image_since disk.old disk.new)
         sink.old sink.new (K.taken sink.old) (K.taken sink.new) (record { sink = K.faults sink.old; disk = D.faults disk.old })
         (record { sink = K.faults sink.new; disk = D.faults disk.new }) result }
     ensures unused { settings.now.store ≡ false → disk.new ≡ disk.old }

@@ -4,7 +4,7 @@ ghost use Rattle.std.specs.Prelude.{◌≡◌, ◌++◌, [], ◌∷◌, IfErr, I
 ghost use Rattle.outside_io.specs.{Rose};
 ghost use Rattle.report_text.specs.{ArePositions};
 ghost use Rattle.hhh_engine.specs.Feed.{CanSaveCut, IsSaveFault};
-ghost use Rattle.hhh_engine.specs.Saves.{SavesInTurn};
+ghost use Rattle.hhh_engine.specs.Saves.{SavesInPart, SavesInTurn};
 ghost use Rattle.hhh_engine.specs.Session.{saved_text};
 ghost use Rattle.hhh_engine.specs.declared.status.Status.TheVariants.{DiskFault};
 
@@ -24,6 +24,7 @@ pub(crate) fn save_cut<D: Disk>(
 ) -> Result<(), Status>
     requires { IfSome saver.old (CanSaveCut (D.reads disk.old) (D.image_now disk.old) cut.now) }
     ensures saved { OnOk result (SavesInTurn D.reads D.image_now D.moment D.image_since saver.old saver.new disk.old disk.new (cut.now ∷ [])) }
+    ensures in_part { OnErr result (SavesInPart D.reads D.image_now D.moment D.image_since saver.old disk.old disk.new [] (cut.now ∷ [])) }
     ensures used { OnErr result (is_some saver.old ≡ true) }
     ensures fault { IfErr result (IsSaveFault (D.faults disk.old) (D.faults disk.new)) }
     ensures no_fault { OnOk result (D.faults disk.new ≡ D.faults disk.old) }

@@ -3,7 +3,6 @@
 ghost use Rattle.std.specs.Prelude.{◌≡◌, ◌≤◌, ◌<◌, ◌+◌, ◌⊎◌, ◌++◌, [], ◌∷◌, length, All, None, IfErr, IfOk, IfSome, OnErr, OnOk, false, is_some};
 ghost use Rattle.std.specs.List.{AllZip};
 ghost use Rattle.std.specs.Io.KnownBytes.{Appends};
-ghost use Rattle.outside_io.specs.{AppendsBeginning};
 ghost use Rattle.deal_rules.specs.{AreShardLists};
 ghost use Rattle.space_saving.specs.{least_capacity, most_capacity};
 ghost use Rattle.shard_state.specs.{AreShards, HasShape, capacity_of};
@@ -16,8 +15,8 @@ ghost use Rattle.report_text.specs.declared.mark.Mark.TheVariants.{Opened as Ope
 ghost use Rattle.command_words.specs.{AreLimited, IsWide};
 ghost use Rattle.hhh_engine.specs.Answer.{Writes};
 ghost use Rattle.hhh_engine.specs.Feed.{CanSaveCut, GoesOn, IsBaseOf, IsFault, IsFed, IsOpened, IsRest, StartsBeforeEnds, reports_of};
-ghost use Rattle.hhh_engine.specs.Saves.{CanSave, Saves, SavesInTurn};
-ghost use Rattle.hhh_engine.specs.Session.{AreReportsOf, BeginsSession, RepresentsWhere, SpellsSession, callers_text, opening_of, parts_text, resumed_shards, new_shards, start_of};
+ghost use Rattle.hhh_engine.specs.Saves.{CanSave, Saves, SavesInPart, SavesInTurn};
+ghost use Rattle.hhh_engine.specs.Session.{AreReportsOf, BeginsSession, BreaksOffAround, RepresentsWhere, SpellsSession, callers_text, opening_of, parts_text, resumed_shards, new_shards, start_of};
 
 use crate::commands::base::Base;
 use crate::commands::feed::{Fed, feed};
@@ -82,8 +81,9 @@ pub(crate) fn write_session<R: Threads + Wait + Sync, K: Sink, D: Disk, G: Gate 
     ensures whole { OnOk result (Writes (SpellsSession (opening_of settings.now.capacity dealt base.cut) settings.now
         (λ cuts. Saves D.reads D.image_now D.moment D.image_since base.saver cuts disk.old disk.new) tail.now) (K.taken sink.old) (K.taken sink.new)) }
     ensures faults { OnOk result ((K.faults sink.new ≡ K.faults sink.old) × (D.faults disk.new ≡ D.faults disk.old)) }
-    ensures part { OnErr result ((sink.new ≡ sink.old)
-        ⊎ Writes (BeginsSession (opening_of settings.now.capacity dealt base.cut) settings.now tail.now) (K.taken sink.old) (K.taken sink.new)) }
+    ensures part { OnErr result (((sink.new ≡ sink.old) × (disk.new ≡ disk.old))
+        ⊎ Writes (BeginsSession (opening_of settings.now.capacity dealt base.cut) settings.now
+        (SavesInPart D.reads D.image_now D.moment D.image_since base.saver disk.old disk.new) tail.now) (K.taken sink.old) (K.taken sink.new)) }
     ensures fault { IfErr result (IsFault (record { sink = K.faults sink.old; disk = D.faults disk.old })
         (record { sink = K.faults sink.new; disk = D.faults disk.new })) }
     ensures unused { base.saver ≡ None → disk.new ≡ disk.old }
@@ -222,7 +222,8 @@ fn write_feed<R: Threads + Wait + Sync, K: Sink, D: Disk, G: Gate + Sync>(
     ensures whole { OnOk result (Writes (SpellsSession opened.board.opening settings.now
         (λ cuts. Saves D.reads D.image_now D.moment D.image_since saver cuts disk.old disk.new) tail.now) (K.taken sink.old) (K.taken sink.new)) }
     ensures faults { OnOk result ((K.faults sink.new ≡ K.faults sink.old) × (D.faults disk.new ≡ D.faults disk.old)) }
-    ensures part { OnErr result (Writes (BeginsSession opened.board.opening settings.now tail.now) (K.taken sink.old) (K.taken sink.new)) }
+    ensures part { OnErr result (Writes (BeginsSession opened.board.opening settings.now
+        (SavesInPart D.reads D.image_now D.moment D.image_since saver disk.old disk.new) tail.now) (K.taken sink.old) (K.taken sink.new)) }
     ensures fault { IfErr result (IsFault (record { sink = K.faults sink.old; disk = D.faults disk.old })
         (record { sink = K.faults sink.new; disk = D.faults disk.new })) }
     ensures unused { saver ≡ None → disk.new ≡ disk.old }
@@ -254,12 +255,12 @@ fn write_rest<K: Sink, D: Disk>(
     sink: &mut K,
     disk: &mut D,
 ) -> Result<(), Status>
-    requires can_save { IfSome saver.old (CanSaveCut (D.reads disk.old) (D.image_now disk.old) rest.now.cut) }
-    requires more { 0 < length rest.now.back.items }
+    requires { IfSome saver.old (CanSaveCut (D.reads disk.old) (D.image_now disk.old) rest.now.cut) }
     ensures whole { OnOk result (Appends (K.taken sink.old) (K.taken sink.new) (rest.now.front.items ++ rest.now.back.items)) }
     ensures saved { OnOk result (SavesInTurn D.reads D.image_now D.moment D.image_since saver.old saver.new disk.old disk.new (rest.now.cut ∷ [])) }
     ensures faults { OnOk result ((K.faults sink.new ≡ K.faults sink.old) × (D.faults disk.new ≡ D.faults disk.old)) }
-    ensures part { OnErr result (AppendsBeginning (K.taken sink.old) (K.taken sink.new) (rest.now.front.items ++ rest.now.back.items)) }
+    ensures part { OnErr result (Writes (BreaksOffAround rest.now.front.items rest.now.back.items (rest.now.cut ∷ [])
+        (SavesInPart D.reads D.image_now D.moment D.image_since saver.old disk.old disk.new)) (K.taken sink.old) (K.taken sink.new)) }
     ensures fault { IfErr result (IsFault (record { sink = K.faults sink.old; disk = D.faults disk.old })
         (record { sink = K.faults sink.new; disk = D.faults disk.new })) }
     ensures unused { saver.old ≡ None → disk.new ≡ disk.old }

@@ -32,7 +32,7 @@ pub(crate) fn weigh<S: Source, K: Sink>(
 ) -> Status
     ensures { (other : ℕ) → Ends (λ text. IfSome (S.left capture.old) (λ file. IsWeightText prefix.now settings.now.weigh file text))
         (λ front. IfSome (S.left capture.old) (λ file. IsWeightTextInPart prefix.now settings.now.weigh file front))
-        (IsAtEnd (S.left capture.new)) (IfSome (S.left capture.old) IsCapture) ⊥ ⊤ (λ fault. ⊥) (λ status. ⊥) (S.left capture.old) (source_faults (S.faults capture.old) other) (source_faults (S.faults capture.new) other)
+        (IsAtEnd (S.left capture.new)) (IfSome (S.left capture.old) IsCapture) ⊥ ⊤ ⊤ (λ fault. ⊥) (λ status. ⊥) (S.left capture.old) (source_faults (S.faults capture.old) other) (source_faults (S.faults capture.new) other)
         sink.old sink.new (K.taken sink.old) (K.taken sink.new) (K.faults sink.old) (K.faults sink.new) result }
 {
     let text = match read_weight(alloc, prefix, settings, capture) {

@@ -10,8 +10,10 @@ returns-clause-whole g c = λ formula before now words read old new follow answe
     answers
 
 pub returns-clause-part : goal.returns-clause-part
-returns-clause-part g c = λ formula words read old new follow answers.
-    wider_answers_in_part _ (by_formula formula) words read old new follow answers
+returns-clause-part g c = λ formula before now words read old new follow answers.
+    wider_answers_in_part _ (by_formula formula)
+    (kept_in g.D.Disk.reads g.D.Disk.image_now g.D.Disk.moment g.D.Disk.image_since before now) words read old new follow
+    answers
 
 pub returns-clause-found : goal.returns-clause-found
 returns-clause-found g c = λ formula words read report verdict old new follow found.

@@ -2,9 +2,10 @@ use Rattle.std.proofs.Common.{refl}
 use Rattle.command_words.specs.declared.command.Command.TheVariants.{Weigh, Report, Format, Audit, Make, Demo}
 use Rattle.hhh_engine.specs.Ending.{RefusesStore}
 use Rattle.hhh_engine.specs.Inputs.{inputs}
-use Rattle.hhh_engine.specs.Saves.{kept_in}
+use Rattle.hhh_engine.specs.Saves.{IsAsBefore, kept_in}
 use Rattle.hhh_engine.proofs.AuditEndLemmas.{audit_ends_as}
 use Rattle.hhh_engine.proofs.ReadOrderLemmas.{capture_alone, neither_read, order_as}
+use Rattle.hhh_engine.proofs.SavesLemmas.{untouched_is_as_before}
 use Rattle.hhh_engine.proofs.StatusLemmas.{ends_as, ends_beside}
 use Rattle.hhh_engine.proofs.top_call.answer.Goals as goal
 
@@ -13,7 +14,10 @@ returns-in-Weigh-clause-ends g c =
     ends_as _ _ c.args.command.now (Weigh c.in-Weigh.prefix c.in-Weigh.settings)
     (inputs (g.S.Source.left c.args.capture.now) (g.S.Source.left c.weigh.new.capture) (g.T.Source.left c.args.text.now)
     (g.T.Source.left c.args.text.now) (g.D.Disk.reads c.args.disk.now)) _ _ _ _ _ _ _ _ _ _ _ c.weigh.result
-    c.in-Weigh.is (ends_beside _ _ _ _ _ (λ fault. ⊥) (λ status. ⊥) _ _ _ _ _ _ _ _ _ c.weigh.result refl (c.weigh.ensures _))
+    c.in-Weigh.is (ends_beside _ _ _ _ _ _ (λ fault. ⊥) (λ status. ⊥) _ _ _ _ _ _ _ _ _ c.weigh.result refl
+    (untouched_is_as_before g.D.Disk.reads g.D.Disk.image_now g.D.Disk.moment g.D.Disk.image_since c.args.disk.now
+    c.args.disk.now g.met.D.Disk.only_now refl)
+    (c.weigh.ensures _))
 
 pub returns-in-Report-clause-ends : goal.returns-in-Report-clause-ends
 returns-in-Report-clause-ends g c =
@@ -33,7 +37,9 @@ returns-in-Audit-clause-ends g c =
     c.in-Audit.is
     (audit_ends_as c.in-Audit.settings _
     (kept_in g.D.Disk.reads g.D.Disk.image_now g.D.Disk.moment g.D.Disk.image_since c.args.disk.now c.args.disk.now) given
-    (g.D.Disk.reads c.args.disk.now) _ _ _ _ _ _ _ _ _ c.audit.result refl
+    _ _ _ _ _ _ _ _ _ _ c.audit.result refl
+    (untouched_is_as_before g.D.Disk.reads g.D.Disk.image_now g.D.Disk.moment g.D.Disk.image_since c.args.disk.now
+    c.args.disk.now g.met.D.Disk.only_now refl)
     (c.audit.ensures.ends (g.D.Disk.reads c.args.disk.now)))
 
 pub returns-in-Make-clause-ends : goal.returns-in-Make-clause-ends
@@ -41,7 +47,9 @@ returns-in-Make-clause-ends g c =
     ends_as _ _ c.args.command.now (Make c.in-Make.seed c.in-Make.frames)
     (inputs (g.S.Source.left c.args.capture.now) (g.S.Source.left c.args.capture.now) (g.T.Source.left c.args.text.now)
     (g.T.Source.left c.args.text.now) (g.D.Disk.reads c.args.disk.now)) _ _ _ _ _ _ _ _ _ _ _ c.make.result
-    c.in-Make.is (ends_beside _ _ _ _ _ (λ fault. ⊥) (λ status. ⊥) _ _ _ _ _ _ _ _ _ c.make.result refl
+    c.in-Make.is (ends_beside _ _ _ _ _ _ (λ fault. ⊥) (λ status. ⊥) _ _ _ _ _ _ _ _ _ c.make.result refl
+    (untouched_is_as_before g.D.Disk.reads g.D.Disk.image_now g.D.Disk.moment g.D.Disk.image_since c.args.disk.now
+    c.args.disk.now g.met.D.Disk.only_now refl)
     (c.make.ensures.ends (g.S.Source.left c.args.capture.now) _))
 
 pub returns-in-Demo-clause-ends : goal.returns-in-Demo-clause-ends
@@ -49,21 +57,24 @@ returns-in-Demo-clause-ends g c =
     ends_as _ _ c.args.command.now (Demo c.in-Demo.seed c.in-Demo.frames c.in-Demo.settings)
     (inputs (g.S.Source.left c.args.capture.now) (g.S.Source.left c.args.capture.now) (g.T.Source.left c.args.text.now)
     (g.T.Source.left c.args.text.now) (g.D.Disk.reads c.args.disk.now)) _ _ _ _ _ _ _ _ _ _ _ c.demo.result
-    c.in-Demo.is (ends_beside _ _ _ _ _ (λ fault. ⊥) (λ status. ⊥) _ _ _ _ _ _ _ _ _ c.demo.result refl
+    c.in-Demo.is (ends_beside _ _ _ _ _ _ (λ fault. ⊥) (λ status. ⊥) _ _ _ _ _ _ _ _ _ c.demo.result refl
+    (untouched_is_as_before g.D.Disk.reads g.D.Disk.image_now g.D.Disk.moment g.D.Disk.image_since c.args.disk.now
+    c.args.disk.now g.met.D.Disk.only_now refl)
     (c.demo.ensures.ends (g.S.Source.left c.args.capture.now) _))
 
 pub returns-in-Weigh-clause-order : goal.returns-in-Weigh-clause-order
 returns-in-Weigh-clause-order g c =
     order_as c.args.command.now (Weigh c.in-Weigh.prefix c.in-Weigh.settings) _ _ _ _ _ c.weigh.result c.in-Weigh.is
-    (capture_alone _ _ _ _ _ _ (λ fault. ⊥) (λ status. ⊥) _ _ _ _ _ _ _ _ _ _ c.weigh.result _ _ _ _ tt
+    (capture_alone _ _ _ _ _ _ _ (λ fault. ⊥) (λ status. ⊥) _ _ _ _ _ _ _ _ _ _ c.weigh.result _ _ _ _ tt
     (c.weigh.ensures 0))
 
 pub returns-in-Report-clause-order : goal.returns-in-Report-clause-order
 returns-in-Report-clause-order g c =
     order_as c.args.command.now (Report c.in-Report.settings) _ _ _ _ _ c.report.result c.in-Report.is
-    (capture_alone _ _ _ _ _ _
+    (capture_alone _ _ _ _ _ _ _
     (RefusesStore c.in-Report.settings _ (g.S.Source.left c.args.capture.now) (g.D.Disk.reads c.args.disk.now)
-    (g.D.Disk.reads c.report.new.disk)) (λ status. ⊥) _ _ _ _ _ _ _ _ _ _ c.report.result _ _ _ _ tt
+    (IsAsBefore g.D.Disk.reads g.D.Disk.image_now g.D.Disk.moment g.D.Disk.image_since c.args.disk.now
+    c.report.new.disk)) (λ status. ⊥) _ _ _ _ _ _ _ _ _ _ c.report.result _ _ _ _ tt
     (c.report.ensures.ends 0))
 
 pub returns-in-Format-clause-order : goal.returns-in-Format-clause-order

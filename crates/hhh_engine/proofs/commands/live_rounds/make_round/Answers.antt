@@ -1,15 +1,15 @@
-use Rattle.std.proofs.Common.{◌∙◌, ◌++◌, ap, subst, refl}
+use Rattle.std.proofs.Common.{◌∙◌, ◌++◌, [], ◌∷◌, inl, inr, ap, subst, refl}
 use Rattle.std.specs.Prelude.{is_some}
 use Rattle.std.specs.Io.KnownBytes.{Appends}
 use Rattle.std.proofs.KnownBytes.{Appends-trans}
 use Rattle.outside_io.specs.{AppendsBeginning}
 use Rattle.report_text.specs.{report_text}
-use Rattle.hhh_engine.specs.Saves.{SavesInTurn}
+use Rattle.hhh_engine.specs.Saves.{SavesInPart, SavesInTurn}
 use Rattle.hhh_engine.specs.Session.{saved_text}
-use Rattle.hhh_engine.proofs.RoundLemmas.{begins_line, begins_part, report_of_call, report_positions, save_broke}
+use Rattle.hhh_engine.proofs.RoundLemmas.{memory_broke, report_of_call, report_positions, save_broke}
 use Rattle.hhh_engine.proofs.RoundLemmas.{sink_broke, writes_one}
-use Rattle.hhh_engine.proofs.SavesLemmas.{no_saver_no_save, saved_cut_is}
-use Rattle.hhh_engine.proofs.SeenLemmas.{can_save_cut, fits_after}
+use Rattle.hhh_engine.proofs.SavesLemmas.{no_saver_no_save, nothing_saved, part_of_saves, saved_cut_is}
+use Rattle.hhh_engine.proofs.SeenLemmas.{can_save_cut, fits_after, stands_first}
 use Rattle.hhh_engine.proofs.commands.live_rounds.make_round.Goals as goal
 
 pub print-requires-clause-positions : goal.print-requires-clause-positions
@@ -35,25 +35,29 @@ pub returns-in-Err-clause-broken : goal.returns-in-Err-clause-broken
 returns-in-Err-clause-broken g c =
     let report = c.in_ok-report.report in
     let text = c.deref.ensures.value ∙ c.in_ok-print.ensures.ok ∙ ap (λ bytes. bytes ++ report_text report) c.new-text.ensures.items in
-    sink_broke _ _ _ _ (is_some c.args.saver.now) _ _ _ _ _ _ _ c.in-Err.status c.in-Err.ensures.fault refl refl
-    (record {
+    sink_broke _ _ _ _ (is_some c.args.saver.now) _ _ _ _ _ _ _ _ c.in-Err.status c.in-Err.ensures.fault refl refl
+    (inl (record {
       report = report;
       reports = record { calls = c.in_ok-report.ensures.calls; sound = c.in_ok-report.ensures.sound };
-      written =
-          begins_part _ _ (report_text report) (saved_text (is_some c.args.saver.now) report.positions)
-          (subst (AppendsBeginning _ _) text c.in-Err.ensures.beginning);
-    })
+      written = subst (AppendsBeginning _ _) text c.in-Err.ensures.beginning;
+      kept = nothing_saved g.D.Disk.reads g.D.Disk.image_now g.D.Disk.moment g.D.Disk.image_since c.args.saver.now
+          c.args.disk.now c.args.disk.now g.met.D.Disk.only_now
+          (stands_first _ _ c.args.board.now.opening _ _ c.args.saver.now c.requires.can_save) refl;
+    }))
 
 pub returns-in-Err-save_cut-clause-broken : goal.returns-in-Err-save_cut-clause-broken
 returns-in-Err-save_cut-clause-broken g c =
     let report = c.in_ok-report.report in
     let text = c.deref.ensures.value ∙ c.in_ok-print.ensures.ok ∙ ap (λ bytes. bytes ++ report_text report) c.new-text.ensures.items in
-    save_broke _ _ _ _ (is_some c.args.saver.now) _ _ _ _ _ _ c.in-Err-save_cut.status c.in-Err-save_cut.ensures.used
+    save_broke _ _ _ _ (is_some c.args.saver.now) _ _ _ _ _ _ _ c.in-Err-save_cut.status c.in-Err-save_cut.ensures.used
     c.in-Err-save_cut.ensures.fault c.in_default.ensures.faults
     (record {
       report = report;
       reports = record { calls = c.in_ok-report.ensures.calls; sound = c.in_ok-report.ensures.sound };
       written = subst (Appends _ _) text c.in_default.ensures.whole;
+      kept = subst (λ cut. SavesInPart g.D.Disk.reads g.D.Disk.image_now g.D.Disk.moment g.D.Disk.image_since
+          c.args.saver.now c.args.disk.now c.save_cut.new.disk [] (cut ∷ [])) c.in_ok-report.ensures.cut
+          c.in-Err-save_cut.ensures.in_part;
     })
 
 pub returns-clause-broken : goal.returns-clause-broken
@@ -61,16 +65,21 @@ returns-clause-broken g c =
     let report = c.in_ok-report.report in
     let text = c.deref.ensures.value ∙ c.in_ok-print.ensures.ok ∙ ap (λ bytes. bytes ++ report_text report) c.new-text.ensures.items in
     let line = c.deref-2.ensures.value ∙ c.in_ok-line.ensures ∙ ap (λ store. saved_text store report.positions) c.is_some.ensures in
-    sink_broke _ _ _ _ (is_some c.args.saver.now) _ _ _ _ _ _ _ c.in-Err-write.status c.in-Err-write.ensures.fault
+    sink_broke _ _ _ _ (is_some c.args.saver.now) _ _ _ _ _ _ _ _ c.in-Err-write.status c.in-Err-write.ensures.fault
     c.in_default.ensures.faults c.in_default-save_cut.ensures.no_fault
-    (record {
+    (inr (record {
       report = report;
       reports = record { calls = c.in_ok-report.ensures.calls; sound = c.in_ok-report.ensures.sound };
-      written =
-          begins_line _ _ _ (report_text report) (saved_text (is_some c.args.saver.now) report.positions)
-          (subst (Appends _ _) text c.in_default.ensures.whole)
-          (subst (AppendsBeginning _ _) line c.in-Err-write.ensures.beginning);
-    })
+      between = _;
+      whole = subst (Appends _ _) text c.in_default.ensures.whole;
+      written = subst (AppendsBeginning _ _) line c.in-Err-write.ensures.beginning;
+      kept = part_of_saves g.D.Disk.reads g.D.Disk.image_now g.D.Disk.moment g.D.Disk.image_since c.args.saver.now
+          c.args.disk.now c.save_cut.new.disk _
+          (saved_cut_is (is_some c.args.saver.now) _ report _ (SavesInTurn g.D.Disk.reads g.D.Disk.image_now
+          g.D.Disk.moment g.D.Disk.image_since c.args.saver.now c.save_cut.new.saver c.args.disk.now c.save_cut.new.disk)
+          c.in_ok-report.ensures.cut (no_saver_no_save _ _ _ _ c.args.saver.now _ _ _ _)
+          c.in_default-save_cut.ensures.saved).saves;
+    }))
 
 pub returns-in-Ok-clause-whole : goal.returns-in-Ok-clause-whole
 returns-in-Ok-clause-whole g c =
@@ -89,3 +98,27 @@ returns-in-Ok-clause-fits g c =
     fits_after _ _ c.args.board.now.opening c.args.phi _ _ c.in_ok-report.report c.args.saver.now _ _
     c.in_ok-report.ensures.cut c.requires.pass.seat.trails c.in_ok-report.ensures.calls c.requires.can_save
     c.in_default-save_cut.ensures.saved.saver
+
+pub returns-in_err-report-clause-broken : goal.returns-in_err-report-clause-broken
+returns-in_err-report-clause-broken g c =
+    memory_broke c.from_residual.result c.args.board.now.opening c.args.phi _ _ (is_some c.args.saver.now) _ _ _
+    c.from_residual.ensures.1 c.report_once.ensures.reads
+    (nothing_saved g.D.Disk.reads g.D.Disk.image_now g.D.Disk.moment g.D.Disk.image_since c.args.saver.now
+    c.args.disk.now c.args.disk.now g.met.D.Disk.only_now
+    (stands_first _ _ c.args.board.now.opening _ _ c.args.saver.now c.requires.can_save) refl)
+
+pub returns-in_err-print-clause-broken : goal.returns-in_err-print-clause-broken
+returns-in_err-print-clause-broken g c =
+    memory_broke c.from_residual-in_err-print.result c.args.board.now.opening c.args.phi _ _ (is_some c.args.saver.now) _ _ _
+    c.from_residual-in_err-print.ensures.1 c.report_once.ensures.reads
+    (nothing_saved g.D.Disk.reads g.D.Disk.image_now g.D.Disk.moment g.D.Disk.image_since c.args.saver.now
+    c.args.disk.now c.args.disk.now g.met.D.Disk.only_now
+    (stands_first _ _ c.args.board.now.opening _ _ c.args.saver.now c.requires.can_save) refl)
+
+pub returns-in_err-line-clause-broken : goal.returns-in_err-line-clause-broken
+returns-in_err-line-clause-broken g c =
+    memory_broke c.from_residual-in_err-line.result c.args.board.now.opening c.args.phi _ _ (is_some c.args.saver.now) _ _ _
+    c.from_residual-in_err-line.ensures.1 c.report_once.ensures.reads
+    (nothing_saved g.D.Disk.reads g.D.Disk.image_now g.D.Disk.moment g.D.Disk.image_since c.args.saver.now
+    c.args.disk.now c.args.disk.now g.met.D.Disk.only_now
+    (stands_first _ _ c.args.board.now.opening _ _ c.args.saver.now c.requires.can_save) refl)

@@ -1,11 +1,12 @@
-use Rattle.std.proofs.Common.{◌≡◌, ◌∙◌, ◌⊎◌, ap, ap₂, sym, subst}
+use Rattle.std.proofs.Common.{◌≡◌, ◌∙◌, ◌⊎◌, [], ap, ap₂, sym, subst}
 use Rattle.hhh_engine.specs.Answer.{Writes}
 use Rattle.hhh_engine.specs.Feed.{IsBaseOf}
 use Rattle.hhh_engine.specs.Session.{BeginsSession, SpellsSession, opening_of}
-use Rattle.hhh_engine.specs.Saves.{Saves}
+use Rattle.hhh_engine.specs.Saves.{IsAsBefore, Saves, SavesInPart}
 use Rattle.hhh_engine.proofs.BaseLemmas.{base_goes_on}
 use Rattle.hhh_engine.proofs.DealtLemmas.{no_base_ends, run_keeps, session_ends, writes_dealt}
 use Rattle.hhh_engine.proofs.FaultLemmas.{fault_after}
+use Rattle.hhh_engine.proofs.SavesLemmas.{nothing_saved, part_of_saves}
 use Rattle.hhh_engine.proofs.commands.report.report_dealt.Goals as goal
 
 pub openings_stand-requires : goal.openings_stand-requires
@@ -15,7 +16,8 @@ openings_stand-requires g c =
 pub returns-in-Err-clause-ends : goal.returns-in-Err-clause-ends
 returns-in-Err-clause-ends g c =
     no_base_ends c.args.settings.now c.args.fed.dealt c.args.fed.tail.items _ _ _ _ _ _ _ _ c.in-Err.status
-    c.open_base.ensures.reads c.in-Err.ensures.refused
+    (record { same_reads = c.open_base.ensures.reads; any_moment = c.open_base.ensures.any_moment })
+    c.in-Err.ensures.refused
 
 pub write_session-requires-clause-base : goal.write_session-requires-clause-base
 write_session-requires-clause-base g c = λ lifetimes outlive.
@@ -30,9 +32,11 @@ returns-in-Ok-write_session-clause-ends g c =
           c.open_base.new.disk c.write_session.new.disk) _ _ base.begins
           c.openings_stand.ensures.represents
           (λ cuts saves used. run_keeps g.D.Disk.reads g.D.Disk.image_now g.D.Disk.moment g.D.Disk.image_since
-          c.args.settings.now c.args.fed.dealt c.in-Ok.base.positions c.in-Ok.base.saver cuts c.args.disk.now
+          c.args.settings.now c.args.fed.dealt c.in-Ok.base.positions c.in-Ok.base.saver cuts [] c.args.disk.now
           c.open_base.new.disk c.write_session.new.disk base.used base.saver c.open_base.ensures.any_moment
-          c.open_base.ensures.reads saves used)
+          c.open_base.ensures.reads
+          (part_of_saves g.D.Disk.reads g.D.Disk.image_now g.D.Disk.moment g.D.Disk.image_since c.in-Ok.base.saver
+          c.open_base.new.disk c.write_session.new.disk cuts saves) used)
           (subst (λ tail. Writes (SpellsSession (opening_of c.args.settings.now.capacity c.args.fed.dealt c.in-Ok.base.cut)
           c.args.settings.now
           (λ cuts. Saves g.D.Disk.reads g.D.Disk.image_now g.D.Disk.moment g.D.Disk.image_since c.in-Ok.base.saver cuts
@@ -44,12 +48,30 @@ returns-in-Ok-write_session-clause-ends g c =
 
 pub returns-clause-ends : goal.returns-clause-ends
 returns-clause-ends g c =
-    session_ends c.args.settings.now c.args.fed.dealt c.args.fed.tail.items _ _ _ c.in-Ok.base.cut _ _ _ _ _ _
-    c.in-Err-write_session.status c.in-Ok.ensures.base.begins c.openings_stand.ensures.represents
+    let base = c.in-Ok.ensures.base in
+    session_ends c.args.settings.now c.args.fed.dealt c.args.fed.tail.items _ _
+    (IsAsBefore g.D.Disk.reads g.D.Disk.image_now g.D.Disk.moment g.D.Disk.image_since c.args.disk.now
+    c.write_session.new.disk) c.in-Ok.base.cut
+    (SavesInPart g.D.Disk.reads g.D.Disk.image_now g.D.Disk.moment g.D.Disk.image_since c.in-Ok.base.saver
+    c.open_base.new.disk c.write_session.new.disk) (c.write_session.new.disk ≡ c.open_base.new.disk) _ _ _ _ _ _
+    c.in-Err-write_session.status base.begins c.openings_stand.ensures.represents
+    (λ saved begun saves used. run_keeps g.D.Disk.reads g.D.Disk.image_now g.D.Disk.moment g.D.Disk.image_since
+    c.args.settings.now c.args.fed.dealt c.in-Ok.base.positions c.in-Ok.base.saver saved begun c.args.disk.now
+    c.open_base.new.disk c.write_session.new.disk base.used base.saver c.open_base.ensures.any_moment
+    c.open_base.ensures.reads saves used)
     (λ same. ap g.K.Sink.taken same)
-    (subst (λ tail. (c.write_session.new.sink ≡ c.args.sink.now)
+    (λ same. (
+      subst (IsAsBefore g.D.Disk.reads g.D.Disk.image_now g.D.Disk.moment g.D.Disk.image_since c.args.disk.now) (sym same)
+          (record { same_reads = c.open_base.ensures.reads; any_moment = c.open_base.ensures.any_moment }),
+      nothing_saved g.D.Disk.reads g.D.Disk.image_now g.D.Disk.moment g.D.Disk.image_since c.in-Ok.base.saver
+          c.open_base.new.disk c.write_session.new.disk g.met.D.Disk.only_now c.in-Ok.ensures.stands same,
+    ))
+    (subst (λ tail. ((c.write_session.new.sink ≡ c.args.sink.now) × (c.write_session.new.disk ≡ c.open_base.new.disk))
     ⊎ Writes (BeginsSession (opening_of c.args.settings.now.capacity c.args.fed.dealt c.in-Ok.base.cut)
-    c.args.settings.now tail) (g.K.Sink.taken c.args.sink.now) (g.K.Sink.taken c.write_session.new.sink))
+    c.args.settings.now
+    (SavesInPart g.D.Disk.reads g.D.Disk.image_now g.D.Disk.moment g.D.Disk.image_since c.in-Ok.base.saver
+    c.open_base.new.disk c.write_session.new.disk) tail) (g.K.Sink.taken c.args.sink.now)
+    (g.K.Sink.taken c.write_session.new.sink))
     c.deref.ensures.value c.in-Err-write_session.ensures.part)
     (fault_after _ _ _ c.in-Err-write_session.status
     (ap (λ n. record { sink = g.K.Sink.faults c.args.sink.now; disk = n }) c.in-Ok.ensures.no_fault)

@@ -1,14 +1,13 @@
 use Rattle.std.proofs.Common.{◌++◌, [], ◌∷◌, refl, ap}
-use Rattle.std.specs.Prelude.{⊤}
-use Rattle.hhh_engine.specs.Saves.{Saves}
+use Rattle.hhh_engine.specs.Saves.{Saves, SavesInPart}
 use Rattle.hhh_engine.specs.Session.{parts_text, saved_cuts}
 use Rattle.hhh_engine.proofs.FaultLemmas.{fault_after, fault_of_sink}
-use Rattle.hhh_engine.proofs.LastSaveLemmas.{can_save_fewer, can_save_last, session_kept}
-use Rattle.hhh_engine.proofs.SavesLemmas.{saves_follow}
-use Rattle.hhh_engine.proofs.SeenLemmas.{allowed}
+use Rattle.hhh_engine.proofs.LastSaveLemmas.{can_save_fewer, can_save_last, rest_in_part, session_kept}
+use Rattle.hhh_engine.proofs.SavesLemmas.{nothing_saved, part_of_saves, saves_follow}
+use Rattle.hhh_engine.proofs.SeenLemmas.{allowed, stands_first}
 use Rattle.hhh_engine.proofs.SessionLemmas.{on_err}
 use Rattle.hhh_engine.proofs.SessionTextLemmas.{fed_in_part, line_in_part, rounds_in_part, session_in_part}
-use Rattle.hhh_engine.proofs.SessionTextLemmas.{more_behind, session_whole, spells_session}
+use Rattle.hhh_engine.proofs.SessionTextLemmas.{session_whole, spells_session}
 use Rattle.hhh_engine.proofs.commands.session.write_feed.Goals as goal
 
 pub feed-requires-clause-can_save : goal.feed-requires-clause-can_save
@@ -18,15 +17,18 @@ feed-requires-clause-can_save g c = λ lifetimes outlive.
 
 pub returns-in-Err-clause-part : goal.returns-in-Err-clause-part
 returns-in-Err-clause-part g c =
-    line_in_part c.args.opened.board.opening c.args.settings.now c.args.tail.now c.args.line.now _ _ c.requires.line
+    line_in_part c.args.opened.board.opening c.args.settings.now _ c.args.tail.now c.args.line.now _ _ c.requires.line
     c.in-Err.ensures.beginning
+    (nothing_saved g.D.Disk.reads g.D.Disk.image_now g.D.Disk.moment g.D.Disk.image_since c.args.saver c.args.disk.now
+    c.args.disk.now g.met.D.Disk.only_now
+    (stands_first _ _ c.args.opened.board.opening _ _ c.args.saver c.requires.can_save) refl)
 
 pub returns-in-Err-clause-fault : goal.returns-in-Err-clause-fault
 returns-in-Err-clause-fault g c = fault_of_sink _ _ _ _ _ c.in-Err.status c.in-Err.ensures.fault refl refl
 
 pub returns-in-Err-feed-clause-part : goal.returns-in-Err-feed-clause-part
 returns-in-Err-feed-clause-part g c =
-    rounds_in_part c.args.opened.board.opening c.args.settings.now c.args.tail.now c.args.line.now _ _ _
+    rounds_in_part c.args.opened.board.opening c.args.settings.now _ c.args.tail.now c.args.line.now _ _ _
     c.requires.line c.in_default.ensures.whole c.in-Err-feed.ensures.part
 
 pub returns-in-Err-feed-clause-fault : goal.returns-in-Err-feed-clause-fault
@@ -38,22 +40,20 @@ returns-in-Err-feed-clause-fault g c =
 pub returns-in_err-rest-clause-part : goal.returns-in_err-rest-clause-part
 returns-in_err-rest-clause-part g c =
     on_err c.from_residual.result _
-    (rounds_in_part c.args.opened.board.opening c.args.settings.now c.args.tail.now c.args.line.now _ _ _
+    (rounds_in_part c.args.opened.board.opening c.args.settings.now _ c.args.tail.now c.args.line.now _ _ _
     c.requires.line c.in_default.ensures.whole
-    (fed_in_part c.args.opened.board c.args.settings.now _ _ _ c.in-Ok.fed c.in-Ok.ensures.fed))
+    (fed_in_part c.args.opened.board c.args.settings.now _
+    (SavesInPart g.D.Disk.reads g.D.Disk.image_now g.D.Disk.moment g.D.Disk.image_since c.args.saver c.args.disk.now
+    c.feed.new.disk) _ _ c.in-Ok.fed
+    (λ cuts saves. part_of_saves _ _ _ _ _ _ _ cuts saves.saves) c.in-Ok.ensures.fed))
 
-pub write_rest-requires-clause-can_save : goal.write_rest-requires-clause-can_save
-write_rest-requires-clause-can_save g c =
+pub write_rest-requires : goal.write_rest-requires
+write_rest-requires g c =
     can_save_last g.D.Disk.reads g.D.Disk.image_now g.D.Disk.moment g.D.Disk.image_since c.args.opened.board
     c.args.settings.now c.in-Ok.fed.gathered.called.items c.args.tail.now c.in_ok-rest.rest
     c.in-Ok.ensures.fed.gathered.rounds c.args.saver c.feed.new.saver c.args.disk.now c.feed.new.disk c.requires.can_save
     c.requires.used c.requires.starts c.in-Ok.ensures.fed.gathered.are_rounds c.in-Ok.ensures.fed.gathered.kept
     c.in_ok-rest.ensures.rest c.in_ok-rest.ensures.shape
-
-pub write_rest-requires-clause-more : goal.write_rest-requires-clause-more
-write_rest-requires-clause-more g c =
-    more_behind c.args.opened.board c.args.settings.now c.in-Ok.fed.gathered.called.items c.args.tail.now
-    c.in_ok-rest.rest c.requires.tail c.in_ok-rest.ensures.rest
 
 pub returns-in-Ok-write_rest-clause-whole : goal.returns-in-Ok-write_rest-clause-whole
 returns-in-Ok-write_rest-clause-whole g c =
@@ -85,8 +85,12 @@ returns-clause-part g c =
     let gathered = c.in-Ok.ensures.fed.gathered in
     let rest = c.in_ok-rest.rest in
     let end = c.in_ok-rest.ensures.rest in
-    session_in_part board.opening settings c.args.tail.now c.args.line.now
-    (parts_text settings.store gathered.rounds) (rest.front.items ++ rest.back.items) _ _ _ _
-    (spells_session board settings _ (λ cuts. ⊤) c.args.tail.now c.args.line.now _ _ c.in-Ok.fed rest c.requires.starts
-    c.requires.line c.in-Ok.ensures.fed end tt)
-    c.in_default.ensures.whole gathered.written c.in-Err-write_rest.ensures.part
+    session_in_part board settings _
+    (SavesInPart g.D.Disk.reads g.D.Disk.image_now g.D.Disk.moment g.D.Disk.image_since c.feed.new.saver c.feed.new.disk
+    c.write_rest.new.disk) _ c.args.tail.now c.args.line.now _ _ _ _ c.in-Ok.fed rest c.requires.starts c.requires.line
+    c.in-Ok.ensures.fed end c.in_default.ensures.whole
+    (rest_in_part c.stores_open_to_one.ensures g.D.Disk.reads g.D.Disk.image_now g.D.Disk.moment g.D.Disk.image_since
+    board.opening settings.store gathered.rounds end.last rest.cut c.args.saver c.feed.new.saver c.args.disk.now
+    c.feed.new.disk c.write_rest.new.disk c.requires.used end.cut_is
+    (allowed _ _ board.opening _ _ c.args.saver c.requires.can_save) g.met.D.Disk.reading_is_image gathered.kept)
+    c.in-Err-write_rest.ensures.part

@@ -1,24 +1,35 @@
-use Rattle.std.proofs.Common.{subst, refl}
+use Rattle.std.proofs.Common.{inl, inr, refl, subst}
 use Rattle.std.specs.Io.KnownBytes.{Appends}
 use Rattle.std.proofs.KnownBytes.{Appends-trans}
 use Rattle.outside_io.specs.{AppendsBeginning}
 use Rattle.hhh_engine.proofs.FaultLemmas.{fault_of_save, fault_of_sink}
-use Rattle.hhh_engine.proofs.RoundLemmas.{begins_line, begins_part}
-use Rattle.hhh_engine.proofs.SessionTextLemmas.{without_more}
+use Rattle.hhh_engine.proofs.SavesLemmas.{nothing_saved, part_of_saves}
+use Rattle.hhh_engine.proofs.SeenLemmas.{stands_of_cut}
 use Rattle.hhh_engine.proofs.commands.session.write_rest.Goals as goal
 
 pub returns-in-Err-clause-part : goal.returns-in-Err-clause-part
 returns-in-Err-clause-part g c =
-    begins_part _ _ c.args.rest.now.front.items c.args.rest.now.back.items
-    (subst (AppendsBeginning _ _) c.deref.ensures.value c.in-Err.ensures.beginning)
+    let begun = subst (AppendsBeginning _ _) c.deref.ensures.value c.in-Err.ensures.beginning in
+    record {
+      text = begun.front;
+      is_text = inl (
+        (begun.is_beginning, begun.cut),
+        nothing_saved g.D.Disk.reads g.D.Disk.image_now g.D.Disk.moment g.D.Disk.image_since c.args.saver.now
+            c.args.disk.now c.args.disk.now g.met.D.Disk.only_now
+            (stands_of_cut _ _ c.args.rest.now.cut c.args.saver.now c.requires) refl,
+      );
+      written = begun.appended;
+    }
 
 pub returns-in-Err-clause-fault : goal.returns-in-Err-clause-fault
 returns-in-Err-clause-fault g c = fault_of_sink _ _ _ _ _ c.in-Err.status c.in-Err.ensures.fault refl refl
 
 pub returns-in-Err-save_cut-clause-part : goal.returns-in-Err-save_cut-clause-part
-returns-in-Err-save_cut-clause-part g c =
-    without_more _ _ c.args.rest.now.front.items c.args.rest.now.back.items c.requires.more
-    (subst (Appends _ _) c.deref.ensures.value c.in_default.ensures.whole)
+returns-in-Err-save_cut-clause-part g c = record {
+  text = c.args.rest.now.front.items;
+  is_text = inr (inl (refl, c.in-Err-save_cut.ensures.in_part));
+  written = subst (Appends _ _) c.deref.ensures.value c.in_default.ensures.whole;
+}
 
 pub returns-in-Err-save_cut-clause-fault : goal.returns-in-Err-save_cut-clause-fault
 returns-in-Err-save_cut-clause-fault g c =
@@ -32,9 +43,19 @@ returns-in-Ok-clause-whole g c =
 
 pub returns-in-Err-write-clause-part : goal.returns-in-Err-write-clause-part
 returns-in-Err-write-clause-part g c =
-    begins_line _ _ _ c.args.rest.now.front.items c.args.rest.now.back.items
-    (subst (Appends _ _) c.deref.ensures.value c.in_default.ensures.whole)
-    (subst (AppendsBeginning _ _) c.deref-2.ensures.value c.in-Err-write.ensures.beginning)
+    let begun = subst (AppendsBeginning _ _) c.deref-2.ensures.value c.in-Err-write.ensures.beginning in
+    record {
+      text = _;
+      is_text = inr (inr (
+        begun.front,
+        (begun.is_beginning, begun.cut),
+        refl,
+        part_of_saves g.D.Disk.reads g.D.Disk.image_now g.D.Disk.moment g.D.Disk.image_since c.args.saver.now
+            c.args.disk.now c.save_cut.new.disk _ c.in_default-save_cut.ensures.saved.saves,
+      ));
+      written = Appends-trans _ _ _ c.args.rest.now.front.items begun.front
+          (subst (Appends _ _) c.deref.ensures.value c.in_default.ensures.whole) begun.appended;
+    }
 
 pub returns-in-Err-write-clause-fault : goal.returns-in-Err-write-clause-fault
 returns-in-Err-write-clause-fault g c =

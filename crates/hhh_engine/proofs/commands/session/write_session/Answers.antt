@@ -4,7 +4,7 @@ use Rattle.report_text.specs.{ArePositions, mark_text}
 use Rattle.report_text.specs.declared.mark.Mark.TheVariants.{Opened}
 use Rattle.hhh_engine.specs.Answer.{Writes}
 use Rattle.hhh_engine.specs.Feed.{IsOpened, StartsBeforeEnds}
-use Rattle.hhh_engine.specs.Saves.{Saves}
+use Rattle.hhh_engine.specs.Saves.{Saves, SavesInPart}
 use Rattle.hhh_engine.specs.Session.{BeginsSession, SpellsSession, start_of}
 use Rattle.hhh_engine.proofs.BaseLemmas.{base_goes_on, saver_can_save}
 use Rattle.hhh_engine.proofs.SessionLemmas.{on_err_of, on_ok_of}
@@ -59,6 +59,8 @@ returns-clause-whole g c =
 pub returns-clause-part : goal.returns-clause-part
 returns-clause-part g c =
     on_err_of c.write_feed.result _ _
-    (λ part. inr (subst (λ shards. Writes (BeginsSession shards c.args.settings.now c.args.tail.now)
+    (λ part. inr (subst (λ shards. Writes (BeginsSession shards c.args.settings.now
+    (SavesInPart g.D.Disk.reads g.D.Disk.image_now g.D.Disk.moment g.D.Disk.image_since c.args.base.saver c.args.disk.now
+    c.write_feed.new.disk) c.args.tail.now)
     (g.K.Sink.taken c.args.sink.now) (g.K.Sink.taken c.write_feed.new.sink)) c.in_ok-opened.ensures.opening part))
     c.write_feed.ensures.part

@@ -4,9 +4,9 @@ use Rattle.hhh_output.specs.{IsWideShare, million}
 use Rattle.shard_state.specs.{HasShape, capacity_of}
 use Rattle.pass_tokens.specs.{view}
 use Rattle.hhh_engine.specs.Rounds.{WritesRounds}
-use Rattle.hhh_engine.specs.Saves.{SavesInTurn}
+use Rattle.hhh_engine.specs.Saves.{SavesInPart, SavesInTurn}
 use Rattle.hhh_engine.proofs.RoundLemmas.{all_made, one_broke_off, same_store, writes_none, writes_more}
-use Rattle.hhh_engine.proofs.SavesLemmas.{no_save, nothing_done, saves_follow}
+use Rattle.hhh_engine.proofs.SavesLemmas.{no_save, nothing_done, part_follows, saves_follow}
 use Rattle.hhh_engine.proofs.SeenLemmas.{allowed, can_go_on, calls_many, fits_first, early_first, stands_first}
 use Rattle.hhh_engine.proofs.commands.live_rounds.LiveRoundsRounds.go.Goals as goal
 
@@ -62,10 +62,22 @@ returns-in-Err-clause-does g c =
       far.same_cut,
       subst (λ shards. HasShape (length shards) (capacity_of shards) c.make_round-made.new.cut) (sym opening)
           c.in-Err.ensures.shape,
-      one_broke_off _ _ _ _ _ _ _ _ _ _ _ _ _ _ _ _ _ _ c.in-Err.status opening far.same_share
+      one_broke_off _ _ _ _ _ _ _ _ _ _ _
+          (SavesInTurn g.D.Disk.reads g.D.Disk.image_now g.D.Disk.moment g.D.Disk.image_since c.args.self.now.saver.now
+          c.loop-round.self.saver.now c.args.self.now.disk.now c.loop-round.self.disk.now)
+          (SavesInPart g.D.Disk.reads g.D.Disk.image_now g.D.Disk.moment g.D.Disk.image_since
+          c.loop-round.self.saver.now c.loop-round.self.disk.now c.make_round-made.new.disk)
+          (SavesInPart g.D.Disk.reads g.D.Disk.image_now g.D.Disk.moment g.D.Disk.image_since c.args.self.now.saver.now
+          c.args.self.now.disk.now c.make_round-made.new.disk) _ _ _ _ _ _ c.in-Err.status opening far.same_share
           (same_store c.args.self.now.saver.now c.loop-round.self.saver.now _ far.written.kept.saver)
-          (ap₂ (λ s d. record { sink = s; disk = d }) far.sink_faults far.disk_faults) c.loop-round-test.true far.written
-          c.in-Err.ensures.broken,
+          (ap₂ (λ s d. record { sink = s; disk = d }) far.sink_faults far.disk_faults) c.loop-round-test.true
+          (λ cuts saved begun first second.
+          part_follows c.stores_open_to_one.ensures g.D.Disk.reads g.D.Disk.image_now g.D.Disk.moment
+          g.D.Disk.image_since c.args.self.now.saver.now c.loop-round.self.saver.now cuts saved begun
+          c.args.self.now.disk.now c.loop-round.self.disk.now c.make_round-made.new.disk
+          (allowed _ _ c.args.board.now.opening _ _ c.args.self.now.saver.now c.requires.ready.5)
+          g.met.D.Disk.reading_is_image first second)
+          far.written c.in-Err.ensures.broken,
       λ none.
           let done = nothing_done _ _ _ _ _ _ _ _ _ far.written.kept none in
           let round = c.in-Err.ensures.unused done.0 in (round.0, round.1 ∙ done.1),
@@ -130,7 +142,7 @@ returns-clause-does g c =
       far.same_saver,
       far.same_cut,
       subst (λ shards. HasShape (length shards) (capacity_of shards) c.loop-round.self.cut.now) (sym opening) far.shape,
-      all_made _ _ _ _ _ _ _ _ _ _ _ _ _ c.loop-round.self.stop opening far.unstopped
+      all_made _ _ _ _ _ _ _ _ _ _ _ _ _ _ c.loop-round.self.stop opening far.unstopped
           (omega (arith, c.loop-round.auto.round-end, c.loop-round-test.false))
           (ap₂ (λ s d. record { sink = s; disk = d }) far.sink_faults far.disk_faults) far.written,
       nothing_done _ _ _ _ _ _ _ _ _ far.written.kept,
