@@ -27,7 +27,8 @@ use Rattle.frame_records.specs.declared.weigh.Weigh.TheVariants.{Bytes}
 use Rattle.report_text.specs.{tail_text}
 use Rattle.command_words.specs.declared.settings.Settings.{Settings}
 use Rattle.hhh_engine.specs.Session.{AreDealtFrom, AreReportsOf, AreSessionReports, BeginsSession, BreaksOffInRounds}
-use Rattle.hhh_engine.specs.Session.{BreaksOffLater, GoesOnFrom, IsSession, IsSessionInPart, IsShown, Keeping}
+use Rattle.hhh_engine.specs.Session.{BreaksOffAround, BreaksOffLater, GoesOnFrom, IsSession, IsSessionInPart, IsShown}
+use Rattle.hhh_engine.specs.Session.{IsStrictBeginning, Keeping, after_saves_of, saved_cuts}
 use Rattle.hhh_engine.specs.Session.{NeverFall, RepresentsWhere, Rules, Saving, SessionReports, SpellsSession, calling_reports}
 use Rattle.hhh_engine.specs.Session.{callers_text, new_shards, opening_of, part_text, parts_text, rest_text}
 use Rattle.hhh_engine.specs.Session.{saved_text, session_text, start_of}
@@ -405,6 +406,20 @@ pub first_bytes_of_the_session :
 unfolding digits
 first_bytes_of_the_session = inl (((codes " 0\n", refl), omega arith), (refl, refl))
 
+-- a whole text doesn't begin itself strictly
+pub whole_text_begins_nothing_more : IsStrictBeginning (codes "end\n") (codes "end\n") → ⊥
+whole_text_begins_nothing_more begins = omega (arith, begins.1)
+
+-- memory may run out after the first line, before any round
+pub broken_off_before_the_rounds : BeginsSession opening settings saves_nothing (tail_text records)
+    (codes "opened 0 0 0 0\n")
+unfolding digits
+broken_off_before_the_rounds = inr (inl (
+  [],
+  inl (record { rounds = []; few = omega arith; are_reports = no_reports; written = refl; kept = (refl, refl) }),
+  refl,
+))
+
 -- and one with room for 22 bytes a part of the report of the first round
 pub broken_off_in_a_round : BreaksOffInRounds opening running saves_nothing (codes "report\n")
 unfolding digits
@@ -421,6 +436,34 @@ broken_off_in_a_round = inr (record {
 pub bytes_of_a_round : BeginsSession opening running saves_nothing (tail_text records) (codes "opened 0 0 0 0\nreport\n")
 unfolding digits
 bytes_of_a_round = inr (inl (codes "report\n", broken_off_in_a_round, refl))
+
+-- ---- a text, the save of a cut, and the line after it
+
+abbrev one_cut : List CutValue
+one_cut = saved_cuts true opening (last ∷ [])
+
+-- in the line the cut was saved, though none of its bytes may be written
+pub broken_off_in_the_line :
+    BreaksOffAround (codes "done\n") (codes "saved 0\n") one_cut (λ saved begun. (saved ≡ one_cut) × (begun ≡ []))
+    (codes "done\n")
+broken_off_in_the_line = inr (inr ([], ((codes "saved 0\n", refl), omega arith), refl, (refl, refl)))
+
+-- in the save it may be, or not
+pub broken_off_in_the_save :
+    BreaksOffAround (codes "done\n") (codes "saved 0\n") one_cut (λ saved begun. (saved ≡ []) × (begun ≡ one_cut))
+    (codes "done\n")
+broken_off_in_the_save = inr (inl (refl, (refl, refl)))
+
+-- and before it, it isn't
+pub broken_off_before_the_save :
+    BreaksOffAround (codes "done\n") (codes "saved 0\n") one_cut (λ saved begun. (saved ≡ []) × (begun ≡ []))
+    (codes "do")
+broken_off_before_the_save = inl (((codes "ne\n", refl), omega arith), (refl, refl))
+
+-- the cuts of the rounds before come first
+pub cuts_of_a_round_before :
+    after_saves_of true opening (last ∷ []) (λ saved begun. (saved ≡ one_cut) × (begun ≡ [])) [] []
+cuts_of_a_round_before = (refl, refl)
 
 -- no session begins with a report
 pub session_without_a_first_line :
