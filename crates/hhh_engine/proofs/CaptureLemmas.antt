@@ -68,7 +68,7 @@ writes_in_part settings rules keeping left store lists tail old new dealt writes
         represents = writes.represents;
         begun =
             subst (λ t. BeginsSession (opening_of settings.capacity lists writes.base) settings
-            (λ saved begun. settings.store ≡ true → keeping (store_settings settings) lists saved begun) t
+            (λ saved unfinished. settings.store ≡ true → keeping (store_settings settings) lists saved unfinished) t
             writes.writes.text) capture.is_tail writes.writes.is_text;
       }) dealt;
   written = writes.writes.written;

@@ -27,23 +27,23 @@ use Rattle.hhh_engine.proofs.SessionTextLemmas.{begins_weaker, nothing_in_part, 
 -- what a run keeps of its store, from the opening of the store and the saves after it
 pub run_keeps : {D : Type 0} (reads : D → Option (List ℕ)) (image_now : D → List ℕ → Type 0) (moment : D → ℕ)
     (image_since : D → ℕ → List ℕ → Type 0) (settings : Settings) (lists : List (List RecordValue))
-    (positions : List ℕ) (saver : Option SaverState) (saved begun : List CutValue) (old mid new : D)
+    (positions : List ℕ) (saver : Option SaverState) (saved unfinished : List CutValue) (old mid new : D)
     → is_some saver ≡ settings.store → IfSome saver (IsSaverFor settings lists positions)
     → Leaves moment image_since old mid (image_now old) → reads mid ≡ reads old
-    → SavesInPart reads image_now moment image_since saver mid new saved begun → settings.store ≡ true
-    → kept_in reads image_now moment image_since old new (store_settings settings) lists saved begun
-run_keeps reads image_now moment image_since settings lists positions None saved begun old mid new has is leaves same saves
+    → SavesInPart reads image_now moment image_since saver mid new saved unfinished → settings.store ≡ true
+    → kept_in reads image_now moment image_since old new (store_settings settings) lists saved unfinished
+run_keeps reads image_now moment image_since settings lists positions None saved unfinished old mid new has is leaves same saves
     used = absurd (false≢true (has ∙ used))
-run_keeps reads image_now moment image_since settings lists positions (Some saver) saved begun old mid new has is leaves
+run_keeps reads image_now moment image_since settings lists positions (Some saver) saved unfinished old mid new has is leaves
     same saves used = λ bytes known.
     let kept : KeepsSaves image_now moment image_since (store_settings settings)
-    (digest_of_lists (store_settings settings) lists) (λ image. ⊥) saved begun mid new bytes =
+    (digest_of_lists (store_settings settings) lists) (λ image. ⊥) saved unfinished mid new bytes =
     subst (λ s. KeepsSaves image_now moment image_since s (digest_of_lists (store_settings settings) lists) (λ image. ⊥)
-    saved begun mid new bytes) is.settings_are
-    (subst (λ d. KeepsSaves image_now moment image_since saver.settings d (λ image. ⊥) saved begun mid new bytes)
+    saved unfinished mid new bytes) is.settings_are
+    (subst (λ d. KeepsSaves image_now moment image_since saver.settings d (λ image. ⊥) saved unfinished mid new bytes)
     is.digest_is (saves.kept bytes (same ∙ known))) in
     let among : List ℕ → Type 0 = λ image. OpensAmong (store_settings settings) kept.opened
-    (saved_after (opened_sequence kept.opened) (digest_of_lists (store_settings settings) lists) (saved ++ begun)) image in
+    (saved_after (opened_sequence kept.opened) (digest_of_lists (store_settings settings) lists) (saved ++ unfinished)) image in
     record {
       opened = kept.opened;
       opens = kept.opens;
@@ -126,8 +126,8 @@ no_base_ends settings lists tail keeping store AsBefore sink old write_faults be
 part_dealt : (settings : Settings) (lists : List (List RecordValue)) (tail : List ℕ) (keeping : Keeping)
     (store : Option (List ℕ)) (base : Option CutValue) (Kept : Saving) (old new : Option (List ℕ))
     → GoesOnFrom settings lists store base → RepresentsWhere lists base (opening_of settings.capacity lists base)
-    → ((saved begun : List CutValue) → Kept saved begun → settings.store ≡ true
-    → keeping (store_settings settings) lists saved begun)
+    → ((saved unfinished : List CutValue) → Kept saved unfinished → settings.store ≡ true
+    → keeping (store_settings settings) lists saved unfinished)
     → Writes (BeginsSession (opening_of settings.capacity lists base) settings Kept tail) old new
     → WritesDealtInPart settings lists tail keeping store old new
 part_dealt settings lists tail keeping store base Kept old new begins represents keeps part = record {
@@ -137,7 +137,7 @@ part_dealt settings lists tail keeping store base Kept old new begins represents
   writes = record {
     text = part.text;
     is_text = begins_weaker (opening_of settings.capacity lists base) settings Kept
-        (λ saved begun. settings.store ≡ true → keeping (store_settings settings) lists saved begun) tail part.text keeps
+        (λ saved unfinished. settings.store ≡ true → keeping (store_settings settings) lists saved unfinished) tail part.text keeps
         part.is_text;
     written = part.written;
   };
@@ -148,8 +148,8 @@ pub session_ends : {K : Type 0} (settings : Settings) (lists : List (List Record
     (keeping : Keeping) (store : Option (List ℕ)) (AsBefore : Type 0) (base : Option CutValue) (Kept : Saving)
     (Same : Type 0) (sink written : K) (old new : Option (List ℕ)) (before now : Faults) (status : Status)
     → GoesOnFrom settings lists store base → RepresentsWhere lists base (opening_of settings.capacity lists base)
-    → ((saved begun : List CutValue) → Kept saved begun → settings.store ≡ true
-    → keeping (store_settings settings) lists saved begun)
+    → ((saved unfinished : List CutValue) → Kept saved unfinished → settings.store ≡ true
+    → keeping (store_settings settings) lists saved unfinished)
     → (written ≡ sink → new ≡ old) → (Same → AsBefore × Kept [] [])
     → ((written ≡ sink) × Same)
     ⊎ Writes (BeginsSession (opening_of settings.capacity lists base) settings Kept tail) old new

@@ -55,9 +55,9 @@ disk_did_not_fail failed = omega (arith, failed.rose)
 abbrev none_saved : List CutValue → Type 0
 none_saved cuts = cuts ≡ []
 
--- nor one begun
-abbrev none_begun : Saving
-none_begun saved begun = (saved ≡ []) × (begun ≡ [])
+-- and no save is unfinished
+abbrev none_unfinished : Saving
+none_unfinished saved unfinished = (saved ≡ []) × (unfinished ≡ [])
 
 -- no round was made
 
@@ -91,12 +91,12 @@ no_round_writes_nothing = record {
   kept = refl;
 }
 
-pub no_round_of_none : EndRounds opening 10000 0 first first false none_saved none_begun (Some []) (Some []) calm calm None
+pub no_round_of_none : EndRounds opening 10000 0 first first false none_saved none_unfinished (Some []) (Some []) calm calm None
 no_round_of_none = (no_round_writes_nothing, refl)
 
 -- a fault would have ended them
 pub fault_without_a_stop :
-    EndRounds opening 10000 0 first first false none_saved none_begun (Some []) (Some []) calm sink_rose None → ⊥
+    EndRounds opening 10000 0 first first false none_saved none_unfinished (Some []) (Some []) calm sink_rose None → ⊥
 fault_without_a_stop ended = let same : 4 ≡ 3 = ap (λ (faults : Faults). faults.sink) ended.1 in omega (arith, same)
 
 -- ---- a round
@@ -145,7 +145,7 @@ one_round_is_written = record {
   kept = refl;
 }
 
-pub one_round_of_one : EndRounds opening 10000 1 first after_one false none_saved none_begun (Some [])
+pub one_round_of_one : EndRounds opening 10000 1 first after_one false none_saved none_unfinished (Some [])
     (Some (part_text false last)) calm calm None
 one_round_of_one = (one_round_is_written, refl)
 
@@ -170,7 +170,7 @@ pub report_of_one_round : ReportsOnce opening 10000 first after_one report
 report_of_one_round = record { calls = one_call; sound = λ bases. nothing_is_sound }
 
 -- a sink with room for 7 bytes took the first line of the report
-pub report_in_part : WritesReportInPart opening 10000 first after_one none_begun (Some []) (Some (codes "report\n"))
+pub report_in_part : WritesReportInPart opening 10000 first after_one none_unfinished (Some []) (Some (codes "report\n"))
 unfolding digits
 report_in_part = record {
   report = report;
@@ -186,7 +186,7 @@ report_in_part = record {
 
 -- of the line of the saved positions none may be written, though the cut was saved
 abbrev saved_the_one : Saving
-saved_the_one saved begun = one_saved saved × (begun ≡ [])
+saved_the_one saved unfinished = one_saved saved × (unfinished ≡ [])
 
 pub line_in_part :
     WritesLineInPart opening 10000 first after_one true saved_the_one (Some []) (Some (part_text false last))
@@ -205,30 +205,35 @@ line_in_part = record {
   kept = (refl, refl);
 }
 
--- and where the disk fails, the save may not be over
-abbrev begun_the_one : Saving
-begun_the_one saved begun = (saved ≡ []) × one_saved begun
+-- and where the disk fails, the save is unfinished
+abbrev unfinished_the_one : Saving
+unfinished_the_one saved unfinished = (saved ≡ []) × one_saved unfinished
 
-pub unsaved_round : WritesUnsaved opening 10000 first after_one begun_the_one (Some []) (Some (part_text false last))
+pub unsaved_round : WritesUnsaved opening 10000 first after_one true unfinished_the_one (Some []) (Some (part_text false last))
 unfolding digits
 unsaved_round = record { report = report; reports = report_of_one_round; written = refl; kept = (refl, refl) }
 
--- a save that was over is none that was begun
+-- a save that was made is none that is unfinished
 pub saved_round_is_not_unsaved :
-    WritesUnsaved opening 10000 first after_one saved_the_one (Some []) (Some (part_text false last)) → ⊥
+    WritesUnsaved opening 10000 first after_one true saved_the_one (Some []) (Some (part_text false last)) → ⊥
 saved_round_is_not_unsaved unsaved = cc unsaved.kept.1
+
+-- where memory ran out, it was not begun
+pub round_not_saved : WritesUnsaved opening 10000 first after_one false none_unfinished (Some []) (Some (part_text false last))
+unfolding digits
+round_not_saved = record { report = report; reports = report_of_one_round; written = refl; kept = (refl, refl) }
 
 pub each_shard_was_read_once : ReadsOnce opening first after_one
 each_shard_was_read_once = record { reads = reads; as_many = refl; odd = no_losses; view = refl }
 
-pub round_in_vain : ReadsInVain opening first after_one none_begun (Some []) (Some [])
+pub round_in_vain : ReadsInVain opening first after_one none_unfinished (Some []) (Some [])
 round_in_vain = record { reads = each_shard_was_read_once; unwritten = refl; kept = (refl, refl) }
 
-pub round_in_vain_writes_nothing : ReadsInVain opening first after_one none_begun (Some []) (Some (codes "report\n")) → ⊥
+pub round_in_vain_writes_nothing : ReadsInVain opening first after_one none_unfinished (Some []) (Some (codes "report\n")) → ⊥
 round_in_vain_writes_nothing vain = cc vain.unwritten
 
 pub sink_breaks_a_round :
-    BreaksRound opening 10000 first after_one false none_begun (Some []) (Some (codes "report\n")) calm sink_rose
+    BreaksRound opening 10000 first after_one false none_unfinished (Some []) (Some (codes "report\n")) calm sink_rose
     WriteFault
 sink_breaks_a_round = (inl report_in_part, sink_failed)
 
@@ -239,41 +244,48 @@ sink_breaks_the_line = (inr line_in_part, sink_failed)
 
 -- a sink that failed has counted it
 pub sink_that_did_not_fail :
-    BreaksRound opening 10000 first after_one false none_begun (Some []) (Some (codes "report\n")) calm calm WriteFault → ⊥
+    BreaksRound opening 10000 first after_one false none_unfinished (Some []) (Some (codes "report\n")) calm calm WriteFault → ⊥
 sink_that_did_not_fail breaks = omega (arith, breaks.1.rose)
 
 pub disk_breaks_a_round :
-    BreaksRound opening 10000 first after_one true begun_the_one (Some []) (Some (part_text false last)) calm disk_rose
+    BreaksRound opening 10000 first after_one true unfinished_the_one (Some []) (Some (part_text false last)) calm disk_rose
     DiskFault
 disk_breaks_a_round = (refl, unsaved_round, disk_failed)
 
 -- without a store no disk is written to
 pub disk_breaks_no_round_without_a_store :
-    BreaksRound opening 10000 first after_one false begun_the_one (Some []) (Some (part_text false last)) calm disk_rose
+    BreaksRound opening 10000 first after_one false unfinished_the_one (Some []) (Some (part_text false last)) calm disk_rose
     DiskFault → ⊥
 disk_breaks_no_round_without_a_store breaks = cc breaks.0
 
 pub memory_breaks_a_round :
-    BreaksRound opening 10000 first after_one false none_begun (Some []) (Some []) calm calm OutOfMemory
+    BreaksRound opening 10000 first after_one false none_unfinished (Some []) (Some []) calm calm OutOfMemory
 memory_breaks_a_round = (inl round_in_vain, refl)
 
 -- memory may also run out in a save
 pub memory_breaks_a_save :
-    BreaksRound opening 10000 first after_one true begun_the_one (Some []) (Some (part_text false last)) calm calm
+    BreaksRound opening 10000 first after_one true none_unfinished (Some []) (Some (part_text false last)) calm calm
     OutOfMemory
-memory_breaks_a_save = (inr (refl, unsaved_round), refl)
+memory_breaks_a_save = (inr (refl, round_not_saved), refl)
+
+-- then no save was made, or begun
+pub memory_ran_out_after_a_save :
+    BreaksRound opening 10000 first after_one true saved_the_one (Some []) (Some (part_text false last)) calm calm
+    OutOfMemory → ⊥
+memory_ran_out_after_a_save (inl vain, same) = cc vain.kept.0
+memory_ran_out_after_a_save (inr unsaved, same) = cc unsaved.1.kept.0
 
 pub success_breaks_no_round :
-    BreaksRound opening 10000 first after_one false none_begun (Some []) (Some []) calm calm Done → ⊥
+    BreaksRound opening 10000 first after_one false none_unfinished (Some []) (Some []) calm calm Done → ⊥
 success_breaks_no_round breaks = breaks
 
 pub source_breaks_no_round :
-    BreaksRound opening 10000 first after_one false none_begun (Some []) (Some []) calm sink_rose ReadFault → ⊥
+    BreaksRound opening 10000 first after_one false none_unfinished (Some []) (Some []) calm sink_rose ReadFault → ⊥
 source_breaks_no_round breaks = breaks
 
 -- the first of two rounds broke off
 pub first_round_broke_off :
-    BreakOff opening 10000 2 first after_one false none_begun (Some []) (Some (codes "report\n")) calm sink_rose WriteFault
+    BreakOff opening 10000 2 first after_one false none_unfinished (Some []) (Some (codes "report\n")) calm sink_rose WriteFault
 first_round_broke_off = record {
   whole = 0;
   few = omega arith;
@@ -284,12 +296,12 @@ first_round_broke_off = record {
 }
 
 pub no_round_breaks_off :
-    BreakOff opening 10000 0 first after_one false none_begun (Some []) (Some (codes "report\n")) calm sink_rose WriteFault
+    BreakOff opening 10000 0 first after_one false none_unfinished (Some []) (Some (codes "report\n")) calm sink_rose WriteFault
     → ⊥
 no_round_breaks_off breaks = omega (arith, breaks.few)
 
 pub two_rounds_ended_in_the_first :
-    EndRounds opening 10000 2 first after_one false none_saved none_begun (Some []) (Some (codes "report\n")) calm
+    EndRounds opening 10000 2 first after_one false none_saved none_unfinished (Some []) (Some (codes "report\n")) calm
     sink_rose (Some WriteFault)
 two_rounds_ended_in_the_first = first_round_broke_off
 
@@ -413,7 +425,7 @@ pub fed_with_another_cut : (seat : SeatValue) (fed : Fed)
 fed_with_another_cut seat fed is = cc is.shape.as_many
 
 -- a sink with room for 7 bytes took the first line of the only round's report
-pub rounds_in_part : WritesRoundsInPart opening running none_begun (Some []) (Some (codes "report\n"))
+pub rounds_in_part : WritesRoundsInPart opening running none_unfinished (Some []) (Some (codes "report\n"))
 unfolding digits
 rounds_in_part = record {
   front = codes "report\n";
@@ -423,20 +435,20 @@ rounds_in_part = record {
     few = omega arith;
     are_reports = one_report_with 1 1;
     more = codes "report\n";
-    breaks_off = inl (((codes "at 0 0 0 0\ntotal 0\nthreshold 1\ndone\n", refl), omega arith), (refl, refl));
+    breaks_off = inl ((codes "at 0 0 0 0\ntotal 0\nthreshold 1\ndone\n", refl), (refl, refl));
     written = refl;
   });
   written = refl;
 }
 
 -- without rounds nothing of them is written
-pub no_rounds_in_part : WritesRoundsInPart opening settings none_begun (Some []) (Some (codes "report\n")) → ⊥
+pub no_rounds_in_part : WritesRoundsInPart opening settings none_unfinished (Some []) (Some (codes "report\n")) → ⊥
 no_rounds_in_part in_part = none in_part.front in_part.breaks_off in_part.written
   where
     whole : (rounds : List Reported) → length rounds ≤ 0 → codes "report\n" ≡ parts_text false rounds → ⊥
     whole [] few written = cc written
     whole (one ∷ rounds) few written = omega (arith, few)
 
-    none : (text : List ℕ) → BreaksOffInRounds opening settings none_begun text → codes "report\n" ≡ text → ⊥
+    none : (text : List ℕ) → BreaksOffInRounds opening settings none_unfinished text → codes "report\n" ≡ text → ⊥
     none text (inl between) written = whole between.rounds between.few (written ∙ between.written)
     none text (inr within) written = omega (arith, within.few)

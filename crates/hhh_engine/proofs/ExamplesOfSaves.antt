@@ -124,11 +124,11 @@ no_saves_keep_the_store = record {
   afterwards = λ image is. subst (λ bytes. Opens one bytes None) (sym is) formatted_opens_to_nothing;
 }
 
--- a save that was not over may have left the store as it was
-pub save_was_not_over :
+-- an unfinished save may have left the store as it was
+pub unfinished_save_left_nothing :
     KeepsSaves {D = ℕ} (λ disk image. image ≡ formatted) (λ disk. disk) image_since one (9 ∷ []) (λ image. ⊥) []
     (none_counted ∷ []) 7 7 formatted
-save_was_not_over = record {
+unfinished_save_left_nothing = record {
   opened = None;
   opens = formatted_opens_to_nothing;
   any_moment = Leaves-none (λ disk. disk) image_since 7

@@ -55,7 +55,7 @@ in_turn kind place rec shards number = number ≡ place % shards
 
 -- a disk of which nothing holds, whatever was saved: it is asked of no run without a store
 abbrev pub keeps_nothing : Keeping
-keeps_nothing asked dealt saved begun = ⊥
+keeps_nothing asked dealt saved unfinished = ⊥
 
 pub header_is_a_capture : HasFrames header []
 unfolding number_at magic_order
@@ -398,7 +398,7 @@ session_over_the_header = record {
 
 -- without a store nothing is saved
 abbrev pub saves_nothing : Saving
-saves_nothing saved begun = (saved ≡ []) × (begun ≡ [])
+saves_nothing saved unfinished = (saved ≡ []) × (unfinished ≡ [])
 
 -- a sink with room for 12 bytes took a part of the first line
 pub first_bytes_of_the_session :
@@ -429,7 +429,7 @@ broken_off_in_a_round = inr (record {
   few = omega arith;
   are_reports = one_report_with 1 1;
   more = codes "report\n";
-  breaks_off = inl (((codes "at 0 0 0 0\ntotal 0\nthreshold 1\ndone\n", refl), omega arith), (refl, refl));
+  breaks_off = inl ((codes "at 0 0 0 0\ntotal 0\nthreshold 1\ndone\n", refl), (refl, refl));
   written = refl;
 })
 
@@ -444,25 +444,25 @@ one_cut = saved_cuts true opening (last ∷ [])
 
 -- in the line the cut was saved, though none of its bytes may be written
 pub broken_off_in_the_line :
-    BreaksOffAround (codes "done\n") (codes "saved 0\n") one_cut (λ saved begun. (saved ≡ one_cut) × (begun ≡ []))
+    BreaksOffAround (codes "done\n") (codes "saved 0\n") one_cut (λ saved unfinished. (saved ≡ one_cut) × (unfinished ≡ []))
     (codes "done\n")
 broken_off_in_the_line = inr (inr ([], ((codes "saved 0\n", refl), omega arith), refl, (refl, refl)))
 
 -- in the save it may be, or not
 pub broken_off_in_the_save :
-    BreaksOffAround (codes "done\n") (codes "saved 0\n") one_cut (λ saved begun. (saved ≡ []) × (begun ≡ one_cut))
+    BreaksOffAround (codes "done\n") (codes "saved 0\n") one_cut (λ saved unfinished. (saved ≡ []) × (unfinished ≡ one_cut))
     (codes "done\n")
 broken_off_in_the_save = inr (inl (refl, (refl, refl)))
 
 -- and before it, it isn't
 pub broken_off_before_the_save :
-    BreaksOffAround (codes "done\n") (codes "saved 0\n") one_cut (λ saved begun. (saved ≡ []) × (begun ≡ []))
+    BreaksOffAround (codes "done\n") (codes "saved 0\n") one_cut (λ saved unfinished. (saved ≡ []) × (unfinished ≡ []))
     (codes "do")
-broken_off_before_the_save = inl (((codes "ne\n", refl), omega arith), (refl, refl))
+broken_off_before_the_save = inl ((codes "ne\n", refl), (refl, refl))
 
 -- the cuts of the rounds before come first
 pub cuts_of_a_round_before :
-    after_saves_of true opening (last ∷ []) (λ saved begun. (saved ≡ one_cut) × (begun ≡ [])) [] []
+    after_saves_of true opening (last ∷ []) (λ saved unfinished. (saved ≡ one_cut) × (unfinished ≡ [])) [] []
 cuts_of_a_round_before = (refl, refl)
 
 -- no session begins with a report

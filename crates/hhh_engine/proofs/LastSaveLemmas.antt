@@ -142,8 +142,8 @@ pub rest_in_part : StoresOpenToOne → {D : Type 0} (reads : D → Option (List 
     (SavesInPart reads image_now moment image_since saver old new)
 rest_in_part one reads image_now moment image_since opening store rounds last cut None between old mid new used is are
     is_image saves =
-    let same : (saved begun : List CutValue) → SavesInPart reads image_now moment image_since between mid new saved begun
-    → new ≡ old = λ saved begun part. part.unused saves.saver ∙ saves.saves in (
+    let same : (saved unfinished : List CutValue) → SavesInPart reads image_now moment image_since between mid new saved unfinished
+    → new ≡ old = λ saved unfinished part. part.unused saves.saver ∙ saves.saves in (
       λ part. record { unused = λ none. same [] [] part; kept = tt },
       λ part. record { unused = λ none. same [] (cut ∷ []) part; kept = tt },
       λ part. record { unused = λ none. same (cut ∷ []) [] part; kept = tt },
@@ -153,10 +153,10 @@ rest_in_part one reads image_now moment image_since opening store rounds last cu
     let cuts : List CutValue = saved_cuts store opening rounds in
     let same : cut ∷ [] ≡ saved_cuts store opening (last ∷ []) =
     ap (λ c. c ∷ []) is ∙ ap (λ b. saved_cuts b opening (last ∷ [])) used in
-    let all : (saved begun : List CutValue) → SavesInPart reads image_now moment image_since between mid new saved begun
-    → SavesInPart reads image_now moment image_since (Some saver) old new (cuts ++ saved) begun =
-    λ saved begun.
-    part_follows one reads image_now moment image_since (Some saver) between cuts saved begun old mid new are is_image
+    let all : (saved unfinished : List CutValue) → SavesInPart reads image_now moment image_since between mid new saved unfinished
+    → SavesInPart reads image_now moment image_since (Some saver) old new (cuts ++ saved) unfinished =
+    λ saved unfinished.
+    part_follows one reads image_now moment image_since (Some saver) between cuts saved unfinished old mid new are is_image
     saves in (
       all [] [],
       λ part. subst (SavesInPart reads image_now moment image_since (Some saver) old new (cuts ++ [])) same

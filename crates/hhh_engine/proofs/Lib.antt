@@ -21,7 +21,7 @@ pub mod WiderRulesLemmas
 pub mod LastReportLemmas
 pub mod DemoTextLemmas
 pub mod LastStoreLemmas
-pub mod StoppedSaveLemmas
+pub mod BrokenSessionLemmas
 pub mod OwnReportLemmas
 pub mod Examples
 pub mod ExamplesOfStatuses

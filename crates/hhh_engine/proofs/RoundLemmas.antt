@@ -160,20 +160,21 @@ all_made opening shards phi made rounds before now store Kept KeptInPart old new
     )
 
 -- a round whose cut wasn't saved, of which less is said
-unsaved_weaker : (opening : List ShardValue) (phi : ℕ) (before now : View) (Kept Less : Saving)
-    (old new : Option (List ℕ)) → ((saved begun : List CutValue) → Kept saved begun → Less saved begun)
-    → WritesUnsaved opening phi before now Kept old new → WritesUnsaved opening phi before now Less old new
-unsaved_weaker opening phi before now Kept Less old new less unsaved = record {
+unsaved_weaker : (opening : List ShardValue) (phi : ℕ) (before now : View) (unfinished : Bool) (Kept Less : Saving)
+    (old new : Option (List ℕ)) → ((saved unfinished : List CutValue) → Kept saved unfinished → Less saved unfinished)
+    → WritesUnsaved opening phi before now unfinished Kept old new
+    → WritesUnsaved opening phi before now unfinished Less old new
+unsaved_weaker opening phi before now unfinished Kept Less old new less unsaved = record {
   report = unsaved.report;
   reports = unsaved.reports;
   written = unsaved.written;
-  kept = less [] (saved_cuts true opening (record { report = unsaved.report; saved = None } ∷ [])) unsaved.kept;
+  kept = less [] (saved_cuts unfinished opening (record { report = unsaved.report; saved = None } ∷ [])) unsaved.kept;
 }
 
 -- a round that broke off, of which less is said
 breaks_weaker : (opening : List ShardValue) (phi : ℕ) (before now : View) (store : Bool) (Kept Less : Saving)
     (old new : Option (List ℕ)) (faults_before faults_now : Faults) (status : Status)
-    → ((saved begun : List CutValue) → Kept saved begun → Less saved begun)
+    → ((saved unfinished : List CutValue) → Kept saved unfinished → Less saved unfinished)
     → BreaksRound opening phi before now store Kept old new faults_before faults_now status
     → BreaksRound opening phi before now store Less old new faults_before faults_now status
 breaks_weaker opening phi before now store Kept Less old new faults_before faults_now WriteFault less broken = (
@@ -195,12 +196,12 @@ breaks_weaker opening phi before now store Kept Less old new faults_before fault
   broken.1,
 )
 breaks_weaker opening phi before now store Kept Less old new faults_before faults_now DiskFault less broken =
-    (broken.0, unsaved_weaker opening phi before now Kept Less old new less broken.1, broken.2)
+    (broken.0, unsaved_weaker opening phi before now true Kept Less old new less broken.1, broken.2)
 breaks_weaker opening phi before now store Kept Less old new faults_before faults_now OutOfMemory less broken = (
   ⊎_elim
       (λ (vain : ReadsInVain opening before now Kept old new).
       inl (record { reads = vain.reads; unwritten = vain.unwritten; kept = less [] [] vain.kept }))
-      (λ unsaved. inr (unsaved.0, unsaved_weaker opening phi before now Kept Less old new less unsaved.1)) broken.0,
+      (λ unsaved. inr (unsaved.0, unsaved_weaker opening phi before now false Kept Less old new less unsaved.1)) broken.0,
   broken.1,
 )
 breaks_weaker opening phi before now store Kept Less old new faults_before faults_now Done less broken = absurd broken
@@ -228,7 +229,7 @@ pub one_broke_off : (opening shards : List ShardValue) (phi share made rounds : 
     (store stored : Bool) (Kept : List CutValue → Type 0) (KeptInRound KeptInPart : Saving)
     (old between new : Option (List ℕ)) (faults_before faults_between faults_now : Faults) (status : Status)
     → shards ≡ opening → share ≡ phi → stored ≡ store → faults_between ≡ faults_before → made < rounds
-    → ((cuts saved begun : List CutValue) → Kept cuts → KeptInRound saved begun → KeptInPart (cuts ++ saved) begun)
+    → ((cuts saved unfinished : List CutValue) → Kept cuts → KeptInRound saved unfinished → KeptInPart (cuts ++ saved) unfinished)
     → WritesRounds opening phi made before middle store Kept old between
     → BreaksRound opening share middle now stored KeptInRound between new faults_between faults_now status
     → BreakOff shards phi rounds before now store KeptInPart old new faults_before faults_now status
@@ -244,7 +245,7 @@ one_broke_off opening shards phi share made rounds before middle now store store
       broken =
           breaks_weaker opening phi middle now store KeptInRound (after_saves_of store opening written.reports KeptInPart)
           between new faults_before faults_now status
-          (λ saved begun kept. both (saved_cuts store opening written.reports) saved begun written.kept kept)
+          (λ saved unfinished kept. both (saved_cuts store opening written.reports) saved unfinished written.kept kept)
           (subst (λ b. BreaksRound opening phi middle now b KeptInRound between new faults_before faults_now status)
           same_store
           (subst (λ n. BreaksRound opening n middle now stored KeptInRound between new faults_before faults_now status)
@@ -270,37 +271,38 @@ sink_broke opening phi before now store Kept old new sink_before sink_between si
 pub save_broke : (opening : List ShardValue) (phi : ℕ) (before now : View) (store : Bool) (Kept : Saving)
     (old new : Option (List ℕ)) (sink_before sink_now disk_before disk_now : ℕ) (status : Status)
     → store ≡ true → IsSaveFault disk_before disk_now status → sink_now ≡ sink_before
-    → WritesUnsaved opening phi before now Kept old new
+    → WritesUnsaved opening phi before now true Kept old new
+    → (status ≡ OutOfMemory → WritesUnsaved opening phi before now false Kept old new)
     → BreaksRound opening phi before now store Kept old new (record { sink = sink_before; disk = disk_before })
     (record { sink = sink_now; disk = disk_now }) status
 save_broke opening phi before now store Kept old new sink_before sink_now disk_before disk_now DiskFault used fault same
-    unsaved =
+    unsaved untouched =
     (used, unsaved, record { rose = fault; sink = same })
 save_broke opening phi before now store Kept old new sink_before sink_now disk_before disk_now OutOfMemory used fault same
-    unsaved =
-    (inr (used, unsaved), ap₂ (λ s d. record { sink = s; disk = d }) same fault)
-save_broke opening phi before now store Kept old new sink_before sink_now disk_before disk_now Done used fault same unsaved =
-    absurd fault
+    unsaved untouched =
+    (inr (used, untouched refl), ap₂ (λ s d. record { sink = s; disk = d }) same fault)
+save_broke opening phi before now store Kept old new sink_before sink_now disk_before disk_now Done used fault same unsaved
+    untouched = absurd fault
 save_broke opening phi before now store Kept old new sink_before sink_now disk_before disk_now (BadWords kind) used fault same
-    unsaved = absurd fault
+    unsaved untouched = absurd fault
 save_broke opening phi before now store Kept old new sink_before sink_now disk_before disk_now (BadCapture wrong) used fault
-    same unsaved = absurd fault
+    same unsaved untouched = absurd fault
 save_broke opening phi before now store Kept old new sink_before sink_now disk_before disk_now ReadFault used fault same
-    unsaved = absurd fault
+    unsaved untouched = absurd fault
 save_broke opening phi before now store Kept old new sink_before sink_now disk_before disk_now WriteFault used fault same
-    unsaved = absurd fault
+    unsaved untouched = absurd fault
 save_broke opening phi before now store Kept old new sink_before sink_now disk_before disk_now NotFormatted used fault same
-    unsaved = absurd fault
+    unsaved untouched = absurd fault
 save_broke opening phi before now store Kept old new sink_before sink_now disk_before disk_now (Damaged slot) used fault same
-    unsaved = absurd fault
+    unsaved untouched = absurd fault
 save_broke opening phi before now store Kept old new sink_before sink_now disk_before disk_now (OtherSettings stored asked)
-    used fault same unsaved = absurd fault
+    used fault same unsaved untouched = absurd fault
 save_broke opening phi before now store Kept old new sink_before sink_now disk_before disk_now (OtherCapture stored asked)
-    used fault same unsaved = absurd fault
+    used fault same unsaved untouched = absurd fault
 save_broke opening phi before now store Kept old new sink_before sink_now disk_before disk_now (AuditNo report verdict) used
-    fault same unsaved = absurd fault
+    fault same unsaved untouched = absurd fault
 save_broke opening phi before now store Kept old new sink_before sink_now disk_before disk_now (BadReport wrong) used fault
-    same unsaved = absurd fault
+    same unsaved untouched = absurd fault
 
 -- memory ran out before a round was written
 pub memory_broke : {T : Type 0} (result : Result T Status) (opening : List ShardValue) (phi : ℕ) (before now : View)

@@ -63,24 +63,24 @@ still_known old (Some now) bytes known is = (now, refl)
 -- saves that follow others, into the store that these left
 keeps_follow : StoresOpenToOne → {D : Type 0} (image_now : D → List ℕ → Type 0) (moment : D → ℕ)
     (image_since : D → ℕ → List ℕ → Type 0) (settings : StoreSettings) (digest : List ℕ) (Earlier : List ℕ → Type 0)
-    (cuts later begun : List CutValue) (old mid new : D) (store between : List ℕ) → AreSettings settings
+    (cuts later unfinished : List CutValue) (old mid new : D) (store between : List ℕ) → AreSettings settings
     → image_now mid between → KeepsSaves image_now moment image_since settings digest Earlier cuts [] old mid store
-    → KeepsSaves image_now moment image_since settings digest (λ image. ⊥) later begun mid new between
-    → KeepsSaves image_now moment image_since settings digest Earlier (cuts ++ later) begun old new store
-keeps_follow one {D} image_now moment image_since settings digest Earlier cuts later begun old mid new store between are now
+    → KeepsSaves image_now moment image_since settings digest (λ image. ⊥) later unfinished mid new between
+    → KeepsSaves image_now moment image_since settings digest Earlier (cuts ++ later) unfinished old new store
+keeps_follow one {D} image_now moment image_since settings digest Earlier cuts later unfinished old mid new store between are now
     first second =
     let opened : Option SavedValue = first.opened in
     let start : ℕ = opened_sequence opened in
     let saves : List SavedValue = saved_after start digest cuts in
-    let all : List SavedValue = saved_after start digest ((cuts ++ later) ++ begun) in
+    let all : List SavedValue = saved_after start digest ((cuts ++ later) ++ unfinished) in
     let then : ℕ = opened_sequence second.opened in
-    let next : List SavedValue = saved_after then digest (later ++ begun) in
+    let next : List SavedValue = saved_after then digest (later ++ unfinished) in
     let same : second.opened ≡ last_saved opened saves =
     one settings between second.opened (last_saved opened saves) are second.opens (first.afterwards between now) in
     let sequence : then ≡ start + length cuts = ap opened_sequence same ∙ last_sequence_is opened digest cuts in
     let parted : all ≡ saves ++ next =
-    ap (saved_after start digest) (append_assoc cuts later begun) ∙ saved_after-append start digest cuts (later ++ begun)
-    ∙ ap (λ n. saves ++ saved_after n digest (later ++ begun)) (sym sequence) in
+    ap (saved_after start digest) (append_assoc cuts later unfinished) ∙ saved_after-append start digest cuts (later ++ unfinished)
+    ∙ ap (λ n. saves ++ saved_after n digest (later ++ unfinished)) (sym sequence) in
     let last : last_saved opened (saved_after start digest (cuts ++ later))
     ≡ last_saved second.opened (saved_after then digest later) =
     ap (last_saved opened) (saved_after-append start digest cuts later)
@@ -108,9 +108,9 @@ keeps_follow one {D} image_now moment image_since settings digest Earlier cuts l
           (subst (λ held. OpensAmong settings held next image) same among))))));
       afterwards = λ image is.
           subst (λ held. OpensAmong settings held
-          (saved_after (start + length (cuts ++ later)) digest begun) image) (sym last)
+          (saved_after (start + length (cuts ++ later)) digest unfinished) image) (sym last)
           (subst (λ n. OpensAmong settings (last_saved second.opened (saved_after then digest later))
-          (saved_after n digest begun) image) (omega (arith, sequence, length-append cuts later))
+          (saved_after n digest unfinished) image) (omega (arith, sequence, length-append cuts later))
           (second.afterwards image is));
     }
 
@@ -164,15 +164,15 @@ one_save one reads image_now moment image_since saver cut old new are before kno
       };
 }
 
--- a save that was not over, as its contract tells it
-begun_save : StoresOpenToOne → {D : Type 0} (reads : D → Option (List ℕ)) (image_now : D → List ℕ → Type 0)
+-- an unfinished save, as its contract tells it
+unfinished_save : StoresOpenToOne → {D : Type 0} (reads : D → Option (List ℕ)) (image_now : D → List ℕ → Type 0)
     (moment : D → ℕ) (image_since : D → ℕ → List ℕ → Type 0) (saver : SaverState) (cut : CutValue) (old new : D)
     → AreSettings saver.settings → StandsFor (reads old) (image_now old) saver
     → ((disk : D) (t : ℕ) (image : List ℕ) → t ≤ moment disk → image_now disk image → image_since disk t image)
     → IfKnown (reads old)
     (λ bytes. Leaves moment image_since old new (OldOrNew saver.settings bytes (next_saved saver cut)))
     → SavesInPart reads image_now moment image_since (Some saver) old new [] (cut ∷ [])
-begun_save one reads image_now moment image_since saver cut old new are before now_is_since any_moment = record {
+unfinished_save one reads image_now moment image_since saver cut old new are before now_is_since any_moment = record {
   unused = λ none. cc none;
   kept = λ bytes is.
       let store = (before bytes is).is_known in
@@ -190,7 +190,7 @@ begun_save one reads image_now moment image_since saver cut old new are before n
 }
 
 -- and by whichever saver is there
-pub begun_save_of : StoresOpenToOne → {D : Type 0} (reads : D → Option (List ℕ)) (image_now : D → List ℕ → Type 0)
+pub unfinished_save_of : StoresOpenToOne → {D : Type 0} (reads : D → Option (List ℕ)) (image_now : D → List ℕ → Type 0)
     (moment : D → ℕ) (image_since : D → ℕ → List ℕ → Type 0) (before : Option SaverState) (saver : SaverState)
     (cut : CutValue) (old new : D) → before ≡ Some saver
     → IfSome before (CanSaveCut (reads old) (image_now old) cut)
@@ -198,11 +198,11 @@ pub begun_save_of : StoresOpenToOne → {D : Type 0} (reads : D → Option (List
     → IfKnown (reads old)
     (λ bytes. Leaves moment image_since old new (OldOrNew saver.settings bytes (next_saved saver cut)))
     → SavesInPart reads image_now moment image_since before old new [] (cut ∷ [])
-begun_save_of one reads image_now moment image_since before saver cut old new is can now_is_since any_moment =
+unfinished_save_of one reads image_now moment image_since before saver cut old new is can now_is_since any_moment =
     let may : CanSaveCut (reads old) (image_now old) cut saver =
     subst (λ s. IfSome s (CanSaveCut (reads old) (image_now old) cut)) is can in
     subst (λ s. SavesInPart reads image_now moment image_since s old new [] (cut ∷ [])) (sym is)
-    (begun_save one reads image_now moment image_since saver cut old new may.settings may.stands now_is_since any_moment)
+    (unfinished_save one reads image_now moment image_since saver cut old new may.settings may.stands now_is_since any_moment)
 
 -- no save
 pub no_save : {D : Type 0} (reads : D → Option (List ℕ)) (image_now : D → List ℕ → Type 0) (moment : D → ℕ)
@@ -255,15 +255,15 @@ sequence_rises saver (cut ∷ cuts) = sequence_rises (after_save saver cut) cuts
 
 -- what is kept by the saver after these saves is kept by the one before them
 kept_as_before : {D : Type 0} (image_now : D → List ℕ → Type 0) (moment : D → ℕ) (image_since : D → ℕ → List ℕ → Type 0)
-    (saver : SaverState) (cuts saved begun : List CutValue) (mid new : D) (store : List ℕ)
+    (saver : SaverState) (cuts saved unfinished : List CutValue) (mid new : D) (store : List ℕ)
     → KeepsSaves image_now moment image_since (after_saves saver cuts).settings (after_saves saver cuts).digest (λ image. ⊥)
-    saved begun mid new store
-    → KeepsSaves image_now moment image_since saver.settings saver.digest (λ image. ⊥) saved begun mid new store
-kept_as_before image_now moment image_since saver cuts saved begun mid new store kept =
-    subst (λ settings. KeepsSaves image_now moment image_since settings saver.digest (λ image. ⊥) saved begun mid new store)
+    saved unfinished mid new store
+    → KeepsSaves image_now moment image_since saver.settings saver.digest (λ image. ⊥) saved unfinished mid new store
+kept_as_before image_now moment image_since saver cuts saved unfinished mid new store kept =
+    subst (λ settings. KeepsSaves image_now moment image_since settings saver.digest (λ image. ⊥) saved unfinished mid new store)
     (settings_stay saver cuts)
     (subst (λ digest. KeepsSaves image_now moment image_since (after_saves saver cuts).settings digest (λ image. ⊥) saved
-    begun mid new store) (digest_stays saver cuts) kept)
+    unfinished mid new store) (digest_stays saver cuts) kept)
 
 cuts_follow : StoresOpenToOne → {D : Type 0} (reads : D → Option (List ℕ)) (image_now : D → List ℕ → Type 0)
     (moment : D → ℕ) (image_since : D → ℕ → List ℕ → Type 0) (saver : SaverState) (cuts later : List CutValue)
@@ -307,7 +307,7 @@ saves_follow one reads image_now moment image_since (Some saver) between after c
           then.saves;
     }
 
--- saves that were made are none that was begun
+-- saves that were made leave none unfinished
 pub part_of_saves : {D : Type 0} (reads : D → Option (List ℕ)) (image_now : D → List ℕ → Type 0) (moment : D → ℕ)
     (image_since : D → ℕ → List ℕ → Type 0) (before : Option SaverState) (old new : D) (cuts : List CutValue)
     → Saves reads image_now moment image_since before cuts old new
@@ -331,23 +331,23 @@ nothing_saved reads image_now moment image_since before old new only_now stands 
 -- what broke off after saves
 pub part_follows : StoresOpenToOne → {D : Type 0} (reads : D → Option (List ℕ)) (image_now : D → List ℕ → Type 0)
     (moment : D → ℕ) (image_since : D → ℕ → List ℕ → Type 0) (before between : Option SaverState)
-    (cuts saved begun : List CutValue) (old mid new : D) → IfSome before (λ saver. AreSettings saver.settings)
+    (cuts saved unfinished : List CutValue) (old mid new : D) → IfSome before (λ saver. AreSettings saver.settings)
     → ((disk : D) (bytes : List ℕ) → reads disk ≡ Some bytes → image_now disk bytes)
     → SavesInTurn reads image_now moment image_since before between old mid cuts
-    → SavesInPart reads image_now moment image_since between mid new saved begun
-    → SavesInPart reads image_now moment image_since before old new (cuts ++ saved) begun
-part_follows one reads image_now moment image_since None between cuts saved begun old mid new are is_image first second =
+    → SavesInPart reads image_now moment image_since between mid new saved unfinished
+    → SavesInPart reads image_now moment image_since before old new (cuts ++ saved) unfinished
+part_follows one reads image_now moment image_since None between cuts saved unfinished old mid new are is_image first second =
     record { unused = λ none. second.unused first.saver ∙ first.saves; kept = tt }
-part_follows one reads image_now moment image_since (Some saver) between cuts saved begun old mid new are is_image first
+part_follows one reads image_now moment image_since (Some saver) between cuts saved unfinished old mid new are is_image first
     second = record {
       unused = λ none. cc none;
       kept = λ bytes is.
           let known = still_known (reads old) (reads mid) bytes first.saves.known is in
-          let then : SavesInPart reads image_now moment image_since (Some (after_saves saver cuts)) mid new saved begun =
-          subst (λ s. SavesInPart reads image_now moment image_since s mid new saved begun) first.saver second in
-          keeps_follow one image_now moment image_since saver.settings saver.digest (λ image. ⊥) cuts saved begun old mid
+          let then : SavesInPart reads image_now moment image_since (Some (after_saves saver cuts)) mid new saved unfinished =
+          subst (λ s. SavesInPart reads image_now moment image_since s mid new saved unfinished) first.saver second in
+          keeps_follow one image_now moment image_since saver.settings saver.digest (λ image. ⊥) cuts saved unfinished old mid
           new bytes known.0 are (is_image mid known.0 known.1) (first.saves.kept bytes is)
-          (kept_as_before image_now moment image_since saver cuts saved begun mid new known.0 (then.kept known.0 known.1));
+          (kept_as_before image_now moment image_since saver cuts saved unfinished mid new known.0 (then.kept known.0 known.1));
     }
 
 -- a disk that is untouched is as before

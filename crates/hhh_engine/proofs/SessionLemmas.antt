@@ -143,24 +143,22 @@ between_rounds opening settings whole before middle Kept old between new reports
 
 -- whole rounds, and a report whose cut wasn't saved
 unsaved_in_part : (opening : List ShardValue) (settings : Settings) (before now : View) (Kept : Saving)
-    (old new : Option (List ℕ)) (faults_before faults_now : Faults) (status : Status)
+    (old new : Option (List ℕ)) (faults_before faults_now : Faults) (status : Status) (unfinished : Bool)
     → capacity_of opening ≡ settings.capacity → HasSeenStarts opening before → CallsFollow opening before
     → (off : BreakOff opening settings.phi settings.rounds before now settings.store Kept old new faults_before faults_now
-    status) → settings.store ≡ true
-    → WritesUnsaved opening settings.phi off.middle now
-    (after_saves_of settings.store opening off.written.reports Kept) off.between new
+    status)
+    → (unsaved : WritesUnsaved opening settings.phi off.middle now unfinished
+    (after_saves_of settings.store opening off.written.reports Kept) off.between new)
+    → BreaksOffAround (report_text unsaved.report) (saved_text settings.store unsaved.report.positions)
+    (saved_cuts settings.store opening (record { report = unsaved.report; saved = None } ∷ []))
+    (after_saves_of settings.store opening off.written.reports Kept) (report_text unsaved.report)
     → WritesRoundsInPart opening settings Kept old new
-unsaved_in_part opening settings before now Kept old new faults_before faults_now status alike seen follow off used
-    unsaved =
+unsaved_in_part opening settings before now Kept old new faults_before faults_now status unfinished alike seen follow off
+    unsaved breaks_off =
     let whole = off.written in
-    let next : Reported = record { report = unsaved.report; saved = None } in
     within_round opening settings off.whole before off.middle now Kept old off.between new whole.reports unsaved.report
-    (report_text unsaved.report) alike seen follow off.few whole.calls whole.sound whole.written unsaved.reports
-    (inr (inl (
-      refl,
-      subst (λ store. after_saves_of settings.store opening whole.reports Kept [] (saved_cuts store opening (next ∷ [])))
-          (sym used) unsaved.kept,
-    ))) unsaved.written
+    (report_text unsaved.report) alike seen follow off.few whole.calls whole.sound whole.written unsaved.reports breaks_off
+    unsaved.written
 
 -- rounds that broke off: whole ones, and one more that broke off
 broken_in_part : (opening : List ShardValue) (settings : Settings) (before now : View) (Kept : Saving)
@@ -175,7 +173,7 @@ broken_in_part opening settings before now Kept old new faults_before faults_now
     (λ (part : WritesReportInPart opening settings.phi off.middle now After off.between new).
     within_round opening settings off.whole before off.middle now Kept old off.between new whole.reports part.report
     part.written.front alike seen follow off.few whole.calls whole.sound whole.written part.reports
-    (inl ((part.written.is_beginning, part.written.cut), part.kept)) part.written.appended)
+    (inl (part.written.is_beginning, part.kept)) part.written.appended)
     (λ (part : WritesLineInPart opening settings.phi off.middle now settings.store After off.between new).
     let text : List ℕ = report_text part.report in
     let line : List ℕ = part.written.front in
@@ -184,8 +182,14 @@ broken_in_part opening settings before now Kept old new faults_before faults_now
     (inr (inr (line, (part.written.is_beginning, part.written.cut), refl, part.kept)))
     (Appends-trans off.between part.between new text line part.whole part.written.appended)) off.broken.0
 broken_in_part opening settings before now Kept old new faults_before faults_now DiskFault alike seen follow off =
-    unsaved_in_part opening settings before now Kept old new faults_before faults_now DiskFault alike seen follow off
-    off.broken.0 off.broken.1
+    let unsaved = off.broken.1 in
+    unsaved_in_part opening settings before now Kept old new faults_before faults_now DiskFault true alike seen follow off
+    unsaved
+    (inr (inl (
+      refl,
+      subst (λ store. after_saves_of settings.store opening off.written.reports Kept []
+          (saved_cuts store opening (record { report = unsaved.report; saved = None } ∷ []))) (sym off.broken.0) unsaved.kept,
+    )))
 broken_in_part opening settings before now Kept old new faults_before faults_now OutOfMemory alike seen follow off =
     let whole = off.written in
     let few : off.whole < settings.rounds = off.few in
@@ -195,8 +199,9 @@ broken_in_part opening settings before now Kept old new faults_before faults_now
     (omega (arith, few)) whole.calls whole.sound whole.written vain.unwritten
     (subst (λ cuts. Kept cuts []) (append-nil (saved_cuts settings.store opening whole.reports)) vain.kept))
     (λ unsaved.
-    unsaved_in_part opening settings before now Kept old new faults_before faults_now OutOfMemory alike seen follow off
-    unsaved.0 unsaved.1) off.broken.0
+    unsaved_in_part opening settings before now Kept old new faults_before faults_now OutOfMemory false alike seen follow
+    off unsaved.1
+    (inl (([], sym (append-nil (report_text unsaved.1.report))), unsaved.1.kept))) off.broken.0
 broken_in_part opening settings before now Kept old new faults_before faults_now Done alike seen follow off =
     absurd off.broken
 broken_in_part opening settings before now Kept old new faults_before faults_now (BadWords kind) alike seen follow off =

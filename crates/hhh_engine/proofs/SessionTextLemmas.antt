@@ -10,7 +10,7 @@ use Rattle.std.proofs.KnownBytes.{Appends-nil, Appends-trans}
 use Rattle.std.proofs.lemmas.List.{length-append, length-map, map-append}
 use Rattle.std.proofs.lemmas.List.Elements.{All-append, All-cons, All-head, All-map, All-nil, All-tail}
 use Rattle.std.proofs.lemmas.List.Sorted.{IsNonDecreasingBy-push}
-use Rattle.outside_io.specs.{AppendsBeginning}
+use Rattle.outside_io.specs.{AppendsBeginning, IsBeginning}
 use Rattle.std.proofs.Common.{Bool}
 use Rattle.shard_state.specs.{CutValue, IsShard, ShardValue, state_at}
 use Rattle.hhh_output.specs.declared.reports.Reported.{Reported}
@@ -180,11 +180,11 @@ around_as : (before after other_before other_after : List ℕ) (cut other_cut : 
     (front : List ℕ) → before ≡ other_before → after ≡ other_after → (Kept [] [] → Less [] [])
     → (Kept [] cut → Less [] other_cut) → (Kept cut [] → Less other_cut [])
     → BreaksOffAround before after cut Kept front → BreaksOffAround other_before other_after other_cut Less front
-around_as before after other_before other_after cut other_cut Kept Less front same_before same_after none begun saved
-    (inl (short, kept)) = inl (subst (IsStrictBeginning front) same_before short, none kept)
-around_as before after other_before other_after cut other_cut Kept Less front same_before same_after none begun saved
-    (inr (inl (whole, kept))) = inr (inl (whole ∙ same_before, begun kept))
-around_as before after other_before other_after cut other_cut Kept Less front same_before same_after none begun saved
+around_as before after other_before other_after cut other_cut Kept Less front same_before same_after none unfinished saved
+    (inl (begins, kept)) = inl (subst (IsBeginning front) same_before begins, none kept)
+around_as before after other_before other_after cut other_cut Kept Less front same_before same_after none unfinished saved
+    (inr (inl (whole, kept))) = inr (inl (whole ∙ same_before, unfinished kept))
+around_as before after other_before other_after cut other_cut Kept Less front same_before same_after none unfinished saved
     (inr (inr (more, short, parted, kept))) =
     inr (inr (more, subst (IsStrictBeginning more) same_after short, parted ∙ ap (λ text. text ++ more) same_before, saved kept))
 
@@ -232,13 +232,13 @@ session_in_part board settings Fed_kept KeptInRest KeptInPart tail line old firs
 
 -- a session that broke off, of which less is said
 around_weaker : (before after : List ℕ) (cut : List CutValue) (Kept Less : Saving) (front : List ℕ)
-    → ((saved begun : List CutValue) → Kept saved begun → Less saved begun)
+    → ((saved unfinished : List CutValue) → Kept saved unfinished → Less saved unfinished)
     → BreaksOffAround before after cut Kept front → BreaksOffAround before after cut Less front
 around_weaker before after cut Kept Less front less breaks =
     around_as before after before after cut cut Kept Less front refl refl (less [] []) (less [] cut) (less cut []) breaks
 
 rounds_weaker : (opening : List ShardValue) (settings : Settings) (Kept Less : Saving) (front : List ℕ)
-    → ((saved begun : List CutValue) → Kept saved begun → Less saved begun)
+    → ((saved unfinished : List CutValue) → Kept saved unfinished → Less saved unfinished)
     → BreaksOffInRounds opening settings Kept front → BreaksOffInRounds opening settings Less front
 rounds_weaker opening settings Kept Less front less (inl between) = inl (record {
   rounds = between.rounds;
@@ -257,12 +257,12 @@ rounds_weaker opening settings Kept Less front less (inr within) = inr (record {
       (saved_text settings.store within.next.report.positions) (saved_cuts settings.store opening (within.next ∷ []))
       (after_saves_of settings.store opening within.rounds Kept)
       (after_saves_of settings.store opening within.rounds Less) within.more
-      (λ saved begun. less (saved_cuts settings.store opening within.rounds ++ saved) begun) within.breaks_off;
+      (λ saved unfinished. less (saved_cuts settings.store opening within.rounds ++ saved) unfinished) within.breaks_off;
   written = within.written;
 })
 
 pub begins_weaker : (opening : List ShardValue) (settings : Settings) (Kept Less : Saving) (tail front : List ℕ)
-    → ((saved begun : List CutValue) → Kept saved begun → Less saved begun)
+    → ((saved unfinished : List CutValue) → Kept saved unfinished → Less saved unfinished)
     → BeginsSession opening settings Kept tail front → BeginsSession opening settings Less tail front
 begins_weaker opening settings Kept Less tail front less (inl (short, kept)) = inl (short, less [] [] kept)
 begins_weaker opening settings Kept Less tail front less (inr (inl (more, rounds, parted))) =
@@ -276,7 +276,7 @@ begins_weaker opening settings Kept Less tail front less (inr (inr later)) = inr
       (saved_cuts settings.store opening (later.reports.last ∷ []))
       (after_saves_of settings.store opening later.reports.rounds Kept)
       (after_saves_of settings.store opening later.reports.rounds Less) later.more
-      (λ saved begun. less (saved_cuts settings.store opening later.reports.rounds ++ saved) begun) later.breaks_off;
+      (λ saved unfinished. less (saved_cuts settings.store opening later.reports.rounds ++ saved) unfinished) later.breaks_off;
   written = later.written;
 }))
 

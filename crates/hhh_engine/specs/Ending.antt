@@ -107,7 +107,7 @@ abbrev pub WroteInPart : {K : Type 0} → Rules → Keeping → List (List ℕ) 
 WroteInPart rules keeping words read AsBefore sink written old new =
     ((written ≡ sink) × AsBefore) ⊎ AnswersInPart rules keeping words read old new
 
--- of a command by which no byte was written: the disk is as before, but for a store that `format` began to make
+-- where no byte was written: the disk is as before, unless the command is `format`, which may have begun a store
 abbrev pub UnlessFormat : Command → (AsBefore : Type 0) → Type 0
 UnlessFormat (command.Weigh prefix settings) AsBefore = AsBefore
 UnlessFormat (command.Report settings) AsBefore = AsBefore

@@ -93,7 +93,7 @@ pub record WritesDealtInPart (settings : Settings) (lists : List (List RecordVal
   pub begins : GoesOnFrom settings lists store base
   pub represents : RepresentsWhere lists base (opening_of settings.capacity lists base)
   pub writes : Writes (BeginsSession (opening_of settings.capacity lists base) settings
-      (λ saved begun. settings.store ≡ true → keeping (store_settings settings) lists saved begun) tail) old new
+      (λ saved unfinished. settings.store ≡ true → keeping (store_settings settings) lists saved unfinished) tail) old new
 
 -- a store is refused for this fault over dealt lists, and its disk is as before
 pub record RefusesLists (settings : Settings) (lists : List (List RecordValue)) (store : Option (List ℕ))

@@ -1,5 +1,5 @@
 -- What the rounds of the calling thread write, and what they save.
-use Rattle.std.specs.Prelude.{ℕ, ◌≡◌, ◌<◌, ◌⊎◌, ⊤, Bool, true, List, [], ◌∷◌, Option, None, Some}
+use Rattle.std.specs.Prelude.{ℕ, ◌≡◌, ◌<◌, ◌⊎◌, ⊤, Bool, true, false, List, [], ◌∷◌, Option, None, Some}
 use Rattle.std.specs.Io.KnownBytes.{Appends}
 use Rattle.outside_io.specs.{AppendsBeginning, Rose}
 use Rattle.shard_state.specs.{BasesRepresent, CutValue, ShardValue, capacity_of, lists_of}
@@ -27,8 +27,8 @@ pub record ReportsOnce (opening : List ShardValue) (phi : ℕ) (before now : Vie
   pub calls : Calls opening phi 1 before now (record { report = report; saved = None } ∷ [])
   pub sound : BasesRepresent opening → IsSound report (lists_of opening) (capacity_of opening) phi
 
--- a round that was cut short in its report's text: nothing was saved. Kept says what became of its cut, if it has one to
--- save: that it was saved, or that its save was not over
+-- a round that was cut short in its report's text: its cut was not saved. Kept says which cuts were saved, and which save
+-- is unfinished
 pub record WritesReportInPart (opening : List ShardValue) (phi : ℕ) (before now : View) (Kept : Saving)
     (old new : Option (List ℕ)) : Type 0 where
   pub report : Report
@@ -36,13 +36,14 @@ pub record WritesReportInPart (opening : List ShardValue) (phi : ℕ) (before no
   pub written : AppendsBeginning old new (report_text report)
   pub kept : Kept [] []
 
--- a round in which the save of the cut failed: the report's text was written whole, and no more
-pub record WritesUnsaved (opening : List ShardValue) (phi : ℕ) (before now : View) (Kept : Saving)
+-- a round in which the save of the cut failed: the report's text was written whole, and no more. The save is unfinished, or
+-- it was not begun
+pub record WritesUnsaved (opening : List ShardValue) (phi : ℕ) (before now : View) (unfinished : Bool) (Kept : Saving)
     (old new : Option (List ℕ)) : Type 0 where
   pub report : Report
   pub reports : ReportsOnce opening phi before now report
   pub written : Appends old new (report_text report)
-  pub kept : Kept [] (saved_cuts true opening (record { report = report; saved = None } ∷ []))
+  pub kept : Kept [] (saved_cuts unfinished opening (record { report = report; saved = None } ∷ []))
 
 -- a round that was cut short in the line of the saved positions: the cut was saved
 pub record WritesLineInPart (opening : List ShardValue) (phi : ℕ) (before now : View) (store : Bool) (Kept : Saving)
@@ -76,17 +77,18 @@ pub record DiskFailed (before now : Faults) : Type 0 where
   pub rose : Rose before.disk now.disk
   pub sink : now.sink ≡ before.sink
 
--- how a round broke off: the sink or the disk failed, and its count of faults rose, or memory ran out, and the counts are
--- as before
+-- how a round broke off: the sink or the disk failed, and its count of faults rose, or memory ran out before a save, and
+-- the counts are as before
 abbrev pub BreaksRound : (opening : List ShardValue) (phi : ℕ) (before now : View) (store : Bool) (Kept : Saving)
     (old new : Option (List ℕ)) (faults_before faults_now : Faults) → Status → Type 0
 BreaksRound opening phi before now store Kept old new faults_before faults_now WriteFault =
     (WritesReportInPart opening phi before now Kept old new ⊎ WritesLineInPart opening phi before now store Kept old new)
     × SinkFailed faults_before faults_now
 BreaksRound opening phi before now store Kept old new faults_before faults_now DiskFault =
-    (store ≡ true) × WritesUnsaved opening phi before now Kept old new × DiskFailed faults_before faults_now
+    (store ≡ true) × WritesUnsaved opening phi before now true Kept old new × DiskFailed faults_before faults_now
 BreaksRound opening phi before now store Kept old new faults_before faults_now OutOfMemory =
-    (ReadsInVain opening before now Kept old new ⊎ ((store ≡ true) × WritesUnsaved opening phi before now Kept old new))
+    (ReadsInVain opening before now Kept old new
+    ⊎ ((store ≡ true) × WritesUnsaved opening phi before now false Kept old new))
     × (faults_now ≡ faults_before)
 BreaksRound opening phi before now store Kept old new faults_before faults_now _ = ⊥
 

@@ -37,28 +37,28 @@ OpensAmong settings opened [] image = Opens settings image opened
 OpensAmong settings opened (saved ∷ later) image =
     Opens settings image opened ⊎ OpensAmong settings (Some saved) later image
 
--- saves of the cuts `saved`, and one of `begun` that was not over, if any: a crash at any moment leaves what was possible
--- before (Earlier), or a sound store that opens as before or to one of them; one after them, a store that opens to the
--- last one saved or to `begun`
+-- saves of the cuts `saved`, and an unfinished one, if any: a crash at any moment leaves what was possible before (Earlier),
+-- or a sound store that opens as before or to one of them; afterwards one that opens to the last saved one, or as before
+-- without any, or to the unfinished one
 pub record KeepsSaves {D : Type 0} (image_now : D → List ℕ → Type 0) (moment : D → ℕ)
     (image_since : D → ℕ → List ℕ → Type 0) (settings : StoreSettings) (digest : List ℕ) (Earlier : List ℕ → Type 0)
-    (saved begun : List CutValue) (old new : D) (store : List ℕ) : Type 0 where
+    (saved unfinished : List CutValue) (old new : D) (store : List ℕ) : Type 0 where
   pub opened : Option SavedValue
   pub opens : Opens settings store opened
   pub any_moment : Leaves moment image_since old new (λ image. Earlier image
-      ⊎ OpensAmong settings opened (saved_after (opened_sequence opened) digest (saved ++ begun)) image)
+      ⊎ OpensAmong settings opened (saved_after (opened_sequence opened) digest (saved ++ unfinished)) image)
   pub afterwards : (image : List ℕ) → image_now new image
       → OpensAmong settings (last_saved opened (saved_after (opened_sequence opened) digest saved))
-      (saved_after (opened_sequence opened + length saved) digest begun) image
+      (saved_after (opened_sequence opened + length saved) digest unfinished) image
 
 -- what a run keeps of the store on its disk, where its bytes are known, for the store's settings, the dealt lists, the cuts
--- that were saved of them, and one whose save was not over, if any
+-- that were saved of them, and one whose save is unfinished, if any
 abbrev pub kept_in : {D : Type 0} → (D → Option (List ℕ)) → (D → List ℕ → Type 0) → (D → ℕ)
     → (D → ℕ → List ℕ → Type 0) → (old new : D) → StoreSettings → List (List RecordValue)
-    → (saved begun : List CutValue) → Type 0
-kept_in reads image_now moment image_since old new settings lists saved begun =
+    → (saved unfinished : List CutValue) → Type 0
+kept_in reads image_now moment image_since old new settings lists saved unfinished =
     IfKnown (reads old)
-    (KeepsSaves image_now moment image_since settings (digest_of_lists settings lists) (image_now old) saved begun old new)
+    (KeepsSaves image_now moment image_since settings (digest_of_lists settings lists) (image_now old) saved unfinished old new)
 
 -- the disk reads as before, and a crash at any moment leaves what it could have left before
 pub record IsAsBefore {D : Type 0} (reads : D → Option (List ℕ)) (image_now : D → List ℕ → Type 0) (moment : D → ℕ)
@@ -85,14 +85,14 @@ Saves reads image_now moment image_since None cuts old new = new ≡ old
 Saves reads image_now moment image_since (Some saver) cuts old new =
     SavesCuts reads image_now moment image_since saver cuts old new
 
--- what a run that broke off, with or without a saver, did to the disk: the saver saved the cuts `saved`, and its save of
--- `begun`, if any, was not over; or nothing was done
+-- what a run that broke off did to the disk: the saver saved the cuts `saved`, and its save of `unfinished`, if any, is
+-- unfinished; without a saver nothing was done
 pub record SavesInPart {D : Type 0} (reads : D → Option (List ℕ)) (image_now : D → List ℕ → Type 0) (moment : D → ℕ)
-    (image_since : D → ℕ → List ℕ → Type 0) (saver : Option SaverState) (old new : D) (saved begun : List CutValue)
+    (image_since : D → ℕ → List ℕ → Type 0) (saver : Option SaverState) (old new : D) (saved unfinished : List CutValue)
     : Type 0 where
   pub unused : saver ≡ None → new ≡ old
   pub kept : IfSome saver (λ saver. IfKnown (reads old)
-      (KeepsSaves image_now moment image_since saver.settings saver.digest (λ image. ⊥) saved begun old new))
+      (KeepsSaves image_now moment image_since saver.settings saver.digest (λ image. ⊥) saved unfinished old new))
 
 -- such saves, and this is the saver after them
 pub record SavesInTurn {D : Type 0} (reads : D → Option (List ℕ)) (image_now : D → List ℕ → Type 0) (moment : D → ℕ)

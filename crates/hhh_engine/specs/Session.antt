@@ -168,23 +168,23 @@ pub record SpellsSession (opening : List ShardValue) (settings : Settings) (Kept
 abbrev pub IsStrictBeginning : List ℕ → List ℕ → Type 0
 IsStrictBeginning front text = IsBeginning front text × (length front < length text)
 
--- what became of the cuts that a session saves: those that were saved, and one whose save was not over, if any
+-- what became of the cuts that a session saves: those that were saved, and one whose save is unfinished, if any
 abbrev pub Saving : Type 1
-Saving = (saved begun : List CutValue) → Type 0
+Saving = (saved unfinished : List CutValue) → Type 0
 
--- bytes of two texts that are written with a save between them, where that broke off: in the first text, and nothing was
--- saved; in the save of the cut, if there is one; or in the second text, after the save
+-- bytes of a text, a save and a second text, in this order, that broke off: in the first text or after it, when nothing was
+-- saved; in the save, which is unfinished; or in the second text, after the save
 abbrev pub BreaksOffAround : (before after : List ℕ) → (cut : List CutValue) → Saving → (front : List ℕ) → Type 0
 BreaksOffAround before after cut Kept front =
-    (IsStrictBeginning front before × Kept [] [])
+    (IsBeginning front before × Kept [] [])
     ⊎ (((front ≡ before) × Kept [] cut)
     ⊎ ((more : List ℕ) × IsStrictBeginning more after × (front ≡ before ++ more) × Kept cut []))
 
 -- what became of the cuts of a session whose first ones are those of these reports, and were saved
 abbrev pub after_saves_of : Bool → List ShardValue → List Reported → Saving → Saving
-after_saves_of store opening reports Kept saved begun = Kept (saved_cuts store opening reports ++ saved) begun
+after_saves_of store opening reports Kept saved unfinished = Kept (saved_cuts store opening reports ++ saved) unfinished
 
--- bytes of rounds of the calling thread that broke off between two rounds, or after the last one
+-- bytes of rounds of the calling thread that broke off before the first round, between two of them, or after the last one
 pub record BreaksOffBetween (opening : List ShardValue) (settings : Settings) (Kept : Saving) (front : List ℕ)
     : Type 0 where
   pub rounds : List Reported
@@ -210,7 +210,7 @@ abbrev pub BreaksOffInRounds : List ShardValue → Settings → Saving → List 
 BreaksOffInRounds opening settings Kept front =
     BreaksOffBetween opening settings Kept front ⊎ BreaksOffWithin opening settings Kept front
 
--- bytes with which a session begins that broke off after its rounds, all of whose reports were made
+-- bytes with which a session begins that broke off after its rounds: some of a session that exists, but not all
 pub record BreaksOffLater (opening : List ShardValue) (settings : Settings) (Kept : Saving) (tail front : List ℕ)
     : Type 0 where
   pub reports : SessionReports
@@ -232,7 +232,7 @@ BeginsSession opening settings Kept tail front =
     ⊎ BreaksOffLater opening settings Kept tail front)
 
 -- what a run does to the disk of its store: for the store's settings, the dealt lists, the cuts that were saved, and one
--- whose save was not over, if any
+-- whose save is unfinished, if any
 abbrev pub Keeping : Type 1
 Keeping = StoreSettings → List (List RecordValue) → Saving
 
@@ -254,8 +254,8 @@ pub record IsSession (settings : Settings) (rules : Rules) (keeping : Keeping) (
   pub spelled : SpellsSession (opening_of settings.capacity lists base) settings
       (λ cuts. settings.store ≡ true → keeping (store_settings settings) lists cuts []) (tail_text records) text
 
--- the bytes that were written of a session over a capture that broke off. With a store, each cut of the calling thread
--- whose save was over is saved
+-- the bytes that were written of a session over a capture that broke off. With a store, they say which cuts were saved, and
+-- which save is unfinished
 pub record IsSessionInPart (settings : Settings) (rules : Rules) (keeping : Keeping) (store : Option (List ℕ))
     (file front : List ℕ) : Type 0 where
   pub records : Records
@@ -265,4 +265,4 @@ pub record IsSessionInPart (settings : Settings) (rules : Rules) (keeping : Keep
   pub begins : GoesOnFrom settings lists store base
   pub represents : RepresentsWhere lists base (opening_of settings.capacity lists base)
   pub begun : BeginsSession (opening_of settings.capacity lists base) settings
-      (λ saved begun. settings.store ≡ true → keeping (store_settings settings) lists saved begun) (tail_text records) front
+      (λ saved unfinished. settings.store ≡ true → keeping (store_settings settings) lists saved unfinished) (tail_text records) front

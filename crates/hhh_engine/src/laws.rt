@@ -110,15 +110,15 @@ pub fn last_saves_are_at_the_ends()
 {}
 
 /// After a session that broke off, whatever a crash leaves of its store opens to no earlier positions than those of the last
-/// report that was saved, or than those at the start where none was; and its sequence has risen by one at least for each
-/// report that was saved.
-pub fn stops_lose_no_save()
-    ensures { (opening : List ShardValue) (settings : Settings) (rounds begun : List Reported) (opened : Option SavedValue) (image : List ℕ)
-        → AreReportsOf opening settings (length (rounds ++ begun)) (rounds ++ begun)
+/// report that was saved, or than those at the start where none was, if the store opened to these; and its sequence has
+/// risen by at least the number of reports that were saved.
+pub fn broken_sessions_lose_no_save()
+    ensures { (opening : List ShardValue) (settings : Settings) (rounds unfinished : List Reported) (opened : Option SavedValue) (image : List ℕ)
+        → AreReportsOf opening settings (length (rounds ++ unfinished)) (rounds ++ unfinished)
         → opened_positions (store_settings settings) opened ≡ start_of opening
         → OpensAmong (store_settings settings) (last_saved opened (session_saves settings opening opened rounds))
         (saved_after (opened_sequence opened + length (saved_cuts true opening rounds))
-        (digest_of_lists (store_settings settings) (lists_of opening)) (saved_cuts true opening begun)) image
+        (digest_of_lists (store_settings settings) (lists_of opening)) (saved_cuts true opening unfinished)) image
         → (found : Option SavedValue) × Opens (store_settings settings) image found
         × (opened_sequence opened + length rounds ≤ opened_sequence found)
         × AreNotPast (last_positions (start_of opening) rounds) (opened_positions (store_settings settings) found) }

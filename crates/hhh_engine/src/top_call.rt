@@ -84,7 +84,7 @@ pub fn run<R: Threads + Wait + Sync, S: Source, T: Source, K: Sink, D: Disk, G: 
     dealers: &Dealers,
 ) -> Status
     // The text of the command was written for its inputs, which were read to their ends. What the text says of weights
-    // holds for the records themselves. What a report saved is in its store, whatever a crash leaves.
+    // holds for the records themselves. Whatever a crash leaves of its store opens to the last cut that a report saved.
     ensures done { result ≡ Done → Answers (λ kind. ⟦<Dealer as Deals>⟧.may_answer (dealer_of kind dealers.now))
         (kept_in D.reads D.image_now D.moment D.image_since disk.old disk.new) (texts words.now)
         (inputs (S.left capture.old) (S.left capture.new) (T.left text.old) (T.left text.new) (D.reads disk.old)) (K.taken sink.old) (K.taken sink.new) }
@@ -137,7 +137,8 @@ pub fn run<R: Threads + Wait + Sync, S: Source, T: Source, K: Sink, D: Disk, G: 
 
     // A fault of a source, the sink or the disk is reported only where it had one in this call. It is never ignored, nor
     // reported as anything else. Where the capture's source failed, the text of a session is untouched; where the text's
-    // did, the capture was read to its end and accepted.
+    // did, the capture was read to its end and accepted. What was written of a session says which of its cuts a crash may
+    // leave in the store.
     ensures read_fault { result ≡ ReadFault → FailedToRead (texts words.now)
         (inputs (S.left capture.old) (S.left capture.new) (T.left text.old) (T.left text.new) (D.reads disk.old)) (source_faults (S.faults capture.old) (T.faults text.old))
         (source_faults (S.faults capture.new) (T.faults text.new)) text.old text.new sink.old sink.new disk.old disk.new }
@@ -161,7 +162,7 @@ pub fn run<R: Threads + Wait + Sync, S: Source, T: Source, K: Sink, D: Disk, G: 
     ensures unused_capture { AskNotToUse ReadsCapture (texts words.now) → capture.new ≡ capture.old }
     ensures unused_text { AskNotToUse ReadsSession (texts words.now) → text.new ≡ text.old }
 
-    // Memory may run out at any time: a part of the text was written then, or nothing, and the disk is as before.
+    // Memory may run out at any time. Then a part of the text was written; or nothing was, and the disk is as before.
     ensures out_of_memory { result ≡ OutOfMemory → WroteInPart (λ kind. ⟦<Dealer as Deals>⟧.may_answer (dealer_of kind dealers.now))
         (kept_in D.reads D.image_now D.moment D.image_since disk.old disk.new) (texts words.now)
         (inputs (S.left capture.old) (S.left capture.new) (T.left text.old) (T.left text.new) (D.reads disk.old))

@@ -6,7 +6,7 @@ ghost use Rattle.report_text.specs.{ArePositions};
 ghost use Rattle.hhh_engine.specs.Feed.{CanSaveCut, IsSaveFault};
 ghost use Rattle.hhh_engine.specs.Saves.{SavesInPart, SavesInTurn};
 ghost use Rattle.hhh_engine.specs.Session.{saved_text};
-ghost use Rattle.hhh_engine.specs.declared.status.Status.TheVariants.{DiskFault};
+ghost use Rattle.hhh_engine.specs.declared.status.Status.TheVariants.{DiskFault, OutOfMemory};
 
 use crate::Status;
 use checkpoint::{SaveFault, Saver, stores_open_to_one};
@@ -15,7 +15,8 @@ use shard_state::{Cut, Positions};
 use slot_disk::Disk;
 use std::alloc::{AllocError, Global};
 
-/// Saves a cut, if there is a saver. Where memory runs out the saver stays; after a fault of the disk there is none.
+/// Saves a cut, if there is a saver. Where memory runs out the disk is untouched and the saver stays; after a fault of the
+/// disk there is none.
 pub(crate) fn save_cut<D: Disk>(
     alloc: Global,
     saver: &mut Option<Saver>,
@@ -25,6 +26,7 @@ pub(crate) fn save_cut<D: Disk>(
     requires { IfSome saver.old (CanSaveCut (D.reads disk.old) (D.image_now disk.old) cut.now) }
     ensures saved { OnOk result (SavesInTurn D.reads D.image_now D.moment D.image_since saver.old saver.new disk.old disk.new (cut.now ∷ [])) }
     ensures in_part { OnErr result (SavesInPart D.reads D.image_now D.moment D.image_since saver.old disk.old disk.new [] (cut.now ∷ [])) }
+    ensures ran_out { IfErr result (λ status. status ≡ OutOfMemory → disk.new ≡ disk.old) }
     ensures used { OnErr result (is_some saver.old ≡ true) }
     ensures fault { IfErr result (IsSaveFault (D.faults disk.old) (D.faults disk.new)) }
     ensures no_fault { OnOk result (D.faults disk.new ≡ D.faults disk.old) }

@@ -49,15 +49,25 @@ pub returns-in-Err-save_cut-clause-broken : goal.returns-in-Err-save_cut-clause-
 returns-in-Err-save_cut-clause-broken g c =
     let report = c.in_ok-report.report in
     let text = c.deref.ensures.value ∙ c.in_ok-print.ensures.ok ∙ ap (λ bytes. bytes ++ report_text report) c.new-text.ensures.items in
+    let written = subst (Appends _ _) text c.in_default.ensures.whole in
     save_broke _ _ _ _ (is_some c.args.saver.now) _ _ _ _ _ _ _ c.in-Err-save_cut.status c.in-Err-save_cut.ensures.used
     c.in-Err-save_cut.ensures.fault c.in_default.ensures.faults
     (record {
       report = report;
       reports = record { calls = c.in_ok-report.ensures.calls; sound = c.in_ok-report.ensures.sound };
-      written = subst (Appends _ _) text c.in_default.ensures.whole;
+      written = written;
       kept = subst (λ cut. SavesInPart g.D.Disk.reads g.D.Disk.image_now g.D.Disk.moment g.D.Disk.image_since
           c.args.saver.now c.args.disk.now c.save_cut.new.disk [] (cut ∷ [])) c.in_ok-report.ensures.cut
           c.in-Err-save_cut.ensures.in_part;
+    })
+    (λ is. record {
+      report = report;
+      reports = record { calls = c.in_ok-report.ensures.calls; sound = c.in_ok-report.ensures.sound };
+      written = written;
+      kept = nothing_saved g.D.Disk.reads g.D.Disk.image_now g.D.Disk.moment g.D.Disk.image_since c.args.saver.now
+          c.args.disk.now c.save_cut.new.disk g.met.D.Disk.only_now
+          (stands_first _ _ c.args.board.now.opening _ _ c.args.saver.now c.requires.can_save)
+          (c.in-Err-save_cut.ensures.ran_out is);
     })
 
 pub returns-clause-broken : goal.returns-clause-broken

@@ -55,8 +55,8 @@ returns-clause-ends g c =
     (SavesInPart g.D.Disk.reads g.D.Disk.image_now g.D.Disk.moment g.D.Disk.image_since c.in-Ok.base.saver
     c.open_base.new.disk c.write_session.new.disk) (c.write_session.new.disk ≡ c.open_base.new.disk) _ _ _ _ _ _
     c.in-Err-write_session.status base.begins c.openings_stand.ensures.represents
-    (λ saved begun saves used. run_keeps g.D.Disk.reads g.D.Disk.image_now g.D.Disk.moment g.D.Disk.image_since
-    c.args.settings.now c.args.fed.dealt c.in-Ok.base.positions c.in-Ok.base.saver saved begun c.args.disk.now
+    (λ saved unfinished saves used. run_keeps g.D.Disk.reads g.D.Disk.image_now g.D.Disk.moment g.D.Disk.image_since
+    c.args.settings.now c.args.fed.dealt c.in-Ok.base.positions c.in-Ok.base.saver saved unfinished c.args.disk.now
     c.open_base.new.disk c.write_session.new.disk base.used base.saver c.open_base.ensures.any_moment
     c.open_base.ensures.reads saves used)
     (λ same. ap g.K.Sink.taken same)

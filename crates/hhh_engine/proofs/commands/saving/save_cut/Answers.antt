@@ -3,7 +3,7 @@ use Rattle.std.specs.Prelude.{IfSome}
 use Rattle.checkpoint.specs.{StandsFor}
 use Rattle.hhh_engine.specs.Feed.{CanSaveCut}
 use Rattle.hhh_engine.specs.Saves.{SavesInTurn}
-use Rattle.hhh_engine.proofs.SavesLemmas.{begun_save_of, one_save}
+use Rattle.hhh_engine.proofs.SavesLemmas.{unfinished_save_of, one_save}
 use Rattle.hhh_engine.proofs.commands.saving.save_cut.Goals as goal
 
 pub returns-in-Ok-clause-saved : goal.returns-in-Ok-clause-saved
@@ -27,12 +27,12 @@ returns-in-Ok-clause-saved g c =
 
 pub returns-in-Err-DiskFault-clause-in_part : goal.returns-in-Err-DiskFault-clause-in_part
 returns-in-Err-DiskFault-clause-in_part g c =
-    begun_save_of c.stores_open_to_one.ensures g.D.Disk.reads g.D.Disk.image_now g.D.Disk.moment g.D.Disk.image_since
+    unfinished_save_of c.stores_open_to_one.ensures g.D.Disk.reads g.D.Disk.image_now g.D.Disk.moment g.D.Disk.image_since
     c.args.saver.now c.in-Some.open c.args.cut.now c.args.disk.now c.save.new.disk (sym c.in-Some.ensures.value) c.requires
     g.met.D.Disk.now_is_since c.save.ensures.any_moment
 
 pub returns-in-Err-OutOfMemory-clause-in_part : goal.returns-in-Err-OutOfMemory-clause-in_part
 returns-in-Err-OutOfMemory-clause-in_part g c =
-    begun_save_of c.stores_open_to_one.ensures g.D.Disk.reads g.D.Disk.image_now g.D.Disk.moment g.D.Disk.image_since
+    unfinished_save_of c.stores_open_to_one.ensures g.D.Disk.reads g.D.Disk.image_now g.D.Disk.moment g.D.Disk.image_since
     c.args.saver.now c.in-Some.open c.args.cut.now c.args.disk.now c.save.new.disk (sym c.in-Some.ensures.value) c.requires
     g.met.D.Disk.now_is_since c.save.ensures.any_moment

@@ -13,7 +13,7 @@ returns-in-Err-clause-part g c =
     record {
       text = begun.front;
       is_text = inl (
-        (begun.is_beginning, begun.cut),
+        begun.is_beginning,
         nothing_saved g.D.Disk.reads g.D.Disk.image_now g.D.Disk.moment g.D.Disk.image_since c.args.saver.now
             c.args.disk.now c.args.disk.now g.met.D.Disk.only_now
             (stands_of_cut _ _ c.args.rest.now.cut c.args.saver.now c.requires) refl,

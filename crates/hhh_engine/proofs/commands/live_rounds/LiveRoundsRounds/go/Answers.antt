@@ -71,9 +71,9 @@ returns-in-Err-clause-does g c =
           c.args.self.now.disk.now c.make_round-made.new.disk) _ _ _ _ _ _ c.in-Err.status opening far.same_share
           (same_store c.args.self.now.saver.now c.loop-round.self.saver.now _ far.written.kept.saver)
           (ap₂ (λ s d. record { sink = s; disk = d }) far.sink_faults far.disk_faults) c.loop-round-test.true
-          (λ cuts saved begun first second.
+          (λ cuts saved unfinished first second.
           part_follows c.stores_open_to_one.ensures g.D.Disk.reads g.D.Disk.image_now g.D.Disk.moment
-          g.D.Disk.image_since c.args.self.now.saver.now c.loop-round.self.saver.now cuts saved begun
+          g.D.Disk.image_since c.args.self.now.saver.now c.loop-round.self.saver.now cuts saved unfinished
           c.args.self.now.disk.now c.loop-round.self.disk.now c.make_round-made.new.disk
           (allowed _ _ c.args.board.now.opening _ _ c.args.self.now.saver.now c.requires.ready.5)
           g.met.D.Disk.reading_is_image first second)

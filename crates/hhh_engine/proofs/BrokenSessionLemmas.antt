@@ -85,34 +85,34 @@ found_among settings opening digest opened positions (next ∷ later) image same
 
 -- an image after some cuts were saved, and perhaps one more
 found_after : (settings : StoreSettings) (opening : List ShardValue) (digest : List ℕ) (opened : Option SavedValue)
-    (positions : List ℕ) (rounds begun : List Reported) (image : List ℕ) → opened_positions settings opened ≡ positions
-    → RisesFrom (length opening) positions (rounds ++ begun)
+    (positions : List ℕ) (rounds unfinished : List Reported) (image : List ℕ) → opened_positions settings opened ≡ positions
+    → RisesFrom (length opening) positions (rounds ++ unfinished)
     → OpensAmong settings
     (last_saved opened (saved_after (opened_sequence opened) digest (saved_cuts true opening rounds)))
-    (saved_after (opened_sequence opened + length (saved_cuts true opening rounds)) digest (saved_cuts true opening begun))
+    (saved_after (opened_sequence opened + length (saved_cuts true opening rounds)) digest (saved_cuts true opening unfinished))
     image
     → FoundFrom settings (last_positions positions rounds) (opened_sequence opened + length rounds) image
-found_after settings opening digest opened positions [] begun image same rises among =
-    let found = found_among settings opening digest opened positions begun image same rises
-    (subst (λ n. OpensAmong settings opened (saved_after n digest (saved_cuts true opening begun)) image) (omega arith)
+found_after settings opening digest opened positions [] unfinished image same rises among =
+    let found = found_among settings opening digest opened positions unfinished image same rises
+    (subst (λ n. OpensAmong settings opened (saved_after n digest (saved_cuts true opening unfinished)) image) (omega arith)
     among) in (
       found.0,
       found.1,
       (let least : opened_sequence opened ≤ opened_sequence found.0 = found.2 in omega (arith, least)),
       found.3,
     )
-found_after settings opening digest opened positions (next ∷ rounds) begun image same rises among =
+found_after settings opening digest opened positions (next ∷ rounds) unfinished image same rises among =
     let saved : SavedValue = record {
       sequence = opened_sequence opened + 1;
       digest = digest;
       cut = cut_at opening next.report.positions;
     } in
-    let on = rises_on (length opening) positions next (rounds ++ begun) rises in
-    let found = found_after settings opening digest (Some saved) next.report.positions rounds begun image
+    let on = rises_on (length opening) positions next (rounds ++ unfinished) rises in
+    let found = found_after settings opening digest (Some saved) next.report.positions rounds unfinished image
     (cut_at_positions opening next.report.positions on.many) on
     (subst (λ n. OpensAmong settings
     (last_saved (Some saved) (saved_after (opened_sequence opened + 1) digest (saved_cuts true opening rounds)))
-    (saved_after n digest (saved_cuts true opening begun)) image) (omega arith) among) in (
+    (saved_after n digest (saved_cuts true opening unfinished)) image) (omega arith) among) in (
       found.0,
       found.1,
       (let least : opened_sequence opened + 1 + length rounds ≤ opened_sequence found.0 = found.2 in omega (arith, least)),
@@ -120,20 +120,20 @@ found_after settings opening digest opened positions (next ∷ rounds) begun ima
     )
 
 -- what a store opens to after a session that broke off
-pub stops_lose_none : (opening : List ShardValue) (settings : Settings) (rounds begun : List Reported)
+pub broken_session_loses_none : (opening : List ShardValue) (settings : Settings) (rounds unfinished : List Reported)
     (opened : Option SavedValue) (image : List ℕ)
-    → AreReportsOf opening settings (length (rounds ++ begun)) (rounds ++ begun)
+    → AreReportsOf opening settings (length (rounds ++ unfinished)) (rounds ++ unfinished)
     → opened_positions (store_settings settings) opened ≡ start_of opening
     → OpensAmong (store_settings settings) (last_saved opened (session_saves settings opening opened rounds))
     (saved_after (opened_sequence opened + length (saved_cuts true opening rounds))
-    (digest_of_lists (store_settings settings) (lists_of opening)) (saved_cuts true opening begun)) image
+    (digest_of_lists (store_settings settings) (lists_of opening)) (saved_cuts true opening unfinished)) image
     → (found : Option SavedValue) × Opens (store_settings settings) image found
     × (opened_sequence opened + length rounds ≤ opened_sequence found)
     × AreNotPast (last_positions (start_of opening) rounds) (opened_positions (store_settings settings) found)
-stops_lose_none opening settings rounds begun opened image are same among =
+broken_session_loses_none opening settings rounds unfinished opened image are same among =
     let many : length (start_of opening) ≡ length opening = length-map opening _ in
     found_after (store_settings settings) opening (digest_of_lists (store_settings settings) (lists_of opening)) opened
-    (start_of opening) rounds begun image same
+    (start_of opening) rounds unfinished image same
     (record {
       many = many;
       each = λ k d lt. (are.shown k d lt).is_report.as_many;
