@@ -23,6 +23,10 @@ pub mod DemoTextLemmas
 pub mod LastStoreLemmas
 pub mod StoppedSaveLemmas
 pub mod OwnReportLemmas
+pub mod ReportBoundLemmas
+pub mod OwnTextLemmas
+pub mod OwnSessionLemmas
+pub mod OneAnswerLemmas
 pub mod Examples
 pub mod ExamplesOfStatuses
 pub mod ExamplesOfSessions

@@ -13,8 +13,9 @@ pub use command_words::{
 pub use commands::LiveRounds;
 pub use exact_audit::Verdict;
 pub use laws::{
-    answers_follow_formulas, demos_have_one_text, last_reports_are_one, last_saves_are_at_the_ends,
-    made_captures_are_captures, own_reports_are_good, resumed_sessions_end_alike, saves_belong,
+    answers_follow_formulas, audits_have_one_answer, demos_have_one_text, last_reports_are_one,
+    last_saves_are_at_the_ends, made_captures_are_captures, own_reports_are_good,
+    own_sessions_are_audited_good, resumed_sessions_end_alike, saves_belong,
     sessions_without_rounds_have_one_report, stops_lose_no_save,
 };
 pub use status::{Status, fault_line};
