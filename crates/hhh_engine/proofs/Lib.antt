@@ -17,6 +17,7 @@ pub mod MadeCaptureLemmas
 pub mod DemoLemmas
 pub mod AuditLemmas
 pub mod AuditEndLemmas
+pub mod SoundSessionLemmas
 pub mod WiderRulesLemmas
 pub mod LastReportLemmas
 pub mod DemoTextLemmas
