@@ -49,7 +49,8 @@ of_both given file bytes Holds is_file is_text holds =
     (of_file given.capture file (λ f. IsCapture f × IfSome given.text (Holds f)) is_file holds).1
 
 -- what holds of each element holds of the one at an index
-all_at : {A : Type 0} (P : A → Type 0) (xs : List A) (place : ℕ) (x : A) → slice_get xs place ≡ Some x → All P xs → P x
+pub all_at : {A : Type 0} (P : A → Type 0) (xs : List A) (place : ℕ) (x : A) → slice_get xs place ≡ Some x → All P xs
+    → P x
 all_at P xs place x is all =
     subst P (get_or_from_slice_get xs place x x is) (All-get_or P xs place x (slice_get_within xs place x is) all)
 
@@ -87,7 +88,7 @@ unsound_next settings lists reports place reported verdict within at found not_g
 }
 
 -- a report with another verdict than good is not sound
-not_sound : OneVerdict → (settings : Settings) (lists : List (List RecordValue)) (reports : List Reported)
+pub not_sound : OneVerdict → (settings : Settings) (lists : List (List RecordValue)) (reports : List Reported)
     (number : ℕ) (verdict : Verdict) (first : IsFirstUnsound settings lists reports number verdict)
     → IsSoundOver settings lists first.reported → ⊥
 not_sound one settings lists reports number verdict first sound =
@@ -115,7 +116,7 @@ one_place one settings lists reports number other_number verdict other first sec
     (subst (λ (r : Reported). IsVerdict lists settings.capacity settings.phi r.report verdict) same first.found))
 
 -- so they are the same report
-one_first : OneVerdict → (settings : Settings) (lists : List (List RecordValue)) (reports : List Reported)
+pub one_first : OneVerdict → (settings : Settings) (lists : List (List RecordValue)) (reports : List Reported)
     (number other_number : ℕ) (verdict other : Verdict) → IsFirstUnsound settings lists reports number verdict
     → IsFirstUnsound settings lists reports other_number other
     → AuditNo other_number other ≡ AuditNo number verdict

@@ -1,5 +1,6 @@
 -- Worked examples of audits and of the demonstration.
-use Rattle.std.proofs.Common.{◌≡◌, ◌+◌, ◌∙◌, ℕ, List, [], ◌∷◌, length, Some, None, inr, refl, ap, arith, codes}
+use Rattle.std.proofs.Common.{◌≡◌, ◌+◌, ◌∙◌, ℕ, true, false, List, [], ◌∷◌, length, Some, None, inr, refl, ap, arith}
+use Rattle.std.proofs.Common.{codes}
 use Rattle.std.proofs.lemmas.List.{length-append}
 use Rattle.std.specs.Fmt.{digits}
 use Rattle.std.proofs.lemmas.List.Elements.{All-cons, All-nil}
@@ -9,7 +10,8 @@ use Rattle.exact_audit.specs.declared.verdict.Verdict.TheVariants.{BadPositions,
 use Rattle.pcap_frames.specs.declared.fault.FaultKind.TheVariants.{ShortHeader}
 use Rattle.report_text.specs.declared.session_fault.TextFault.TheVariants.{BadLine}
 use Rattle.pcap_frames.specs.{fault_at}
-use Rattle.hhh_engine.specs.Audit.{IsFirstUnsound, IsSoundOver, WasReadFor, WasReadToLimit, sound_text, unsound_text, verdict_text}
+use Rattle.hhh_engine.specs.Audit.{IsFirstUnsound, IsSoundOver, WasReadFor, WasReadToLimit, sound_text, unsound_text}
+use Rattle.hhh_engine.specs.Audit.{verdict_text}
 use Rattle.hhh_engine.specs.Auditing.{HasNoAudit, HasNoBytes, SaysOf}
 use Rattle.hhh_engine.specs.Demo.{IsWholeReport, demo_text}
 use Rattle.hhh_engine.specs.Ending.{source_faults}
@@ -18,6 +20,7 @@ use Rattle.hhh_engine.specs.declared.status.Status.TheVariants.{Done, BadCapture
 use Rattle.hhh_engine.proofs.ExamplesOfAnswers.{empty_file_has_no_text}
 use Rattle.hhh_engine.proofs.ExamplesOfSessions.{last, lists, nothing_is_sound, report, report_at_the_ends}
 use Rattle.hhh_engine.proofs.ExamplesOfSessions.{settings}
+use Rattle.hhh_engine.proofs.OwnTextLemmas.{shown_as, shown_reports}
 
 pub text_of_a_wide_line : verdict_text (TooWide 12) ≡ codes "too wide in line 12"
 unfolding digits
@@ -104,3 +107,11 @@ text_of_a_demonstration = refl
 
 pub report_of_no_records : IsWholeReport settings lists report
 report_of_no_records = record { is_report = report_at_the_ends; at_ends = refl; is_sound = nothing_is_sound }
+
+-- ---- the text of a session, as an audit reads it
+
+-- with a store, the cuts of the calling thread were saved, and not that of the other caller
+pub reports_of_a_saving_session :
+    shown_reports true (record { rounds = last ∷ []; callers = (last ∷ []) ∷ []; last = last })
+    ≡ shown_as true last ∷ shown_as false last ∷ shown_as true last ∷ []
+reports_of_a_saving_session = refl

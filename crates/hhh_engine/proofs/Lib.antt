@@ -17,12 +17,17 @@ pub mod MadeCaptureLemmas
 pub mod DemoLemmas
 pub mod AuditLemmas
 pub mod AuditEndLemmas
+pub mod SoundSessionLemmas
 pub mod WiderRulesLemmas
 pub mod LastReportLemmas
 pub mod DemoTextLemmas
 pub mod LastStoreLemmas
 pub mod BrokenSessionLemmas
 pub mod OwnReportLemmas
+pub mod ReportBoundLemmas
+pub mod OwnTextLemmas
+pub mod OwnSessionLemmas
+pub mod OneAnswerLemmas
 pub mod Examples
 pub mod ExamplesOfStatuses
 pub mod ExamplesOfSessions

@@ -25,7 +25,7 @@ lists_of_resumed (list ∷ lists) [] continues = absurd continues
 lists_of_resumed (list ∷ lists) (base ∷ bases) continues =
     ap (λ rest. list ∷ rest) (lists_of_resumed lists bases continues.1)
 
-lists_of_opening : (settings : Settings) (lists : List (List RecordValue)) (store : Option (List ℕ))
+pub lists_of_opening : (settings : Settings) (lists : List (List RecordValue)) (store : Option (List ℕ))
     (base : Option CutValue) → GoesOnFrom settings lists store base
     → lists_of (opening_of settings.capacity lists base) ≡ lists
 lists_of_opening settings lists store None begins = lists_of_new settings.capacity lists
@@ -38,18 +38,37 @@ shown_are_sound : (opening : List ShardValue) (settings : Settings) (lists : Lis
 shown_are_sound opening settings lists reports same bases shown = λ k d lt.
     subst (λ l. IsSound (get_or reports k d).report l settings.capacity settings.phi) same ((shown k d lt).is_sound bases)
 
--- and so are those of all callers
-callers_are_sound : (opening : List ShardValue) (settings : Settings) (lists : List (List RecordValue)) (count : ℕ)
-    (callers : List (List Reported)) → lists_of opening ≡ lists → BasesRepresent opening
+-- those of all callers are shown
+callers_are_shown : (opening : List ShardValue) (settings : Settings) (count : ℕ) (callers : List (List Reported))
     → All (AreReportsOf opening settings count) callers
-    → All (IsSoundOver settings lists) (flat_map (λ made. made) callers)
-callers_are_sound opening settings lists count [] same bases are = All-nil (IsSoundOver settings lists)
-callers_are_sound opening settings lists count (reports ∷ callers) same bases are =
-    All-append (IsSoundOver settings lists) reports (flat_map (λ made. made) callers)
-    (shown_are_sound opening settings lists reports same bases
-    (All-head (AreReportsOf opening settings count) reports callers are).shown)
-    (callers_are_sound opening settings lists count callers same bases
+    → All (IsShown opening settings) (flat_map (λ made. made) callers)
+callers_are_shown opening settings count [] are = All-nil (IsShown opening settings)
+callers_are_shown opening settings count (reports ∷ callers) are =
+    All-append (IsShown opening settings) reports (flat_map (λ made. made) callers)
+    (All-head (AreReportsOf opening settings count) reports callers are).shown
+    (callers_are_shown opening settings count callers
     (All-tail (AreReportsOf opening settings count) reports callers are))
+
+-- the reports of a session are shown
+pub own_are_shown : (settings : Settings) (rules : Rules) (keeping : Keeping) (store : Option (List ℕ))
+    (file text : List ℕ) (is : IsSession settings rules keeping store file text)
+    → All (IsShown (opening_of settings.capacity is.lists is.base) settings) (reports_in is.spelled.reports)
+own_are_shown settings rules keeping store file text is =
+    let opening = opening_of settings.capacity is.lists is.base in
+    let reports = is.spelled.reports in
+    All-append (IsShown opening settings) (calling_reports reports) (flat_map (λ made. made) reports.callers)
+    is.spelled.are_reports.calling.shown
+    (callers_are_shown opening settings settings.rounds reports.callers is.spelled.are_reports.callers)
+
+-- so they are sound, if the saved cut that it went on from represents the lists
+pub own_are_sound : (settings : Settings) (rules : Rules) (keeping : Keeping) (store : Option (List ℕ))
+    (file text : List ℕ) (is : IsSession settings rules keeping store file text)
+    → IfSome is.base (λ cut. CutRepresents cut is.lists)
+    → All (IsSoundOver settings is.lists) (reports_in is.spelled.reports)
+own_are_sound settings rules keeping store file text is represents =
+    shown_are_sound (opening_of settings.capacity is.lists is.base) settings is.lists (reports_in is.spelled.reports)
+    (lists_of_opening settings is.lists store is.base is.begins) (is.represents represents)
+    (own_are_shown settings rules keeping store file text is)
 
 -- so the verdict on each report of a session is that it is good
 pub own_are_good : OneVerdict → (settings : Settings) (rules : Rules) (keeping : Keeping) (store : Option (List ℕ))
@@ -58,15 +77,7 @@ pub own_are_good : OneVerdict → (settings : Settings) (rules : Rules) (keeping
     → All (λ reported. IsVerdict is.lists settings.capacity settings.phi reported.report verdict → verdict ≡ Good)
     (reports_in is.spelled.reports)
 own_are_good one settings rules keeping store file text is verdict represents =
-    let opening = opening_of settings.capacity is.lists is.base in
-    let reports = is.spelled.reports in
-    let same = lists_of_opening settings is.lists store is.base is.begins in
-    let bases = is.represents represents in
-    let sound = All-append (IsSoundOver settings is.lists) (calling_reports reports)
-    (flat_map (λ made. made) reports.callers)
-    (shown_are_sound opening settings is.lists (calling_reports reports) same bases
-    is.spelled.are_reports.calling.shown)
-    (callers_are_sound opening settings is.lists settings.rounds reports.callers same bases
-    is.spelled.are_reports.callers) in
+    let sound = own_are_sound settings rules keeping store file text is represents in
     λ k d lt found.
-    one is.lists settings.capacity settings.phi (get_or (reports_in reports) k d).report verdict Good found (sound k d lt)
+    one is.lists settings.capacity settings.phi (get_or (reports_in is.spelled.reports) k d).report verdict Good found
+    (sound k d lt)

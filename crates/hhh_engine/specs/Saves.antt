@@ -38,8 +38,8 @@ OpensAmong settings opened (saved ∷ later) image =
     Opens settings image opened ⊎ OpensAmong settings (Some saved) later image
 
 -- saves of the cuts `saved`, and an unfinished one, if any: a crash at any moment leaves what was possible before (Earlier),
--- or a sound store that opens as before or to one of them; afterwards one that opens to the last saved one, or as before
--- without any, or to the unfinished one
+-- or a sound store that opens as before or to one of them; afterwards, to the last saved one, as before without any, or to
+-- the unfinished one
 pub record KeepsSaves {D : Type 0} (image_now : D → List ℕ → Type 0) (moment : D → ℕ)
     (image_since : D → ℕ → List ℕ → Type 0) (settings : StoreSettings) (digest : List ℕ) (Earlier : List ℕ → Type 0)
     (saved unfinished : List CutValue) (old new : D) (store : List ℕ) : Type 0 where

@@ -1,10 +1,11 @@
 //! Laws of what commands write, each the contract of a function that does nothing.
 
-ghost use Rattle.std.specs.Prelude.{◌≡◌, ℕ, ◌+◌, ◌++◌, ◌≤◌, true, List, length, All, Option, IfSome, IsSomeAnd};
+ghost use Rattle.std.specs.Prelude.{◌≡◌, ℕ, ◌+◌, ◌*◌, ◌++◌, ◌≤◌, true, List, length, All, Option, IfSome, IsSomeAnd};
 ghost use Rattle.prefix_lattice.specs.{RecordValue};
 ghost use Rattle.deal_rules.specs.{dealer_of};
 ghost use Rattle.deal_rules.specs.declared.deal_kind.DealKind.{DealKind};
 ghost use Rattle.hhh_engine.specs.Answer.{Answers, AnswersInPart};
+ghost use Rattle.hhh_engine.specs.Audit.{AreAudited, IsFirstUnsound, IsSoundOver, IsSoundSession, IsUnsoundSession, sound_text};
 ghost use Rattle.hhh_engine.specs.Demo.{IsDemoText};
 ghost use Rattle.hhh_engine.specs.Ending.{FoundUnsound};
 ghost use Rattle.hhh_engine.specs.Inputs.{InputBytes};
@@ -14,9 +15,11 @@ ghost use Rattle.traffic_maker.specs.{made_capture, most_made};
 ghost use Rattle.exact_audit.specs.{IsVerdict};
 ghost use Rattle.exact_audit.specs.declared.verdict.Verdict.{Verdict};
 ghost use Rattle.exact_audit.specs.declared.verdict.Verdict.TheVariants.{Good};
+ghost use Rattle.command_words.specs.{AreLimited};
 ghost use Rattle.command_words.specs.declared.settings.Settings.{Settings};
-ghost use Rattle.report_text.specs.{mark_text, report_text};
+ghost use Rattle.report_text.specs.{IsSessionText, longest_text, mark_text, report_text};
 ghost use Rattle.report_text.specs.declared.mark.Mark.TheVariants.{Opened};
+ghost use Rattle.report_text.specs.declared.session.Session.{Session};
 ghost use Rattle.hhh_output.specs.declared.reports.Reported.{Reported};
 ghost use Rattle.shard_state.specs.{AreNotPast, AreShards, BasesRepresent, CutRepresents, ShardValue, capacity_of, lists_of, positions_of};
 ghost use Rattle.checkpoint.specs.{Belongs, IsOfLists, Opens, SavedValue, digest_of_lists, opened_positions, opened_sequence};
@@ -28,7 +31,9 @@ use exact_audit::a_report_has_one_verdict;
 use frame_records::files_are_read_or_refused;
 use gate_workers::reported_cuts_represent;
 use hhh_output::{a_cut_has_one_report, standing_cuts_have_one_report};
-use report_text::same_reports_have_one_text;
+use report_text::{
+    printed_sessions_read_back, same_reports_have_one_text, session_texts_have_one_reading,
+};
 use slot_disk::Disk;
 
 /// If each dealer answers by a formula, one for each kind of dealing, then an answer under what the dealers may
@@ -132,6 +137,46 @@ pub fn own_reports_are_good<D: Disk>()
         (verdict : Verdict) → IfSome is.base (λ cut. CutRepresents cut is.lists)
         → All (λ reported. IsVerdict is.lists settings.capacity settings.phi reported.report verdict → verdict ≡ Good) (reports_in is.spelled.reports) }
 {
+    a_report_has_one_verdict();
+}
+
+/// What `report` writes over a capture is the text of a session, and an audit of it over this capture finds all its
+/// reports sound: those of each round of each caller, the calling thread among them, and the last one. The audit may have
+/// settings of its own that agree on the shards, the capacity, the share, the dealing and the weighing, and the text may
+/// not be longer than the longest that is audited. If the session went on from a saved cut, then the tables of this have
+/// to be those of its records.
+pub fn own_sessions_are_audited_good<D: Disk>()
+    ensures is_text { (formula : DealKind → ℕ → RecordValue → ℕ → ℕ) (before now : D) (settings : Settings) (store : Option (List ℕ)) (file text : List ℕ)
+        (is : IsSession settings (by_formula formula) (kept_in D.reads D.image_now D.moment D.image_since before now) store file text)
+        → AreLimited settings → IfSome is.base (λ cut. CutRepresents cut is.lists) → (known : Session) × IsSessionText text known }
+    ensures good { (formula : DealKind → ℕ → RecordValue → ℕ → ℕ) (before now : D) (settings other : Settings) (store : Option (List ℕ)) (file text : List ℕ)
+        (is : IsSession settings (by_formula formula) (kept_in D.reads D.image_now D.moment D.image_since before now) store file text)
+        → AreLimited settings → settings.shards ≡ other.shards → settings.capacity ≡ other.capacity → settings.phi ≡ other.phi
+        → settings.deal ≡ other.deal → settings.weigh ≡ other.weigh → length text ≤ longest_text
+        → IfSome is.base (λ cut. CutRepresents cut is.lists)
+        → IsSoundSession other (by_formula formula) file text (sound_text ((settings.callers + 1) * settings.rounds + 1)) }
+{
+    printed_sessions_read_back();
+}
+
+/// An audit of a text over a capture has one answer, where each kind of dealing is a formula: however the records are dealt
+/// and the text is read, all reports are sound, and as many, or one report is the first that isn't, with one verdict.
+pub fn audits_have_one_answer()
+    ensures sound { (formula : DealKind → ℕ → RecordValue → ℕ → ℕ) (settings : Settings) (file text answer : List ℕ) (lists : List (List RecordValue)) (session : Session)
+        → IsSoundSession settings (by_formula formula) file text answer → AreAudited settings (by_formula formula) file text lists session
+        → All (IsSoundOver settings lists) session.reports × (answer ≡ sound_text (length session.reports)) }
+    ensures unsound { (formula : DealKind → ℕ → RecordValue → ℕ → ℕ) (settings : Settings) (file text : List ℕ) (report : ℕ) (verdict : Verdict)
+        (lists : List (List RecordValue)) (session : Session) → IsUnsoundSession settings (by_formula formula) file text report verdict
+        → AreAudited settings (by_formula formula) file text lists session → IsFirstUnsound settings lists session.reports report verdict }
+    ensures never_both { (formula : DealKind → ℕ → RecordValue → ℕ → ℕ) (settings : Settings) (file text answer : List ℕ) (report : ℕ) (verdict : Verdict)
+        → IsSoundSession settings (by_formula formula) file text answer → IsUnsoundSession settings (by_formula formula) file text report verdict → ⊥ }
+    ensures one_first { (formula : DealKind → ℕ → RecordValue → ℕ → ℕ) (settings : Settings) (file text : List ℕ) (report number : ℕ) (verdict other : Verdict)
+        → IsUnsoundSession settings (by_formula formula) file text report verdict → IsUnsoundSession settings (by_formula formula) file text number other
+        → (number ≡ report) × (other ≡ verdict) }
+{
+    files_are_read_or_refused();
+    a_formula_deals_in_one_way();
+    session_texts_have_one_reading();
     a_report_has_one_verdict();
 }
 

@@ -1,6 +1,6 @@
 //! The top call: from arguments, a capture and the disk of a store to an output text and a status.
 
-ghost use Rattle.std.specs.Prelude.{◌≡◌, ◌⊎◌, ◌≤◌, ℕ, List, length, Some, true};
+ghost use Rattle.std.specs.Prelude.{◌≡◌, ◌⊎◌, ◌≤◌, ℕ, List, length, All, Some, true};
 ghost use Rattle.outside_io.specs.{Rose};
 ghost use Rattle.prefix_lattice.specs.{RecordValue};
 ghost use Rattle.pcap_frames.specs.{FrameValue};
@@ -21,7 +21,7 @@ ghost use Rattle.command_words.specs.declared.settings.Settings.{Settings};
 ghost use Rattle.command_words.specs.declared.words_kind.WordsKind.{WordsKind};
 ghost use Rattle.hhh_engine.specs.Answer.{Answers, AnswersInPart, IsAnswer, IsAnswerInPart};
 ghost use Rattle.hhh_engine.specs.Ending.{Ends, FailedDisk, FailedToRead, FailedToWrite, FindsFor, FormatEnds, FoundUnsound, IsUntouched, OfDisk, OneRose, RefusedCapture, RefusedStore, RefusedText, RefusedWords, RefusesFor, StopsInOrder, UnlessFormat, WasAnswered, WroteInPart, source_faults};
-ghost use Rattle.hhh_engine.specs.Audit.{AreAudited, IsFirstUnsound};
+ghost use Rattle.hhh_engine.specs.Audit.{AreAudited, IsFirstUnsound, IsSoundOver};
 ghost use Rattle.hhh_engine.specs.Inputs.{AskNotToUse, AskToUse, CanBeAnswered, ReadsCapture, ReadsSession, UsesStore, WasAccepted, WasRead, inputs};
 ghost use Rattle.hhh_engine.specs.Saves.{IsAsBefore, kept_in, store_settings};
 ghost use Rattle.hhh_engine.specs.Session.{AreDealtFrom};
@@ -134,6 +134,15 @@ pub fn run<R: Threads + Wait + Sync, S: Source, T: Source, K: Sink, D: Disk, G: 
         → AreAudited settings (λ kind. ⟦<Dealer as Deals>⟧.may_answer (dealer_of kind dealers.now)) file bytes lists session
         → IsFirstUnsound settings lists session.reports report verdict)
         → (result ≡ AuditNo report verdict) ⊎ ((result ≡ ReadFault) ⊎ ((result ≡ WriteFault) ⊎ (result ≡ OutOfMemory))) }
+
+    // A session whose reports are all sound is found so, unless a source or the sink fails or memory runs out.
+    ensures finds_sound { (settings : Settings) (file bytes : List ℕ) (frames : List FrameValue) (known : Session)
+        → AskFor (texts words.now) (Audit settings) → S.left capture.old ≡ Some file → HasFrames file frames → T.left text.old ≡ Some bytes
+        → IsSessionText bytes known → length bytes ≤ longest_text
+        → ((lists : List (List RecordValue)) (session : Session)
+        → AreAudited settings (λ kind. ⟦<Dealer as Deals>⟧.may_answer (dealer_of kind dealers.now)) file bytes lists session
+        → All (IsSoundOver settings lists) session.reports)
+        → (result ≡ Done) ⊎ ((result ≡ ReadFault) ⊎ ((result ≡ WriteFault) ⊎ (result ≡ OutOfMemory))) }
 
     // A fault of a source, the sink or the disk is reported only where it had one in this call. It is never ignored, nor
     // reported as anything else. Where the capture's source failed, the text of a session is untouched; where the text's

@@ -6,6 +6,7 @@ use Rattle.hhh_engine.specs.Saves.{store_settings}
 use Rattle.hhh_engine.proofs.AuditLemmas.{finds_as, found_as, refused_text_as, refuses_text_as}
 use Rattle.hhh_engine.proofs.ReadOrderLemmas.{failed_disk_as, failed_to_read_as, refused_capture_as}
 use Rattle.hhh_engine.proofs.StatusLemmas.{answered_as, happened_to_disk, ran_out, refused_as, refused_for}
+use Rattle.hhh_engine.proofs.SoundSessionLemmas.{sound_as}
 use Rattle.hhh_engine.proofs.StatusLemmas.{refuses_as, same_command}
 use Rattle.hhh_engine.proofs.top_call.run.Goals as goal
 
@@ -86,6 +87,16 @@ returns-clause-finds_unsound g c =
     (c.read_words.ensures.complete (Audit settings) asks) c.in-Ok.is) is_file capture is_text is_session not_long first
     c.answer.ensures.ends
 
+pub returns-clause-finds_sound : goal.returns-clause-finds_sound
+returns-clause-finds_sound g c =
+    λ settings file bytes frames known asks is_file capture is_text is_session not_long sound.
+    sound_as c.files_are_read_or_refused.ensures.never_both c.session_texts_have_one_reading.ensures.no_fault
+    c.a_report_has_one_verdict.ensures _ _ settings c.in-Ok.command _ _ _ _ _ _ _ _ _ _ _ _
+    c.answer.result file bytes frames known
+    (same_command c.read_words.result _ (Audit settings) c.in-Ok.command
+    (c.read_words.ensures.complete (Audit settings) asks) c.in-Ok.is) is_file capture is_text is_session not_long sound
+    c.answer.ensures.ends
+
 pub returns-in-Err-clause-refuses_report : goal.returns-in-Err-clause-refuses_report
 returns-in-Err-clause-refuses_report g c = λ settings file bytes frames fault asks is_file capture is_text has.
     inr (inr (ran_out c.read_words.result (Audit settings) c.in-Err.refusal c.from.result
@@ -94,6 +105,12 @@ returns-in-Err-clause-refuses_report g c = λ settings file bytes frames fault a
 pub returns-in-Err-clause-finds_unsound : goal.returns-in-Err-clause-finds_unsound
 returns-in-Err-clause-finds_unsound g c =
     λ settings file bytes frames known report verdict asks is_file capture is_text is_session not_long first.
+    inr (inr (inr (ran_out c.read_words.result (Audit settings) c.in-Err.refusal c.from.result
+    (c.read_words.ensures.complete (Audit settings) asks) c.in-Err.is c.from.ensures)))
+
+pub returns-in-Err-clause-finds_sound : goal.returns-in-Err-clause-finds_sound
+returns-in-Err-clause-finds_sound g c =
+    λ settings file bytes frames known asks is_file capture is_text is_session not_long sound.
     inr (inr (inr (ran_out c.read_words.result (Audit settings) c.in-Err.refusal c.from.result
     (c.read_words.ensures.complete (Audit settings) asks) c.in-Err.is c.from.ensures)))
 
