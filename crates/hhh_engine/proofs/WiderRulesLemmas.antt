@@ -13,11 +13,12 @@ use Rattle.hhh_engine.specs.Session.{AreDealtFrom, IsSession, IsSessionInPart, K
 use Rattle.hhh_engine.specs.Audit.{AreAudited, IsAuditText, IsSoundSession, IsUnsoundSession}
 use Rattle.traffic_maker.specs.{made_capture}
 use Rattle.hhh_engine.specs.Demo.{IsDemoText}
-use Rattle.hhh_engine.specs.Ending.{FoundUnsound}
-use Rattle.hhh_engine.specs.Inputs.{InputBytes}
+use Rattle.hhh_engine.specs.Ending.{FoundUnsound, IsRefusedStore, RefusedStore}
+use Rattle.hhh_engine.specs.Inputs.{CanBeAnswered, HasKnownStore, InputBytes}
 use Rattle.hhh_engine.proofs.AuditEndLemmas.{of_audited_more}
 use Rattle.hhh_engine.proofs.CaptureLemmas.{if_known}
 use Rattle.command_words.specs.declared.settings.Settings.{Settings}
+use Rattle.recovery.specs.declared.fault.OpenFault.{OpenFault}
 
 -- rules of a kind of dealing
 abbrev Rule : Type 1
@@ -36,7 +37,7 @@ wider_dealing narrow wide kind shards records lists widen dealing = record {
       record { below = dealt.below; of_kind = dealt.of_kind; answered = widen place rec shards number dealt.answered };
 }
 
-wider_records : (narrow wide : Rules) (settings : Settings) (file : List ℕ) (records : Records)
+pub wider_records : (narrow wide : Rules) (settings : Settings) (file : List ℕ) (records : Records)
     (lists : List (List RecordValue))
     → ((kind : DealKind) (place : ℕ) (rec : RecordValue) (shards number : ℕ) → narrow kind place rec shards number
     → wide kind place rec shards number)
@@ -80,7 +81,7 @@ wider_part narrow wide keeping settings store file front widen session = record 
   begun = session.begun;
 }
 
-wider_audited : (narrow wide : Rules) (settings : Settings) (file text : List ℕ) (lists : List (List RecordValue))
+pub wider_audited : (narrow wide : Rules) (settings : Settings) (file text : List ℕ) (lists : List (List RecordValue))
     (session : Session)
     → ((kind : DealKind) (place : ℕ) (rec : RecordValue) (shards number : ℕ) → narrow kind place rec shards number
     → wide kind place rec shards number)
@@ -228,3 +229,56 @@ wider_found narrow wide words read report verdict old new widen found = record {
       (λ file text is. wider_unsound narrow wide found.settings file text report verdict widen is) found.found;
   written = found.written;
 }
+
+wider_refusal : (narrow wide : Rules) (settings : Settings) (store : Option (List ℕ)) (file : List ℕ) (fault : OpenFault)
+    → ((kind : DealKind) (place : ℕ) (rec : RecordValue) (shards number : ℕ) → narrow kind place rec shards number
+    → wide kind place rec shards number)
+    → IsRefusedStore settings narrow store file fault → IsRefusedStore settings wide store file fault
+wider_refusal narrow wide settings store file fault widen is = record {
+  records = is.records;
+  lists = is.lists;
+  dealt = wider_records narrow wide settings file is.records is.lists widen is.dealt;
+  refused = is.refused;
+}
+
+pub wider_refused_store : {K : Type 0} → (narrow wide : Rules) (words : List (List ℕ)) (read : InputBytes)
+    (fault : OpenFault) (sink written : K) (AsBefore : Type 0)
+    → ((kind : DealKind) (place : ℕ) (rec : RecordValue) (shards number : ℕ) → narrow kind place rec shards number
+    → wide kind place rec shards number)
+    → RefusedStore narrow words read fault sink written AsBefore
+    → RefusedStore wide words read fault sink written AsBefore
+wider_refused_store narrow wide words read fault sink written AsBefore widen refused = record {
+  settings = refused.settings;
+  asked = refused.asked;
+  used = refused.used;
+  read_to_end = refused.read_to_end;
+  refused = if_known read.capture (λ file. IsRefusedStore refused.settings narrow read.store file fault)
+      (λ file. IsRefusedStore refused.settings wide read.store file fault)
+      (λ file is. wider_refusal narrow wide refused.settings read.store file fault widen is) refused.refused;
+  unwritten = refused.unwritten;
+  as_before = refused.as_before;
+}
+
+narrower_store : (narrow wide : Rules) (settings : Settings) (read : InputBytes)
+    → ((kind : DealKind) (place : ℕ) (rec : RecordValue) (shards number : ℕ) → narrow kind place rec shards number
+    → wide kind place rec shards number)
+    → HasKnownStore settings wide read → HasKnownStore settings narrow read
+narrower_store narrow wide settings read widen store = record {
+  image = store.image;
+  told = store.told;
+  belongs = λ file records lists is_file dealt.
+      store.belongs file records lists is_file (wider_records narrow wide settings file records lists widen dealt);
+}
+
+-- inputs in their formats stay so under rules that allow less, which deal the records in fewer ways
+pub narrower_can_be_answered : (narrow wide : Rules) (command : Command) (read : InputBytes)
+    → ((kind : DealKind) (place : ℕ) (rec : RecordValue) (shards number : ℕ) → narrow kind place rec shards number
+    → wide kind place rec shards number)
+    → CanBeAnswered wide command read → CanBeAnswered narrow command read
+narrower_can_be_answered narrow wide (Weigh prefix settings) read widen can = can
+narrower_can_be_answered narrow wide (Report settings) read widen can =
+    (can.0, λ used. narrower_store narrow wide settings read widen (can.1 used))
+narrower_can_be_answered narrow wide (Format settings) read widen can = can
+narrower_can_be_answered narrow wide (Audit settings) read widen can = can
+narrower_can_be_answered narrow wide (Make seed frames) read widen can = can
+narrower_can_be_answered narrow wide (Demo seed frames settings) read widen can = can

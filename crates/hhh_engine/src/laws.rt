@@ -7,15 +7,19 @@ ghost use Rattle.deal_rules.specs.declared.deal_kind.DealKind.{DealKind};
 ghost use Rattle.hhh_engine.specs.Answer.{Answers, AnswersInPart};
 ghost use Rattle.hhh_engine.specs.Audit.{AreAudited, IsFirstUnsound, IsSoundOver, IsSoundSession, IsUnsoundSession, sound_text};
 ghost use Rattle.hhh_engine.specs.Demo.{IsDemoText};
-ghost use Rattle.hhh_engine.specs.Ending.{FoundUnsound};
-ghost use Rattle.hhh_engine.specs.Inputs.{InputBytes};
+ghost use Rattle.hhh_engine.specs.Audit.{AreAudited};
+ghost use Rattle.hhh_engine.specs.Ending.{FoundUnsound, RefusedStore};
+ghost use Rattle.hhh_engine.specs.Inputs.{CanBeAnswered, InputBytes};
 ghost use Rattle.pcap_frames.specs.{FrameValue};
 ghost use Rattle.frame_records.specs.{HasFrames};
+ghost use Rattle.frame_records.specs.declared.records.Records.{Records};
+ghost use Rattle.recovery.specs.declared.fault.OpenFault.{OpenFault};
 ghost use Rattle.traffic_maker.specs.{made_capture, most_made};
 ghost use Rattle.exact_audit.specs.{IsVerdict};
 ghost use Rattle.exact_audit.specs.declared.verdict.Verdict.{Verdict};
 ghost use Rattle.exact_audit.specs.declared.verdict.Verdict.TheVariants.{Good};
 ghost use Rattle.command_words.specs.{AreLimited};
+ghost use Rattle.command_words.specs.declared.command.Command.{Command};
 ghost use Rattle.command_words.specs.declared.settings.Settings.{Settings};
 ghost use Rattle.report_text.specs.{IsSessionText, longest_text, mark_text, report_text};
 ghost use Rattle.report_text.specs.declared.mark.Mark.TheVariants.{Opened};
@@ -23,22 +27,24 @@ ghost use Rattle.report_text.specs.declared.session.Session.{Session};
 ghost use Rattle.hhh_output.specs.declared.reports.Reported.{Reported};
 ghost use Rattle.shard_state.specs.{AreNotPast, AreShards, BasesRepresent, CutRepresents, ShardValue, capacity_of, lists_of, positions_of};
 ghost use Rattle.checkpoint.specs.{Belongs, IsOfLists, Opens, SavedValue, digest_of_lists, opened_positions, opened_sequence};
-ghost use Rattle.hhh_engine.specs.Session.{AreReportsOf, AreSessionReports, IsSession, IsShown, SessionReports, by_formula, calling_reports, ends_of, last_positions, new_shards, part_text, reports_in, saved_cuts, session_saves, session_text, start_of};
-ghost use Rattle.hhh_engine.specs.Saves.{OpensAmong, kept_in, last_saved, saved_after, store_settings};
+ghost use Rattle.hhh_engine.specs.Session.{AreDealtFrom, AreReportsOf, AreSessionReports, IsSession, IsShown, SessionReports, by_formula, calling_reports, ends_of, last_positions, new_shards, part_text, reports_in, saved_cuts, session_saves, session_text, start_of};
+ghost use Rattle.hhh_engine.specs.Saves.{IsAsBefore, OpensAmong, kept_in, last_saved, saved_after, store_settings};
 
 use deal_rules::{Dealer, Dealers, Deals, a_formula_deals_in_one_way};
 use exact_audit::a_report_has_one_verdict;
 use frame_records::files_are_read_or_refused;
 use gate_workers::reported_cuts_represent;
 use hhh_output::{a_cut_has_one_report, standing_cuts_have_one_report};
+use outside_io::Sink;
 use report_text::{
     printed_sessions_read_back, same_reports_have_one_text, session_texts_have_one_reading,
 };
 use slot_disk::Disk;
 
 /// If each dealer answers by a formula, one for each kind of dealing, then an answer under what the dealers may
-/// answer is also an answer under the formulas: the records are dealt by them.
-pub fn answers_follow_formulas<D: Disk>(dealers: &Dealers)
+/// answer is also an answer under the formulas: the records are dealt by them. So is the refusal of a store. What can be
+/// answered under the formulas can be under what the dealers may answer.
+pub fn answers_follow_formulas<K: Sink, D: Disk>(dealers: &Dealers)
     ensures whole { (formula : DealKind → ℕ → RecordValue → ℕ → ℕ) (before now : D) (words : List (List ℕ)) (read : InputBytes) (old new : Option (List ℕ))
         → ((kind : DealKind) (place : ℕ) (rec : RecordValue) (shards number : ℕ)
         → ⟦<Dealer as Deals>⟧.may_answer (dealer_of kind dealers.now) place rec shards number → number ≡ formula kind place rec shards)
@@ -57,6 +63,30 @@ pub fn answers_follow_formulas<D: Disk>(dealers: &Dealers)
         → ⟦<Dealer as Deals>⟧.may_answer (dealer_of kind dealers.now) place rec shards number → number ≡ formula kind place rec shards)
         → FoundUnsound (λ kind. ⟦<Dealer as Deals>⟧.may_answer (dealer_of kind dealers.now)) words read report verdict old new
         → FoundUnsound (by_formula formula) words read report verdict old new }
+    ensures refused { (formula : DealKind → ℕ → RecordValue → ℕ → ℕ) (words : List (List ℕ)) (read : InputBytes) (fault : OpenFault)
+        (sink written : K) (before now : D)
+        → ((kind : DealKind) (place : ℕ) (rec : RecordValue) (shards number : ℕ)
+        → ⟦<Dealer as Deals>⟧.may_answer (dealer_of kind dealers.now) place rec shards number → number ≡ formula kind place rec shards)
+        → RefusedStore (λ kind. ⟦<Dealer as Deals>⟧.may_answer (dealer_of kind dealers.now)) words read fault sink written
+        (IsAsBefore D.reads D.image_now D.moment D.image_since before now)
+        → RefusedStore (by_formula formula) words read fault sink written (IsAsBefore D.reads D.image_now D.moment D.image_since before now) }
+    ensures dealt { (formula : DealKind → ℕ → RecordValue → ℕ → ℕ) (settings : Settings) (file : List ℕ) (records : Records)
+        (lists : List (List RecordValue))
+        → ((kind : DealKind) (place : ℕ) (rec : RecordValue) (shards number : ℕ)
+        → ⟦<Dealer as Deals>⟧.may_answer (dealer_of kind dealers.now) place rec shards number → number ≡ formula kind place rec shards)
+        → AreDealtFrom settings (λ kind. ⟦<Dealer as Deals>⟧.may_answer (dealer_of kind dealers.now)) file records lists
+        → AreDealtFrom settings (by_formula formula) file records lists }
+    ensures audited { (formula : DealKind → ℕ → RecordValue → ℕ → ℕ) (settings : Settings) (file text : List ℕ) (lists : List (List RecordValue))
+        (session : Session)
+        → ((kind : DealKind) (place : ℕ) (rec : RecordValue) (shards number : ℕ)
+        → ⟦<Dealer as Deals>⟧.may_answer (dealer_of kind dealers.now) place rec shards number → number ≡ formula kind place rec shards)
+        → AreAudited settings (λ kind. ⟦<Dealer as Deals>⟧.may_answer (dealer_of kind dealers.now)) file text lists session
+        → AreAudited settings (by_formula formula) file text lists session }
+    ensures can { (formula : DealKind → ℕ → RecordValue → ℕ → ℕ) (command : Command) (read : InputBytes)
+        → ((kind : DealKind) (place : ℕ) (rec : RecordValue) (shards number : ℕ)
+        → ⟦<Dealer as Deals>⟧.may_answer (dealer_of kind dealers.now) place rec shards number → number ≡ formula kind place rec shards)
+        → CanBeAnswered (by_formula formula) command read
+        → CanBeAnswered (λ kind. ⟦<Dealer as Deals>⟧.may_answer (dealer_of kind dealers.now)) command read }
 {}
 
 /// The text of the last report of a session depends on the dealt lists, the capacity and the share alone: whatever the
