@@ -44,8 +44,10 @@ def definitions(crate):
 
 
 def face(crate):
-    """What a crate's face passes on."""
-    lines = re.findall(r"(?m)^(?:unfoldable )?pub use Rattle\.%s\.specs\.\w+\.\{(.*)\}" % crate, (top / "crates" / crate / "specs" / "Lib.antt").read_text())
+    """What a crate's face passes on; a crate of tests alone has none."""
+    path = top / "crates" / crate / "specs" / "Lib.antt"
+    text = path.read_text() if path.exists() else ""
+    lines = re.findall(r"(?m)^(?:unfoldable )?pub use Rattle\.%s\.specs\.\w+\.\{(.*)\}" % crate, text)
     return {name.strip() for line in lines for name in line.split(",")}
 
 

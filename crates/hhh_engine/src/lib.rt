@@ -20,6 +20,3 @@ pub use laws::{
 };
 pub use status::{Status, fault_line};
 pub use top_call::run;
-
-#[cfg(test)]
-mod tests;

@@ -2,11 +2,11 @@
 
 use super::captures::{ONE, Packet, capture_of};
 use super::reports::ELEVEN;
-use super::{Ended, SOUND, run, run_over};
-use crate::Status;
+use super::{Ended, SOUND, run_over};
 use deal_rules::Dealers;
 use exact_audit::Verdict;
 use gate_workers::OpenGate;
+use hhh_engine::{Status, run};
 use outside_io::{MemorySink, MemorySource};
 use pcap_frames::{CaptureFault, FaultKind};
 use report_text::TextFault;

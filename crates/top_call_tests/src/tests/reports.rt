@@ -2,8 +2,8 @@
 
 use super::captures::{HEADER, ONE, Packet, capture_of, packet_bytes, push_frame};
 use super::{SOUND, run_over};
-use crate::Status;
 use deal_rules::Dealers;
+use hhh_engine::Status;
 use std::alloc::{AllocError, Global};
 use std::marker::Sync;
 use std::process::Abort;

@@ -2,11 +2,11 @@
 
 use super::captures::{ONE, capture_of};
 use super::{Outside, SOUND, run_over};
-use crate::{Opt, Status, WordsKind, fault_line};
 use checkpoint::StoreSettings;
 use deal_rules::{DealKind, Dealers};
 use exact_audit::Verdict;
 use frame_records::Weigh;
+use hhh_engine::{Opt, Status, WordsKind, fault_line};
 use pcap_frames::{CaptureFault, FaultKind};
 use prefix_lattice::{PrefixFault, Side};
 use report_text::TextFault;

@@ -12,9 +12,9 @@ mod rounds;
 mod stores;
 mod weights;
 
-use super::*;
 use deal_rules::{DealKind, Dealer, Dealers};
 use gate_workers::{Gate, OpenGate};
+use hhh_engine::{Status, run};
 use outside_io::{MemorySink, MemorySource};
 use prefix_lattice::Record;
 use slot_disk::MemoryDisk;

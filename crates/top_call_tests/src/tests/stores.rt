@@ -2,11 +2,11 @@
 
 use super::Ended;
 use super::captures::{HEADER, ONE, Packet, capture_of};
-use crate::{Status, run};
 use checkpoint::StoreSettings;
 use deal_rules::{DealKind, Dealers};
 use frame_records::Weigh;
 use gate_workers::OpenGate;
+use hhh_engine::{Status, run};
 use outside_io::{MemorySink, MemorySource};
 use slot_disk::{Disk, MemoryDisk};
 use std::alloc::{AllocError, Global};

@@ -2,8 +2,8 @@
 
 use super::captures::HEADER;
 use super::{Outside, SOUND, run_over};
-use crate::Status;
 use deal_rules::Dealers;
+use hhh_engine::Status;
 use std::alloc::Global;
 use std::marker::Sync;
 use std::process::Abort;

@@ -2,9 +2,9 @@
 
 use super::captures::{HEADER, ONE, Packet, capture_of};
 use super::{SOUND, run_over};
-use crate::{Status, run};
 use deal_rules::Dealers;
 use gate_workers::OpenGate;
+use hhh_engine::{Status, run};
 use outside_io::{MemorySink, MemorySource};
 use pcap_frames::{CaptureFault, FaultKind};
 use slot_disk::MemoryDisk;
