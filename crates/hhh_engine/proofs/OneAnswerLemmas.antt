@@ -61,7 +61,8 @@ one_of_lines : (positions : List ℕ) (total threshold : ℕ) (lines others : Li
     → report_of positions total threshold lines are ≡ report_of positions total threshold others others_are
 one_of_lines positions total threshold lines others are others_are same =
     subst
-    (λ l. (a : AreLines l) → report_of positions total threshold lines are ≡ report_of positions total threshold l a) same (λ a. ap (report_of positions total threshold lines) (lines_prop lines are a)) others_are
+    (λ l. (a : AreLines l) → report_of positions total threshold lines are ≡ report_of positions total threshold l a)
+    same (λ a. ap (report_of positions total threshold lines) (lines_prop lines are a)) others_are
 
 -- reports that show the same are equal
 one_report : (report other : Report) → AreSame report other → report ≡ other
