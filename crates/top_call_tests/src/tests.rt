@@ -3,6 +3,7 @@ ghost use Rattle.deal_rules.specs.{IsAsked};
 
 mod audits;
 mod captures;
+mod disk_faults;
 mod gates;
 mod indexed_lines;
 mod made;
@@ -149,7 +150,8 @@ fn goes_on_from_stores(rt: HostRuntime) -> Result<(), Fail> {
     stores::saves_each_round(&rt, alloc, &dealers)?;
     stores::formats(&rt, alloc, &dealers)?;
     stores::refuses_stores(&rt, alloc, &dealers)?;
-    stores::tells_the_faults_of_the_disk(&rt, alloc, &dealers)
+    stores::tells_the_faults_of_the_disk(&rt, alloc, &dealers)?;
+    disk_faults::goes_on_after_each_fault(&rt, alloc, &dealers)
 }
 
 #[test]

@@ -5,7 +5,7 @@ use super::captures::{HEADER, ONE, Packet, capture_of};
 use checkpoint::StoreSettings;
 use deal_rules::{DealKind, Dealers};
 use frame_records::Weigh;
-use gate_workers::OpenGate;
+use gate_workers::{Gate, OpenGate};
 use hhh_engine::{Status, run};
 use outside_io::{MemorySink, MemorySource};
 use slot_disk::{Disk, MemoryDisk};
@@ -19,9 +19,9 @@ use std::thread::Threads;
 // Two slots for one shard at the default capacity.
 const ROOM: usize = 400_000;
 
-const FORMAT: [&str; 4] = ["format", "--store=s", "--shards=1", "--deal=round"];
+pub(crate) const FORMAT: [&str; 4] = ["format", "--store=s", "--shards=1", "--deal=round"];
 
-const REPORT: [&str; 3] = ["report", "--store=s", "--shards=1"];
+pub(crate) const REPORT: [&str; 3] = ["report", "--store=s", "--shards=1"];
 
 // The session over one packet, and the one that goes on from its store.
 const FIRST: &str =
@@ -32,20 +32,43 @@ const SECOND: &str =
 
 // A disk with these bytes, whose calls with these numbers fail.
 fn disk_of(alloc: Global, bytes: &[u8], fails: &[u64]) -> Result<MemoryDisk, AllocError> {
+    disk_with(alloc, bytes, None, fails)
+}
+
+// The same whose calls from the fuse on fail too.
+pub(crate) fn disk_with(
+    alloc: Global,
+    bytes: &[u8],
+    fuse: Option<u64>,
+    fails: &[u64],
+) -> Result<MemoryDisk, AllocError> {
     let held = Vec::from_slice(alloc, bytes)?;
     let room = ROOM.max(held.len());
     let fails = Vec::from_slice(alloc, fails)?;
-    MemoryDisk::with_room(alloc, room, 1_048_576, held, None, fails)
+    MemoryDisk::with_room(alloc, room, 1_048_576, held, fuse, fails)
 }
 
 // Runs over a capture of these packets, with a store on this disk.
-fn run_on<R: Threads + Wait + Sync>(
+pub(crate) fn run_on<R: Threads + Wait + Sync>(
     rt: &R,
     alloc: Global,
     dealers: &Dealers,
     words: &[&str],
     packets: &[Packet],
     disk: &mut MemoryDisk,
+) -> Result<Ended, AllocError> {
+    run_gated_on(rt, alloc, dealers, words, packets, disk, &OpenGate)
+}
+
+// The same with a gate.
+pub(crate) fn run_gated_on<R: Threads + Wait + Sync, G: Gate + Sync>(
+    rt: &R,
+    alloc: Global,
+    dealers: &Dealers,
+    words: &[&str],
+    packets: &[Packet],
+    disk: &mut MemoryDisk,
+    gate: &G,
 ) -> Result<Ended, AllocError> {
     let capture = capture_of(alloc, packets)?;
     let mut source = MemorySource::new(capture, Vec::new(alloc), 64);
@@ -59,7 +82,7 @@ fn run_on<R: Threads + Wait + Sync>(
         &mut text,
         &mut sink,
         disk,
-        &OpenGate,
+        gate,
         dealers,
     );
     let text = Vec::from_slice(alloc, sink.taken())?;

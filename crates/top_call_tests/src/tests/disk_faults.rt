@@ -1,0 +1,162 @@
+//! Reports whose disk fails, and what the next report goes on from.
+
+use super::captures::ONE;
+use super::gates::Turnstile;
+use super::stores::{FORMAT, REPORT, disk_with, run_gated_on, run_on};
+use deal_rules::Dealers;
+use hhh_engine::Status;
+use slot_disk::MemoryDisk;
+use std::alloc::{AllocError, Global};
+use std::marker::Sync;
+use std::process::Abort;
+use std::sync::Wait;
+use std::test::Fail;
+use std::thread::Threads;
+
+const ROUND: [&str; 7] = [
+    "report",
+    "--store=s",
+    "--shards=1",
+    "--workers=1",
+    "--block=1",
+    "--callers=1",
+    "--rounds=1",
+];
+
+// The pieces in which the session of a round over eight packets is written, the round after three of them. The first
+// save comes after the second piece, and the other one after the fourth.
+const PIECES: [&str; 5] = [
+    "opened 0\n",
+    "report\nat 3\ntotal 300\nthreshold 3\nline 10.1.2.3/32 20.1.2.3/32 300 300\ndone\n",
+    "saved 3\n",
+    "report\nat 3\ntotal 300\nthreshold 3\nline 10.1.2.3/32 20.1.2.3/32 300 300\ndone\nreport\nat 8\ntotal 800\nthreshold 8\nline 10.1.2.3/32 20.1.2.3/32 800 800\ndone\n",
+    "saved 8\nframes 8\nskipped 0 0 0\nend\n",
+];
+
+// What follows the first line of the session that goes on.
+const REST: &str =
+    "report\nat 8\ntotal 800\nthreshold 8\nline 10.1.2.3/32 20.1.2.3/32 800 800\ndone\nsaved 8\nframes 8\nskipped 0 0 0\nend\n";
+
+// What a fault at some calls of the disk leaves.
+#[derive(Clone, Copy)]
+struct Left {
+    // The first of these calls, and the first one after them.
+    calls: (u64, u64),
+    // How many pieces were written.
+    pieces: usize,
+    // The first line of the next session, after a crash that keeps all that was written, and after another.
+    kept: &'static str,
+    lost: &'static str,
+}
+
+// A store is opened by two calls. A save makes six: a gate is closed, a body is written and the gate is opened, each with
+// a sync. So the cut of a save can only be there from its fifth call on, which writes the byte of the gate.
+const LEFT: [Left; 6] = [
+    Left {
+        calls: (0, 2),
+        pieces: 0,
+        kept: "opened 0\n",
+        lost: "opened 0\n",
+    },
+    Left {
+        calls: (2, 6),
+        pieces: 2,
+        kept: "opened 0\n",
+        lost: "opened 0\n",
+    },
+    Left {
+        calls: (6, 8),
+        pieces: 2,
+        kept: "opened 3\n",
+        lost: "opened 0\n",
+    },
+    Left {
+        calls: (8, 12),
+        pieces: 4,
+        kept: "opened 3\n",
+        lost: "opened 3\n",
+    },
+    Left {
+        calls: (12, 14),
+        pieces: 4,
+        kept: "opened 8\n",
+        lost: "opened 3\n",
+    },
+    // All fourteen went well.
+    Left {
+        calls: (14, 15),
+        pieces: 5,
+        kept: "opened 8\n",
+        lost: "opened 8\n",
+    },
+];
+
+// These texts, one after the other.
+fn joined(alloc: Global, texts: &[&str]) -> Result<Vec<u8>, AllocError> {
+    let mut all = Vec::new(alloc);
+    for text in texts {
+        all.extend_from_slice(text.as_bytes())?;
+    }
+    Ok(all)
+}
+
+// A report on a disk that fails from one call on, each crash of it, and the report that goes on from there.
+pub(crate) fn goes_on_after_each_fault<R: Abort + Threads + Wait + Sync>(
+    rt: &R,
+    alloc: Global,
+    dealers: &Dealers,
+) -> Result<(), Fail> {
+    let mut empty = disk_with(alloc, &[], None, &[])?;
+    run_on(rt, alloc, dealers, &FORMAT, &[], &mut empty)?;
+    let store = empty.crash(alloc, 0)?;
+    for left in LEFT {
+        for call in left.calls.0..left.calls.1 {
+            let mut disk = disk_with(alloc, &store, Some(call), &[])?;
+            breaks_off(rt, alloc, dealers, &mut disk, &left)?;
+            goes_on(rt, alloc, dealers, &disk, &left)?;
+        }
+    }
+    Ok(())
+}
+
+// The report ends with a disk fault, unless all calls went well, after as many pieces.
+fn breaks_off<R: Abort + Threads + Wait + Sync>(
+    rt: &R,
+    alloc: Global,
+    dealers: &Dealers,
+    disk: &mut MemoryDisk,
+    left: &Left,
+) -> Result<(), Fail> {
+    let gate = Turnstile::after(3);
+    let ended = run_gated_on(rt, alloc, dealers, &ROUND, &[ONE; 8], disk, &gate)?;
+    assert_eq!(rt; gate.missed(), 0);
+    let status = if left.pieces < PIECES.len() {
+        Status::DiskFault
+    } else {
+        Status::Done
+    };
+    assert_eq!(rt; ended.status, status);
+    assert!(rt; left.pieces <= PIECES.len());
+    let text = joined(alloc, &PIECES[..left.pieces])?;
+    assert_eq!(rt; ended.text.as_slice(), text.as_slice());
+    Ok(())
+}
+
+// After each crash the next report ends well, from the position that is left on.
+fn goes_on<R: Abort + Threads + Wait + Sync>(
+    rt: &R,
+    alloc: Global,
+    dealers: &Dealers,
+    disk: &MemoryDisk,
+    left: &Left,
+) -> Result<(), Fail> {
+    for choice in 0..4 {
+        let mut crashed = disk_with(alloc, &disk.crash(alloc, choice)?, None, &[])?;
+        let ended = run_on(rt, alloc, dealers, &REPORT, &[ONE; 8], &mut crashed)?;
+        assert_eq!(rt; ended.status, Status::Done);
+        let opened = if choice == 1 { left.kept } else { left.lost };
+        let text = joined(alloc, &[opened, REST])?;
+        assert_eq!(rt; ended.text.as_slice(), text.as_slice(), "crash {choice}");
+    }
+    Ok(())
+}
