@@ -23,8 +23,8 @@ use Rattle.command_words.specs.declared.settings.Settings.{Settings}
 use Rattle.hhh_engine.specs.Ending.{HoldsEmptyStore}
 use Rattle.hhh_engine.specs.Feed.{GoesOn, HasNoBase, IsSaverFor}
 use Rattle.hhh_engine.specs.Inputs.{IsStoreOf}
-use Rattle.hhh_engine.specs.Saves.{FitsBoard, IsAsBefore, KeepsSaves, OpensAmong, Saves, SavesInPart, after_saves}
-use Rattle.hhh_engine.specs.Saves.{kept_in, last_saved, saved_after, store_settings}
+use Rattle.hhh_engine.specs.Saves.{FitsBoard, IsAsBefore, IsNoEarlier, KeepsSaves, OpensAmong, Reopens, Saves}
+use Rattle.hhh_engine.specs.Saves.{SavesInPart, after_saves, kept_in, last_saved, reopened_in, saved_after, store_settings}
 use Rattle.hhh_engine.specs.Session.{GoesOnFrom, SessionReports, calling_reports, ends_of, last_positions, new_shards}
 use Rattle.hhh_engine.specs.Session.{opening_of, part_text, resumed_shards, saved_cuts, session_saves, session_text, start_of}
 use Rattle.hhh_engine.specs.declared.status.Status.TheVariants.{NotFormatted}
@@ -136,6 +136,41 @@ unfinished_save_left_nothing = record {
       (λ image is. inr (inl (subst (λ bytes. Opens one bytes None) (sym is) formatted_opens_to_nothing)));
   afterwards = λ image is. inl (subst (λ bytes. Opens one bytes None) (sym is) formatted_opens_to_nothing);
 }
+
+-- a later save is no earlier one, in its sequence and in its positions
+pub later_cut_is_no_earlier : IsNoEarlier one (Some (saved 1 none_counted)) (Some (saved 2 one_counted))
+later_cut_is_no_earlier = record { sequence = omega arith; positions = (omega arith, tt) }
+
+pub cut_of_fewer_records_is_earlier : IsNoEarlier one (Some (saved 1 one_counted)) (Some (saved 2 none_counted)) → ⊥
+cut_of_fewer_records_is_earlier is = let past : 1 ≤ 0 = is.positions.0 in omega (arith, past)
+
+pub sequence_before_is_earlier : IsNoEarlier one (Some (saved 2 none_counted)) (Some (saved 1 one_counted)) → ⊥
+sequence_before_is_earlier is = let later : 2 ≤ 1 = is.sequence in omega (arith, later)
+
+-- the formatted store opens again as nothing was saved, also where the first save is unfinished
+pub formatted_reopens : (unfinished : List CutValue) → Reopens one None unfinished formatted
+formatted_reopens unfinished = record {
+  found = None;
+  opens = formatted_opens_to_nothing;
+  no_earlier = record { sequence = omega arith; positions = (omega arith, tt) };
+  exact = λ none. refl;
+}
+
+-- an empty disk doesn't
+pub empty_disk_reopens : Reopens one None [] [] → ⊥
+empty_disk_reopens reopens = omega (arith, reopens.opens.2.long)
+
+pub first_save_may_be_unfinished : reopened_in {D = ℕ} (λ disk. Some formatted) (λ disk image. image ≡ formatted) 7 7 one [] []
+    (none_counted ∷ [])
+first_save_may_be_unfinished store known = record {
+  opened = None;
+  opens = subst (λ bytes. Opens one bytes None) (cc known) formatted_opens_to_nothing;
+  again = λ image is. subst (Reopens one None (none_counted ∷ [])) (sym is) (formatted_reopens (none_counted ∷ []));
+}
+
+-- where nothing is known of a disk, nothing is said of how it opens again
+pub unknown_disk_reopens : reopened_in {D = ℕ} (λ disk. None) (λ disk image. ⊤) 7 8 one [] (none_counted ∷ []) []
+unknown_disk_reopens store told = absurd (cc told)
 
 -- without a save a crash leaves what it could have left before
 pub disk_is_as_before : IsAsBefore {D = ℕ} (λ disk. Some formatted) (λ disk image. image ≡ formatted) (λ disk. disk)

@@ -22,8 +22,8 @@ pub mod WiderRulesLemmas
 pub mod LastReportLemmas
 pub mod DemoTextLemmas
 pub mod LastStoreLemmas
-pub mod BrokenSessionLemmas
 pub mod OwnReportLemmas
+pub mod ReopeningLemmas
 pub mod ReportBoundLemmas
 pub mod OwnTextLemmas
 pub mod OwnSessionLemmas

@@ -87,7 +87,7 @@ own_is_showable settings opened reports records frames positions many few are fi
     }
 
 -- as many lists as shards
-dealt_many : (kind : DealKind) (may_answer : ℕ → RecordValue → ℕ → ℕ → Type 0) (shards : ℕ)
+pub dealt_many : (kind : DealKind) (may_answer : ℕ → RecordValue → ℕ → ℕ → Type 0) (shards : ℕ)
     (records : List RecordValue) (lists : List (List RecordValue)) → IsDealing kind may_answer shards records lists
     → length lists ≡ shards
 dealt_many kind may_answer shards records lists dealing =

@@ -176,7 +176,7 @@ session_whole opening settings Kept tail line rounds rest old first second new s
 }
 
 -- two texts with a save between them that broke off, as the texts and the cut are known otherwise, of which less is said
-around_as : (before after other_before other_after : List ℕ) (cut other_cut : List CutValue) (Kept Less : Saving)
+pub around_as : (before after other_before other_after : List ℕ) (cut other_cut : List CutValue) (Kept Less : Saving)
     (front : List ℕ) → before ≡ other_before → after ≡ other_after → (Kept [] [] → Less [] [])
     → (Kept [] cut → Less [] other_cut) → (Kept cut [] → Less other_cut [])
     → BreaksOffAround before after cut Kept front → BreaksOffAround other_before other_after other_cut Less front

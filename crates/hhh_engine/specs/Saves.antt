@@ -6,7 +6,7 @@ use Rattle.shard_state.specs.{AreNotPast, CutValue, ShardValue, capacity_of}
 use Rattle.gate_workers.specs.{IsLaterView, View}
 use Rattle.slot_disk.specs.{IfKnown, Leaves}
 use Rattle.checkpoint.specs.{AreSettings, Opens, SavedValue, SaverState, StandsFor, after_save, digest_of_lists}
-use Rattle.checkpoint.specs.{last_sequence, opened_sequence}
+use Rattle.checkpoint.specs.{last_sequence, opened_positions, opened_sequence}
 use Rattle.prefix_lattice.specs.{RecordValue}
 use Rattle.checkpoint.specs.declared.settings.StoreSettings.{StoreSettings}
 use Rattle.command_words.specs.declared.settings.Settings.{Settings}
@@ -59,6 +59,35 @@ abbrev pub kept_in : {D : Type 0} → (D → Option (List ℕ)) → (D → List 
 kept_in reads image_now moment image_since old new settings lists saved unfinished =
     IfKnown (reads old)
     (KeepsSaves image_now moment image_since settings (digest_of_lists settings lists) (image_now old) saved unfinished old new)
+
+-- what a store opens to isn't before this, neither in its sequence nor in the position of any shard
+pub record IsNoEarlier (settings : StoreSettings) (opened found : Option SavedValue) : Type 0 where
+  pub sequence : opened_sequence opened ≤ opened_sequence found
+  pub positions : AreNotPast (opened_positions settings opened) (opened_positions settings found)
+
+-- the image is a sound store that opens to what was saved last, or to none earlier; to just that where no save is unfinished
+pub record Reopens (settings : StoreSettings) (last : Option SavedValue) (unfinished : List CutValue) (image : List ℕ)
+    : Type 0 where
+  pub found : Option SavedValue
+  pub opens : Opens settings image found
+  pub no_earlier : IsNoEarlier settings last found
+  pub exact : unfinished ≡ [] → found ≡ last
+
+-- a store with these bytes after saves of the cuts `saved`, and an unfinished one, if any: whatever a crash leaves of it
+-- (Possible) opens again, to the last of these saves, or as before where there was none; or to none earlier
+pub record StoreReopens (Possible : List ℕ → Type 0) (settings : StoreSettings) (digest : List ℕ)
+    (saved unfinished : List CutValue) (store : List ℕ) : Type 0 where
+  pub opened : Option SavedValue
+  pub opens : Opens settings store opened
+  pub again : (image : List ℕ) → Possible image
+      → Reopens settings (last_saved opened (saved_after (opened_sequence opened) digest saved)) unfinished image
+
+-- that the store on a disk opens again after a run, where its bytes are known, for the store's settings, the dealt lists,
+-- the cuts that were saved of them, and one whose save is unfinished, if any
+abbrev pub reopened_in : {D : Type 0} → (D → Option (List ℕ)) → (D → List ℕ → Type 0) → (old new : D)
+    → StoreSettings → List (List RecordValue) → (saved unfinished : List CutValue) → Type 0
+reopened_in reads image_now old new settings lists saved unfinished =
+    IfKnown (reads old) (StoreReopens (image_now new) settings (digest_of_lists settings lists) saved unfinished)
 
 -- the disk reads as before, and a crash at any moment leaves what it could have left before
 pub record IsAsBefore {D : Type 0} (reads : D → Option (List ℕ)) (image_now : D → List ℕ → Type 0) (moment : D → ℕ)

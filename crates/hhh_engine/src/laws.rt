@@ -7,7 +7,6 @@ ghost use Rattle.deal_rules.specs.declared.deal_kind.DealKind.{DealKind};
 ghost use Rattle.hhh_engine.specs.Answer.{Answers, AnswersInPart};
 ghost use Rattle.hhh_engine.specs.Audit.{AreAudited, IsFirstUnsound, IsSoundOver, IsSoundSession, IsUnsoundSession, sound_text};
 ghost use Rattle.hhh_engine.specs.Demo.{IsDemoText};
-ghost use Rattle.hhh_engine.specs.Audit.{AreAudited};
 ghost use Rattle.hhh_engine.specs.Ending.{FoundUnsound, RefusedStore};
 ghost use Rattle.hhh_engine.specs.Inputs.{CanBeAnswered, InputBytes};
 ghost use Rattle.pcap_frames.specs.{FrameValue};
@@ -27,9 +26,10 @@ ghost use Rattle.report_text.specs.declared.session.Session.{Session};
 ghost use Rattle.hhh_output.specs.declared.reports.Reported.{Reported};
 ghost use Rattle.shard_state.specs.{AreNotPast, AreShards, BasesRepresent, CutRepresents, ShardValue, capacity_of, lists_of, positions_of};
 ghost use Rattle.checkpoint.specs.{Belongs, IsOfLists, Opens, SavedValue, digest_of_lists, opened_positions, opened_sequence};
-ghost use Rattle.hhh_engine.specs.Session.{AreDealtFrom, AreReportsOf, AreSessionReports, IsSession, IsShown, SessionReports, by_formula, calling_reports, ends_of, last_positions, new_shards, part_text, reports_in, saved_cuts, session_saves, session_text, start_of};
-ghost use Rattle.hhh_engine.specs.Saves.{IsAsBefore, OpensAmong, kept_in, last_saved, saved_after, store_settings};
+ghost use Rattle.hhh_engine.specs.Session.{AreDealtFrom, AreReportsOf, AreSessionReports, IsSession, IsSessionInPart, IsShown, SessionReports, by_formula, calling_reports, ends_of, last_positions, new_shards, part_text, reports_in, saved_cuts, session_saves, session_text, start_of};
+ghost use Rattle.hhh_engine.specs.Saves.{IsAsBefore, OpensAmong, kept_in, last_saved, reopened_in, store_settings};
 
+use checkpoint::stores_open_to_one;
 use deal_rules::{Dealer, Dealers, Deals, a_formula_deals_in_one_way};
 use exact_audit::a_report_has_one_verdict;
 use frame_records::files_are_read_or_refused;
@@ -144,20 +144,20 @@ pub fn last_saves_are_at_the_ends()
         (positions_of saved.cut ≡ ends_of opening) × (saved.sequence ≡ opened_sequence opened + (settings.rounds + 1))) }
 {}
 
-/// After a session that broke off, whatever a crash leaves of its store opens to no earlier positions than those of the last
-/// report that was saved, or than those at the start where none was, if the store opened to these; and its sequence has
-/// risen by at least the number of reports that were saved.
-pub fn broken_sessions_lose_no_save()
-    ensures { (opening : List ShardValue) (settings : Settings) (rounds unfinished : List Reported) (opened : Option SavedValue) (image : List ℕ)
-        → AreReportsOf opening settings (length (rounds ++ unfinished)) (rounds ++ unfinished)
-        → opened_positions (store_settings settings) opened ≡ start_of opening
-        → OpensAmong (store_settings settings) (last_saved opened (session_saves settings opening opened rounds))
-        (saved_after (opened_sequence opened + length (saved_cuts true opening rounds))
-        (digest_of_lists (store_settings settings) (lists_of opening)) (saved_cuts true opening unfinished)) image
-        → (found : Option SavedValue) × Opens (store_settings settings) image found
-        × (opened_sequence opened + length rounds ≤ opened_sequence found)
-        × AreNotPast (last_positions (start_of opening) rounds) (opened_positions (store_settings settings) found) }
-{}
+/// After `report` with a store, whether its session was whole or broke off, whatever a crash leaves of the store opens
+/// again: to what was saved last, or as before where nothing was; or to none earlier, neither in its sequence, which
+/// counts the saves, nor in the position of any shard. Where no save is unfinished, it opens to just what was saved last.
+pub fn sessions_lose_no_save<D: Disk>()
+    ensures whole { (formula : DealKind → ℕ → RecordValue → ℕ → ℕ) (before now : D) (settings : Settings) (file text : List ℕ)
+        → IsSession settings (by_formula formula) (kept_in D.reads D.image_now D.moment D.image_since before now) (D.reads before) file text
+        → IsSession settings (by_formula formula) (reopened_in D.reads D.image_now before now) (D.reads before) file text }
+    ensures in_part { (formula : DealKind → ℕ → RecordValue → ℕ → ℕ) (before now : D) (settings : Settings) (file front : List ℕ)
+        → AreLimited settings
+        → IsSessionInPart settings (by_formula formula) (kept_in D.reads D.image_now D.moment D.image_since before now) (D.reads before) file front
+        → IsSessionInPart settings (by_formula formula) (reopened_in D.reads D.image_now before now) (D.reads before) file front }
+{
+    stores_open_to_one();
+}
 
 /// An audit of a session's reports over the dealt records finds each of them good, for the capacity and the share of the
 /// session, also where the session went on from a saved cut, if the tables of this were those of its records.

@@ -13,10 +13,10 @@ pub use command_words::{
 pub use commands::LiveRounds;
 pub use exact_audit::Verdict;
 pub use laws::{
-    answers_follow_formulas, audits_have_one_answer, broken_sessions_lose_no_save,
-    demos_have_one_text, last_reports_are_one, last_saves_are_at_the_ends,
-    made_captures_are_captures, own_reports_are_good, own_sessions_are_audited_good,
-    resumed_sessions_end_alike, saves_belong, sessions_without_rounds_have_one_report,
+    answers_follow_formulas, audits_have_one_answer, demos_have_one_text, last_reports_are_one,
+    last_saves_are_at_the_ends, made_captures_are_captures, own_reports_are_good,
+    own_sessions_are_audited_good, resumed_sessions_end_alike, saves_belong, sessions_lose_no_save,
+    sessions_without_rounds_have_one_report,
 };
 pub use status::{Status, fault_line};
 pub use top_call::run;
