@@ -1,0 +1,89 @@
+-- How a run of the program ends: what the top call says of each status, with the three formulas as the rules of dealing.
+use Rattle.std.specs.Prelude.{ℕ, ◌≡◌, ◌⊎◌, ◌≤◌, true, List, length, All, Option, Some}
+use Rattle.outside_io.specs.{Rose}
+use Rattle.prefix_lattice.specs.{RecordValue}
+use Rattle.hhh_engine.specs.{AskFor, HasWordsFault, Command, Settings, WordsKind, Verdict, FrameValue}
+use Rattle.hhh_engine.specs.{CaptureFault, HasFrames, IsRefusedFor, Records, IsRefused, IsShown, OpenFault}
+use Rattle.hhh_engine.specs.{HasTextFault, IsSessionText, longest_text, TextFault, Answers, AreAudited}
+use Rattle.hhh_engine.specs.{IsFirstUnsound, IsSoundOver, FailedDisk, FailedToRead, FailedToWrite, FormatEnds, FoundUnsound, IsUntouched, OneRose}
+use Rattle.hhh_engine.specs.{RefusedCapture, RefusedStore, RefusedText, RefusedWords, SourceFaults, WasAnswered, WroteInPart}
+use Rattle.hhh_engine.specs.{AskNotToUse, AskToUse, CanBeAnswered, InputBytes, ReadsCapture, ReadsSession}
+use Rattle.hhh_engine.specs.{UsesStore, Keeping, store_settings, AreDealtFrom, by_formula, status_of_opening}
+use Rattle.hhh_engine.specs.declared.status.Status.{Status}
+use Rattle.hhh_engine.specs.declared.status.Status.TheVariants.{Done, BadWords, BadCapture, ReadFault, WriteFault}
+use Rattle.hhh_engine.specs.declared.status.Status.TheVariants.{DiskFault, AuditNo, BadReport, OutOfMemory}
+use Rattle.hhh.specs.Rules.{shard_by}
+
+-- how a run for these arguments ended: for each status what it says, and when it comes. What the sink took is `old` and
+-- then `new`; afterwards the disk reads `stored`, and a crash leaves what is `possible`
+pub record RunEnds {S T K D : Type 0} (keeping : Keeping) (AsBefore : Type 0) (words : List (List ℕ)) (read : InputBytes)
+    (capture capture_read : S) (text text_read : T) (read_before read_now : SourceFaults)
+    (sink written : K) (old new : Option (List ℕ)) (write_before write_now : ℕ)
+    (disk stands : D) (stored : Option (List ℕ)) (possible : List ℕ → Type 0) (disk_before disk_now : ℕ)
+    (status : Status) : Type 0 where
+  -- the text of the command was written, over records that are dealt by the formulas
+  pub done : status ≡ Done → Answers (by_formula shard_by) keeping words read old new
+  -- the arguments are refused for their first fault, and nothing was read or written
+  pub bad_words : (kind : WordsKind) → status ≡ BadWords kind
+      → RefusedWords words kind capture capture_read text text_read sink written disk stands
+  pub refuses_words : (kind : WordsKind) → HasWordsFault words kind → (status ≡ BadWords kind)
+      ⊎ ((status ≡ OutOfMemory) × IsUntouched capture capture_read text text_read sink written disk stands)
+  -- so is a capture, unless the source fails or memory runs out first
+  pub bad_capture : (fault : CaptureFault) → status ≡ BadCapture fault
+      → RefusedCapture words read.capture fault text text_read sink written disk stands
+  pub refuses : (file : List ℕ) (fault : CaptureFault) → AskToUse ReadsCapture words → read.capture ≡ Some file
+      → IsRefusedFor file fault → (status ≡ BadCapture fault) ⊎ ((status ≡ ReadFault) ⊎ (status ≡ OutOfMemory))
+  -- so is a store, unless the source or the disk fails or memory runs out first
+  pub refused_store : (fault : OpenFault) → IsShown fault → status ≡ status_of_opening fault
+      → RefusedStore (by_formula shard_by) words read fault sink written AsBefore
+  pub refuses_store : (settings : Settings) (file image : List ℕ) (frames : List FrameValue) (fault : OpenFault)
+      → AskFor words (Command.Report settings) → settings.store ≡ true → read.capture ≡ Some file → HasFrames file frames
+      → read.store ≡ Some image → IsShown fault
+      → ((records : Records) (lists : List (List RecordValue)) → AreDealtFrom settings (by_formula shard_by) file records lists
+      → IsRefused (store_settings settings) lists image fault)
+      → (status ≡ status_of_opening fault) ⊎ ((status ≡ ReadFault) ⊎ ((status ≡ DiskFault) ⊎ (status ≡ OutOfMemory)))
+  -- so is the text of a session, unless a source fails or memory runs out first
+  pub bad_report : (fault : TextFault) → status ≡ BadReport fault
+      → RefusedText words read fault sink written disk stands
+  pub refuses_report : (settings : Settings) (file bytes : List ℕ) (frames : List FrameValue) (fault : TextFault)
+      → AskFor words (Command.Audit settings) → read.capture ≡ Some file → HasFrames file frames → read.text ≡ Some bytes
+      → HasTextFault bytes fault → (status ≡ BadReport fault) ⊎ ((status ≡ ReadFault) ⊎ (status ≡ OutOfMemory))
+  -- an audit finds the first report that isn't sound, or that all are, unless a source or the sink fails or memory runs out
+  pub audit_no : (report : ℕ) (verdict : Verdict) → status ≡ AuditNo report verdict
+      → FoundUnsound (by_formula shard_by) words read report verdict old new
+  pub finds_unsound : (settings : Settings) (file bytes : List ℕ) (frames : List FrameValue) (known : _)
+      (report : ℕ) (verdict : Verdict) → AskFor words (Command.Audit settings) → read.capture ≡ Some file
+      → HasFrames file frames → read.text ≡ Some bytes → IsSessionText bytes known → length bytes ≤ longest_text
+      → ((lists : List (List RecordValue)) (session : _)
+      → AreAudited settings (by_formula shard_by) file bytes lists session
+      → IsFirstUnsound settings lists session.reports report verdict)
+      → (status ≡ AuditNo report verdict) ⊎ ((status ≡ ReadFault) ⊎ ((status ≡ WriteFault) ⊎ (status ≡ OutOfMemory)))
+  pub finds_sound : (settings : Settings) (file bytes : List ℕ) (frames : List FrameValue) (known : _)
+      → AskFor words (Command.Audit settings) → read.capture ≡ Some file → HasFrames file frames → read.text ≡ Some bytes
+      → IsSessionText bytes known → length bytes ≤ longest_text
+      → ((lists : List (List RecordValue)) (session : _)
+      → AreAudited settings (by_formula shard_by) file bytes lists session → All (IsSoundOver settings lists) session.reports)
+      → (status ≡ Done) ⊎ ((status ≡ ReadFault) ⊎ ((status ≡ WriteFault) ⊎ (status ≡ OutOfMemory)))
+  -- a fault of a source, the sink or the disk is returned only where it had one in this run, and always then
+  pub read_fault : status ≡ ReadFault
+      → FailedToRead words read read_before read_now text text_read sink written disk stands
+  pub read_fault_told : (status ≡ ReadFault → ⊥) → read_now ≡ read_before
+  pub write_fault : status ≡ WriteFault
+      → FailedToWrite (by_formula shard_by) keeping words read old new write_before write_now
+  pub write_fault_told : (status ≡ WriteFault → ⊥) → write_now ≡ write_before
+  pub disk_fault : status ≡ DiskFault
+      → FailedDisk (by_formula shard_by) keeping words read AsBefore sink written old new disk_before disk_now
+  pub disk_fault_told : (status ≡ DiskFault → ⊥) → disk_now ≡ disk_before
+  -- `format` ends with a store, and what the command doesn't use is untouched
+  pub formats : (settings : Settings) → AskFor words (Command.Format settings)
+      → FormatEnds (store_settings settings) stored possible sink written disk stands status
+  pub unused_disk : AskNotToUse UsesStore words → stands ≡ disk
+  pub unused_capture : AskNotToUse ReadsCapture words → capture_read ≡ capture
+  pub unused_text : AskNotToUse ReadsSession words → text_read ≡ text
+  -- memory may run out at any time: then a part of the text was written; or nothing was, and the disk is as before
+  pub out_of_memory : status ≡ OutOfMemory
+      → WroteInPart (by_formula shard_by) keeping words read AsBefore sink written old new
+  -- with arguments that ask for a command, inputs in their formats and no fault, the command is answered, or memory ran out
+  pub complete : (command : Command) → AskFor words command → CanBeAnswered (by_formula shard_by) command read
+      → (OneRose read_before read_now → ⊥) → (Rose write_before write_now → ⊥) → (Rose disk_before disk_now → ⊥)
+      → WasAnswered command status ⊎ (status ≡ OutOfMemory)
