@@ -1,5 +1,7 @@
 -- How a run of the program ends: what the top call says of each status, with the three formulas as the rules of dealing.
-use Rattle.std.specs.Prelude.{ℕ, ◌≡◌, ◌⊎◌, ◌≤◌, true, List, length, All, Option, Some}
+use Rattle.std.specs.Prelude.{⊤, ℕ, ◌≡◌, ◌⊎◌, ◌≤◌, true, List, length, All, Option, None, Some}
+use Rattle.std.specs.declared.io.Stdout.{Stdout}
+use Rattle.std.specs.declared.io.traits.Read.{Ghosts as Reading}
 use Rattle.outside_io.specs.{Rose}
 use Rattle.prefix_lattice.specs.{RecordValue}
 use Rattle.hhh_engine.specs.{AskFor, HasWordsFault, Command, Settings, WordsKind, Verdict, FrameValue}
@@ -8,11 +10,17 @@ use Rattle.hhh_engine.specs.{HasTextFault, IsSessionText, longest_text, TextFaul
 use Rattle.hhh_engine.specs.{IsFirstUnsound, IsSoundOver, FailedDisk, FailedToRead, FailedToWrite, FormatEnds, FoundUnsound, IsUntouched, OneRose}
 use Rattle.hhh_engine.specs.{RefusedCapture, RefusedStore, RefusedText, RefusedWords, SourceFaults, WasAnswered, WroteInPart}
 use Rattle.hhh_engine.specs.{AskNotToUse, AskToUse, CanBeAnswered, InputBytes, ReadsCapture, ReadsSession}
-use Rattle.hhh_engine.specs.{UsesStore, Keeping, store_settings, AreDealtFrom, by_formula, status_of_opening}
+use Rattle.hhh_engine.specs.{UsesStore, IsAsBefore, Keeping, inputs, kept_in, source_faults, store_settings}
+use Rattle.hhh_engine.specs.{AreDealtFrom, by_formula, status_of_opening}
 use Rattle.hhh_engine.specs.declared.status.Status.{Status}
 use Rattle.hhh_engine.specs.declared.status.Status.TheVariants.{Done, BadWords, BadCapture, ReadFault, WriteFault}
 use Rattle.hhh_engine.specs.declared.status.Status.TheVariants.{DiskFault, AuditNo, BadReport, OutOfMemory}
+use Rattle.hhh.specs.Inputs.{IsInputOf}
 use Rattle.hhh.specs.Rules.{shard_by}
+use Rattle.hhh.specs.declared.file_disk.FileDisk.{FileDisk}
+use Rattle.hhh.specs.declared.input.Input.{Input}
+use Rattle.hhh.specs.declared.std_sink.StdSink.{StdSink}
+use Rattle.hhh.specs.declared.std_source.StdSource.{StdSource}
 
 -- how a run for these arguments ended: for each status what it says, and when it comes. What the sink took is `old` and
 -- then `new`; afterwards the disk reads `stored`, and a crash leaves what is `possible`
@@ -87,3 +95,25 @@ pub record RunEnds {S T K D : Type 0} (keeping : Keeping) (AsBefore : Type 0) (w
   pub complete : (command : Command) → AskFor words command → CanBeAnswered (by_formula shard_by) command read
       → (OneRose read_before read_now → ⊥) → (Rose write_before write_now → ⊥) → (Rose disk_before disk_now → ⊥)
       → WasAnswered command status ⊎ (status ≡ OutOfMemory)
+
+-- a run for these arguments that began with the inputs at these two paths, with standard output, and with the file at the
+-- path of the store, not yet opened. How far these were read and written is a witness
+pub record RanAt (reading : Reading Input) (capture report store : List ℕ) (words : List (List ℕ)) (status : Status) : Type 0 where
+  pub frames : StdSource Input reading
+  pub frames_read : StdSource Input reading
+  pub session : StdSource Input reading
+  pub session_read : StdSource Input reading
+  pub output : StdSink Stdout
+  pub written : StdSink Stdout
+  pub disk : FileDisk
+  pub stands : FileDisk
+  pub of_capture : IsInputOf capture frames.reader
+  pub of_report : IsInputOf report session.reader
+  pub of_store : (disk.path ≡ store) × (disk.opened ≡ None)
+  pub no_faults : (frames.faults ≡ 0) × (session.faults ≡ 0) × (output.faults ≡ 0) × (disk.faults ≡ 0)
+  pub ends : RunEnds
+      (kept_in {D = FileDisk} (λ disk. None) (λ disk image. ⊤) (λ disk. 0) (λ disk moment image. ⊤) disk stands)
+      (IsAsBefore {D = FileDisk} (λ disk. None) (λ disk image. ⊤) (λ disk. 0) (λ disk moment image. ⊤) disk stands)
+      words (inputs None None None None None) frames frames_read session session_read
+      (source_faults frames.faults session.faults) (source_faults frames_read.faults session_read.faults)
+      output written None None output.faults written.faults disk stands None (λ image. ⊤) disk.faults stands.faults status
