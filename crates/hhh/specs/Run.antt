@@ -1,7 +1,5 @@
 -- How a run of the program ends: what the top call says of each status, with the three formulas as the rules of dealing.
-use Rattle.std.specs.Prelude.{⊤, ℕ, ◌≡◌, ◌⊎◌, ◌≤◌, true, List, length, All, Option, None, Some}
-use Rattle.std.specs.declared.io.Stdout.{Stdout}
-use Rattle.std.specs.declared.io.traits.Read.{Ghosts as Reading}
+use Rattle.std.specs.Prelude.{ℕ, ◌≡◌, ◌⊎◌, ◌≤◌, true, List, length, All, Option, Some}
 use Rattle.outside_io.specs.{Rose}
 use Rattle.prefix_lattice.specs.{RecordValue}
 use Rattle.hhh_engine.specs.{AskFor, HasWordsFault, Command, Settings, WordsKind, Verdict, FrameValue}
@@ -10,38 +8,35 @@ use Rattle.hhh_engine.specs.{HasTextFault, IsSessionText, longest_text, TextFaul
 use Rattle.hhh_engine.specs.{IsFirstUnsound, IsSoundOver, FailedDisk, FailedToRead, FailedToWrite, FormatEnds, FoundUnsound, IsUntouched, OneRose}
 use Rattle.hhh_engine.specs.{RefusedCapture, RefusedStore, RefusedText, RefusedWords, SourceFaults, WasAnswered, WroteInPart}
 use Rattle.hhh_engine.specs.{AskNotToUse, AskToUse, CanBeAnswered, InputBytes, ReadsCapture, ReadsSession}
-use Rattle.hhh_engine.specs.{UsesStore, IsAsBefore, Keeping, inputs, kept_in, source_faults, store_settings}
+use Rattle.hhh_engine.specs.{UsesStore, Keeping, store_settings}
 use Rattle.hhh_engine.specs.{AreDealtFrom, by_formula, status_of_opening}
 use Rattle.hhh_engine.specs.declared.status.Status.{Status}
 use Rattle.hhh_engine.specs.declared.status.Status.TheVariants.{Done, BadWords, BadCapture, ReadFault, WriteFault}
 use Rattle.hhh_engine.specs.declared.status.Status.TheVariants.{DiskFault, AuditNo, BadReport, OutOfMemory}
-use Rattle.hhh.specs.Inputs.{IsInputOf}
 use Rattle.hhh.specs.Rules.{shard_by}
-use Rattle.hhh.specs.declared.file_disk.FileDisk.{FileDisk}
-use Rattle.hhh.specs.declared.input.Input.{Input}
-use Rattle.hhh.specs.declared.std_sink.StdSink.{StdSink}
-use Rattle.hhh.specs.declared.std_source.StdSource.{StdSource}
 
--- how a run for these arguments ended: for each status what it says, and when it comes. What the sink took is `old` and
--- then `new`; afterwards the disk reads `stored`, and a crash leaves what is `possible`
+-- how a run for these arguments ended: what each status says, and when it comes. `capture`, `text`, `sink` and `disk` are as
+-- the run began, and `capture_read`, `text_read`, `written` and `stands` as it ended
 pub record RunEnds {S T K D : Type 0} (keeping : Keeping) (AsBefore : Type 0) (words : List (List ℕ)) (read : InputBytes)
     (capture capture_read : S) (text text_read : T) (read_before read_now : SourceFaults)
     (sink written : K) (old new : Option (List ℕ)) (write_before write_now : ℕ)
     (disk stands : D) (stored : Option (List ℕ)) (possible : List ℕ → Type 0) (disk_before disk_now : ℕ)
     (status : Status) : Type 0 where
-  -- the text of the command was written, over records that are dealt by the formulas
+  -- the sink had taken `old`, and then has `new`: the text of the command was written, over records that are dealt by the
+  -- formulas, where the command deals any. `keeping` says what became of its saves
   pub done : status ≡ Done → Answers (by_formula shard_by) keeping words read old new
-  -- the arguments are refused for their first fault, and nothing was read or written
+  -- arguments are refused for their first fault, unless memory runs out, and nothing is read or written
   pub bad_words : (kind : WordsKind) → status ≡ BadWords kind
       → RefusedWords words kind capture capture_read text text_read sink written disk stands
   pub refuses_words : (kind : WordsKind) → HasWordsFault words kind → (status ≡ BadWords kind)
       ⊎ ((status ≡ OutOfMemory) × IsUntouched capture capture_read text text_read sink written disk stands)
-  -- so is a capture, unless the source fails or memory runs out first
+  -- a capture is refused for its first fault, unless the source fails or memory runs out first, and nothing is written
   pub bad_capture : (fault : CaptureFault) → status ≡ BadCapture fault
       → RefusedCapture words read.capture fault text text_read sink written disk stands
   pub refuses : (file : List ℕ) (fault : CaptureFault) → AskToUse ReadsCapture words → read.capture ≡ Some file
       → IsRefusedFor file fault → (status ≡ BadCapture fault) ⊎ ((status ≡ ReadFault) ⊎ (status ≡ OutOfMemory))
-  -- so is a store, unless the source or the disk fails or memory runs out first
+  -- a store is refused for its first fault, unless the source or the disk fails or memory runs out first; nothing is written,
+  -- and the disk is as before (AsBefore)
   pub refused_store : (fault : OpenFault) → IsShown fault → status ≡ status_of_opening fault
       → RefusedStore (by_formula shard_by) words read fault sink written AsBefore
   pub refuses_store : (settings : Settings) (file image : List ℕ) (frames : List FrameValue) (fault : OpenFault)
@@ -50,7 +45,7 @@ pub record RunEnds {S T K D : Type 0} (keeping : Keeping) (AsBefore : Type 0) (w
       → ((records : Records) (lists : List (List RecordValue)) → AreDealtFrom settings (by_formula shard_by) file records lists
       → IsRefused (store_settings settings) lists image fault)
       → (status ≡ status_of_opening fault) ⊎ ((status ≡ ReadFault) ⊎ ((status ≡ DiskFault) ⊎ (status ≡ OutOfMemory)))
-  -- so is the text of a session, unless a source fails or memory runs out first
+  -- the text of a session is refused for its first fault, unless a source fails or memory runs out first
   pub bad_report : (fault : TextFault) → status ≡ BadReport fault
       → RefusedText words read fault sink written disk stands
   pub refuses_report : (settings : Settings) (file bytes : List ℕ) (frames : List FrameValue) (fault : TextFault)
@@ -82,7 +77,8 @@ pub record RunEnds {S T K D : Type 0} (keeping : Keeping) (AsBefore : Type 0) (w
   pub disk_fault : status ≡ DiskFault
       → FailedDisk (by_formula shard_by) keeping words read AsBefore sink written old new disk_before disk_now
   pub disk_fault_told : (status ≡ DiskFault → ⊥) → disk_now ≡ disk_before
-  -- `format` ends with a store, and what the command doesn't use is untouched
+  -- `format` leaves an empty store where it ends with Done or a write fault: then the disk reads `stored`, and a crash may
+  -- leave what is `possible`. What the command doesn't use is untouched
   pub formats : (settings : Settings) → AskFor words (Command.Format settings)
       → FormatEnds (store_settings settings) stored possible sink written disk stands status
   pub unused_disk : AskNotToUse UsesStore words → stands ≡ disk
@@ -91,29 +87,8 @@ pub record RunEnds {S T K D : Type 0} (keeping : Keeping) (AsBefore : Type 0) (w
   -- memory may run out at any time: then a part of the text was written; or nothing was, and the disk is as before
   pub out_of_memory : status ≡ OutOfMemory
       → WroteInPart (by_formula shard_by) keeping words read AsBefore sink written old new
-  -- with arguments that ask for a command, inputs in their formats and no fault, the command is answered, or memory ran out
+  -- with arguments that ask for a command, inputs that are known and in their formats, and no fault, the command is answered,
+  -- or memory ran out
   pub complete : (command : Command) → AskFor words command → CanBeAnswered (by_formula shard_by) command read
       → (OneRose read_before read_now → ⊥) → (Rose write_before write_now → ⊥) → (Rose disk_before disk_now → ⊥)
       → WasAnswered command status ⊎ (status ≡ OutOfMemory)
-
--- a run for these arguments that began with the inputs at these two paths, with standard output, and with the file at the
--- path of the store, not yet opened. How far these were read and written is a witness
-pub record RanAt (reading : Reading Input) (capture report store : List ℕ) (words : List (List ℕ)) (status : Status) : Type 0 where
-  pub frames : StdSource Input reading
-  pub frames_read : StdSource Input reading
-  pub session : StdSource Input reading
-  pub session_read : StdSource Input reading
-  pub output : StdSink Stdout
-  pub written : StdSink Stdout
-  pub disk : FileDisk
-  pub stands : FileDisk
-  pub of_capture : IsInputOf capture frames.reader
-  pub of_report : IsInputOf report session.reader
-  pub of_store : (disk.path ≡ store) × (disk.opened ≡ None)
-  pub no_faults : (frames.faults ≡ 0) × (session.faults ≡ 0) × (output.faults ≡ 0) × (disk.faults ≡ 0)
-  pub ends : RunEnds
-      (kept_in {D = FileDisk} (λ disk. None) (λ disk image. ⊤) (λ disk. 0) (λ disk moment image. ⊤) disk stands)
-      (IsAsBefore {D = FileDisk} (λ disk. None) (λ disk image. ⊤) (λ disk. 0) (λ disk moment image. ⊤) disk stands)
-      words (inputs None None None None None) frames frames_read session session_read
-      (source_faults frames.faults session.faults) (source_faults frames_read.faults session_read.faults)
-      output written None None output.faults written.faults disk stands None (λ image. ⊤) disk.faults stands.faults status
