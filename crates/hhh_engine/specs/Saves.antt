@@ -60,12 +60,13 @@ kept_in reads image_now moment image_since old new settings lists saved unfinish
     IfKnown (reads old)
     (KeepsSaves image_now moment image_since settings (digest_of_lists settings lists) (image_now old) saved unfinished old new)
 
--- what a store opens to isn't before this, neither in its sequence nor in the position of any shard
+-- of what a store opens to, `found` is no earlier than `opened`: neither its sequence nor the position of any shard is
+-- smaller
 pub record IsNoEarlier (settings : StoreSettings) (opened found : Option SavedValue) : Type 0 where
   pub sequence : opened_sequence opened ≤ opened_sequence found
   pub positions : AreNotPast (opened_positions settings opened) (opened_positions settings found)
 
--- the image is a sound store that opens to what was saved last, or to none earlier; to just that where no save is unfinished
+-- the image is a sound store that opens to nothing earlier than `last`, and to just that where no save is unfinished
 pub record Reopens (settings : StoreSettings) (last : Option SavedValue) (unfinished : List CutValue) (image : List ℕ)
     : Type 0 where
   pub found : Option SavedValue
@@ -73,8 +74,8 @@ pub record Reopens (settings : StoreSettings) (last : Option SavedValue) (unfini
   pub no_earlier : IsNoEarlier settings last found
   pub exact : unfinished ≡ [] → found ≡ last
 
--- a store with these bytes after saves of the cuts `saved`, and an unfinished one, if any: whatever a crash leaves of it
--- (Possible) opens again, to the last of these saves, or as before where there was none; or to none earlier
+-- a store that had the bytes `store` before the cuts `saved` were saved, and before an unfinished save, if any: whatever a
+-- crash now leaves of it (Possible) opens to nothing earlier than the last saved cut, or as before where none was saved
 pub record StoreReopens (Possible : List ℕ → Type 0) (settings : StoreSettings) (digest : List ℕ)
     (saved unfinished : List CutValue) (store : List ℕ) : Type 0 where
   pub opened : Option SavedValue
@@ -82,8 +83,8 @@ pub record StoreReopens (Possible : List ℕ → Type 0) (settings : StoreSettin
   pub again : (image : List ℕ) → Possible image
       → Reopens settings (last_saved opened (saved_after (opened_sequence opened) digest saved)) unfinished image
 
--- that the store on a disk opens again after a run, where its bytes are known, for the store's settings, the dealt lists,
--- the cuts that were saved of them, and one whose save is unfinished, if any
+-- the store on a disk opens again after a run, where its bytes were known as the run began, for the store's settings, the
+-- dealt lists, the cuts that were saved of them, and one whose save is unfinished, if any
 abbrev pub reopened_in : {D : Type 0} → (D → Option (List ℕ)) → (D → List ℕ → Type 0) → (old new : D)
     → StoreSettings → List (List RecordValue) → (saved unfinished : List CutValue) → Type 0
 reopened_in reads image_now old new settings lists saved unfinished =
