@@ -22,11 +22,12 @@ name = codes "a.pcap"
 pub nothing_is_read_without_a_name : IsInputOf [] Nothing
 nothing_is_read_without_a_name = refl
 
-pub name_is_that_of_a_file : (file : LateFile) → file.path ≡ name → IsInputOf name (File file)
-name_is_that_of_a_file file same = (
+pub name_is_that_of_a_file : (file : LateFile) → file.path ≡ name → file.opened ≡ None → IsInputOf name (File file)
+name_is_that_of_a_file file same unopened = (
   λ is. false≢true (ap (λ text. bytes_eq text (codes "-")) is),
   λ is. false≢true (ap (λ text. bytes_eq text []) is),
   same,
+  unopened,
 )
 
 pub hyphen_is_the_standard_input : (stdin : _) → IsInputOf (codes "-") (Standard stdin)

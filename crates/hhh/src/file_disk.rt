@@ -1,6 +1,6 @@
 //! A file of the system as a disk.
 
-ghost use Rattle.std.specs.Prelude.{◌≡◌, ◌<◌, ◌≤◌, ◌+◌, length, vec_len, drop, ⊤, true, is_err, None, IfOk, OnOk, OnErr};
+ghost use Rattle.std.specs.Prelude.{◌≡◌, ◌<◌, ◌≤◌, ◌+◌, length, vec_len, drop, ⊤, false, true, is_err, None, IfOk, OnOk, OnErr};
 ghost use Rattle.outside_io.specs.{FailsByFault};
 
 use outside_io::{Failed, PathText};
@@ -40,7 +40,8 @@ pub struct FileDisk<'a> {
 impl<'a> FileDisk<'a> {
     /// The file at this path, not yet opened.
     pub fn new(rt: &'a HostRuntime, path: PathText) -> Result<Self, AllocError>
-        ensures { IfOk result (λ disk. (disk.path ≡ path) × (disk.opened ≡ None) × (disk.faults ≡ 0)) }
+        ensures { IfOk result (λ disk. (disk.path ≡ path) × (disk.opened ≡ None) × (disk.name_synced ≡ false)
+            × (disk.sync_failed ≡ false) × (disk.faults ≡ 0)) }
     {
         Ok(FileDisk {
             rt,

@@ -1,6 +1,6 @@
 //! The source of an input's bytes.
 
-ghost use Rattle.std.specs.Prelude.{◌≡◌};
+ghost use Rattle.std.specs.Prelude.{◌≡◌, None};
 
 use outside_io::PathText;
 use std::fs::File;
@@ -38,7 +38,8 @@ pub struct LateFile<'a> {
 impl<'a> LateFile<'a> {
     /// The file at this path, not yet opened.
     pub fn new(rt: &'a HostRuntime, path: PathText) -> Self
-        ensures { result.path ≡ path }
+        ensures path { result.path ≡ path }
+        ensures unopened { result.opened ≡ None }
     {
         LateFile {
             rt,
