@@ -17,14 +17,14 @@ use Rattle.frame_records.specs.declared.records.Records.{Records}
 use Rattle.frame_records.specs.declared.weigh.Weigh.TheVariants.{Bytes}
 use Rattle.report_text.specs.{tail_text}
 use Rattle.slot_disk.specs.{Leaves-none, slots_of}
-use Rattle.checkpoint.specs.{Opens, SavedValue, SaverState, StoreHolds, digest_of_lists, header_bytes, saver_of}
+use Rattle.checkpoint.specs.{Belongs, Opens, SavedValue, SaverState, StoreHolds, digest_of_lists, header_bytes, saver_of}
 use Rattle.checkpoint.specs.declared.settings.StoreSettings.{StoreSettings}
 use Rattle.command_words.specs.declared.settings.Settings.{Settings}
 use Rattle.hhh_engine.specs.Ending.{HoldsEmptyStore}
 use Rattle.hhh_engine.specs.Feed.{GoesOn, HasNoBase, IsSaverFor}
 use Rattle.hhh_engine.specs.Inputs.{IsStoreOf}
-use Rattle.hhh_engine.specs.Saves.{FitsBoard, IsAsBefore, IsNoEarlier, KeepsSaves, OpensAmong, Reopens, Saves}
-use Rattle.hhh_engine.specs.Saves.{SavesInPart, after_saves, kept_in, last_saved, reopened_in, saved_after, store_settings}
+use Rattle.hhh_engine.specs.Saves.{FitsBoard, IsAsBefore, IsNoEarlier, KeepsBelonging, KeepsSaves, OpensAmong, Reopens, Saves}
+use Rattle.hhh_engine.specs.Saves.{SavesInPart, after_saves, belonging_in, kept_in, last_saved, reopened_in, saved_after, store_settings}
 use Rattle.hhh_engine.specs.Session.{GoesOnFrom, SessionReports, calling_reports, ends_of, last_positions, new_shards}
 use Rattle.hhh_engine.specs.Session.{opening_of, part_text, resumed_shards, saved_cuts, session_saves, session_text, start_of}
 use Rattle.hhh_engine.specs.declared.status.Status.TheVariants.{NotFormatted}
@@ -37,6 +37,10 @@ one_shard = record settings { shards = 1; capacity = 2; store = true }
 
 abbrev one : StoreSettings
 one = store_settings one_shard
+
+-- a list of one packet
+abbrev lists : List (List RecordValue)
+lists = (packet ∷ []) ∷ []
 
 -- of a command's settings a store has these
 pub settings_of_a_store : store_settings settings
@@ -172,6 +176,25 @@ first_save_may_be_unfinished store known = record {
 pub unknown_disk_reopens : reopened_in {D = ℕ} (λ disk. None) (λ disk image. ⊤) 7 8 one [] (none_counted ∷ []) []
 unknown_disk_reopens store told = absurd (cc told)
 
+-- a formatted store belongs to any lists, and keeps belonging while nothing is saved; an empty disk is no store
+pub formatted_store_keeps_belonging : KeepsBelonging {D = ℕ} (λ disk image. image ≡ formatted) (λ disk. disk) image_since one
+    lists 7 7
+formatted_store_keeps_belonging =
+    let belongs : (image : List ℕ) → image ≡ formatted → Belongs one lists image = λ image is.
+    subst (Belongs one lists) (sym is) (None, formatted_opens_to_nothing, tt) in
+    record {
+      any_moment = Leaves-none (λ disk. disk) image_since 7 (Belongs one lists) belongs;
+      afterwards = belongs;
+    }
+
+pub empty_disk_belongs_to_no_lists : KeepsBelonging {D = ℕ} (λ disk image. image ≡ []) (λ disk. disk) image_since one lists 7 7
+    → ⊥
+empty_disk_belongs_to_no_lists keeps = omega (arith, (keeps.afterwards [] refl).1.2.long)
+
+pub unknown_disk_keeps_belonging : belonging_in {D = ℕ} (λ disk. None) (λ disk image. ⊤) (λ disk. disk) image_since 7 8 one
+    lists (none_counted ∷ []) []
+unknown_disk_keeps_belonging store told = absurd (cc told)
+
 -- without a save a crash leaves what it could have left before
 pub disk_is_as_before : IsAsBefore {D = ℕ} (λ disk. Some formatted) (λ disk image. image ≡ formatted) (λ disk. disk)
     image_since 7 7
@@ -210,10 +233,6 @@ formatted_store_is_empty bytes told image is =
     subst (λ bytes. Opens one bytes None) (sym is) formatted_opens_to_nothing
 
 -- ---- what a run goes on from
-
--- a list of one packet
-abbrev lists : List (List RecordValue)
-lists = (packet ∷ []) ∷ []
 
 abbrev resumed : ShardValue
 resumed = record { list = packet ∷ []; base = snapshot; position = 1 }

@@ -65,7 +65,7 @@ ends_alike one represent text opening other_opening settings other reports other
     (subst (λ n. IsReportOf (cut_at other_opening last.positions) n last) (sym phi) second.is_report.is))
 
 -- what is saved of these reports is of the lists
-among_belongs : (settings : StoreSettings) (lists : List (List RecordValue)) (opened : Option SavedValue)
+pub among_belongs : (settings : StoreSettings) (lists : List (List RecordValue)) (opened : Option SavedValue)
     (sequence : ℕ) (cuts : List CutValue) (image : List ℕ) → IsOfLists settings lists opened
     → All (λ cut. CutRepresents cut lists) cuts
     → OpensAmong settings opened (saved_after sequence (digest_of_lists settings lists) cuts) image
@@ -77,7 +77,7 @@ among_belongs settings lists opened sequence (cut ∷ cuts) image of_lists all (
     (Some (record { sequence = sequence + 1; digest = digest_of_lists settings lists; cut = cut })) (sequence + 1) cuts image
     (refl, All-head (λ c. CutRepresents c lists) cut cuts all) (All-tail (λ c. CutRepresents c lists) cut cuts all) among
 
-cuts_represent : CutsRepresent → (opening : List ShardValue) (settings : Settings) (reports : List Reported)
+pub cuts_represent : CutsRepresent → (opening : List ShardValue) (settings : Settings) (reports : List Reported)
     → AreShards opening → BasesRepresent opening → All (IsShown opening settings) reports
     → All (λ cut. CutRepresents cut (lists_of opening)) (saved_cuts true opening reports)
 cuts_represent represent opening settings reports shards bases shown =

@@ -24,6 +24,7 @@ pub mod DemoTextLemmas
 pub mod LastStoreLemmas
 pub mod OwnReportLemmas
 pub mod ReopeningLemmas
+pub mod BelongingLemmas
 pub mod ReportBoundLemmas
 pub mod OwnTextLemmas
 pub mod OwnSessionLemmas

@@ -5,7 +5,7 @@ use Rattle.std.specs.List.{sum_by}
 use Rattle.std.proofs.lemmas.List.{length-map, map-append, length-replicate}
 use Rattle.std.proofs.lemmas.List.Elements.{All-map, All-replicate}
 use Rattle.std.proofs.lemmas.List.Sums.{get_or-le-sum_by}
-use Rattle.prefix_lattice.specs.{RecordValue, most_records}
+use Rattle.prefix_lattice.specs.{RecordValue, most_records, most_shards}
 use Rattle.deal_rules.specs.{AreShardLists}
 use Rattle.std.proofs.Common.{Option, None, Some}
 use Rattle.std.specs.Prelude.{IfSome}
@@ -58,14 +58,14 @@ capacity_of_new capacity [] some = absurd (omega (arith, some))
 capacity_of_new capacity (list ∷ lists) some = refl
 
 -- they are shards of one capacity
-pub new_are_shards : (capacity : ℕ) (lists : List (List RecordValue)) → AreShardLists lists
+pub new_are_shards : (capacity : ℕ) (lists : List (List RecordValue)) → 1 ≤ length lists → length lists ≤ most_shards
     → AreShards (new_shards capacity lists)
-new_are_shards capacity lists shards = record {
-  some = subst (λ n. 1 ≤ n) (sym (length-map lists _)) shards.some;
-  few = subst (λ n. n ≤ 16) (sym (length-map lists _)) shards.few;
+new_are_shards capacity lists some few = record {
+  some = subst (λ n. 1 ≤ n) (sym (length-map lists _)) some;
+  few = subst (λ n. n ≤ most_shards) (sym (length-map lists _)) few;
   alike =
       All-map (λ (shard : ShardValue). shard.base.capacity ≡ capacity_of (new_shards capacity lists)) _ lists
-      (λ k d lt. sym (capacity_of_new capacity lists shards.some));
+      (λ k d lt. sym (capacity_of_new capacity lists some));
 }
 
 -- and their bases represent their lists
@@ -110,6 +110,23 @@ capacity_of_resumed capacity (list ∷ lists) [] some continues alike = absurd c
 capacity_of_resumed capacity (list ∷ lists) (base ∷ bases) some continues alike =
     All-head (λ (snapshot : SnapshotValue). snapshot.capacity ≡ capacity) base bases alike
 
+-- they are shards of one capacity
+pub resumed_are_shards : (cut : CutValue) (lists : List (List RecordValue)) → 1 ≤ length lists
+    → length lists ≤ most_shards → AllZip ContinuesList cut.shards lists
+    → All (λ (snapshot : SnapshotValue). snapshot.capacity ≡ cut.capacity) cut.shards
+    → AreShards (resumed_shards lists cut.shards)
+resumed_are_shards cut lists some few continues alike =
+    let many : length (resumed_shards lists cut.shards) ≡ length lists = resumed_many lists cut.shards continues in
+    let capacity_is : capacity_of (resumed_shards lists cut.shards) ≡ cut.capacity =
+    capacity_of_resumed cut.capacity lists cut.shards some continues alike in
+    record {
+      some = subst (λ n. 1 ≤ n) (sym many) some;
+      few = subst (λ n. n ≤ most_shards) (sym many) few;
+      alike =
+          subst (λ n. All (λ (shard : ShardValue). shard.base.capacity ≡ n) (resumed_shards lists cut.shards))
+          (sym capacity_is) (resumed_alike cut.capacity lists cut.shards alike);
+    }
+
 resumed_start_before_ends : (lists : List (List RecordValue)) (bases : List SnapshotValue)
     → AllZip ContinuesList bases lists → StartsBeforeEnds (resumed_shards lists bases)
 resumed_start_before_ends [] bases continues shard = omega arith
@@ -153,19 +170,9 @@ capacity_of_opening capacity lists (Some cut) shards goes_on kept =
 pub opening_is_shards : (capacity : ℕ) (lists : List (List RecordValue)) (base : Option CutValue)
     → AreShardLists lists → IfSome base (GoesOn capacity lists) → IfSome base IsCut
     → AreShards (opening_of capacity lists base)
-opening_is_shards capacity lists None shards goes_on kept = new_are_shards capacity lists shards
+opening_is_shards capacity lists None shards goes_on kept = new_are_shards capacity lists shards.some shards.few
 opening_is_shards capacity lists (Some cut) shards goes_on kept =
-    let many : length (resumed_shards lists cut.shards) ≡ length lists =
-    resumed_many lists cut.shards goes_on.continues in
-    let capacity_is : capacity_of (resumed_shards lists cut.shards) ≡ cut.capacity =
-    capacity_of_resumed cut.capacity lists cut.shards shards.some goes_on.continues kept.alike in
-    record {
-      some = subst (λ n. 1 ≤ n) (sym many) shards.some;
-      few = subst (λ n. n ≤ 16) (sym many) shards.few;
-      alike =
-          subst (λ n. All (λ (shard : ShardValue). shard.base.capacity ≡ n) (resumed_shards lists cut.shards))
-          (sym capacity_is) (resumed_alike cut.capacity lists cut.shards kept.alike);
-    }
+    resumed_are_shards cut lists shards.some shards.few goes_on.continues kept.alike
 
 pub opening_starts_before_ends : (capacity : ℕ) (lists : List (List RecordValue)) (base : Option CutValue)
     → IfSome base (GoesOn capacity lists) → StartsBeforeEnds (opening_of capacity lists base)

@@ -1,5 +1,5 @@
 -- What a store opens to after a session, whether that was whole or broke off.
-use Rattle.std.proofs.Common.{◌≡◌, ◌∙◌, ◌<◌, ◌+◌, ◌++◌, inl, inr, ℕ, suc, true, List, [], ◌∷◌, Option, None, Some}
+use Rattle.std.proofs.Common.{◌≡◌, ◌∙◌, ◌<◌, ◌+◌, ◌++◌, ℕ, suc, true, List, [], ◌∷◌, Option, None, Some}
 use Rattle.std.proofs.Common.{⊎_elim, refl, sym, ap, subst, arith, length, map, append-nil, All}
 use Rattle.std.specs.Prelude.{slice_index, option_map, IfSome}
 use Rattle.std.specs.List.Sorted.{IsNonDecreasing}
@@ -11,20 +11,19 @@ use Rattle.hhh_output.specs.declared.reports.Reported.{Reported}
 use Rattle.gate_workers.specs.{cut_at}
 use Rattle.checkpoint.specs.{Opens, SavedValue, StoresOpenToOne, digest_of_lists, opened_positions, opened_sequence}
 use Rattle.checkpoint.specs.declared.settings.StoreSettings.{StoreSettings}
-use Rattle.report_text.specs.{mark_text, report_text, tail_text}
-use Rattle.report_text.specs.declared.mark.Mark.TheVariants.{Opened}
+use Rattle.report_text.specs.{tail_text}
 use Rattle.recovery.specs.{IsBase, OpensToBase, base_positions}
 use Rattle.command_words.specs.{AreLimited}
 use Rattle.command_words.specs.declared.settings.Settings.{Settings}
 use Rattle.hhh_engine.specs.Saves.{kept_in, last_saved, reopened_in}
 use Rattle.hhh_engine.specs.Saves.{saved_after, store_settings}
-use Rattle.hhh_engine.specs.Session.{AreReportsOf, BreaksOffAround, BreaksOffBetween, BreaksOffInRounds, BreaksOffLater}
-use Rattle.hhh_engine.specs.Session.{BreaksOffWithin, GoesOnFrom, IsSession, IsSessionInPart, Rules, Saving}
-use Rattle.hhh_engine.specs.Session.{after_saves_of, callers_text, last_positions, opening_of, saved_cuts, saved_text, start_of}
+use Rattle.hhh_engine.specs.Session.{AreReportsOf}
+use Rattle.hhh_engine.specs.Session.{GoesOnFrom, IsSession, IsSessionInPart, Rules, Saving}
+use Rattle.hhh_engine.specs.Session.{after_saves_of, last_positions, opening_of, saved_cuts, start_of}
 use Rattle.hhh_engine.proofs.BaseLemmas.{allowed_settings, base_starts}
 use Rattle.hhh_engine.proofs.LastReportLemmas.{all_of_last}
 use Rattle.hhh_engine.proofs.OwnSessionLemmas.{dealt_many}
-use Rattle.hhh_engine.proofs.SessionTextLemmas.{around_as, spells_weaker}
+use Rattle.hhh_engine.proofs.SessionTextLemmas.{begins_less, spells_weaker}
 use Rattle.hhh_engine.proofs.SeenLemmas.{cut_at_positions, not_past_each, not_past_self}
 
 -- from these positions on, those of these reports never fall, and each report has one for each shard
@@ -252,20 +251,7 @@ part_reopens one reads image_now moment image_since rules settings old new file 
     → reopened_in reads image_now old new (store_settings settings) lists saved unfinished in
     let finished : (saved : List CutValue) → Kept saved [] → Less saved [] = λ saved kept used.
     finished_reopens reads image_now moment image_since (store_settings settings) lists saved old new (kept used) in
-    let around : (before after : List ℕ) (count : ℕ) (rounds : List Reported) (next : Reported) (more : List ℕ)
-    → AreReportsOf opening settings count (rounds ++ next ∷ [])
-    → BreaksOffAround before after (saved_cuts settings.store opening (next ∷ []))
-    (after_saves_of settings.store opening rounds Kept) more
-    → BreaksOffAround before after (saved_cuts settings.store opening (next ∷ []))
-    (after_saves_of settings.store opening rounds Less) more =
-    λ before after count rounds next more are breaks.
-    let cut : List CutValue = saved_cuts settings.store opening (next ∷ []) in
-    around_as before after before after cut cut (after_saves_of settings.store opening rounds Kept)
-    (after_saves_of settings.store opening rounds Less) more refl refl
-    (finished (saved_cuts settings.store opening rounds ++ []))
-    (session_reopens one reads image_now moment image_since settings lists base count rounds next old new limited many
-    session.begins are)
-    (finished (saved_cuts settings.store opening rounds ++ cut)) breaks in
+    let cuts : List Reported → List CutValue = saved_cuts settings.store opening in
     record {
       records = session.records;
       lists = lists;
@@ -273,40 +259,14 @@ part_reopens one reads image_now moment image_since rules settings old new file 
       base = base;
       begins = session.begins;
       represents = session.represents;
-      begun = ⊎_elim (λ first. inl (first.0, finished [] first.1))
-          (λ later. inr (⊎_elim
-          (λ (rounds : (more : List ℕ) × BreaksOffInRounds opening settings Kept more
-          × (front ≡ mark_text Opened (start_of opening) ++ more)). inl (
-            rounds.0,
-            ⊎_elim
-                (λ (between : BreaksOffBetween opening settings Kept rounds.0). inl (record {
-                  rounds = between.rounds;
-                  few = between.few;
-                  are_reports = between.are_reports;
-                  written = between.written;
-                  kept = finished (saved_cuts settings.store opening between.rounds) between.kept;
-                }))
-                (λ (within : BreaksOffWithin opening settings Kept rounds.0). inr (record {
-                  rounds = within.rounds;
-                  next = within.next;
-                  few = within.few;
-                  are_reports = within.are_reports;
-                  more = within.more;
-                  breaks_off = around (report_text within.next.report)
-                      (saved_text settings.store within.next.report.positions) (length within.rounds + 1) within.rounds
-                      within.next within.more within.are_reports within.breaks_off;
-                  written = within.written;
-                })) rounds.1,
-            rounds.2,
-          ))
-          (λ (rest : BreaksOffLater opening settings Kept (tail_text session.records) front). inr (record {
-            reports = rest.reports;
-            are_reports = rest.are_reports;
-            more = rest.more;
-            breaks_off = around (callers_text rest.reports.callers ++ report_text rest.reports.last.report)
-                (saved_text settings.store rest.reports.last.report.positions ++ tail_text session.records)
-                (settings.rounds + 1) rest.reports.rounds rest.reports.last rest.more rest.are_reports.calling
-                rest.breaks_off;
-            written = rest.written;
-          })) later)) session.begun;
+      begun = begins_less opening settings Kept Less (tail_text session.records) front
+          (record {
+            none = finished [];
+            between = λ rounds are. finished (cuts rounds);
+            before = λ count rounds next are. finished (cuts rounds ++ []);
+            unfinished = λ count rounds next are.
+                session_reopens one reads image_now moment image_since settings lists base count rounds next old new
+                limited many session.begins are;
+            saved = λ count rounds next are. finished (cuts rounds ++ cuts (next ∷ []));
+          }) session.begun;
     }

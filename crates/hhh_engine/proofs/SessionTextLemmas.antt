@@ -230,55 +230,91 @@ session_in_part board settings Fed_kept KeptInRest KeptInPart tail line old firs
           (Appends-trans first second new rounds part.text is.gathered.written part.written);
     }
 
--- a session that broke off, of which less is said
-around_weaker : (before after : List ℕ) (cut : List CutValue) (Kept Less : Saving) (front : List ℕ)
-    → ((saved unfinished : List CutValue) → Kept saved unfinished → Less saved unfinished)
-    → BreaksOffAround before after cut Kept front → BreaksOffAround before after cut Less front
-around_weaker before after cut Kept Less front less breaks =
-    around_as before after before after cut cut Kept Less front refl refl (less [] []) (less [] cut) (less cut []) breaks
+-- of what became of the cuts of a session (Kept) less is said (Less): where no cut was saved, where those of some rounds
+-- were, and before, in and after the save of a report that follows some rounds
+pub record SaysLess (opening : List ShardValue) (settings : Settings) (Kept Less : Saving) : Type 0 where
+  pub none : Kept [] [] → Less [] []
+  pub between : (rounds : List Reported) → AreReportsOf opening settings (length rounds) rounds
+      → Kept (saved_cuts settings.store opening rounds) [] → Less (saved_cuts settings.store opening rounds) []
+  pub before : (count : ℕ) (rounds : List Reported) (next : Reported)
+      → AreReportsOf opening settings count (rounds ++ next ∷ [])
+      → after_saves_of settings.store opening rounds Kept [] [] → after_saves_of settings.store opening rounds Less [] []
+  pub unfinished : (count : ℕ) (rounds : List Reported) (next : Reported)
+      → AreReportsOf opening settings count (rounds ++ next ∷ [])
+      → after_saves_of settings.store opening rounds Kept [] (saved_cuts settings.store opening (next ∷ []))
+      → after_saves_of settings.store opening rounds Less [] (saved_cuts settings.store opening (next ∷ []))
+  pub saved : (count : ℕ) (rounds : List Reported) (next : Reported)
+      → AreReportsOf opening settings count (rounds ++ next ∷ [])
+      → after_saves_of settings.store opening rounds Kept (saved_cuts settings.store opening (next ∷ [])) []
+      → after_saves_of settings.store opening rounds Less (saved_cuts settings.store opening (next ∷ [])) []
 
-rounds_weaker : (opening : List ShardValue) (settings : Settings) (Kept Less : Saving) (front : List ℕ)
-    → ((saved unfinished : List CutValue) → Kept saved unfinished → Less saved unfinished)
-    → BreaksOffInRounds opening settings Kept front → BreaksOffInRounds opening settings Less front
-rounds_weaker opening settings Kept Less front less (inl between) = inl (record {
+-- a session that broke off, of which less is said
+around_less : (opening : List ShardValue) (settings : Settings) (Kept Less : Saving) (count : ℕ) (rounds : List Reported)
+    (next : Reported) (before after front : List ℕ) → SaysLess opening settings Kept Less
+    → AreReportsOf opening settings count (rounds ++ next ∷ [])
+    → BreaksOffAround before after (saved_cuts settings.store opening (next ∷ []))
+    (after_saves_of settings.store opening rounds Kept) front
+    → BreaksOffAround before after (saved_cuts settings.store opening (next ∷ []))
+    (after_saves_of settings.store opening rounds Less) front
+around_less opening settings Kept Less count rounds next before after front less are breaks =
+    let cut : List CutValue = saved_cuts settings.store opening (next ∷ []) in
+    around_as before after before after cut cut (after_saves_of settings.store opening rounds Kept)
+    (after_saves_of settings.store opening rounds Less) front refl refl (less.before count rounds next are)
+    (less.unfinished count rounds next are) (less.saved count rounds next are) breaks
+
+rounds_less : (opening : List ShardValue) (settings : Settings) (Kept Less : Saving) (front : List ℕ)
+    → SaysLess opening settings Kept Less → BreaksOffInRounds opening settings Kept front
+    → BreaksOffInRounds opening settings Less front
+rounds_less opening settings Kept Less front less (inl between) = inl (record {
   rounds = between.rounds;
   few = between.few;
   are_reports = between.are_reports;
   written = between.written;
-  kept = less (saved_cuts settings.store opening between.rounds) [] between.kept;
+  kept = less.between between.rounds between.are_reports between.kept;
 })
-rounds_weaker opening settings Kept Less front less (inr within) = inr (record {
+rounds_less opening settings Kept Less front less (inr within) = inr (record {
   rounds = within.rounds;
   next = within.next;
   few = within.few;
   are_reports = within.are_reports;
   more = within.more;
-  breaks_off = around_weaker (report_text within.next.report)
-      (saved_text settings.store within.next.report.positions) (saved_cuts settings.store opening (within.next ∷ []))
-      (after_saves_of settings.store opening within.rounds Kept)
-      (after_saves_of settings.store opening within.rounds Less) within.more
-      (λ saved unfinished. less (saved_cuts settings.store opening within.rounds ++ saved) unfinished) within.breaks_off;
+  breaks_off = around_less opening settings Kept Less (length within.rounds + 1) within.rounds within.next
+      (report_text within.next.report) (saved_text settings.store within.next.report.positions) within.more less
+      within.are_reports within.breaks_off;
   written = within.written;
 })
 
-pub begins_weaker : (opening : List ShardValue) (settings : Settings) (Kept Less : Saving) (tail front : List ℕ)
-    → ((saved unfinished : List CutValue) → Kept saved unfinished → Less saved unfinished)
-    → BeginsSession opening settings Kept tail front → BeginsSession opening settings Less tail front
-begins_weaker opening settings Kept Less tail front less (inl (short, kept)) = inl (short, less [] [] kept)
-begins_weaker opening settings Kept Less tail front less (inr (inl (more, rounds, parted))) =
-    inr (inl (more, rounds_weaker opening settings Kept Less more less rounds, parted))
-begins_weaker opening settings Kept Less tail front less (inr (inr later)) = inr (inr (record {
+pub begins_less : (opening : List ShardValue) (settings : Settings) (Kept Less : Saving) (tail front : List ℕ)
+    → SaysLess opening settings Kept Less → BeginsSession opening settings Kept tail front
+    → BeginsSession opening settings Less tail front
+begins_less opening settings Kept Less tail front less (inl (short, kept)) = inl (short, less.none kept)
+begins_less opening settings Kept Less tail front less (inr (inl (more, rounds, parted))) =
+    inr (inl (more, rounds_less opening settings Kept Less more less rounds, parted))
+begins_less opening settings Kept Less tail front less (inr (inr later)) = inr (inr (record {
   reports = later.reports;
   are_reports = later.are_reports;
   more = later.more;
-  breaks_off = around_weaker (callers_text later.reports.callers ++ report_text later.reports.last.report)
-      (saved_text settings.store later.reports.last.report.positions ++ tail)
-      (saved_cuts settings.store opening (later.reports.last ∷ []))
-      (after_saves_of settings.store opening later.reports.rounds Kept)
-      (after_saves_of settings.store opening later.reports.rounds Less) later.more
-      (λ saved unfinished. less (saved_cuts settings.store opening later.reports.rounds ++ saved) unfinished) later.breaks_off;
+  breaks_off = around_less opening settings Kept Less (settings.rounds + 1) later.reports.rounds later.reports.last
+      (callers_text later.reports.callers ++ report_text later.reports.last.report)
+      (saved_text settings.store later.reports.last.report.positions ++ tail) later.more less
+      later.are_reports.calling later.breaks_off;
   written = later.written;
 }))
+
+-- where less is said of any cuts
+pub begins_weaker : (opening : List ShardValue) (settings : Settings) (Kept Less : Saving) (tail front : List ℕ)
+    → ((saved unfinished : List CutValue) → Kept saved unfinished → Less saved unfinished)
+    → BeginsSession opening settings Kept tail front → BeginsSession opening settings Less tail front
+begins_weaker opening settings Kept Less tail front less =
+    let cuts : List Reported → List CutValue = saved_cuts settings.store opening in
+    begins_less opening settings Kept Less tail front
+    (record {
+      none = less [] [];
+      between = λ rounds are. less (cuts rounds) [];
+      before = λ count rounds next are. less (cuts rounds ++ []) [];
+      unfinished = λ count rounds next are. less (cuts rounds ++ []) (cuts (next ∷ []));
+      saved = λ count rounds next are. less (cuts rounds ++ cuts (next ∷ [])) [];
+    })
 
 -- the first line of a session isn't empty
 first_line_is_some : (positions : List ℕ) → 0 < length (mark_text Opened positions)

@@ -27,7 +27,7 @@ ghost use Rattle.hhh_output.specs.declared.reports.Reported.{Reported};
 ghost use Rattle.shard_state.specs.{AreNotPast, AreShards, BasesRepresent, CutRepresents, ShardValue, capacity_of, lists_of, positions_of};
 ghost use Rattle.checkpoint.specs.{Belongs, IsOfLists, Opens, SavedValue, digest_of_lists, opened_positions, opened_sequence};
 ghost use Rattle.hhh_engine.specs.Session.{AreDealtFrom, AreReportsOf, AreSessionReports, IsSession, IsSessionInPart, IsShown, SessionReports, by_formula, calling_reports, ends_of, last_positions, new_shards, part_text, reports_in, saved_cuts, session_saves, session_text, start_of};
-ghost use Rattle.hhh_engine.specs.Saves.{IsAsBefore, OpensAmong, kept_in, last_saved, reopened_in, store_settings};
+ghost use Rattle.hhh_engine.specs.Saves.{IsAsBefore, OpensAmong, belonging_in, kept_in, last_saved, reopened_in, store_settings};
 
 use checkpoint::stores_open_to_one;
 use deal_rules::{Dealer, Dealers, Deals, a_formula_deals_in_one_way};
@@ -159,6 +159,24 @@ pub fn sessions_lose_no_save<D: Disk>()
         → IsSessionInPart settings (by_formula formula) (reopened_in D.reads D.image_now before now) (D.reads before) file front }
 {
     stores_open_to_one();
+}
+
+/// Where each kind of dealing is a formula, the bytes of the disk were known as `report` began, and whatever a crash could
+/// have left of the store then belonged to the dealt lists: whatever one leaves of it at any moment of the session, or
+/// after it, is a sound store that belongs to them, whether the session was whole or broke off. So another run over the
+/// same records goes on from it. The settings have to be within their limits.
+pub fn stores_keep_belonging<D: Disk>()
+    ensures whole { (formula : DealKind → ℕ → RecordValue → ℕ → ℕ) (before now : D) (settings : Settings) (file text : List ℕ)
+        → AreLimited settings
+        → IsSession settings (by_formula formula) (kept_in D.reads D.image_now D.moment D.image_since before now) (D.reads before) file text
+        → IsSession settings (by_formula formula) (belonging_in D.reads D.image_now D.moment D.image_since before now) (D.reads before) file text }
+    ensures in_part { (formula : DealKind → ℕ → RecordValue → ℕ → ℕ) (before now : D) (settings : Settings) (file front : List ℕ)
+        → AreLimited settings
+        → IsSessionInPart settings (by_formula formula) (kept_in D.reads D.image_now D.moment D.image_since before now) (D.reads before) file front
+        → IsSessionInPart settings (by_formula formula) (belonging_in D.reads D.image_now D.moment D.image_since before now) (D.reads before) file front }
+{
+    stores_open_to_one();
+    reported_cuts_represent();
 }
 
 /// An audit of a session's reports over the dealt records finds each of them good, for the capacity and the share of the

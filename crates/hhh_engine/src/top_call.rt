@@ -171,7 +171,8 @@ pub fn run<R: Threads + Wait + Sync, S: Source, T: Source, K: Sink, D: Disk, G: 
     ensures unused_capture { AskNotToUse ReadsCapture (texts words.now) → capture.new ≡ capture.old }
     ensures unused_text { AskNotToUse ReadsSession (texts words.now) → text.new ≡ text.old }
 
-    // Memory may run out at any time. Then a part of the text was written; or nothing was, and the disk is as before.
+    // Memory may run out at any time. Then a part of the text was written, which may be empty; or nothing was, and the disk is
+    // as before.
     ensures out_of_memory { result ≡ OutOfMemory → WroteInPart (λ kind. ⟦<Dealer as Deals>⟧.may_answer (dealer_of kind dealers.now))
         (kept_in D.reads D.image_now D.moment D.image_since disk.old disk.new) (texts words.now)
         (inputs (S.left capture.old) (S.left capture.new) (T.left text.old) (T.left text.new) (D.reads disk.old))

@@ -36,8 +36,8 @@ pub fn printed_sessions_read_back()
     report_order_is_total();
 }
 
-/// A law of sessions: a text of at most 268,435,456 bytes is that of a session, or has a fault, and never both. It has one
-/// fault, and is the text of one session.
+/// A law of sessions: a text has one fault at most, and is that of one session at most. A text of at most 268,435,456 bytes
+/// isn't both.
 pub fn session_texts_have_one_reading()
     ensures apart { (text : List ℕ) (session other : Session) → IsSessionText text session → IsSessionText text other → AreSameSessions session other }
     ensures one_fault { (text : List ℕ) (fault other : TextFault) → HasTextFault text fault → HasTextFault text other → fault ≡ other }
