@@ -14,7 +14,7 @@ use Rattle.command_words.specs.{AreLimited}
 use Rattle.command_words.specs.declared.settings.Settings.{Settings}
 use Rattle.report_text.specs.{tail_text}
 use Rattle.hhh_engine.specs.Feed.{GoesOn}
-use Rattle.hhh_engine.specs.Saves.{belonging_in, kept_in, last_saved, saved_after, store_settings}
+use Rattle.hhh_engine.specs.Saves.{BelongsThroughout, kept_in, last_saved, saved_after, store_settings}
 use Rattle.hhh_engine.specs.Session.{AreReportsOf, GoesOnFrom, IsSession, IsSessionInPart, IsShown, RepresentsWhere, Rules}
 use Rattle.hhh_engine.specs.Session.{Saving, calling_reports, opening_of, saved_cuts}
 use Rattle.hhh_engine.proofs.BaseLemmas.{allowed_settings, base_goes_on}
@@ -24,7 +24,7 @@ use Rattle.hhh_engine.proofs.OpeningLemmas.{new_are_shards, resumed_are_shards}
 use Rattle.hhh_engine.proofs.OwnReportLemmas.{lists_of_opening}
 use Rattle.hhh_engine.proofs.OwnSessionLemmas.{dealt_many}
 use Rattle.hhh_engine.proofs.OwnTextLemmas.{all_front}
-use Rattle.hhh_engine.proofs.SessionTextLemmas.{begins_less}
+use Rattle.hhh_engine.proofs.SessionTextLemmas.{begins_kept, begins_less}
 
 -- the shards of a run, whose base represents the lists
 opening_are_shards : (capacity : ℕ) (lists : List (List RecordValue)) (base : Option CutValue) → 1 ≤ length lists
@@ -60,10 +60,12 @@ kept_belongs : StoresOpenToOne → {D : Type 0} (reads : D → Option (List ℕ)
     → AreLimited settings → settings.store ≡ true → GoesOnFrom settings lists (reads old) base
     → (IfSome base (λ cut. CutRepresents cut lists) → All (λ cut. CutRepresents cut lists) saved)
     → (IfSome base (λ cut. CutRepresents cut lists) → All (λ cut. CutRepresents cut lists) unfinished)
+    → (store : List ℕ) → reads old ≡ Some store
+    → ((image : List ℕ) → image_now old image → Belongs (store_settings settings) lists image)
     → kept_in reads image_now moment image_since old new (store_settings settings) lists saved unfinished
-    → belonging_in reads image_now moment image_since old new (store_settings settings) lists saved unfinished
+    → BelongsThroughout image_now moment image_since (store_settings settings) lists base old new
 kept_belongs one reads image_now moment image_since read_is_image settings lists base saved unfinished old new limited used
-    begins of_saved of_unfinished kept = λ store known belonged.
+    begins of_saved of_unfinished store known belonged kept =
     let of_store : StoreSettings = store_settings settings in
     let digest : List ℕ = digest_of_lists of_store lists in
     let keeps = kept store known in
@@ -82,6 +84,7 @@ kept_belongs one reads image_now moment image_since read_is_image settings lists
     All-append (λ (cut : CutValue). CutRepresents cut lists) saved unfinished (of_saved represents)
     (of_unfinished represents) in
     record {
+      base_represents = represents;
       any_moment = Leaves-weaker moment image_since old new _ (Belongs of_store lists) keeps.any_moment
           (λ image was. ⊎_elim (belonged image)
           (among_belongs of_store lists opened sequence (saved ++ unfinished) image is all) was);
@@ -120,104 +123,80 @@ kept_cuts_represent store opening lists reports used all =
 pub whole_belongs : StoresOpenToOne → CutsRepresent → {D : Type 0} (reads : D → Option (List ℕ))
     (image_now : D → List ℕ → Type 0) (moment : D → ℕ) (image_since : D → ℕ → List ℕ → Type 0)
     → ((disk : D) (bytes : List ℕ) → reads disk ≡ Some bytes → image_now disk bytes) → (rules : Rules)
-    (settings : Settings) (old new : D) (file text : List ℕ) → AreLimited settings
-    → IsSession settings rules (kept_in reads image_now moment image_since old new) (reads old) file text
-    → IsSession settings rules (belonging_in reads image_now moment image_since old new) (reads old) file text
-whole_belongs one represent reads image_now moment image_since read_is_image rules settings old new file text limited session =
-    let lists : List (List RecordValue) = session.lists in
-    let base : Option CutValue = session.base in
-    let opening : List ShardValue = opening_of settings.capacity lists base in
-    let many : length lists ≡ settings.shards =
-    dealt_many settings.deal (rules settings.deal) settings.shards session.records.list lists session.dealt.dealt in
-    let reports : List Reported = calling_reports session.spelled.reports in
-    record {
-      records = session.records;
-      lists = lists;
-      dealt = session.dealt;
-      base = base;
-      begins = session.begins;
-      represents = session.represents;
-      spelled = record {
-        reports = session.spelled.reports;
-        are_reports = session.spelled.are_reports;
-        spelled = session.spelled.spelled;
-        kept = λ used.
-            kept_belongs one reads image_now moment image_since read_is_image settings lists base
-            (saved_cuts settings.store opening reports) [] old new limited used session.begins
-            (λ standing. kept_cuts_represent settings.store opening lists reports used
-            (session_cuts_represent represent settings lists (reads old) base reports limited many session.begins
-            session.represents session.spelled.are_reports.calling.shown standing))
-            (λ standing. All-nil (λ (cut : CutValue). CutRepresents cut lists)) (session.spelled.kept used);
-      };
-    }
+    (settings : Settings) (old new : D) (store file text : List ℕ)
+    (is : IsSession settings rules (kept_in reads image_now moment image_since old new) (reads old) file text)
+    → AreLimited settings → settings.store ≡ true → reads old ≡ Some store
+    → ((image : List ℕ) → image_now old image → Belongs (store_settings settings) is.lists image)
+    → BelongsThroughout image_now moment image_since (store_settings settings) is.lists is.base old new
+whole_belongs one represent reads image_now moment image_since read_is_image rules settings old new store file text is limited
+    used known belonged =
+    let opening : List ShardValue = opening_of settings.capacity is.lists is.base in
+    let many : length is.lists ≡ settings.shards =
+    dealt_many settings.deal (rules settings.deal) settings.shards is.records.list is.lists is.dealt.dealt in
+    let reports : List Reported = calling_reports is.spelled.reports in
+    kept_belongs one reads image_now moment image_since read_is_image settings is.lists is.base
+    (saved_cuts settings.store opening reports) [] old new limited used is.begins
+    (λ standing. kept_cuts_represent settings.store opening is.lists reports used
+    (session_cuts_represent represent settings is.lists (reads old) is.base reports limited many is.begins is.represents
+    is.spelled.are_reports.calling.shown standing))
+    (λ standing. All-nil (λ (cut : CutValue). CutRepresents cut is.lists)) store known belonged (is.spelled.kept used)
 
 -- a session that broke off
 pub part_belongs : StoresOpenToOne → CutsRepresent → {D : Type 0} (reads : D → Option (List ℕ))
     (image_now : D → List ℕ → Type 0) (moment : D → ℕ) (image_since : D → ℕ → List ℕ → Type 0)
     → ((disk : D) (bytes : List ℕ) → reads disk ≡ Some bytes → image_now disk bytes) → (rules : Rules)
-    (settings : Settings) (old new : D) (file front : List ℕ) → AreLimited settings
-    → IsSessionInPart settings rules (kept_in reads image_now moment image_since old new) (reads old) file front
-    → IsSessionInPart settings rules (belonging_in reads image_now moment image_since old new) (reads old) file front
-part_belongs one represent reads image_now moment image_since read_is_image rules settings old new file front limited session =
-    let lists : List (List RecordValue) = session.lists in
-    let base : Option CutValue = session.base in
+    (settings : Settings) (old new : D) (store file front : List ℕ)
+    (is : IsSessionInPart settings rules (kept_in reads image_now moment image_since old new) (reads old) file front)
+    → AreLimited settings → settings.store ≡ true → reads old ≡ Some store
+    → ((image : List ℕ) → image_now old image → Belongs (store_settings settings) is.lists image)
+    → BelongsThroughout image_now moment image_since (store_settings settings) is.lists is.base old new
+part_belongs one represent reads image_now moment image_since read_is_image rules settings old new store file front is limited
+    used known belonged =
+    let lists : List (List RecordValue) = is.lists in
+    let base : Option CutValue = is.base in
     let opening : List ShardValue = opening_of settings.capacity lists base in
     let many : length lists ≡ settings.shards =
-    dealt_many settings.deal (rules settings.deal) settings.shards session.records.list lists session.dealt.dealt in
+    dealt_many settings.deal (rules settings.deal) settings.shards is.records.list lists is.dealt.dealt in
     let Stand : List CutValue → Type 0 = All (λ cut. CutRepresents cut lists) in
+    let Standing : Type 0 = IfSome base (λ cut. CutRepresents cut lists) in
     let Kept : Saving = λ saved unfinished. settings.store ≡ true
     → kept_in reads image_now moment image_since old new (store_settings settings) lists saved unfinished in
-    let Less : Saving = λ saved unfinished. settings.store ≡ true
-    → belonging_in reads image_now moment image_since old new (store_settings settings) lists saved unfinished in
+    let Belonging : Type 0 = BelongsThroughout image_now moment image_since (store_settings settings) lists base old new in
     let cuts : List Reported → List CutValue = saved_cuts settings.store opening in
     let no_cut : Stand [] = All-nil (λ (cut : CutValue). CutRepresents cut lists) in
-    let of : (reports : List Reported) → settings.store ≡ true → All (IsShown opening settings) reports
-    → IfSome base (λ cut. CutRepresents cut lists) → Stand (cuts reports) = λ reports used shown standing.
-    kept_cuts_represent settings.store opening lists reports used
-    (session_cuts_represent represent settings lists (reads old) base reports limited many session.begins
-    session.represents shown standing) in
-    let of_rounds : (rounds : List Reported) (next : Reported) (count : ℕ) → settings.store ≡ true
-    → AreReportsOf opening settings count (rounds ++ next ∷ []) → IfSome base (λ cut. CutRepresents cut lists)
-    → Stand (cuts rounds) = λ rounds next count used are.
-    of rounds used (all_front (IsShown opening settings) rounds (next ∷ []) are.shown) in
-    let of_next : (rounds : List Reported) (next : Reported) (count : ℕ) → settings.store ≡ true
-    → AreReportsOf opening settings count (rounds ++ next ∷ []) → IfSome base (λ cut. CutRepresents cut lists)
-    → Stand (cuts (next ∷ [])) = λ rounds next count used are.
-    of (next ∷ []) used (All-cons (IsShown opening settings) next []
-    (all_of_last (IsShown opening settings) rounds next are.shown) (All-nil (IsShown opening settings))) in
+    let of : (reports : List Reported) → All (IsShown opening settings) reports → Standing → Stand (cuts reports) =
+    λ reports shown standing. kept_cuts_represent settings.store opening lists reports used
+    (session_cuts_represent represent settings lists (reads old) base reports limited many is.begins is.represents shown
+    standing) in
+    let of_rounds : (rounds : List Reported) (next : Reported) (count : ℕ)
+    → AreReportsOf opening settings count (rounds ++ next ∷ []) → Standing → Stand (cuts rounds) = λ rounds next count are.
+    of rounds (all_front (IsShown opening settings) rounds (next ∷ []) are.shown) in
+    let of_next : (rounds : List Reported) (next : Reported) (count : ℕ)
+    → AreReportsOf opening settings count (rounds ++ next ∷ []) → Standing → Stand (cuts (next ∷ [])) =
+    λ rounds next count are.
+    of (next ∷ []) (All-cons (IsShown opening settings) next [] (all_of_last (IsShown opening settings) rounds next are.shown)
+    (All-nil (IsShown opening settings))) in
     let both : (first second : List CutValue) → Stand first → Stand second → Stand (first ++ second) =
     λ first second. All-append (λ (cut : CutValue). CutRepresents cut lists) first second in
-    let belongs : (saved unfinished : List CutValue) → settings.store ≡ true
-    → (IfSome base (λ cut. CutRepresents cut lists) → Stand saved)
-    → (IfSome base (λ cut. CutRepresents cut lists) → Stand unfinished) → Kept saved unfinished
-    → belonging_in reads image_now moment image_since old new (store_settings settings) lists saved unfinished =
-    λ saved unfinished used of_saved of_unfinished kept.
+    let belongs : (saved unfinished : List CutValue) → (Standing → Stand saved) → (Standing → Stand unfinished)
+    → Kept saved unfinished → Belonging = λ saved unfinished of_saved of_unfinished kept.
     kept_belongs one reads image_now moment image_since read_is_image settings lists base saved unfinished old new limited
-    used session.begins of_saved of_unfinished (kept used) in
-    record {
-      records = session.records;
-      lists = lists;
-      dealt = session.dealt;
-      base = base;
-      begins = session.begins;
-      represents = session.represents;
-      begun = begins_less opening settings Kept Less (tail_text session.records) front
-          (record {
-            none = λ kept used. belongs [] [] used (λ standing. no_cut) (λ standing. no_cut) kept;
-            between = λ rounds are kept used.
-                belongs (cuts rounds) [] used (of rounds used are.shown) (λ standing. no_cut) kept;
-            before = λ count rounds next are kept used.
-                belongs (cuts rounds ++ []) [] used
-                (λ standing. both (cuts rounds) [] (of_rounds rounds next count used are standing) no_cut)
-                (λ standing. no_cut) kept;
-            unfinished = λ count rounds next are kept used.
-                belongs (cuts rounds ++ []) (cuts (next ∷ [])) used
-                (λ standing. both (cuts rounds) [] (of_rounds rounds next count used are standing) no_cut)
-                (of_next rounds next count used are) kept;
-            saved = λ count rounds next are kept used.
-                belongs (cuts rounds ++ cuts (next ∷ [])) [] used
-                (λ standing. both (cuts rounds) (cuts (next ∷ [])) (of_rounds rounds next count used are standing)
-                (of_next rounds next count used are standing))
-                (λ standing. no_cut) kept;
-          }) session.begun;
-    }
+    used is.begins of_saved of_unfinished store known belonged (kept used) in
+    begins_kept opening settings Belonging (tail_text is.records) front
+    (begins_less opening settings Kept (λ saved unfinished. Belonging) (tail_text is.records) front
+    (record {
+      none = belongs [] [] (λ standing. no_cut) (λ standing. no_cut);
+      between = λ rounds are. belongs (cuts rounds) [] (of rounds are.shown) (λ standing. no_cut);
+      before = λ count rounds next are.
+          belongs (cuts rounds ++ []) [] (λ standing. both (cuts rounds) [] (of_rounds rounds next count are standing) no_cut)
+          (λ standing. no_cut);
+      unfinished = λ count rounds next are.
+          belongs (cuts rounds ++ []) (cuts (next ∷ []))
+          (λ standing. both (cuts rounds) [] (of_rounds rounds next count are standing) no_cut)
+          (of_next rounds next count are);
+      saved = λ count rounds next are.
+          belongs (cuts rounds ++ cuts (next ∷ [])) []
+          (λ standing. both (cuts rounds) (cuts (next ∷ [])) (of_rounds rounds next count are standing)
+          (of_next rounds next count are standing))
+          (λ standing. no_cut);
+    }) is.begun)

@@ -23,8 +23,8 @@ use Rattle.command_words.specs.declared.settings.Settings.{Settings}
 use Rattle.hhh_engine.specs.Ending.{HoldsEmptyStore}
 use Rattle.hhh_engine.specs.Feed.{GoesOn, HasNoBase, IsSaverFor}
 use Rattle.hhh_engine.specs.Inputs.{IsStoreOf}
-use Rattle.hhh_engine.specs.Saves.{FitsBoard, IsAsBefore, IsNoEarlier, KeepsBelonging, KeepsSaves, OpensAmong, Reopens, Saves}
-use Rattle.hhh_engine.specs.Saves.{SavesInPart, after_saves, belonging_in, kept_in, last_saved, reopened_in, saved_after, store_settings}
+use Rattle.hhh_engine.specs.Saves.{BelongsThroughout, FitsBoard, IsAsBefore, IsNoEarlier, KeepsSaves, OpensAmong, Reopens, Saves}
+use Rattle.hhh_engine.specs.Saves.{SavesInPart, after_saves, kept_in, last_saved, reopened_in, saved_after, store_settings}
 use Rattle.hhh_engine.specs.Session.{GoesOnFrom, SessionReports, calling_reports, ends_of, last_positions, new_shards}
 use Rattle.hhh_engine.specs.Session.{opening_of, part_text, resumed_shards, saved_cuts, session_saves, session_text, start_of}
 use Rattle.hhh_engine.specs.declared.status.Status.TheVariants.{NotFormatted}
@@ -176,24 +176,21 @@ first_save_may_be_unfinished store known = record {
 pub unknown_disk_reopens : reopened_in {D = ℕ} (λ disk. None) (λ disk image. ⊤) 7 8 one [] (none_counted ∷ []) []
 unknown_disk_reopens store told = absurd (cc told)
 
--- a formatted store belongs to any lists, and keeps belonging while nothing is saved; an empty disk is no store
-pub formatted_store_keeps_belonging : KeepsBelonging {D = ℕ} (λ disk image. image ≡ formatted) (λ disk. disk) image_since one
-    lists 7 7
-formatted_store_keeps_belonging =
+-- a formatted store belongs to any lists, and does so throughout a session that saves nothing; an empty disk is no store
+pub formatted_store_belongs_throughout : BelongsThroughout {D = ℕ} (λ disk image. image ≡ formatted) (λ disk. disk)
+    image_since one lists None 7 7
+formatted_store_belongs_throughout =
     let belongs : (image : List ℕ) → image ≡ formatted → Belongs one lists image = λ image is.
     subst (Belongs one lists) (sym is) (None, formatted_opens_to_nothing, tt) in
     record {
+      base_represents = tt;
       any_moment = Leaves-none (λ disk. disk) image_since 7 (Belongs one lists) belongs;
       afterwards = belongs;
     }
 
-pub empty_disk_belongs_to_no_lists : KeepsBelonging {D = ℕ} (λ disk image. image ≡ []) (λ disk. disk) image_since one lists 7 7
-    → ⊥
-empty_disk_belongs_to_no_lists keeps = omega (arith, (keeps.afterwards [] refl).1.2.long)
-
-pub unknown_disk_keeps_belonging : belonging_in {D = ℕ} (λ disk. None) (λ disk image. ⊤) (λ disk. disk) image_since 7 8 one
-    lists (none_counted ∷ []) []
-unknown_disk_keeps_belonging store told = absurd (cc told)
+pub empty_disk_belongs_to_no_lists : BelongsThroughout {D = ℕ} (λ disk image. image ≡ []) (λ disk. disk) image_since one lists
+    None 7 7 → ⊥
+empty_disk_belongs_to_no_lists belongs = omega (arith, (belongs.afterwards [] refl).1.2.long)
 
 -- without a save a crash leaves what it could have left before
 pub disk_is_as_before : IsAsBefore {D = ℕ} (λ disk. Some formatted) (λ disk image. image ≡ formatted) (λ disk. disk)

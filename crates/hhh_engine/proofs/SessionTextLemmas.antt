@@ -301,6 +301,25 @@ begins_less opening settings Kept Less tail front less (inr (inr later)) = inr (
   written = later.written;
 }))
 
+-- what is said whatever cuts were saved
+around_kept : (before after : List ℕ) (cut : List CutValue) (Said : Type 0) (front : List ℕ)
+    → BreaksOffAround before after cut (λ saved unfinished. Said) front → Said
+around_kept before after cut Said front (inl (begins, said)) = said
+around_kept before after cut Said front (inr (inl (whole, said))) = said
+around_kept before after cut Said front (inr (inr (more, short, parted, said))) = said
+
+pub begins_kept : (opening : List ShardValue) (settings : Settings) (Said : Type 0) (tail front : List ℕ)
+    → BeginsSession opening settings (λ saved unfinished. Said) tail front → Said
+begins_kept opening settings Said tail front (inl (short, said)) = said
+begins_kept opening settings Said tail front (inr (inl (more, inl between, parted))) = between.kept
+begins_kept opening settings Said tail front (inr (inl (more, inr within, parted))) =
+    around_kept (report_text within.next.report) (saved_text settings.store within.next.report.positions)
+    (saved_cuts settings.store opening (within.next ∷ [])) Said within.more within.breaks_off
+begins_kept opening settings Said tail front (inr (inr later)) =
+    around_kept (callers_text later.reports.callers ++ report_text later.reports.last.report)
+    (saved_text settings.store later.reports.last.report.positions ++ tail)
+    (saved_cuts settings.store opening (later.reports.last ∷ [])) Said later.more later.breaks_off
+
 -- where less is said of any cuts
 pub begins_weaker : (opening : List ShardValue) (settings : Settings) (Kept Less : Saving) (tail front : List ℕ)
     → ((saved unfinished : List CutValue) → Kept saved unfinished → Less saved unfinished)

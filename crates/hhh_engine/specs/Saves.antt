@@ -2,7 +2,7 @@
 use Rattle.std.specs.Prelude.{ℕ, suc, ◌≡◌, ◌+◌, ◌≤◌, ◌⊎◌, List, [], ◌∷◌, ◌++◌, fold, length, map, slice_get}
 use Rattle.std.specs.Prelude.{Option, None, Some, IfSome, option_map, is_some, refl}
 use Rattle.std.proofs.Common.{arith}
-use Rattle.shard_state.specs.{AreNotPast, CutValue, ShardValue, capacity_of}
+use Rattle.shard_state.specs.{AreNotPast, CutRepresents, CutValue, ShardValue, capacity_of}
 use Rattle.gate_workers.specs.{IsLaterView, View}
 use Rattle.slot_disk.specs.{IfKnown, Leaves}
 use Rattle.checkpoint.specs.{AreSettings, Belongs, Opens, SavedValue, SaverState, StandsFor, after_save, digest_of_lists}
@@ -90,21 +90,14 @@ abbrev pub reopened_in : {D : Type 0} → (D → Option (List ℕ)) → (D → L
 reopened_in reads image_now old new settings lists saved unfinished =
     IfKnown (reads old) (StoreReopens (image_now new) settings (digest_of_lists settings lists) saved unfinished)
 
--- whatever a crash leaves of the store at any moment of a run, and afterwards, is a sound store that belongs to these lists
-pub record KeepsBelonging {D : Type 0} (image_now : D → List ℕ → Type 0) (moment : D → ℕ)
-    (image_since : D → ℕ → List ℕ → Type 0) (settings : StoreSettings) (lists : List (List RecordValue)) (old new : D)
-    : Type 0 where
+-- the saved cut that a session went on from, if any, represents these lists, and whatever a crash leaves of the store at any
+-- moment of the session, and after it, is a sound store that belongs to them
+pub record BelongsThroughout {D : Type 0} (image_now : D → List ℕ → Type 0) (moment : D → ℕ)
+    (image_since : D → ℕ → List ℕ → Type 0) (settings : StoreSettings) (lists : List (List RecordValue))
+    (base : Option CutValue) (old new : D) : Type 0 where
+  pub base_represents : IfSome base (λ cut. CutRepresents cut lists)
   pub any_moment : Leaves moment image_since old new (Belongs settings lists)
   pub afterwards : (image : List ℕ) → image_now new image → Belongs settings lists image
-
--- the store on a disk keeps belonging to the dealt lists in a run, where its bytes were known as the run began, if whatever
--- a crash could have left of it then belonged to them
-abbrev pub belonging_in : {D : Type 0} → (D → Option (List ℕ)) → (D → List ℕ → Type 0) → (D → ℕ)
-    → (D → ℕ → List ℕ → Type 0) → (old new : D) → StoreSettings → List (List RecordValue)
-    → (saved unfinished : List CutValue) → Type 0
-belonging_in reads image_now moment image_since old new settings lists saved unfinished =
-    IfKnown (reads old) (λ store. ((image : List ℕ) → image_now old image → Belongs settings lists image)
-    → KeepsBelonging image_now moment image_since settings lists old new)
 
 -- the disk reads as before, and a crash at any moment leaves what it could have left before
 pub record IsAsBefore {D : Type 0} (reads : D → Option (List ℕ)) (image_now : D → List ℕ → Type 0) (moment : D → ℕ)

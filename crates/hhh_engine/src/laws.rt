@@ -1,6 +1,6 @@
 //! Laws of what commands write, each the contract of a function that does nothing.
 
-ghost use Rattle.std.specs.Prelude.{◌≡◌, ℕ, ◌+◌, ◌*◌, ◌++◌, ◌≤◌, true, List, length, All, Option, IfSome, IsSomeAnd};
+ghost use Rattle.std.specs.Prelude.{◌≡◌, ℕ, ◌+◌, ◌*◌, ◌++◌, ◌≤◌, true, List, length, All, Option, Some, None, IfSome, IsSomeAnd};
 ghost use Rattle.prefix_lattice.specs.{RecordValue};
 ghost use Rattle.deal_rules.specs.{dealer_of};
 ghost use Rattle.deal_rules.specs.declared.deal_kind.DealKind.{DealKind};
@@ -25,9 +25,10 @@ ghost use Rattle.report_text.specs.declared.mark.Mark.TheVariants.{Opened};
 ghost use Rattle.report_text.specs.declared.session.Session.{Session};
 ghost use Rattle.hhh_output.specs.declared.reports.Reported.{Reported};
 ghost use Rattle.shard_state.specs.{AreNotPast, AreShards, BasesRepresent, CutRepresents, ShardValue, capacity_of, lists_of, positions_of};
+ghost use Rattle.checkpoint.specs.declared.settings.StoreSettings.{StoreSettings};
 ghost use Rattle.checkpoint.specs.{Belongs, IsOfLists, Opens, SavedValue, digest_of_lists, opened_positions, opened_sequence};
 ghost use Rattle.hhh_engine.specs.Session.{AreDealtFrom, AreReportsOf, AreSessionReports, IsSession, IsSessionInPart, IsShown, SessionReports, by_formula, calling_reports, ends_of, last_positions, new_shards, part_text, reports_in, saved_cuts, session_saves, session_text, start_of};
-ghost use Rattle.hhh_engine.specs.Saves.{IsAsBefore, OpensAmong, belonging_in, kept_in, last_saved, reopened_in, store_settings};
+ghost use Rattle.hhh_engine.specs.Saves.{BelongsThroughout, IsAsBefore, OpensAmong, kept_in, last_saved, reopened_in, store_settings};
 
 use checkpoint::stores_open_to_one;
 use deal_rules::{Dealer, Dealers, Deals, a_formula_deals_in_one_way};
@@ -162,18 +163,23 @@ pub fn sessions_lose_no_save<D: Disk>()
 }
 
 /// Where each kind of dealing is a formula, the bytes of the disk were known as `report` began, and whatever a crash could
-/// have left of the store then belonged to the dealt lists: whatever one leaves of it at any moment of the session, or
-/// after it, is a sound store that belongs to them, whether the session was whole or broke off. So another run over the
-/// same records goes on from it. The settings have to be within their limits.
-pub fn stores_keep_belonging<D: Disk>()
-    ensures whole { (formula : DealKind → ℕ → RecordValue → ℕ → ℕ) (before now : D) (settings : Settings) (file text : List ℕ)
-        → AreLimited settings
-        → IsSession settings (by_formula formula) (kept_in D.reads D.image_now D.moment D.image_since before now) (D.reads before) file text
-        → IsSession settings (by_formula formula) (belonging_in D.reads D.image_now D.moment D.image_since before now) (D.reads before) file text }
-    ensures in_part { (formula : DealKind → ℕ → RecordValue → ℕ → ℕ) (before now : D) (settings : Settings) (file front : List ℕ)
-        → AreLimited settings
-        → IsSessionInPart settings (by_formula formula) (kept_in D.reads D.image_now D.moment D.image_since before now) (D.reads before) file front
-        → IsSessionInPart settings (by_formula formula) (belonging_in D.reads D.image_now D.moment D.image_since before now) (D.reads before) file front }
+/// have left of the store then belonged to the dealt lists: the saved cut that the session went on from represents them, so
+/// its reports are sound; and whatever a crash leaves of the store at any moment of the session, or after it, belongs to
+/// them, whether the session was whole or broke off. The settings have to be within their limits. A store with no gate open,
+/// such as one that was just formatted, belongs to any lists.
+pub fn stores_belong_throughout<D: Disk>()
+    ensures formatted { (settings : StoreSettings) (lists : List (List RecordValue)) (image : List ℕ) → Opens settings image None
+        → Belongs settings lists image }
+    ensures whole { (formula : DealKind → ℕ → RecordValue → ℕ → ℕ) (before now : D) (settings : Settings) (store file text : List ℕ)
+        (is : IsSession settings (by_formula formula) (kept_in D.reads D.image_now D.moment D.image_since before now) (D.reads before) file text)
+        → AreLimited settings → settings.store ≡ true → D.reads before ≡ Some store
+        → ((image : List ℕ) → D.image_now before image → Belongs (store_settings settings) is.lists image)
+        → BelongsThroughout D.image_now D.moment D.image_since (store_settings settings) is.lists is.base before now }
+    ensures in_part { (formula : DealKind → ℕ → RecordValue → ℕ → ℕ) (before now : D) (settings : Settings) (store file front : List ℕ)
+        (is : IsSessionInPart settings (by_formula formula) (kept_in D.reads D.image_now D.moment D.image_since before now) (D.reads before) file front)
+        → AreLimited settings → settings.store ≡ true → D.reads before ≡ Some store
+        → ((image : List ℕ) → D.image_now before image → Belongs (store_settings settings) is.lists image)
+        → BelongsThroughout D.image_now D.moment D.image_since (store_settings settings) is.lists is.base before now }
 {
     stores_open_to_one();
     reported_cuts_represent();
