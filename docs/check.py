@@ -8,7 +8,8 @@ In the promises of GUARANTEES.md and the README's table of crates each clause is
 each wrong body in must-fail/ of its crate, and each wrong body in must-fail/ in the documents. The rows of definitions
 are the comments of specs/: of what a crate's face passes on, and of what the promises cite. What the README says is
 proved of a crate is a sentence of GUARANTEES.md. No line of GUARANTEES.md is longer than 300 characters. A file takes
-definitions of another crate from its face alone, `Rattle.NAME.specs.{..}`, and its lemmas from two files. The manual
+definitions of another crate from its face alone, `Rattle.NAME.specs.{..}`, and its lemmas from two files. What a file
+of lemmas holds has in its name a word of the file's noun, and no two crates have such files of the same noun. The manual
 page hhh.1 shows what each command takes as `command_words` has it, and explains each command and option. A command line
 in OPERATORS.md has options of its command alone. Neither document names a command or an option that isn't there.
 """
@@ -182,6 +183,20 @@ def check_imports(crate):
                 faults.append(f"{path.relative_to(top)} names the inner file {folder}/{module} of {other}")
 
 
+def words(name):
+    """The words of a name, each without the endings of a plural."""
+    parts = re.findall(r"[A-Z]?[a-z]+", name)
+    return {re.sub(r"(?<=...)ies$", "y", re.sub(r"(?<=...)(?<!s)(?:e|es|s)$", "", part.lower())) for part in parts}
+
+
+def check_lemmas(crate):
+    """A name leads to its file of lemmas: it shares a word with the file's noun."""
+    for path in sorted((top / "crates" / crate / "proofs").glob("*Lemmas.antt")):
+        noun = path.stem.removesuffix("Lemmas")
+        for name in sorted(set(re.findall(r"(?m)^(?:(?:pub|abbrev|record|data|unfoldable) )*([A-Za-z]\S*) [:(]", path.read_text()))):
+            check(words(name) & words(noun), f"{name} has no word of its file {path.relative_to(top)}")
+
+
 def forms():
     """What each command takes: its positionals, its options, and those of them that are required."""
     text = (top / "crates" / "command_words" / "specs" / "Forms.antt").read_text()
@@ -258,8 +273,12 @@ for _, row in tables((top / "README.md").read_text()):
         check(claim[0].upper() + claim[1:] + "." in " ".join(guarantees.split()), f"GUARANTEES.md doesn't say what the README says of {crate}")
 check_manual(forms())
 check_operators(forms())
+files = sorted((top / "crates").glob("*/proofs/*Lemmas.antt"), key=lambda path: path.stem)
+for path, following in zip(files, files[1:]):
+    check(path.stem != following.stem, f"{path.relative_to(top)} and {following.relative_to(top)} have the same noun")
 for crate in crates:
     check_imports(crate)
+    check_lemmas(crate)
     for name in sorted(wrong_bodies(crate) - named.get(crate, set())):
         faults.append(f"no document names the wrong body {name} of {crate}")
 print("\n".join(faults) if faults else "each name fits")

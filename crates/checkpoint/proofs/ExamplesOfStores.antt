@@ -4,14 +4,14 @@ use Rattle.std.specs.Prelude.{slice_index}
 use Rattle.prefix_lattice.specs.{RecordValue}
 use Rattle.frame_records.specs.declared.weigh.Weigh.TheVariants.{Bytes}
 use Rattle.deal_rules.specs.declared.deal_kind.DealKind.TheVariants.{RoundRobin}
-use Rattle.shard_state.specs.{CutValue, empty_snapshot, no_entries}
+use Rattle.shard_state.specs.{CutValue, empty_snapshot, no_snapshot_entries}
 use Rattle.slot_disk.specs.{slots_of}
 use Rattle.checkpoint.specs.declared.settings.StoreSettings.{StoreSettings}
-use Rattle.checkpoint.specs.Settings.{header_bytes}
+use Rattle.checkpoint.specs.HeaderSettings.{header_of_settings}
 use Rattle.checkpoint.specs.Body.{SavedValue}
-use Rattle.checkpoint.specs.Store.{SlotHolds, StoreHolds, IsSoundStore, newest, newest_slot, IsNotNewest, Opens}
-use Rattle.checkpoint.specs.Store.{opened_positions, opened_sequence, IsOfLists, Belongs, OpenAlike, OldOrNew}
-use Rattle.checkpoint.specs.Saver.{SaverState, IsNewestOf, saver_of, IsKnownStore, StandsFor, after_save, next_saved}
+use Rattle.checkpoint.specs.Store.{StoreSlotHolds, StoreHolds, IsSoundStore, newest_in_store, newest_slot_in_store, IsNotNewestInStore, StoreOpensTo}
+use Rattle.checkpoint.specs.Store.{opened_store_positions, opened_store_sequence, IsStoreOfLists, StoreBelongs, StoresOpenAlike, StoreOpensOldOrNew}
+use Rattle.checkpoint.specs.Saver.{SaverState, IsNewestForSaver, saver_of, IsKnownToSaver, StandsForSaver, saver_after_save, next_saved}
 
 -- so many shards with tables of two entries
 abbrev settings : ℕ → StoreSettings
@@ -19,19 +19,19 @@ settings shards = record { shards = shards; capacity = 2; weigh = Bytes; deal = 
 
 -- a store of one shard with these gates and no body
 abbrev store : ℕ → ℕ → List ℕ
-store first second = first ∷ second ∷ header_bytes (settings 1)
+store first second = first ∷ second ∷ header_of_settings (settings 1)
 
 -- a cut of no record, and one of no record at position 9, which no test here looks into
 abbrev cut : CutValue
 cut = record { capacity = 2; shards = empty_snapshot 2 ∷ [] }
 
 abbrev later_cut : CutValue
-later_cut = record { capacity = 2; shards = record { capacity = 2; position = 9; tables = no_entries } ∷ [] }
+later_cut = record { capacity = 2; shards = record { capacity = 2; position = 9; tables = no_snapshot_entries } ∷ [] }
 
 abbrev saved : ℕ → SavedValue
 saved sequence = record { sequence = sequence; digest = []; cut = cut }
 
-pub closed_slot_holds_nothing : SlotHolds (settings 1) 1 (store 0 0) None
+pub closed_slot_holds_nothing : StoreSlotHolds (settings 1) 1 (store 0 0) None
 closed_slot_holds_nothing = refl
 
 pub formatted_store_holds_nothing : StoreHolds (settings 1) (store 0 0) None None
@@ -45,60 +45,60 @@ pub store_of_one_shard_is_none_of_two : IsSoundStore (settings 2) (store 0 0) �
 store_of_one_shard_is_none_of_two sound =
     let shards : 1 ≡ 2 = ap (λ (l : List ℕ). slice_index l 5) sound.2.header in omega (arith, shards)
 
-pub greater_sequence_is_newest : newest (Some (saved 1)) (Some (saved 2)) ≡ Some (saved 2)
+pub greater_sequence_is_newest : newest_in_store (Some (saved 1)) (Some (saved 2)) ≡ Some (saved 2)
 greater_sequence_is_newest = refl
 
-pub first_is_newest_of_equals : newest (Some (saved 2)) (Some (saved 2)) ≡ Some (saved 2)
+pub first_is_newest_of_equals : newest_in_store (Some (saved 2)) (Some (saved 2)) ≡ Some (saved 2)
 first_is_newest_of_equals = refl
 
-pub first_slot_is_newest_of_equals : newest_slot (Some (saved 2)) (Some (saved 2)) ≡ 0
+pub first_slot_is_newest_of_equals : newest_slot_in_store (Some (saved 2)) (Some (saved 2)) ≡ 0
 first_slot_is_newest_of_equals = refl
 
-pub second_slot_is_newest : newest_slot (Some (saved 1)) (Some (saved 2)) ≡ 1
+pub second_slot_is_newest : newest_slot_in_store (Some (saved 1)) (Some (saved 2)) ≡ 1
 second_slot_is_newest = refl
 
 -- so the first save goes to slot 0, and the second to slot 1
-pub first_save_may_go_to_slot_0 : IsNotNewest 0 None None
+pub first_save_may_go_to_slot_0 : IsNotNewestInStore 0 None None
 first_save_may_go_to_slot_0 = inl refl
 
-pub second_save_may_go_to_slot_1 : IsNotNewest 1 (Some (saved 1)) None
+pub second_save_may_go_to_slot_1 : IsNotNewestInStore 1 (Some (saved 1)) None
 second_save_may_go_to_slot_1 = inl refl
 
-pub newest_may_not_be_written : IsNotNewest 0 (Some (saved 1)) None → ⊥
+pub newest_may_not_be_written : IsNotNewestInStore 0 (Some (saved 1)) None → ⊥
 newest_may_not_be_written (inl same) = cc same
 newest_may_not_be_written (inr none) = cc none
 
-pub formatted_store_opens_to_nothing : Opens (settings 1) (store 0 0) None
+pub formatted_store_opens_to_nothing : StoreOpensTo (settings 1) (store 0 0) None
 formatted_store_opens_to_nothing = (None, None, formatted_store_holds_nothing, refl)
 
-pub nothing_opens_at_0 : opened_positions (settings 2) None ≡ 0 ∷ 0 ∷ []
+pub nothing_opens_at_0 : opened_store_positions (settings 2) None ≡ 0 ∷ 0 ∷ []
 nothing_opens_at_0 = refl
 
-pub cut_opens_at_its_positions : opened_positions (settings 1) (Some (record { sequence = 1; digest = []; cut = later_cut })) ≡ 9 ∷ []
+pub cut_opens_at_its_positions : opened_store_positions (settings 1) (Some (record { sequence = 1; digest = []; cut = later_cut })) ≡ 9 ∷ []
 cut_opens_at_its_positions = refl
 
-pub no_sequence_is_0 : opened_sequence None ≡ 0
+pub no_sequence_is_0 : opened_store_sequence None ≡ 0
 no_sequence_is_0 = refl
 
-pub nothing_is_of_any_lists : (lists : List (List RecordValue)) → IsOfLists (settings 1) lists None
+pub nothing_is_of_any_lists : (lists : List (List RecordValue)) → IsStoreOfLists (settings 1) lists None
 nothing_is_of_any_lists lists = tt
 
-pub formatted_store_belongs : (lists : List (List RecordValue)) → Belongs (settings 1) lists (store 0 0)
+pub formatted_store_belongs : (lists : List (List RecordValue)) → StoreBelongs (settings 1) lists (store 0 0)
 formatted_store_belongs lists = (None, formatted_store_opens_to_nothing, tt)
 
 -- a gate that a crash left as 255 is closed
-pub torn_gate_opens_alike : OpenAlike (settings 1) (store 0 0) (store 255 0)
+pub torn_gate_opens_alike : StoresOpenAlike (settings 1) (store 0 0) (store 255 0)
 torn_gate_opens_alike = (
   None,
   formatted_store_opens_to_nothing,
   (None, None, record { long = omega arith; header = refl; first_slot = refl; second_slot = refl }, refl),
 )
 
-pub torn_gate_leaves_the_old : OldOrNew (settings 1) (store 0 0) (saved 1) (store 255 0)
+pub torn_gate_leaves_the_old : StoreOpensOldOrNew (settings 1) (store 0 0) (saved 1) (store 255 0)
 torn_gate_leaves_the_old = inl torn_gate_opens_alike
 
 -- the saver of that store, before its first save and after it
-pub no_gate_is_open : IsNewestOf (settings 1) (slots_of (store 0 0)) None
+pub no_gate_is_open : IsNewestForSaver (settings 1) (slots_of (store 0 0)) None
 no_gate_is_open = (refl, refl)
 
 abbrev saver : SaverState
@@ -107,7 +107,7 @@ saver = saver_of (slots_of (store 0 0)) (settings 1) [] None
 pub saver_begins_at_0 : saver.positions ≡ 0 ∷ []
 saver_begins_at_0 = refl
 
-pub saver_knows_the_store : IsKnownStore saver (store 0 0)
+pub saver_knows_the_store : IsKnownToSaver saver (store 0 0)
 saver_knows_the_store = record {
   slots_are = refl;
   first = None;
@@ -118,16 +118,16 @@ saver_knows_the_store = record {
   positions_are = refl;
 }
 
-pub disk_stands_for_the_saver : StandsFor (Some (store 0 0)) (λ image. image ≡ store 0 0) saver
+pub disk_stands_for_the_saver : StandsForSaver (Some (store 0 0)) (λ image. image ≡ store 0 0) saver
 disk_stands_for_the_saver bytes is =
     let same : store 0 0 ≡ bytes = cc is in
-    record { is_known = subst (IsKnownStore saver) same saver_knows_the_store; only = λ image was. was ∙ same }
+    record { is_known = subst (IsKnownToSaver saver) same saver_knows_the_store; only = λ image was. was ∙ same }
 
 pub first_save_has_sequence_1 : (next_saved saver cut).sequence ≡ 1
 first_save_has_sequence_1 = refl
 
-pub first_save_opens_gate_0 : (after_save saver later_cut).slots ≡ slots_of (store 1 0)
+pub first_save_opens_gate_0 : (saver_after_save saver later_cut).slots ≡ slots_of (store 1 0)
 first_save_opens_gate_0 = refl
 
-pub saver_goes_on_at_the_cut : (after_save saver later_cut).positions ≡ 9 ∷ []
+pub saver_goes_on_at_the_cut : (saver_after_save saver later_cut).positions ≡ 9 ∷ []
 saver_goes_on_at_the_cut = refl

@@ -1,27 +1,27 @@
 -- A saver, and the store that it knows.
 use Rattle.std.proofs.Common.{◌≡◌, ℕ, zero, suc, ◌+◌, ◌<◌, List, Bool, false, None, Some, refl, sym, ap, subst, ◌∙◌, inl, arith, length}
-use Rattle.shard_state.specs.{CutValue, HasShape}
-use Rattle.slot_disk.specs.{IsPut, IsReady, IsStore, Leaves, Leaves-weaker, MayLeave, SlotsState, closed_slots, other, with_open}
+use Rattle.shard_state.specs.{CutValue, HasCoreShape}
+use Rattle.slot_disk.specs.{IsPut, IsReadyForPut, IsStoreOfSlots, Leaves, Leaves-weaker, PutMayLeave, SlotsState, closed_slots, other_slot_of_put, with_open_slot}
 use Rattle.checkpoint.specs.declared.settings.StoreSettings.{StoreSettings}
-use Rattle.checkpoint.specs.Settings.{header_bytes, span_of}
+use Rattle.checkpoint.specs.HeaderSettings.{header_of_settings, span_of_settings}
 use Rattle.checkpoint.specs.Body.{SavedValue, IsBody}
-use Rattle.checkpoint.specs.Store.{OldOrNew, Opens, newest, opened_positions, opened_sequence}
-use Rattle.checkpoint.specs.Saver.{SaverState, IsStoreFor, after_save, next_saved, saver_of}
-use Rattle.checkpoint.proofs.StoreLemmas.{puts_open_old_or_new, puts_open_the_new, put_holds_new, stores_are_ready}
+use Rattle.checkpoint.specs.Store.{StoreOpensOldOrNew, StoreOpensTo, newest_in_store, opened_store_positions, opened_store_sequence}
+use Rattle.checkpoint.specs.Saver.{SaverState, IsSafeForSaver, saver_after_save, next_saved, saver_of}
+use Rattle.checkpoint.proofs.StoreLemmas.{stores_open_old_or_new, stores_open_the_new, store_holds_new_body, stores_are_ready}
 use Rattle.checkpoint.proofs.StoreLemmas.{closed_store_holds}
 
 -- the other slot is one of two
-pub other_is_small : (slot : ℕ) → other slot < 2
-other_is_small zero = omega arith
-other_is_small (suc slot) = omega arith
+pub saver_slot_is_small : (slot : ℕ) → other_slot_of_put slot < 2
+saver_slot_is_small zero = omega arith
+saver_slot_is_small (suc slot) = omega arith
 
 -- the body that was made for the next save
-pub next_body : (saver : SaverState) (cut : CutValue) (sequence : ℕ) (digest bytes body : List ℕ)
-    → sequence ≡ saver.sequence → digest ≡ saver.digest → HasShape saver.settings.shards saver.settings.capacity cut
+pub saver_makes_next_body : (saver : SaverState) (cut : CutValue) (sequence : ℕ) (digest bytes body : List ℕ)
+    → sequence ≡ saver.sequence → digest ≡ saver.digest → HasCoreShape saver.settings.shards saver.settings.capacity cut
     → bytes ≡ body
     → IsBody (length cut.shards) cut.capacity (record { sequence = sequence + 1; digest = digest; cut = cut }) body
     → IsBody saver.settings.shards saver.settings.capacity (next_saved saver cut) bytes
-next_body saver cut sequence digest bytes body same_sequence same_digest shape same is =
+saver_makes_next_body saver cut sequence digest bytes body same_sequence same_digest shape same is =
     let counted = subst (λ (n : ℕ). IsBody (length cut.shards) cut.capacity (record { sequence = n + 1; digest = digest; cut = cut }) body)
     same_sequence is in
     let digested = subst (λ (d : List ℕ). IsBody (length cut.shards) cut.capacity (record { sequence = saver.sequence + 1; digest = d; cut = cut }) body)
@@ -30,94 +30,94 @@ next_body saver cut sequence digest bytes body same_sequence same_digest shape s
     let alike = subst (λ (n : ℕ). IsBody saver.settings.shards n (next_saved saver cut) body) shape.alike shaped in
     subst (IsBody saver.settings.shards saver.settings.capacity (next_saved saver cut)) (sym same) alike
 
-pub saver_stands : (saver : SaverState) (possible : List ℕ → Type 0) (old : List ℕ) → IsStoreFor saver possible old
-    → IsStore old possible saver.slots
+pub saver_stands : (saver : SaverState) (possible : List ℕ → Type 0) (old : List ℕ) → IsSafeForSaver saver possible old
+    → IsStoreOfSlots old possible saver.slots
 saver_stands saver possible old stands =
     record { long = stands.is_known.holds.long; slots_are = stands.is_known.slots_are; only = stands.only }
 
-module _ (saver : SaverState) (possible : List ℕ → Type 0) (old : List ℕ) (stands : IsStoreFor saver possible old) (span slot : ℕ)
-    (is_span : span ≡ span_of saver.settings) (is_slot : slot ≡ other saver.newest_slot) where
-  pub saver_is_ready : IsReady span slot old
+module _ (saver : SaverState) (possible : List ℕ → Type 0) (old : List ℕ) (stands : IsSafeForSaver saver possible old) (span slot : ℕ)
+    (is_span : span ≡ span_of_settings saver.settings) (is_slot : slot ≡ other_slot_of_put saver.newest_slot) where
+  pub saver_is_ready : IsReadyForPut span slot old
   saver_is_ready =
       let known = stands.is_known in
-      let ready = stores_are_ready saver.settings (other saver.newest_slot) old known.first known.second
-      (other_is_small saver.newest_slot) known.holds (inl (ap other known.slot_is)) in
-      let spanned = subst (λ (n : ℕ). IsReady n (other saver.newest_slot) old) (sym is_span) ready in
-      subst (λ (n : ℕ). IsReady span n old) (sym is_slot) spanned
+      let ready = stores_are_ready saver.settings (other_slot_of_put saver.newest_slot) old known.first known.second
+      (saver_slot_is_small saver.newest_slot) known.holds (inl (ap other_slot_of_put known.slot_is)) in
+      let spanned = subst (λ (n : ℕ). IsReadyForPut n (other_slot_of_put saver.newest_slot) old) (sym is_span) ready in
+      subst (λ (n : ℕ). IsReadyForPut span n old) (sym is_slot) spanned
 
   module _ (cut : CutValue) (body : List ℕ)
       (is : IsBody saver.settings.shards saver.settings.capacity (next_saved saver cut) body) where
-    pub saver_may_leave : (image : List ℕ) → MayLeave span slot body old image → OldOrNew saver.settings old (next_saved saver cut) image
+    pub saver_may_leave : (image : List ℕ) → PutMayLeave span slot body old image → StoreOpensOldOrNew saver.settings old (next_saved saver cut) image
     saver_may_leave image may =
         let known = stands.is_known in
-        let spanned = subst (λ (n : ℕ). MayLeave n slot body old image) is_span may in
-        puts_open_old_or_new saver.settings (other saver.newest_slot) (next_saved saver cut) body old image known.first known.second
-        (other_is_small saver.newest_slot) known.holds (inl (ap other known.slot_is)) is (omega (arith, known.sequence_is))
-        (subst (λ (n : ℕ). MayLeave (span_of saver.settings) n body old image) is_slot spanned)
+        let spanned = subst (λ (n : ℕ). PutMayLeave n slot body old image) is_span may in
+        stores_open_old_or_new saver.settings (other_slot_of_put saver.newest_slot) (next_saved saver cut) body old image known.first known.second
+        (saver_slot_is_small saver.newest_slot) known.holds (inl (ap other_slot_of_put known.slot_is)) is (omega (arith, known.sequence_is))
+        (subst (λ (n : ℕ). PutMayLeave (span_of_settings saver.settings) n body old image) is_slot spanned)
 
     pub saver_leaves : {D : Type 0} (moment : D → ℕ) (image_since : D → ℕ → List ℕ → Type 0) (before after : D)
-        → Leaves moment image_since before after (MayLeave span slot body old)
-        → Leaves moment image_since before after (OldOrNew saver.settings old (next_saved saver cut))
+        → Leaves moment image_since before after (PutMayLeave span slot body old)
+        → Leaves moment image_since before after (StoreOpensOldOrNew saver.settings old (next_saved saver cut))
     saver_leaves moment image_since before after leaves =
-        Leaves-weaker moment image_since before after (MayLeave span slot body old) (OldOrNew saver.settings old (next_saved saver cut))
+        Leaves-weaker moment image_since before after (PutMayLeave span slot body old) (StoreOpensOldOrNew saver.settings old (next_saved saver cut))
         leaves saver_may_leave
 
     pub saver_stands_after : (possible_after : List ℕ → Type 0) (new : List ℕ) (slots : SlotsState) → IsPut span slot body old new
-        → IsStore new possible_after slots → slots ≡ with_open saver.slots slot → IsStoreFor (after_save saver cut) possible_after new
+        → IsStoreOfSlots new possible_after slots → slots ≡ with_open_slot saver.slots slot → IsSafeForSaver (saver_after_save saver cut) possible_after new
     saver_stands_after possible_after new slots put store is_open =
         let known = stands.is_known in
         let spanned = subst (λ (n : ℕ). IsPut n slot body old new) is_span put in
-        let put_there = subst (λ (n : ℕ). IsPut (span_of saver.settings) n body old new) is_slot spanned in
-        let holds = put_holds_new saver.settings (other saver.newest_slot) (next_saved saver cut) body old new known.first known.second
-        (other_is_small saver.newest_slot) known.holds (inl (ap other known.slot_is)) is (omega (arith, known.sequence_is)) put_there in
+        let put_there = subst (λ (n : ℕ). IsPut (span_of_settings saver.settings) n body old new) is_slot spanned in
+        let holds = store_holds_new_body saver.settings (other_slot_of_put saver.newest_slot) (next_saved saver cut) body old new known.first known.second
+        (saver_slot_is_small saver.newest_slot) known.holds (inl (ap other_slot_of_put known.slot_is)) is (omega (arith, known.sequence_is)) put_there in
         record {
           is_known = record {
-            slots_are = sym (is_open ∙ ap (λ (n : ℕ). with_open saver.slots n) is_slot) ∙ store.slots_are;
+            slots_are = sym (is_open ∙ ap (λ (n : ℕ). with_open_slot saver.slots n) is_slot) ∙ store.slots_are;
             first = holds.first;
             second = holds.second;
             holds = holds.holds;
             slot_is = sym holds.slot_is;
-            sequence_is = ap opened_sequence (sym holds.newest_is);
-            positions_are = ap (opened_positions saver.settings) (sym holds.newest_is);
+            sequence_is = ap opened_store_sequence (sym holds.newest_is);
+            positions_are = ap (opened_store_positions saver.settings) (sym holds.newest_is);
           };
           only = store.only;
         }
 
     pub saver_opens_after : (possible_after : List ℕ → Type 0) (new : List ℕ) (slots : SlotsState) → IsPut span slot body old new
-        → IsStore new possible_after slots → (image : List ℕ) → possible_after image
-        → Opens saver.settings image (Some (next_saved saver cut))
+        → IsStoreOfSlots new possible_after slots → (image : List ℕ) → possible_after image
+        → StoreOpensTo saver.settings image (Some (next_saved saver cut))
     saver_opens_after possible_after new slots put store image may =
         let known = stands.is_known in
         let spanned = subst (λ (n : ℕ). IsPut n slot body old new) is_span put in
-        let put_there = subst (λ (n : ℕ). IsPut (span_of saver.settings) n body old new) is_slot spanned in
-        subst (λ (bytes : List ℕ). Opens saver.settings bytes (Some (next_saved saver cut))) (sym (store.only image may))
-        (puts_open_the_new saver.settings (other saver.newest_slot) (next_saved saver cut) body old new known.first known.second
-        (other_is_small saver.newest_slot) known.holds (inl (ap other known.slot_is)) is (omega (arith, known.sequence_is)) put_there)
+        let put_there = subst (λ (n : ℕ). IsPut (span_of_settings saver.settings) n body old new) is_slot spanned in
+        subst (λ (bytes : List ℕ). StoreOpensTo saver.settings bytes (Some (next_saved saver cut))) (sym (store.only image may))
+        (stores_open_the_new saver.settings (other_slot_of_put saver.newest_slot) (next_saved saver cut) body old new known.first known.second
+        (saver_slot_is_small saver.newest_slot) known.holds (inl (ap other_slot_of_put known.slot_is)) is (omega (arith, known.sequence_is)) put_there)
 
 -- a crash before the first call of the disk
-pub saver_leaves_none : (saver : SaverState) (possible : List ℕ → Type 0) (old : List ℕ) (saved : SavedValue) → IsStoreFor saver possible old
-    → (image : List ℕ) → possible image → OldOrNew saver.settings old saved image
+pub saver_leaves_none : (saver : SaverState) (possible : List ℕ → Type 0) (old : List ℕ) (saved : SavedValue) → IsSafeForSaver saver possible old
+    → (image : List ℕ) → possible image → StoreOpensOldOrNew saver.settings old saved image
 saver_leaves_none saver possible old saved stands image may =
     let known = stands.is_known in
-    let opens : Opens saver.settings old (newest known.first known.second) = (known.first, known.second, known.holds, refl) in
+    let opens : StoreOpensTo saver.settings old (newest_in_store known.first known.second) = (known.first, known.second, known.holds, refl) in
     inl (
-      newest known.first known.second,
+      newest_in_store known.first known.second,
       opens,
-      subst (λ (bytes : List ℕ). Opens saver.settings bytes (newest known.first known.second)) (sym (stands.only image may)) opens,
+      subst (λ (bytes : List ℕ). StoreOpensTo saver.settings bytes (newest_in_store known.first known.second)) (sym (stands.only image may)) opens,
     )
 
 -- two closed gates and a header
-pub closed_by_parts : (slots : SlotsState) (header : List ℕ) → slots.first_open ≡ false → slots.second_open ≡ false
+pub saver_is_closed_by_parts : (slots : SlotsState) (header : List ℕ) → slots.first_open ≡ false → slots.second_open ≡ false
     → slots.header ≡ header → slots ≡ closed_slots header
-closed_by_parts slots header first second same =
+saver_is_closed_by_parts slots header first second same =
     ap (λ (b : Bool). let s : SlotsState = record slots { first_open = b } in s) first
     ∙ ap (λ (b : Bool). let s : SlotsState = record slots { first_open = false; second_open = b } in s) second
     ∙ ap closed_slots same
 
 -- a saver of a store with no gate open
 pub new_saver_stands : (settings : StoreSettings) (slots : SlotsState) (digest : List ℕ) (possible : List ℕ → Type 0) (bytes : List ℕ)
-    → slots ≡ closed_slots (header_bytes settings) → IsStore bytes possible slots
-    → IsStoreFor (saver_of slots settings digest None) possible bytes
+    → slots ≡ closed_slots (header_of_settings settings) → IsStoreOfSlots bytes possible slots
+    → IsSafeForSaver (saver_of slots settings digest None) possible bytes
 new_saver_stands settings slots digest possible bytes closed store = record {
   is_known = record {
     slots_are = store.slots_are;

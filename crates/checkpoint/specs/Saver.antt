@@ -1,11 +1,11 @@
 -- A saver: what is known of a store that cuts are saved to.
 use Rattle.std.specs.Prelude.{ℕ, ◌≡◌, ◌+◌, ◌<◌, true, false, List, Option, Some, None}
-use Rattle.shard_state.specs.{CutValue, positions_of}
-use Rattle.slot_disk.specs.{IfKnown, Only, SlotsState, known_open, other, slots_of, with_open}
+use Rattle.shard_state.specs.{CutValue, cut_positions}
+use Rattle.slot_disk.specs.{IfImageKnown, IsOnlyImage, SlotsState, known_slot_open, other_slot_of_put, slots_of, with_open_slot}
 use Rattle.checkpoint.specs.declared.settings.StoreSettings.{StoreSettings}
 use Rattle.checkpoint.specs.declared.newest.Newest.{Newest}
-use Rattle.checkpoint.specs.Body.{SavedValue, IsSaved, saved_value}
-use Rattle.checkpoint.specs.Store.{StoreHolds, newest, newest_slot, opened_positions, opened_sequence}
+use Rattle.checkpoint.specs.Body.{SavedValue, IsSavedBody, saved_value}
+use Rattle.checkpoint.specs.Store.{StoreHolds, newest_in_store, newest_slot_in_store, opened_store_positions, opened_store_sequence}
 
 -- the settings of the store, its gates and header, the digest that saves write, and of the newest slot its number (1
 -- where no gate is open), its sequence and its positions (0 where no gate is open)
@@ -19,13 +19,13 @@ pub record SaverState : Type 0 where
 
 -- what the body of the newest slot spells
 abbrev pub saved_in : Newest → SavedValue
-saved_in newest = saved_value newest.saved
+saved_in newest_in_store = saved_value newest_in_store.saved
 
 -- this is the newest slot of a store, as far as its gates show: it is open and may have been saved, or no gate is open
-abbrev pub IsNewestOf : StoreSettings → SlotsState → Option Newest → Type 0
-IsNewestOf settings slots None = (slots.first_open ≡ false) × (slots.second_open ≡ false)
-IsNewestOf settings slots (Some newest) = (newest.slot < 2) × (known_open slots newest.slot ≡ true)
-    × IsSaved settings.shards settings.capacity (saved_in newest)
+abbrev pub IsNewestForSaver : StoreSettings → SlotsState → Option Newest → Type 0
+IsNewestForSaver settings slots None = (slots.first_open ≡ false) × (slots.second_open ≡ false)
+IsNewestForSaver settings slots (Some newest_in_store) = (newest_in_store.slot < 2) × (known_slot_open slots newest_in_store.slot ≡ true)
+    × IsSavedBody settings.shards settings.capacity (saved_in newest_in_store)
 
 -- the saver of a store with these gates, this digest and this newest slot
 abbrev pub saver_of : SlotsState → StoreSettings → List ℕ → Option Newest → SaverState
@@ -35,45 +35,45 @@ saver_of slots settings digest None = record {
   digest = digest;
   newest_slot = 1;
   sequence = 0;
-  positions = opened_positions settings None;
+  positions = opened_store_positions settings None;
 }
-saver_of slots settings digest (Some newest) = record {
+saver_of slots settings digest (Some newest_in_store) = record {
   settings = settings;
   slots = slots;
   digest = digest;
-  newest_slot = newest.slot;
-  sequence = newest.saved.sequence;
-  positions = opened_positions settings (Some (saved_in newest));
+  newest_slot = newest_in_store.slot;
+  sequence = newest_in_store.saved.sequence;
+  positions = opened_store_positions settings (Some (saved_in newest_in_store));
 }
 
 -- the bytes are a sound store as the saver knows it: its gates, its header and its newest slot
-pub record IsKnownStore (saver : SaverState) (image : List ℕ) : Type 0 where
+pub record IsKnownToSaver (saver : SaverState) (image : List ℕ) : Type 0 where
   pub slots_are : saver.slots ≡ slots_of image
   pub first : Option SavedValue
   pub second : Option SavedValue
   pub holds : StoreHolds saver.settings image first second
-  pub slot_is : saver.newest_slot ≡ newest_slot first second
-  pub sequence_is : saver.sequence ≡ opened_sequence (newest first second)
-  pub positions_are : saver.positions ≡ opened_positions saver.settings (newest first second)
+  pub slot_is : saver.newest_slot ≡ newest_slot_in_store first second
+  pub sequence_is : saver.sequence ≡ opened_store_sequence (newest_in_store first second)
+  pub positions_are : saver.positions ≡ opened_store_positions saver.settings (newest_in_store first second)
 
 -- the bytes are such a store, and a crash leaves nothing else
-pub record IsStoreFor (saver : SaverState) (possible : List ℕ → Type 0) (bytes : List ℕ) : Type 0 where
-  pub is_known : IsKnownStore saver bytes
-  pub only : Only bytes possible
+pub record IsSafeForSaver (saver : SaverState) (possible : List ℕ → Type 0) (bytes : List ℕ) : Type 0 where
+  pub is_known : IsKnownToSaver saver bytes
+  pub only : IsOnlyImage bytes possible
 
 -- the disk stands as the saver knows it: what a read gives, where it is known, is such a store
-abbrev pub StandsFor : Option (List ℕ) → (List ℕ → Type 0) → SaverState → Type 0
-StandsFor reads possible saver = IfKnown reads (IsStoreFor saver possible)
+abbrev pub StandsForSaver : Option (List ℕ) → (List ℕ → Type 0) → SaverState → Type 0
+StandsForSaver reads possible saver = IfImageKnown reads (IsSafeForSaver saver possible)
 
 -- what the next save of a cut writes: the cut, under the next sequence and the saver's digest
 abbrev pub next_saved : SaverState → CutValue → SavedValue
 next_saved saver cut = record { sequence = saver.sequence + 1; digest = saver.digest; cut = cut }
 
 -- the saver after a save of a cut: it is in the slot that wasn't the newest
-abbrev pub after_save : SaverState → CutValue → SaverState
-after_save saver cut = record saver {
-  slots = with_open saver.slots (other saver.newest_slot);
-  newest_slot = other saver.newest_slot;
+abbrev pub saver_after_save : SaverState → CutValue → SaverState
+saver_after_save saver cut = record saver {
+  slots = with_open_slot saver.slots (other_slot_of_put saver.newest_slot);
+  newest_slot = other_slot_of_put saver.newest_slot;
   sequence = saver.sequence + 1;
-  positions = positions_of cut;
+  positions = cut_positions cut;
 }

@@ -4,9 +4,9 @@ ghost use Rattle.std.specs.Prelude.{◌≡◌, ◌+◌, ◌*◌, ◌<◌, ◌≤
 ghost use Rattle.std.specs.List.{flat_map};
 ghost use Rattle.prefix_lattice.specs.{most_shards};
 ghost use Rattle.shard_state.specs.{IsSnapshot};
-ghost use Rattle.checkpoint.specs.Settings.{body_span};
-ghost use Rattle.checkpoint.specs.Body.{entry_bytes, table_bytes, snapshot_bytes, HasShortKeys, KeysFit};
-ghost use Rattle.checkpoint.specs.Body.{IsBody, last_sequence};
+ghost use Rattle.checkpoint.specs.HeaderSettings.{body_span_by_header_settings};
+ghost use Rattle.checkpoint.specs.Body.{body_entry_bytes, body_table_bytes, body_snapshot_bytes, HasShortBodyKeys, BodyKeysFit};
+ghost use Rattle.checkpoint.specs.Body.{IsBody, last_body_sequence};
 
 use crate::lengths::{NODES, body_length};
 use crate::numbers::{push_count, push_number};
@@ -24,11 +24,11 @@ pub fn encode(
     cut: &Cut,
 ) -> Result<Vec<u8>, AllocError>
     requires sequenced { 1 ≤ sequence }
-    requires early { sequence ≤ last_sequence }
+    requires early { sequence ≤ last_body_sequence }
     requires few { length cut.now.shards ≤ most_shards }
     ensures body { IfOk result (λ body. IsBody (length cut.now.shards) cut.now.capacity
         (record { sequence = sequence; digest = digest.now; cut = cut.now }) body.items) }
-    ensures fits { IfOk result (λ body. length body.items ≤ body_span (length cut.now.shards) cut.now.capacity) }
+    ensures fits { IfOk result (λ body. length body.items ≤ body_span_by_header_settings (length cut.now.shards) cut.now.capacity) }
 {
     let length = body_length(cut);
     let mut body = Vec::with_capacity(alloc, length)?;
@@ -41,8 +41,8 @@ pub fn encode(
 
 // Appends the snapshots of the shards, in order.
 fn push_snapshots(out: &mut Vec<u8>, cut: &Cut) -> Result<(), AllocError>
-    ensures spelled { OnOk result (out.new.items ≡ out.old.items ++ flat_map snapshot_bytes cut.now.shards) }
-    ensures keys { OnOk result (All KeysFit cut.now.shards) }
+    ensures spelled { OnOk result (out.new.items ≡ out.old.items ++ flat_map body_snapshot_bytes cut.now.shards) }
+    ensures keys { OnOk result (All BodyKeysFit cut.now.shards) }
 {
     for shard in 0..cut.shards() {
         push_snapshot(out, cut.shard(shard))?;
@@ -52,8 +52,8 @@ fn push_snapshots(out: &mut Vec<u8>, cut: &Cut) -> Result<(), AllocError>
 
 // Appends the position and the tables of a shard.
 fn push_snapshot(out: &mut Vec<u8>, snapshot: &Snapshot) -> Result<(), AllocError>
-    ensures spelled { OnOk result (out.new.items ≡ out.old.items ++ snapshot_bytes snapshot.now) }
-    ensures keys { OnOk result (KeysFit snapshot.now) }
+    ensures spelled { OnOk result (out.new.items ≡ out.old.items ++ body_snapshot_bytes snapshot.now) }
+    ensures keys { OnOk result (BodyKeysFit snapshot.now) }
 {
     push_number(out, snapshot.position())?;
     push_tables(out, snapshot)
@@ -62,8 +62,8 @@ fn push_snapshot(out: &mut Vec<u8>, snapshot: &Snapshot) -> Result<(), AllocErro
 // Appends the tables of a shard, in the order of their nodes' indexes.
 fn push_tables(out: &mut Vec<u8>, snapshot: &Snapshot) -> Result<(), AllocError>
     requires { IsSnapshot snapshot.now }
-    ensures spelled { OnOk result (out.new.items ≡ out.old.items ++ flat_map table_bytes snapshot.now.tables) }
-    ensures keys { OnOk result (KeysFit snapshot.now) }
+    ensures spelled { OnOk result (out.new.items ≡ out.old.items ++ flat_map body_table_bytes snapshot.now.tables) }
+    ensures keys { OnOk result (BodyKeysFit snapshot.now) }
 {
     for index in 0..NODES {
         let node = Node::from_index(index).unwrap();
@@ -74,8 +74,8 @@ fn push_tables(out: &mut Vec<u8>, snapshot: &Snapshot) -> Result<(), AllocError>
 
 // Appends the total of a table, the number of its entries, and the entries.
 fn push_table(out: &mut Vec<u8>, table: &Flat) -> Result<(), AllocError>
-    ensures spelled { OnOk result (out.new.items ≡ out.old.items ++ table_bytes table.now.entries) }
-    ensures keys { OnOk result (HasShortKeys table.now.entries) }
+    ensures spelled { OnOk result (out.new.items ≡ out.old.items ++ body_table_bytes table.now.entries) }
+    ensures keys { OnOk result (HasShortBodyKeys table.now.entries) }
 {
     let _capacity = table.capacity();
     push_number(out, table.total())?;
@@ -85,8 +85,8 @@ fn push_table(out: &mut Vec<u8>, table: &Flat) -> Result<(), AllocError>
 
 // Appends the entries of a table, in the order of rising counts.
 fn push_entries(out: &mut Vec<u8>, table: &Flat) -> Result<(), AllocError>
-    ensures spelled { OnOk result (out.new.items ≡ out.old.items ++ flat_map entry_bytes table.now.entries) }
-    ensures keys { OnOk result (HasShortKeys table.now.entries) }
+    ensures spelled { OnOk result (out.new.items ≡ out.old.items ++ flat_map body_entry_bytes table.now.entries) }
+    ensures keys { OnOk result (HasShortBodyKeys table.now.entries) }
 {
     for place in 0..table.len() {
         push_entry(out, table.entry(place))?;
@@ -96,7 +96,7 @@ fn push_entries(out: &mut Vec<u8>, table: &Flat) -> Result<(), AllocError>
 
 // Appends the key, the count and the error of an entry.
 fn push_entry(out: &mut Vec<u8>, entry: Entry) -> Result<(), AllocError>
-    ensures spelled { OnOk result (out.new.items ≡ out.old.items ++ entry_bytes entry) }
+    ensures spelled { OnOk result (out.new.items ≡ out.old.items ++ body_entry_bytes entry) }
     ensures key { entry.key < 2 ^ 64 }
 {
     push_number(out, entry.key)?;

@@ -4,7 +4,7 @@ ghost use Rattle.std.specs.Prelude.{◌≡◌, ◌+◌, ◌*◌, ◌≤◌, leng
 ghost use Rattle.std.specs.List.{flat_map};
 ghost use Rattle.prefix_lattice.specs.{most_shards};
 ghost use Rattle.shard_state.specs.{IsCut, IsSnapshot};
-ghost use Rattle.checkpoint.specs.Body.{table_bytes, snapshot_bytes};
+ghost use Rattle.checkpoint.specs.Body.{body_table_bytes, body_snapshot_bytes};
 
 use prefix_lattice::Node;
 use shard_state::{Cut, Snapshot};
@@ -16,7 +16,7 @@ pub(crate) const NODES: u8 = 25;
 /// How many bytes the body of a cut of at most 16 shards has.
 pub(crate) fn body_length(cut: &Cut) -> usize
     requires { length cut.now.shards ≤ most_shards }
-    ensures is { result ≡ 48 + length (flat_map snapshot_bytes cut.now.shards) }
+    ensures is { result ≡ 48 + length (flat_map body_snapshot_bytes cut.now.shards) }
     ensures kept { IsCut cut.now }
 {
     let mut length = 48;
@@ -28,7 +28,7 @@ pub(crate) fn body_length(cut: &Cut) -> usize
 
 fn snapshot_length(snapshot: &Snapshot) -> usize
     requires { IsSnapshot snapshot.now }
-    ensures is { result ≡ length (snapshot_bytes snapshot.now) }
+    ensures is { result ≡ length (body_snapshot_bytes snapshot.now) }
     ensures bounded { result ≤ 8 + 25 * 98316 }
 {
     let mut length = 8;
@@ -40,7 +40,7 @@ fn snapshot_length(snapshot: &Snapshot) -> usize
 }
 
 fn table_length(table: &Flat) -> usize
-    ensures is { result ≡ length (table_bytes table.now.entries) }
+    ensures is { result ≡ length (body_table_bytes table.now.entries) }
     ensures bounded { result ≤ 98316 }
 {
     let _capacity = table.capacity();

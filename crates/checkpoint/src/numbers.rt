@@ -1,13 +1,13 @@
 //! Numbers and digests in the bytes of a body.
 
 ghost use Rattle.std.specs.Prelude.{◌≡◌, ◌+◌, ◌≤◌, ◌++◌, length, OnOk};
-ghost use Rattle.checkpoint.specs.Numbers.{number_bytes};
+ghost use Rattle.checkpoint.specs.NumberBytes.{number_bytes};
 
 use byteorder::{BigEndian, ByteOrder};
 use std::alloc::AllocError;
 
 /// Appends a number in 8 bytes.
-#[tactic(auto, unfolding(crate::specs::Numbers::number_bytes))]
+#[tactic(auto, unfolding(crate::specs::NumberBytes::number_bytes))]
 pub(crate) fn push_number(out: &mut Vec<u8>, number: u64) -> Result<(), AllocError>
     ensures { OnOk result (out.new.items ≡ out.old.items ++ number_bytes 8 number) }
 {
@@ -17,7 +17,7 @@ pub(crate) fn push_number(out: &mut Vec<u8>, number: u64) -> Result<(), AllocErr
 }
 
 /// Appends a number in 4 bytes.
-#[tactic(auto, unfolding(crate::specs::Numbers::number_bytes))]
+#[tactic(auto, unfolding(crate::specs::NumberBytes::number_bytes))]
 pub(crate) fn push_count(out: &mut Vec<u8>, count: u32) -> Result<(), AllocError>
     ensures { OnOk result (out.new.items ≡ out.old.items ++ number_bytes 4 count) }
 {

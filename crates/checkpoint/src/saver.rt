@@ -1,13 +1,13 @@
 //! Saves cuts into a store.
 
 ghost use Rattle.std.specs.Prelude.{◌≡◌, ◌<◌, ◌≤◌, ℕ, List, Some, Err, replicate, is_some, IfOk, IsErrOf, OnOk};
-ghost use Rattle.outside_io.specs.{Rose};
-ghost use Rattle.shard_state.specs.{AreNotPast, HasShape, positions_of};
-ghost use Rattle.slot_disk.specs.{IfKnown, Leaves, other};
-ghost use Rattle.checkpoint.specs.Settings.{AreSettings, header_bytes};
-ghost use Rattle.checkpoint.specs.Body.{last_sequence};
-ghost use Rattle.checkpoint.specs.Store.{OldOrNew, Opens};
-ghost use Rattle.checkpoint.specs.Saver.{SaverState, StandsFor, IsNewestOf, after_save, next_saved, saver_of};
+ghost use Rattle.outside_io.specs.{FaultCountRose};
+ghost use Rattle.shard_state.specs.{AreCutPositionsNotPast, HasCoreShape, cut_positions};
+ghost use Rattle.slot_disk.specs.{IfImageKnown, Leaves, other_slot_of_put};
+ghost use Rattle.checkpoint.specs.HeaderSettings.{AreHeaderSettings, header_of_settings};
+ghost use Rattle.checkpoint.specs.Body.{last_body_sequence};
+ghost use Rattle.checkpoint.specs.Store.{StoreOpensOldOrNew, StoreOpensTo};
+ghost use Rattle.checkpoint.specs.Saver.{SaverState, StandsForSaver, IsNewestForSaver, saver_after_save, next_saved, saver_of};
 
 use crate::{Newest, SaveFault, StoreSettings, encode, span};
 use shard_state::{Cut, Positions};
@@ -29,7 +29,7 @@ pub struct Saver {
 
 impl Model for Saver {
     ghost use Rattle.std.specs.Prelude.{◌<◌};
-    ghost use Rattle.checkpoint.specs.Settings.{AreSettings};
+    ghost use Rattle.checkpoint.specs.HeaderSettings.{AreHeaderSettings};
     ghost use Rattle.checkpoint.specs.Saver.{SaverState};
 
     ghost Value = { SaverState };
@@ -43,7 +43,7 @@ impl Model for Saver {
       positions = s.positions;
     } };
 
-    ghost invariant = { λ s. AreSettings s.settings × (s.newest_slot < 2) };
+    ghost invariant = { λ s. AreHeaderSettings s.settings × (s.newest_slot < 2) };
 }
 
 impl Saver {
@@ -56,9 +56,9 @@ impl Saver {
         digest: [u8; 32],
         newest: &Option<Newest>,
     ) -> Result<Saver, AllocError>
-        requires settings { AreSettings settings }
-        requires header { slots.header ≡ header_bytes settings }
-        requires newest { IsNewestOf settings slots newest.now }
+        requires settings { AreHeaderSettings settings }
+        requires header { slots.header ≡ header_of_settings settings }
+        requires newest { IsNewestForSaver settings slots newest.now }
         ensures { IfOk result (λ saver. saver ≡ saver_of slots settings digest newest.now) }
     {
         match newest {
@@ -88,21 +88,21 @@ impl Saver {
     /// The memory for the body is taken before the first call of the disk: where there is none, the saver is handed back
     /// and the disk is unchanged. After `DiskFault` the store is opened again.
     pub fn save<D: Disk>(self, alloc: Global, disk: &mut D, cut: &Cut) -> Result<Saver, SaveFault>
-        requires early { self.sequence < last_sequence }
-        requires stands { StandsFor (D.reads disk.old) (D.image_now disk.old) self }
-        requires shape { HasShape self.settings.shards self.settings.capacity cut.now }
-        requires no_earlier { AreNotPast self.positions (positions_of cut.now) }
+        requires early { self.sequence < last_body_sequence }
+        requires stands { StandsForSaver (D.reads disk.old) (D.image_now disk.old) self }
+        requires shape { HasCoreShape self.settings.shards self.settings.capacity cut.now }
+        requires no_earlier { AreCutPositionsNotPast self.positions (cut_positions cut.now) }
         ensures known { is_some (D.reads disk.new) ≡ is_some (D.reads disk.old) }
-        ensures saved { IfOk result (λ saver. saver ≡ after_save self cut.now) }
-        ensures stands { IfOk result (λ saver. StandsFor (D.reads disk.new) (D.image_now disk.new) saver) }
-        ensures opens { OnOk result (IfKnown (D.reads disk.new) (λ _. (image : List ℕ) → D.image_now disk.new image
-            → Opens self.settings image (Some (next_saved self cut.now)))) }
-        ensures any_moment { IfKnown (D.reads disk.old)
-            (λ old. Leaves D.moment D.image_since disk.old disk.new (OldOrNew self.settings old (next_saved self cut.now))) }
+        ensures saved { IfOk result (λ saver. saver ≡ saver_after_save self cut.now) }
+        ensures stands { IfOk result (λ saver. StandsForSaver (D.reads disk.new) (D.image_now disk.new) saver) }
+        ensures opens { OnOk result (IfImageKnown (D.reads disk.new) (λ _. (image : List ℕ) → D.image_now disk.new image
+            → StoreOpensTo self.settings image (Some (next_saved self cut.now)))) }
+        ensures any_moment { IfImageKnown (D.reads disk.old)
+            (λ old. Leaves D.moment D.image_since disk.old disk.new (StoreOpensOldOrNew self.settings old (next_saved self cut.now))) }
         ensures handed_back { (saver : SaverState) → result ≡ Err (SaveFault.OutOfMemory saver) → saver ≡ self }
         ensures untouched { (saver : SaverState) → result ≡ Err (SaveFault.OutOfMemory saver) → disk.new ≡ disk.old }
         ensures later { D.faults disk.old ≤ D.faults disk.new }
-        ensures fault { IsErrOf result SaveFault.DiskFault → Rose (D.faults disk.old) (D.faults disk.new) }
+        ensures fault { IsErrOf result SaveFault.DiskFault → FaultCountRose (D.faults disk.old) (D.faults disk.new) }
         ensures no_fault { (IsErrOf result SaveFault.DiskFault → ⊥) → D.faults disk.new ≡ D.faults disk.old }
     {
         let Ok(body) = encode(alloc, self.sequence + 1, &self.digest, cut) else {
@@ -147,7 +147,7 @@ impl Saver {
 // The other of two slots.
 fn other_slot(slot: u8) -> u8
     requires { slot < 2 }
-    ensures { result ≡ other slot }
+    ensures { result ≡ other_slot_of_put slot }
 {
     1 - slot
 }

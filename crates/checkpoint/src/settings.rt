@@ -1,7 +1,7 @@
 //! The settings of a store.
 
 ghost use Rattle.std.specs.Prelude.{◌≡◌, ◌<◌, ◌^◌};
-ghost use Rattle.checkpoint.specs.Settings.{AreSettings, span_of};
+ghost use Rattle.checkpoint.specs.HeaderSettings.{AreHeaderSettings, span_of_settings};
 
 use deal_rules::DealKind;
 use frame_records::Weigh;
@@ -22,8 +22,8 @@ pub struct StoreSettings {
 /// The most bytes of a body under these settings, 1,556 to 39,326,576. It is also the distance of the two bodies of a
 /// store.
 pub fn span(settings: &StoreSettings) -> u64
-    requires { AreSettings settings.now }
-    ensures span { result ≡ span_of settings.now }
+    requires { AreHeaderSettings settings.now }
+    ensures span { result ≡ span_of_settings settings.now }
     ensures bounded { result < 2 ^ 32 }
 {
     let table = 12 + 24 * u64::from(settings.capacity);

@@ -1,7 +1,7 @@
 ghost use Rattle.std.specs.Prelude.{◌≡◌, ◌≤◌, ◌%◌, ◌^◌, [], ◌∷◌, length, IfOk};
-ghost use Rattle.deal_rules.specs.{IsAsked};
-ghost use Rattle.shard_state.specs.{positions_of};
-ghost use Rattle.checkpoint.specs.Saver.{StandsFor};
+ghost use Rattle.deal_rules.specs.{IsAskedOfRule};
+ghost use Rattle.shard_state.specs.{cut_positions};
+ghost use Rattle.checkpoint.specs.Saver.{StandsForSaver};
 
 use super::*;
 use deal_rules::{DealKind, Dealer, deal};
@@ -106,7 +106,7 @@ fn other_headers_are_refused(rt: HostRuntime) {
 }
 
 fn by_place(place: u64, rec: Record, shards: u32) -> u32
-    requires { IsAsked place rec shards }
+    requires { IsAskedOfRule place rec shards }
     ensures { result ≡ place % shards }
 {
     (place % u64::from(shards)) as u32
@@ -131,7 +131,7 @@ fn cut_of(alloc: Global, list: RecordList, capacity: u32) -> Result<Cut, AllocEr
     requires most { capacity ≤ 4096 }
     ensures shards { IfOk result (λ cut. length cut.shards ≡ 1) }
     ensures capacity { IfOk result (λ cut. cut.capacity ≡ capacity) }
-    ensures positions { IfOk result (λ cut. positions_of cut ≡ length list ∷ []) }
+    ensures positions { IfOk result (λ cut. cut_positions cut ≡ length list ∷ []) }
 {
     let mut shard = ShardState::start(alloc, list, capacity)?;
     shard.fold_block(u32::MAX);
@@ -281,7 +281,7 @@ fn disk_of(alloc: Global, bytes: Vec<u8>, fuse: Option<u64>) -> Result<MemoryDis
 
 // Makes a store, and a saver of it: calls 0 to 3 of the disk.
 fn make_store<D: Disk>(alloc: Global, disk: &mut D) -> Result<Saver, Fail>
-    ensures stands { IfOk result (λ saver. StandsFor (D.reads disk.new) (D.image_now disk.new) saver) }
+    ensures stands { IfOk result (λ saver. StandsForSaver (D.reads disk.new) (D.image_now disk.new) saver) }
     ensures settings { IfOk result (λ saver. saver.settings ≡ SMALLEST) }
     ensures sequence { IfOk result (λ saver. saver.sequence ≡ 0) }
     ensures positions { IfOk result (λ saver. saver.positions ≡ 0 ∷ []) }
@@ -314,7 +314,7 @@ fn packets(alloc: Global, count: usize) -> Result<RecordList, AllocError>
 
 // Saves a cut of one packet: calls 4 to 9 of the disk.
 fn save_first<D: Disk>(alloc: Global, disk: &mut D) -> Result<Saver, Fail>
-    ensures stands { IfOk result (λ saver. StandsFor (D.reads disk.new) (D.image_now disk.new) saver) }
+    ensures stands { IfOk result (λ saver. StandsForSaver (D.reads disk.new) (D.image_now disk.new) saver) }
     ensures settings { IfOk result (λ saver. saver.settings ≡ SMALLEST) }
     ensures sequence { IfOk result (λ saver. saver.sequence ≡ 1) }
     ensures positions { IfOk result (λ saver. saver.positions ≡ 1 ∷ []) }

@@ -3,47 +3,47 @@ use Rattle.std.proofs.Common.{◌≡◌, ◌≢◌, ℕ, List, [], ◌∷◌, So
 use Rattle.std.proofs.lemmas.List.Elements.{All-cons, All-nil}
 use Rattle.std.proofs.lemmas.List.Kept.{AllPairs-cons}
 use Rattle.std.specs.List.{All, AllPairs, Contains}
-use Rattle.command_words.specs.Arguments.{Text, Argument, positional, option, hyphen, equals_sign, IsValue, IsName}
-use Rattle.command_words.specs.Arguments.{long, Spells, Begins, SpellsAll, positionals_in, names_in, value_of, named}
-use Rattle.command_words.specs.Arguments.{Form}
-use Rattle.command_words.specs.Arguments.{AreOfForm, AreWellFormed}
-use Rattle.command_words.specs.Scanning.{form_named, option_name, text_at, FitsRest}
+use Rattle.command_words.specs.Arguments.{Text, Argument, positional, option, argument_hyphen, argument_equals_sign, IsArgumentValue, IsArgumentName}
+use Rattle.command_words.specs.Arguments.{long, SpellsArgument, BeginWithArgument, SpellAllArguments, positionals_in_arguments, names_in_arguments, argument_value_of, named_arguments}
+use Rattle.command_words.specs.Arguments.{ArgumentForm}
+use Rattle.command_words.specs.Arguments.{AreArgumentsOfForm, AreWellFormedArguments}
+use Rattle.command_words.specs.Scanning.{scanned_form, scanned_option_name, scanned_text_at, FitsScannedRest}
 use Rattle.command_words.specs.Forms.{form_of}
 use Rattle.command_words.specs.Words.{texts}
 use Rattle.command_words.specs.declared.command_word.CommandWord.TheVariants.{Weigh, Report}
-use Rattle.command_words.proofs.ElementLemmas.{among, not_among, apart, no_equals_sign_in}
+use Rattle.command_words.proofs.TextSearchLemmas.{text_search_finds_contained, text_search_finds_none, text_search_tells_apart, text_search_shows_name}
 
 -- the two signs that part words
 pub two_hyphens_before_a_name : long (codes "phi") ≡ codes "--phi"
 two_hyphens_before_a_name = refl
 
-pub hyphen_and_equals_sign : hyphen ∷ equals_sign ∷ [] ≡ codes "-="
+pub hyphen_and_equals_sign : argument_hyphen ∷ argument_equals_sign ∷ [] ≡ codes "-="
 hyphen_and_equals_sign = refl
 
 -- a path may be a value, `-` and no text may not
-pub path_is_a_value : IsValue (codes "a.pcap")
+pub path_is_a_value : IsArgumentValue (codes "a.pcap")
 path_is_a_value = λ same. omega (arith, same)
 
-pub hyphen_is_no_value : IsValue (codes "-") → ⊥
+pub hyphen_is_no_value : IsArgumentValue (codes "-") → ⊥
 hyphen_is_no_value value = value refl
 
-pub nothing_is_no_value : IsValue [] → ⊥
+pub nothing_is_no_value : IsArgumentValue [] → ⊥
 nothing_is_no_value value = value
 
 -- `a=b` is no name: `--a=b=c` is the option `a`
-pub capture_is_a_name : IsName (codes "capture")
-capture_is_a_name = no_equals_sign_in (codes "capture") refl
+pub capture_is_a_name : IsArgumentName (codes "capture")
+capture_is_a_name = text_search_shows_name (codes "capture") refl
 
-pub equals_sign_in_no_name : IsName (codes "a=b") → ⊥
+pub equals_sign_in_no_name : IsArgumentName (codes "a=b") → ⊥
 equals_sign_in_no_name name = name 1 0 (omega arith) refl
 
 -- the one word `--x=a=b` has the value `a=b`, behind its first `=`
-pub option_in_one_word : Spells (codes "--x=a=b" ∷ []) (option (codes "x") (codes "a=b"))
-option_in_one_word = (no_equals_sign_in (codes "x") refl, λ same. omega (arith, same), inr refl)
+pub option_in_one_word : SpellsArgument (codes "--x=a=b" ∷ []) (option (codes "x") (codes "a=b"))
+option_in_one_word = (text_search_shows_name (codes "x") refl, λ same. omega (arith, same), inr refl)
 
 -- the two words `--x` and `7`
-pub option_in_two_words : Spells (codes "--x" ∷ codes "7" ∷ []) (option (codes "x") (codes "7"))
-option_in_two_words = (no_equals_sign_in (codes "x") refl, λ same. omega (arith, same), inl refl)
+pub option_in_two_words : SpellsArgument (codes "--x" ∷ codes "7" ∷ []) (option (codes "x") (codes "7"))
+option_in_two_words = (text_search_shows_name (codes "x") refl, λ same. omega (arith, same), inl refl)
 
 -- what stands in `--weigh=packets 10.0.0.0/8 --capture a.pcap 20.0.0.0/8`
 abbrev pub words : List Text
@@ -55,28 +55,28 @@ arguments =
     ∷ option (codes "capture") (codes "a.pcap") ∷ positional (codes "20.0.0.0/8") ∷ []
 
 -- the option at the front is one word
-pub option_at_the_front : Begins words (option (codes "weigh") (codes "packets"))
+pub option_at_the_front : BeginWithArgument words (option (codes "weigh") (codes "packets"))
     (codes "10.0.0.0/8" ∷ codes "--capture" ∷ codes "a.pcap" ∷ codes "20.0.0.0/8" ∷ [])
 option_at_the_front = record {
   front = codes "--weigh=packets" ∷ [];
   parted = refl;
-  spelled = (no_equals_sign_in (codes "weigh") refl, λ same. omega (arith, same), inr refl);
+  spelled = (text_search_shows_name (codes "weigh") refl, λ same. omega (arith, same), inr refl);
 }
 
 -- the last three words are an option and a positional
-last_words : SpellsAll (codes "--capture" ∷ codes "a.pcap" ∷ codes "20.0.0.0/8" ∷ [])
+last_words : SpellAllArguments (codes "--capture" ∷ codes "a.pcap" ∷ codes "20.0.0.0/8" ∷ [])
     (option (codes "capture") (codes "a.pcap") ∷ positional (codes "20.0.0.0/8") ∷ [])
 last_words = (
   codes "20.0.0.0/8" ∷ [],
   record {
     front = codes "--capture" ∷ codes "a.pcap" ∷ [];
     parted = refl;
-    spelled = (no_equals_sign_in (codes "capture") refl, λ same. omega (arith, same), inl refl);
+    spelled = (text_search_shows_name (codes "capture") refl, λ same. omega (arith, same), inl refl);
   },
   ([], record { front = codes "20.0.0.0/8" ∷ []; parted = refl; spelled = (λ same. omega (arith, same), refl) }, refl),
 )
 
-pub words_spell_the_arguments : SpellsAll words arguments
+pub words_spell_the_arguments : SpellAllArguments words arguments
 words_spell_the_arguments = (
   codes "10.0.0.0/8" ∷ codes "--capture" ∷ codes "a.pcap" ∷ codes "20.0.0.0/8" ∷ [],
   option_at_the_front,
@@ -88,38 +88,38 @@ words_spell_the_arguments = (
 )
 
 -- no words spell no arguments
-pub nothing_spelled : SpellsAll [] []
+pub nothing_spelled : SpellAllArguments [] []
 nothing_spelled = refl
 
-pub positionals_of_the_words : positionals_in arguments ≡ codes "10.0.0.0/8" ∷ codes "20.0.0.0/8" ∷ []
+pub positionals_of_the_words : positionals_in_arguments arguments ≡ codes "10.0.0.0/8" ∷ codes "20.0.0.0/8" ∷ []
 positionals_of_the_words = refl
 
 -- among them the positionals are named SRC and DST
-pub sides_by_their_names : named (codes "SRC" ∷ codes "DST" ∷ []) arguments
+pub sides_by_their_names : named_arguments (codes "SRC" ∷ codes "DST" ∷ []) arguments
     ≡ option (codes "weigh") (codes "packets") ∷ option (codes "SRC") (codes "10.0.0.0/8")
     ∷ option (codes "capture") (codes "a.pcap") ∷ option (codes "DST") (codes "20.0.0.0/8") ∷ []
 sides_by_their_names = refl
 
-pub names_of_the_words : names_in arguments ≡ codes "weigh" ∷ codes "capture" ∷ []
+pub names_of_the_words : names_in_arguments arguments ≡ codes "weigh" ∷ codes "capture" ∷ []
 names_of_the_words = refl
 
-pub value_that_stands : value_of (codes "capture") arguments ≡ Some (codes "a.pcap")
+pub value_that_stands : argument_value_of (codes "capture") arguments ≡ Some (codes "a.pcap")
 value_that_stands = refl
 
-pub value_that_does_not_stand : value_of (codes "shards") arguments ≡ None
+pub value_that_does_not_stand : argument_value_of (codes "shards") arguments ≡ None
 value_that_does_not_stand = refl
 
-pub name_of_an_option : option_name (option (codes "capture") (codes "a.pcap")) ≡ Some (codes "capture")
+pub name_of_an_option : scanned_option_name (option (codes "capture") (codes "a.pcap")) ≡ Some (codes "capture")
 name_of_an_option = refl
 
-pub positional_has_no_name : option_name (positional (codes "20.0.0.0/8")) ≡ None
+pub positional_has_no_name : scanned_option_name (positional (codes "20.0.0.0/8")) ≡ None
 positional_has_no_name = refl
 
-pub text_behind_a_reference : (word : Bor Text) → text_at (Some word) ≡ Some word.now
+pub text_behind_a_reference : (word : Bor Text) → scanned_text_at (Some word) ≡ Some word.now
 text_behind_a_reference word = refl
 
 pub form_of_names : (name : Bor Text) (at : ℕ × ℕ)
-    → form_named (record {
+    → scanned_form (record {
       positionals = record { ref_ptr = at; now = [] };
       options = record { ref_ptr = at; now = name ∷ [] };
       required = record { ref_ptr = at; now = name ∷ [] };
@@ -130,46 +130,46 @@ pub texts_of_two_words : (word other : Bor Text) → texts (word ∷ other ∷ [
 texts_of_two_words word other = refl
 
 -- the options stand once each
-names_are_apart : AllPairs (λ name other. name ≢ other) (names_in arguments)
+names_are_apart : AllPairs (λ name other. name ≢ other) (names_in_arguments arguments)
 names_are_apart =
     AllPairs-cons (λ name other. name ≢ other) (codes "weigh") (codes "capture" ∷ [])
     (λ k d within.
-    All-cons (λ other. codes "weigh" ≢ other) (codes "capture") [] (apart (codes "weigh") (codes "capture") refl)
+    All-cons (λ other. codes "weigh" ≢ other) (codes "capture") [] (text_search_tells_apart (codes "weigh") (codes "capture") refl)
     (All-nil (λ other. codes "weigh" ≢ other)) k d within)
     (λ i j d before within. absurd (omega (arith, before, within)))
 
 -- `weigh` has two positionals, and options of these names
-abbrev form : Form
+abbrev form : ArgumentForm
 form = form_of Weigh
 
 capture_known : All (λ name. Contains form.options name) (codes "capture" ∷ [])
 capture_known =
     All-cons (λ name. Contains form.options name) (codes "capture") []
-    ((among form.options (codes "capture")).0 refl) (All-nil (λ name. Contains form.options name))
+    ((text_search_finds_contained form.options (codes "capture")).0 refl) (All-nil (λ name. Contains form.options name))
 
-pub arguments_of_weigh : AreOfForm form arguments
+pub arguments_of_weigh : AreArgumentsOfForm form arguments
 arguments_of_weigh = record {
   as_many = refl;
   known =
       All-cons (λ name. Contains form.options name) (codes "weigh") (codes "capture" ∷ [])
-      ((among form.options (codes "weigh")).0 refl) capture_known;
+      ((text_search_finds_contained form.options (codes "weigh")).0 refl) capture_known;
   once = names_are_apart;
-  complete = All-nil (λ name. Contains (names_in arguments) name);
+  complete = All-nil (λ name. Contains (names_in_arguments arguments) name);
 }
 
-pub words_of_weigh : AreWellFormed form words arguments
+pub words_of_weigh : AreWellFormedArguments form words arguments
 words_of_weigh = record { spelled = words_spell_the_arguments; of_form = arguments_of_weigh }
 
-pub not_the_arguments_of_report : AreOfForm (form_of Report) arguments → ⊥
+pub not_the_arguments_of_report : AreArgumentsOfForm (form_of Report) arguments → ⊥
 not_the_arguments_of_report of_form = omega (arith, of_form.as_many)
 
 -- `weigh` has no option `shards`
-pub option_of_report_alone : AreOfForm form
+pub option_of_report_alone : AreArgumentsOfForm form
     (positional (codes "x") ∷ positional (codes "y") ∷ option (codes "shards") (codes "1") ∷ []) → ⊥
-option_of_report_alone of_form = not_among form.options (codes "shards") refl (of_form.known 0 [] (omega arith))
+option_of_report_alone of_form = text_search_finds_none form.options (codes "shards") refl (of_form.known 0 [] (omega arith))
 
 -- behind the first two arguments one positional and `--capture` are left
-pub rest_of_the_words : FitsRest form 1 (codes "--capture" ∷ codes "a.pcap" ∷ codes "20.0.0.0/8" ∷ [])
+pub rest_of_the_words : FitsScannedRest form 1 (codes "--capture" ∷ codes "a.pcap" ∷ codes "20.0.0.0/8" ∷ [])
     (option (codes "capture") (codes "a.pcap") ∷ positional (codes "20.0.0.0/8") ∷ [])
 rest_of_the_words = record {
   spelled = last_words;

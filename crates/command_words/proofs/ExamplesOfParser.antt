@@ -4,14 +4,14 @@ use Rattle.clap.specs.Words.{found_of, first_value, new_rule}
 use Rattle.clap.specs.declared.parser.matches.ArgMatches.{ArgMatches}
 use Rattle.command_words.specs.Forms.{form_of}
 use Rattle.command_words.specs.Matches.{AreMatchesOf, AreMatchesOfWords, values_in_matches}
-use Rattle.command_words.specs.Parser.{option_rule, bare_parser, with_positionals, with_options, parser_for}
+use Rattle.command_words.specs.Parser.{parser_rule_for, bare_parser, parser_with_positionals, parser_with_options, parser_for}
 use Rattle.command_words.specs.declared.command_word.CommandWord.TheVariants.{Weigh}
 use Rattle.command_words.specs.declared.opt.Opt.TheVariants as opt
-use Rattle.command_words.proofs.ElementLemmas.{not_among}
+use Rattle.command_words.proofs.TextSearchLemmas.{text_search_finds_none}
 use Rattle.command_words.proofs.Examples.{arguments}
 use Rattle.command_words.proofs.ExamplesOfWords.{weigh_line, words_of_a_command}
 
-pub option_by_its_long_name : (option_rule (codes "phi")).long ≡ Some (codes "phi")
+pub option_by_its_long_name : (parser_rule_for (codes "phi")).long ≡ Some (codes "phi")
 option_by_its_long_name = refl
 
 -- no word stands for the program, and `--help` has no meaning
@@ -21,18 +21,18 @@ first_word_is_an_argument = refl
 pub no_help : (bare_parser (codes "report")).top.disable_help_flag ≡ true
 no_help = refl
 
-pub positionals_in_their_order : (with_positionals (bare_parser (codes "weigh"))
+pub positionals_in_their_order : (parser_with_positionals (bare_parser (codes "weigh"))
     (codes "SRC" ∷ codes "DST" ∷ [])).top.rules ≡ new_rule (codes "SRC") ∷ new_rule (codes "DST") ∷ []
 positionals_in_their_order = refl
 
-pub options_behind_what_stands : (with_options (bare_parser (codes "report")) (codes "phi" ∷ [])).top.rules
-    ≡ option_rule (codes "phi") ∷ []
+pub options_behind_what_stands : (parser_with_options (bare_parser (codes "report")) (codes "phi" ∷ [])).top.rules
+    ≡ parser_rule_for (codes "phi") ∷ []
 options_behind_what_stands = refl
 
 pub parser_of_weigh
     : (parser_for (codes "weigh") (form_of Weigh)).top.rules
-    ≡ new_rule (codes "SRC") ∷ new_rule (codes "DST") ∷ option_rule (codes "capture")
-    ∷ option_rule (codes "weigh") ∷ []
+    ≡ new_rule (codes "SRC") ∷ new_rule (codes "DST") ∷ parser_rule_for (codes "capture")
+    ∷ parser_rule_for (codes "weigh") ∷ []
 parser_of_weigh = refl
 
 -- what is found among `--weigh=packets 10.0.0.0/8 --capture a.pcap 20.0.0.0/8`
@@ -43,12 +43,12 @@ second_positional_is_told matches tells = tells.positionals 1 (codes "DST") refl
 pub capture_is_told : (matches : ArgMatches) → AreMatchesOf (form_of Weigh) arguments matches
     → first_value (found_of matches) (codes "capture") ≡ Some (codes "a.pcap")
 capture_is_told matches tells =
-    tells.options (codes "capture") (not_among (codes "SRC" ∷ codes "DST" ∷ []) (codes "capture") refl)
+    tells.options (codes "capture") (text_search_finds_none (codes "SRC" ∷ codes "DST" ∷ []) (codes "capture") refl)
 
 pub weighing_is_told : (matches : ArgMatches) → AreMatchesOf (form_of Weigh) arguments matches
     → values_in_matches matches opt.Weigh ≡ Some (codes "packets")
 weighing_is_told matches tells =
-    tells.options (codes "weigh") (not_among (codes "SRC" ∷ codes "DST" ∷ []) (codes "weigh") refl)
+    tells.options (codes "weigh") (text_search_finds_none (codes "SRC" ∷ codes "DST" ∷ []) (codes "weigh") refl)
 
 pub words_are_told : (matches : ArgMatches) → AreMatchesOf (form_of Weigh) arguments matches
     → AreMatchesOfWords weigh_line Weigh matches

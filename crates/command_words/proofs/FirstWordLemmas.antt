@@ -2,8 +2,8 @@
 use Rattle.std.proofs.Common.{◌≡◌, ◌≢◌, ◌↔◌, Bool, List, ◌∷◌, Bor, Err, Result, ap, ◌∙◌, subst}
 use Rattle.clap.specs.declared.parser.matches.ArgMatches.{ArgMatches}
 use Rattle.std.specs.Bool.{IsTrue}
-use Rattle.command_words.specs.Arguments.{Text, Argument, Form, AreWellFormed}
-use Rattle.command_words.specs.Forms.{word_of, form_of}
+use Rattle.command_words.specs.Arguments.{Text, Argument, ArgumentForm, AreWellFormedArguments}
+use Rattle.command_words.specs.Forms.{form_word_of, form_of}
 use Rattle.command_words.specs.Matches.{AreMatchesOf, AreMatchesOfWords}
 use Rattle.command_words.specs.Words.{texts, HasWordsFault}
 use Rattle.command_words.specs.declared.command_word.CommandWord.{CommandWord}
@@ -13,52 +13,52 @@ use Rattle.command_words.specs.declared.words_kind.WordsRefusal.{WordsRefusal}
 use Rattle.command_words.specs.declared.words_kind.WordsRefusal.TheVariants.{Bad}
 
 -- words that begin with a command's word
-begun_by : (words : List (Bor Text)) (first : Bor Text) (others : List (Bor Text)) (word : CommandWord)
-    → words ≡ first ∷ others → first.now ≡ word_of word
-    → texts words ≡ word_of word ∷ texts others
-begun_by words first others word are first_is = ap texts are ∙ ap (λ text. text ∷ texts others) first_is
+first_word_begins_texts : (words : List (Bor Text)) (first : Bor Text) (others : List (Bor Text)) (word : CommandWord)
+    → words ≡ first ∷ others → first.now ≡ form_word_of word
+    → texts words ≡ form_word_of word ∷ texts others
+first_word_begins_texts words first others word are first_is = ap texts are ∙ ap (λ text. text ∷ texts others) first_is
 
 -- a first word that is no command's is a fault
-pub unknown_first : (words : List (Bor Text)) (first : Bor Text) (others : List (Bor Text)) → words ≡ first ∷ others
-    → ((word : CommandWord) → first.now ≢ word_of word)
+pub unknown_first_word_is_fault : (words : List (Bor Text)) (first : Bor Text) (others : List (Bor Text)) → words ≡ first ∷ others
+    → ((word : CommandWord) → first.now ≢ form_word_of word)
     → HasWordsFault (texts words) UnknownCommand
-unknown_first words first others are no_command = (first.now, texts others, ap texts are, no_command)
+unknown_first_word_is_fault words first others are no_command = (first.now, texts others, ap texts are, no_command)
 
 -- what a test says of one form, it says of the same form
-pub of_same_form : (test : Bool) (form other : Form) (words : List Text) → form ≡ other
-    → (IsTrue test ↔ ((arguments : List Argument) × AreWellFormed form words arguments))
-    → IsTrue test ↔ ((arguments : List Argument) × AreWellFormed other words arguments)
-of_same_form test form other words same says =
-    subst (λ f. IsTrue test ↔ ((arguments : List Argument) × AreWellFormed f words arguments)) same says
+pub same_form_by_first_word : (test : Bool) (form other : ArgumentForm) (words : List Text) → form ≡ other
+    → (IsTrue test ↔ ((arguments : List Argument) × AreWellFormedArguments form words arguments))
+    → IsTrue test ↔ ((arguments : List Argument) × AreWellFormedArguments other words arguments)
+same_form_by_first_word test form other words same says =
+    subst (λ f. IsTrue test ↔ ((arguments : List Argument) × AreWellFormedArguments f words arguments)) same says
 
 -- words behind a command's word that are not well formed are a fault
-pub refused_behind : (words : List (Bor Text)) (first : Bor Text) (others : List (Bor Text)) (word : CommandWord)
-    → words ≡ first ∷ others → first.now ≡ word_of word
-    → ((arguments : List Argument) → AreWellFormed (form_of word) (texts others) arguments → ⊥)
+pub refused_behind_first_word : (words : List (Bor Text)) (first : Bor Text) (others : List (Bor Text)) (word : CommandWord)
+    → words ≡ first ∷ others → first.now ≡ form_word_of word
+    → ((arguments : List Argument) → AreWellFormedArguments (form_of word) (texts others) arguments → ⊥)
     → HasWordsFault (texts words) Refused
-refused_behind words first others word are first_is no_form =
-    (word, texts others, begun_by words first others word are first_is, no_form)
+refused_behind_first_word words first others word are first_is no_form =
+    (word, texts others, first_word_begins_texts words first others word are first_is, no_form)
 
 -- the matches of what stands behind a command's word tell the words
-pub tells_behind : (words : List (Bor Text)) (first : Bor Text) (others : List (Bor Text)) (word : CommandWord)
-    (matches : ArgMatches) → words ≡ first ∷ others → first.now ≡ word_of word
-    → (arguments : List Argument) × AreWellFormed (form_of word) (texts others) arguments
-    → ((arguments : List Argument) → AreWellFormed (form_of word) (texts others) arguments
+pub matches_behind_first_word : (words : List (Bor Text)) (first : Bor Text) (others : List (Bor Text)) (word : CommandWord)
+    (matches : ArgMatches) → words ≡ first ∷ others → first.now ≡ form_word_of word
+    → (arguments : List Argument) × AreWellFormedArguments (form_of word) (texts others) arguments
+    → ((arguments : List Argument) → AreWellFormedArguments (form_of word) (texts others) arguments
     → AreMatchesOf (form_of word) arguments matches) → AreMatchesOfWords (texts words) word matches
-tells_behind words first others word matches are first_is well tells = record {
+matches_behind_first_word words first others word matches are first_is well tells = record {
   arguments = well.0;
   are_words = record {
     behind = texts others;
-    begun = begun_by words first others word are first_is;
+    begun = first_word_begins_texts words first others word are first_is;
     well_formed = well.1;
   };
   told = tells well.0 well.1;
 }
 
 -- what is told as bad is the fault that was found
-pub told_as_bad : {T : Type 0} (words : List Text) (first kind : WordsKind) → HasWordsFault words first
+pub first_word_fault_is_told : {T : Type 0} (words : List Text) (first kind : WordsKind) → HasWordsFault words first
     → Path (Result T WordsRefusal) (Err (Bad first)) (Err (Bad kind)) → HasWordsFault words kind
-told_as_bad {T} words first kind has same = subst (λ k. HasWordsFault words k) (same_kind first kind same) has
+first_word_fault_is_told {T} words first kind has same = subst (λ k. HasWordsFault words k) (same_kind first kind same) has
   where
     same_kind : (first kind : WordsKind) → Path (Result T WordsRefusal) (Err (Bad first)) (Err (Bad kind))
         → first ≡ kind

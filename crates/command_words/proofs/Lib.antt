@@ -1,7 +1,7 @@
 pub mod OneReadingLemmas
 pub mod WordFrontLemmas
 pub mod ArgumentTailLemmas
-pub mod ElementLemmas
+pub mod TextSearchLemmas
 pub mod FormLemmas
 pub mod ParserRuleLemmas
 pub mod MatchRowLemmas

@@ -6,17 +6,17 @@ use Rattle.std.proofs.Math.Path.{fun_ext}
 use Rattle.std.specs.Prelude.{slice_get, Contains, IsSome, unwrap_or}
 use Rattle.clap.specs.Words.{found_of, first_value}
 use Rattle.clap.specs.declared.parser.matches.ArgMatches.{ArgMatches}
-use Rattle.command_words.specs.Arguments.{Text, Argument, Form, positionals_in, value_of}
-use Rattle.command_words.specs.Scanning.{text_at}
+use Rattle.command_words.specs.Arguments.{Text, Argument, ArgumentForm, positionals_in_arguments, argument_value_of}
+use Rattle.command_words.specs.Scanning.{scanned_text_at}
 use Rattle.command_words.specs.Forms.{form_of}
-use Rattle.command_words.specs.Options.{name_of}
-use Rattle.command_words.specs.Settings.{values_in, store_in, SetsNumber, SetsSettings, GivesNumber, GivesTraffic}
-use Rattle.command_words.specs.Settings.{IsWide}
-use Rattle.command_words.specs.OneValue.{SetsGiven}
+use Rattle.command_words.specs.Options.{option_name_of}
+use Rattle.command_words.specs.Settings.{setting_values_in, store_setting_in, SetsNumberSetting, SetsSettings, GivesNumberSetting, GivesTrafficSettings}
+use Rattle.command_words.specs.Settings.{AreWideSettings}
+use Rattle.command_words.specs.GivenValues.{SetsGiven}
 use Rattle.command_words.specs.Matches.{AreMatchesOf, AreMatchesOfWords, values_in_matches, store_in_matches}
-use Rattle.command_words.specs.Paths.{NamesPath}
-use Rattle.command_words.specs.Words.{AreGood, HasSides, HasGoodPositionals, HasValueFault, HasWordsFault}
-use Rattle.command_words.specs.Words.{AskToMake, AskToDemo, IsBounded}
+use Rattle.command_words.specs.NamedPaths.{NamesPath}
+use Rattle.command_words.specs.Words.{AreGoodValues, WordsHaveSides, WordsHaveGoodPositionals, HasValueFault, HasWordsFault}
+use Rattle.command_words.specs.Words.{WordsAskToMake, WordsAskToDemo, IsBoundedCommand}
 use Rattle.command_words.specs.declared.command_word.CommandWord.{CommandWord}
 use Rattle.command_words.specs.declared.command_word.CommandWord.TheVariants.{Weigh, Report, Format, Audit, Make, Demo}
 use Rattle.command_words.specs.declared.opt.Opt.{Opt}
@@ -27,77 +27,77 @@ use Rattle.command_words.specs.declared.words_kind.WordsKind.TheVariants.{BadNum
 use Rattle.command_words.specs.declared.opt.Opt.TheVariants as opt
 
 -- the byte that a name begins with: what a positional is for begins with a capital letter, which is at most 90
-abbrev pub first_byte : Text → ℕ
-first_byte [] = 0
-first_byte (first ∷ rest) = first
+abbrev pub match_name_first_byte : Text → ℕ
+match_name_first_byte [] = 0
+match_name_first_byte (first ∷ rest) = first
 
 -- a name that begins with a small letter is none of two that don't
-among_two : (one two name : Text) → 90 < first_byte name → Contains (one ∷ two ∷ []) name → first_byte one ≤ 90
-    → first_byte two ≤ 90 → ⊥
-among_two one two name small has large other = go has.0 has.1 has.2
+small_match_name_is_neither : (one two name : Text) → 90 < match_name_first_byte name → Contains (one ∷ two ∷ []) name → match_name_first_byte one ≤ 90
+    → match_name_first_byte two ≤ 90 → ⊥
+small_match_name_is_neither one two name small has large other = go has.0 has.1 has.2
   where
     go : (place : ℕ) → place < 2 → slice_index_or (one ∷ two ∷ []) place name ≡ name → ⊥
-    go zero below same = omega (arith, ap first_byte same, large, small)
-    go (suc zero) below same = omega (arith, ap first_byte same, other, small)
+    go zero below same = omega (arith, ap match_name_first_byte same, large, small)
+    go (suc zero) below same = omega (arith, ap match_name_first_byte same, other, small)
     go (suc (suc place)) below same = omega arith
 
 -- a name that begins with a small letter is not that of a positional
-no_positional : (word : CommandWord) (name : Text) → 90 < first_byte name → Contains (form_of word).positionals name → ⊥
-no_positional Weigh name small has = among_two (codes "SRC") (codes "DST") name small has (omega arith) (omega arith)
-no_positional Report name small has = omega (arith, has.1)
-no_positional Format name small has = omega (arith, has.1)
-no_positional Audit name small has = omega (arith, has.1)
-no_positional Make name small has = among_two (codes "SEED") (codes "FRAMES") name small has (omega arith) (omega arith)
-no_positional Demo name small has = among_two (codes "SEED") (codes "FRAMES") name small has (omega arith) (omega arith)
+match_name_is_no_positional : (word : CommandWord) (name : Text) → 90 < match_name_first_byte name → Contains (form_of word).positionals name → ⊥
+match_name_is_no_positional Weigh name small has = small_match_name_is_neither (codes "SRC") (codes "DST") name small has (omega arith) (omega arith)
+match_name_is_no_positional Report name small has = omega (arith, has.1)
+match_name_is_no_positional Format name small has = omega (arith, has.1)
+match_name_is_no_positional Audit name small has = omega (arith, has.1)
+match_name_is_no_positional Make name small has = small_match_name_is_neither (codes "SEED") (codes "FRAMES") name small has (omega arith) (omega arith)
+match_name_is_no_positional Demo name small has = small_match_name_is_neither (codes "SEED") (codes "FRAMES") name small has (omega arith) (omega arith)
 
 -- the values that are told are those of the arguments
-pub told_values : (word : CommandWord) (arguments : List Argument) (matches : ArgMatches)
-    → AreMatchesOf (form_of word) arguments matches → values_in_matches matches ≡ values_in word arguments
-told_values word arguments matches told = fun_ext (λ at. told.by_name (name_of at))
+pub matches_tell_values : (word : CommandWord) (arguments : List Argument) (matches : ArgMatches)
+    → AreMatchesOf (form_of word) arguments matches → values_in_matches matches ≡ setting_values_in word arguments
+matches_tell_values word arguments matches told = fun_ext (λ at. told.by_name (option_name_of at))
 
 -- if they are good, those of the arguments are
-pub told_good : (word : CommandWord) (arguments : List Argument) (matches : ArgMatches)
-    → AreMatchesOf (form_of word) arguments matches → AreGood (values_in_matches matches)
-    → AreGood (values_in word arguments)
-told_good word arguments matches told good =
-    subst (λ values. AreGood values) (told_values word arguments matches told) good
+pub matches_tell_good_values : (word : CommandWord) (arguments : List Argument) (matches : ArgMatches)
+    → AreMatchesOf (form_of word) arguments matches → AreGoodValues (values_in_matches matches)
+    → AreGoodValues (setting_values_in word arguments)
+matches_tell_good_values word arguments matches told good =
+    subst (λ values. AreGoodValues values) (matches_tell_values word arguments matches told) good
 
 -- what is told of a path is what the arguments give
-pub told_path : (word : CommandWord) (arguments : List Argument) (matches : ArgMatches) (name : Text)
-    → AreMatchesOf (form_of word) arguments matches → 90 < first_byte name
-    → first_value (found_of matches) name ≡ value_of name arguments
-told_path word arguments matches name told small = told.options name (no_positional word name small)
+pub matches_tell_path : (word : CommandWord) (arguments : List Argument) (matches : ArgMatches) (name : Text)
+    → AreMatchesOf (form_of word) arguments matches → 90 < match_name_first_byte name
+    → first_value (found_of matches) name ≡ argument_value_of name arguments
+matches_tell_path word arguments matches name told small = told.options name (match_name_is_no_positional word name small)
 
 -- the text that is told of a path is the one that the arguments name
-pub told_names_path : (word : CommandWord) (arguments : List Argument) (matches : ArgMatches)
-    (name default text : Text) → AreMatchesOf (form_of word) arguments matches → 90 < first_byte name
+pub matches_tell_named_path : (word : CommandWord) (arguments : List Argument) (matches : ArgMatches)
+    (name default text : Text) → AreMatchesOf (form_of word) arguments matches → 90 < match_name_first_byte name
     → (Contains (form_of word).options name → text ≡ unwrap_or (first_value (found_of matches) name) default)
     → ((Contains (form_of word).options name → ⊥) → text ≡ [])
     → NamesPath (form_of word) arguments name default text
-told_names_path word arguments matches name default text told small given absent = record {
-  given = λ has. given has ∙ ap (λ value. unwrap_or value default) (told_path word arguments matches name told small);
+matches_tell_named_path word arguments matches name default text told small given absent = record {
+  given = λ has. given has ∙ ap (λ value. unwrap_or value default) (matches_tell_path word arguments matches name told small);
   absent = absent;
 }
 
 -- settings that are told are those of the arguments
-pub told_settings : (word : CommandWord) (arguments : List Argument) (matches : ArgMatches) (settings : Settings)
+pub matches_tell_settings : (word : CommandWord) (arguments : List Argument) (matches : ArgMatches) (settings : Settings)
     → AreMatchesOf (form_of word) arguments matches
     → SetsSettings (values_in_matches matches) (store_in_matches matches) settings
-    → SetsSettings (values_in word arguments) (store_in arguments) settings
-told_settings word arguments matches settings told set =
-    subst (λ path. SetsSettings (values_in word arguments) path settings)
-    (told_path word arguments matches (codes "store") told (omega arith))
+    → SetsSettings (setting_values_in word arguments) (store_setting_in arguments) settings
+matches_tell_settings word arguments matches settings told set =
+    subst (λ path. SetsSettings (setting_values_in word arguments) path settings)
+    (matches_tell_path word arguments matches (codes "store") told (omega arith))
     (subst (λ values. SetsSettings values (store_in_matches matches) settings)
-    (told_values word arguments matches told) set)
+    (matches_tell_values word arguments matches told) set)
 
 -- a value that is bad among those that are told is what is wrong with the words
-pub told_fault : (words : List Text) (word : CommandWord) (matches : ArgMatches)
-    (tells : AreMatchesOfWords words word matches) (kind : WordsKind) → HasGoodPositionals word tells.arguments
+pub matches_tell_fault : (words : List Text) (word : CommandWord) (matches : ArgMatches)
+    (tells : AreMatchesOfWords words word matches) (kind : WordsKind) → WordsHaveGoodPositionals word tells.arguments
     → HasValueFault (values_in_matches matches) kind → HasWordsFault words kind
-told_fault words word matches tells kind good has =
-    go kind (subst (λ values. HasValueFault values kind) (told_values word tells.arguments matches tells.told) has)
+matches_tell_fault words word matches tells kind good has =
+    go kind (subst (λ values. HasValueFault values kind) (matches_tell_values word tells.arguments matches tells.told) has)
   where
-    go : (kind : WordsKind) → HasValueFault (values_in word tells.arguments) kind → HasWordsFault words kind
+    go : (kind : WordsKind) → HasValueFault (setting_values_in word tells.arguments) kind → HasWordsFault words kind
     go (BadNumber at) fault = record {
       command = word;
       arguments = tells.arguments;
@@ -122,39 +122,39 @@ told_fault words word matches tells kind good has =
     go _ fault = absurd fault
 
 -- settings that are told to be too narrow are what is wrong with the words
-pub told_narrow : (words : List Text) (word : CommandWord) (matches : ArgMatches)
-    (tells : AreMatchesOfWords words word matches) (settings : Settings) (kind : WordsKind) → IsBounded word
-    → AreGood (values_in_matches matches)
+pub matches_tell_narrow_settings : (words : List Text) (word : CommandWord) (matches : ArgMatches)
+    (tells : AreMatchesOfWords words word matches) (settings : Settings) (kind : WordsKind) → IsBoundedCommand word
+    → AreGoodValues (values_in_matches matches)
     → SetsSettings (values_in_matches matches) (store_in_matches matches) settings
-    → kind ≡ Bound → (IsWide settings → ⊥) → HasWordsFault words kind
-told_narrow words word matches tells settings kind bounded good set is narrow =
+    → kind ≡ Bound → (AreWideSettings settings → ⊥) → HasWordsFault words kind
+matches_tell_narrow_settings words word matches tells settings kind bounded good set is narrow =
     subst (λ k. HasWordsFault words k) (sym is) record {
       command = word;
       bounded = bounded;
       arguments = tells.arguments;
       are_words = tells.are_words;
-      good = told_good word tells.arguments matches tells.told good;
+      good = matches_tell_good_values word tells.arguments matches tells.told good;
       settings = settings;
-      set = told_settings word tells.arguments matches settings tells.told set;
+      set = matches_tell_settings word tells.arguments matches settings tells.told set;
       narrow = narrow;
     }
 
 -- two positionals, and that they are told by their names
-pub record TellsTwo (arguments : List Argument) (matches : ArgMatches) (one two : Text) : Type 0 where
+pub record MatchesTellTwo (arguments : List Argument) (matches : ArgMatches) (one two : Text) : Type 0 where
   pub first : Text
   pub second : Text
-  pub are : positionals_in arguments ≡ first ∷ second ∷ []
+  pub are : positionals_in_arguments arguments ≡ first ∷ second ∷ []
   pub first_told : first_value (found_of matches) one ≡ Some first
   pub second_told : first_value (found_of matches) two ≡ Some second
 
 -- the positionals of a form that has two are told
-told_two : (form : Form) (arguments : List Argument) (matches : ArgMatches) (one two : Text)
-    → form.positionals ≡ one ∷ two ∷ [] → length (positionals_in arguments) ≡ 2
-    → AreMatchesOf form arguments matches → TellsTwo arguments matches one two
-told_two form arguments matches one two has many told = go (positionals_in arguments) refl many
+matches_tell_two_positionals : (form : ArgumentForm) (arguments : List Argument) (matches : ArgMatches) (one two : Text)
+    → form.positionals ≡ one ∷ two ∷ [] → length (positionals_in_arguments arguments) ≡ 2
+    → AreMatchesOf form arguments matches → MatchesTellTwo arguments matches one two
+matches_tell_two_positionals form arguments matches one two has many told = go (positionals_in_arguments arguments) refl many
   where
-    go : (texts : List Text) → positionals_in arguments ≡ texts → length texts ≡ 2
-        → TellsTwo arguments matches one two
+    go : (texts : List Text) → positionals_in_arguments arguments ≡ texts → length texts ≡ 2
+        → MatchesTellTwo arguments matches one two
     go [] are many = absurd (omega arith)
     go (first ∷ []) are many = absurd (omega arith)
     go (first ∷ second ∷ []) are many = record {
@@ -167,81 +167,81 @@ told_two form arguments matches one two has many told = go (positionals_in argum
     go (first ∷ second ∷ other ∷ more) are many = absurd (omega arith)
 
 -- both sides of `weigh` are told
-pub told_sides : (arguments : List Argument) (matches : ArgMatches) → length (positionals_in arguments) ≡ 2
-    → AreMatchesOf (form_of Weigh) arguments matches → TellsTwo arguments matches (codes "SRC") (codes "DST")
-told_sides arguments matches two told =
-    told_two (form_of Weigh) arguments matches (codes "SRC") (codes "DST") refl two told
+pub matches_tell_sides : (arguments : List Argument) (matches : ArgMatches) → length (positionals_in_arguments arguments) ≡ 2
+    → AreMatchesOf (form_of Weigh) arguments matches → MatchesTellTwo arguments matches (codes "SRC") (codes "DST")
+matches_tell_sides arguments matches two told =
+    matches_tell_two_positionals (form_of Weigh) arguments matches (codes "SRC") (codes "DST") refl two told
 
 -- a number that is set by a text is given
-set_is_given : (at : Opt) (default : ℕ) (told : Option Text) (text : Text) (value : ℕ) → told ≡ Some text
-    → SetsNumber at default told value → GivesNumber at told value
-set_is_given at default None text value is set = cc
-set_is_given at default (Some other) text value is set = set
+match_sets_given_number : (at : Opt) (default : ℕ) (told : Option Text) (text : Text) (value : ℕ) → told ≡ Some text
+    → SetsNumberSetting at default told value → GivesNumberSetting at told value
+match_sets_given_number at default None text value is set = cc
+match_sets_given_number at default (Some other) text value is set = set
 
 -- what is told of made traffic is what the arguments give
-told_traffic : (word : CommandWord) (arguments : List Argument) (matches : ArgMatches) (given : Given)
-    → (form_of word).positionals ≡ codes "SEED" ∷ codes "FRAMES" ∷ [] → length (positionals_in arguments) ≡ 2
+matches_tell_traffic : (word : CommandWord) (arguments : List Argument) (matches : ArgMatches) (given : Given)
+    → (form_of word).positionals ≡ codes "SEED" ∷ codes "FRAMES" ∷ [] → length (positionals_in_arguments arguments) ≡ 2
     → AreMatchesOf (form_of word) arguments matches
     → SetsGiven (values_in_matches matches) (store_in_matches matches) given
-    → GivesTraffic (values_in word arguments) given.seed given.frames
-told_traffic word arguments matches given has many told sets =
-    let two = told_two (form_of word) arguments matches (codes "SEED") (codes "FRAMES") has many told in
-    subst (λ values. GivesTraffic values given.seed given.frames) (told_values word arguments matches told) record {
-      seed_given = set_is_given opt.Seed 0 _ two.first given.seed two.first_told sets.seed_set;
-      frames_given = set_is_given opt.Frames 1 _ two.second given.frames two.second_told sets.frames_set;
+    → GivesTrafficSettings (setting_values_in word arguments) given.seed given.frames
+matches_tell_traffic word arguments matches given has many told sets =
+    let two = matches_tell_two_positionals (form_of word) arguments matches (codes "SEED") (codes "FRAMES") has many told in
+    subst (λ values. GivesTrafficSettings values given.seed given.frames) (matches_tell_values word arguments matches told) record {
+      seed_given = match_sets_given_number opt.Seed 0 _ two.first given.seed two.first_told sets.seed_set;
+      frames_given = match_sets_given_number opt.Frames 1 _ two.second given.frames two.second_told sets.frames_set;
     }
 
 -- so words ask for it, behind `make`
-pub told_make : (words : List Text) (matches : ArgMatches) (tells : AreMatchesOfWords words Make matches)
+pub matches_tell_make : (words : List Text) (matches : ArgMatches) (tells : AreMatchesOfWords words Make matches)
     (given : Given) → SetsGiven (values_in_matches matches) (store_in_matches matches) given
-    → AskToMake words given.seed given.frames
-told_make words matches tells given sets = record {
+    → WordsAskToMake words given.seed given.frames
+matches_tell_make words matches tells given sets = record {
   arguments = tells.arguments;
   are_words = tells.are_words;
   made =
-      told_traffic Make tells.arguments matches given refl tells.are_words.well_formed.of_form.as_many tells.told sets;
+      matches_tell_traffic Make tells.arguments matches given refl tells.are_words.well_formed.of_form.as_many tells.told sets;
 }
 
 -- and for a demo of it, behind `demo`
-pub told_demo : (words : List Text) (matches : ArgMatches) (tells : AreMatchesOfWords words Demo matches)
+pub matches_tell_demo : (words : List Text) (matches : ArgMatches) (tells : AreMatchesOfWords words Demo matches)
     (given : Given) → SetsGiven (values_in_matches matches) (store_in_matches matches) given
-    → IsWide given.settings → AskToDemo words given.seed given.frames given.settings
-told_demo words matches tells given sets wide = record {
+    → AreWideSettings given.settings → WordsAskToDemo words given.seed given.frames given.settings
+matches_tell_demo words matches tells given sets wide = record {
   arguments = tells.arguments;
   are_words = tells.are_words;
   made =
-      told_traffic Demo tells.arguments matches given refl tells.are_words.well_formed.of_form.as_many tells.told sets;
-  set = told_settings Demo tells.arguments matches given.settings tells.told sets.settings_set;
+      matches_tell_traffic Demo tells.arguments matches given refl tells.are_words.well_formed.of_form.as_many tells.told sets;
+  set = matches_tell_settings Demo tells.arguments matches given.settings tells.told sets.settings_set;
   wide = wide;
 }
 
 -- a text that is told is found
-pub told_is_found : (found : Option (Bor Text)) (told : Option Text) (text : Text) → text_at found ≡ told
+pub match_told_is_found : (found : Option (Bor Text)) (told : Option Text) (text : Text) → scanned_text_at found ≡ told
     → told ≡ Some text → IsSome found
-told_is_found None told text is told_is = cc
-told_is_found (Some word) told text is told_is = refl
+match_told_is_found None told text is told_is = cc
+match_told_is_found (Some word) told text is told_is = refl
 
 -- what is found is the text that is told
-found_is_told : (found : Option (Bor Text)) (told : Option Text) (text : Text) (word : Bor Text)
-    → text_at found ≡ told → told ≡ Some text → found ≡ Some word → word.now ≡ text
-found_is_told found told text word is told_is found_is =
-    same_some word.now text (sym (ap text_at found_is) ∙ is ∙ told_is)
+match_found_is_told : (found : Option (Bor Text)) (told : Option Text) (text : Text) (word : Bor Text)
+    → scanned_text_at found ≡ told → told ≡ Some text → found ≡ Some word → word.now ≡ text
+match_found_is_told found told text word is told_is found_is =
+    same_some word.now text (sym (ap scanned_text_at found_is) ∙ is ∙ told_is)
   where
     same_some : (text other : Text) → Path (Option Text) (Some text) (Some other) → text ≡ other
     same_some text other same = cc
 
 -- what is found behind `weigh` is its sides
-pub found_sides : (words : List Text) (matches : ArgMatches) (tells : AreMatchesOfWords words Weigh matches)
+pub matches_found_are_sides : (words : List Text) (matches : ArgMatches) (tells : AreMatchesOfWords words Weigh matches)
     (found_source found_dest : Option (Bor Text)) (source dest : Bor Text)
-    → text_at found_source ≡ first_value (found_of matches) (codes "SRC")
-    → text_at found_dest ≡ first_value (found_of matches) (codes "DST")
+    → scanned_text_at found_source ≡ first_value (found_of matches) (codes "SRC")
+    → scanned_text_at found_dest ≡ first_value (found_of matches) (codes "DST")
     → found_source ≡ Some source → found_dest ≡ Some dest → (source_text dest_text : Text)
     → source_text ≡ source.now → dest_text ≡ dest.now
-    → HasSides tells.arguments source_text dest_text
-found_sides words matches tells found_source found_dest source dest source_is dest_is source_found dest_found
+    → WordsHaveSides tells.arguments source_text dest_text
+matches_found_are_sides words matches tells found_source found_dest source dest source_is dest_is source_found dest_found
     source_text dest_text same_source same_dest =
-    let told = told_sides tells.arguments matches tells.are_words.well_formed.of_form.as_many tells.told in
+    let told = matches_tell_sides tells.arguments matches tells.are_words.well_formed.of_form.as_many tells.told in
     told.are
     ∙ ap₂ (λ s d. s ∷ d ∷ [])
-    (sym (same_source ∙ found_is_told found_source _ told.first source source_is told.first_told source_found))
-    (sym (same_dest ∙ found_is_told found_dest _ told.second dest dest_is told.second_told dest_found))
+    (sym (same_source ∙ match_found_is_told found_source _ told.first source source_is told.first_told source_found))
+    (sym (same_dest ∙ match_found_is_told found_dest _ told.second dest dest_is told.second_told dest_found))

@@ -9,88 +9,88 @@ use Rattle.std.proofs.lemmas.Slice.Eq.{bytes_eq-Decides}
 use Rattle.clap.specs.Words.{Row, first_of}
 use Rattle.clap.specs.declared.builder.value_parser.Reading.TheVariants.{AsWritten}
 use Rattle.clap.specs.declared.parser.matches.ValueSource.TheVariants.{CommandLine}
-use Rattle.command_words.specs.Arguments.{Text, Argument, positional, option, positionals_in, names_in, value_of}
-use Rattle.command_words.specs.Arguments.{named}
-use Rattle.prefix_lattice.proofs.ListLemmas.{AllPairs-head, AllPairs-tail}
+use Rattle.command_words.specs.Arguments.{Text, Argument, positional, option, positionals_in_arguments, names_in_arguments, argument_value_of}
+use Rattle.command_words.specs.Arguments.{named_arguments}
+use Rattle.prefix_lattice.proofs.ListLemmas.{AllPairs-list_head, AllPairs-list_tail}
 
 -- a text is equal to itself, and to no other
-pub same_text : (text : Text) → bytes_eq text text ≡ true
-same_text text = (bytes_eq-Decides text text).1 refl
+pub match_row_name_is_same : (text : Text) → bytes_eq text text ≡ true
+match_row_name_is_same text = (bytes_eq-Decides text text).1 refl
 
-pub other_text : (text other : Text) → text ≢ other → bytes_eq text other ≡ false
-other_text text other apart = false_from_ne_true _ (λ same. apart ((bytes_eq-Decides text other).0 same))
+pub match_row_name_is_other : (text other : Text) → text ≢ other → bytes_eq text other ≡ false
+match_row_name_is_other text other apart = false_from_ne_true _ (λ same. apart ((bytes_eq-Decides text other).0 same))
 
 -- what holds of each text holds of the one at a place
-pub at_place : (P : Text → Type 0) (place : ℕ) (name : Text) (texts : List Text) → slice_get texts place ≡ Some name
+pub match_row_name_at_place : (P : Text → Type 0) (place : ℕ) (name : Text) (texts : List Text) → slice_get texts place ≡ Some name
     → All P texts → P name
-at_place P place name [] at all = let wrong : ⊥ = cc in absurd wrong
-at_place P zero name (text ∷ texts) at all = let same : text ≡ name = cc in subst P same (All-head P text texts all)
-at_place P (suc place) name (text ∷ texts) at all = at_place P place name texts at (All-tail P text texts all)
+match_row_name_at_place P place name [] at all = let wrong : ⊥ = cc in absurd wrong
+match_row_name_at_place P zero name (text ∷ texts) at all = let same : text ≡ name = cc in subst P same (All-head P text texts all)
+match_row_name_at_place P (suc place) name (text ∷ texts) at all = match_row_name_at_place P place name texts at (All-tail P text texts all)
 
 -- what is found for a name that has this value
-abbrev pub row : Text → Text → Row
-row name value = record { id = name; values = value ∷ []; count = None; source = Some CommandLine; reading = AsWritten }
+abbrev pub match_row : Text → Text → Row
+match_row name value = record { id = name; values = value ∷ []; count = None; source = Some CommandLine; reading = AsWritten }
 
 -- the rows that arguments give, where the positionals have these names
-abbrev pub told : List Text → List Argument → List Row
-told ids [] = []
-told [] (positional text ∷ arguments) = told [] arguments
-told (id ∷ ids) (positional text ∷ arguments) = row id text ∷ told ids arguments
-told ids (option name value ∷ arguments) = row name value ∷ told ids arguments
+abbrev pub match_rows_of : List Text → List Argument → List Row
+match_rows_of ids [] = []
+match_rows_of [] (positional text ∷ arguments) = match_rows_of [] arguments
+match_rows_of (id ∷ ids) (positional text ∷ arguments) = match_row id text ∷ match_rows_of ids arguments
+match_rows_of ids (option name value ∷ arguments) = match_row name value ∷ match_rows_of ids arguments
 
 -- what is found first, by whether the row in front has the name
-first_here : (name id value : Text) (rows : List Row) → id ≡ name → first_of name (row id value ∷ rows) ≡ Some value
-first_here name id value rows same = rw (same, same_text name) refl
+match_row_is_found_first : (name id value : Text) (rows : List Row) → id ≡ name → first_of name (match_row id value ∷ rows) ≡ Some value
+match_row_is_found_first name id value rows same = rw (same, match_row_name_is_same name) refl
 
-first_behind : (name id value : Text) (rows : List Row) → id ≢ name
-    → first_of name (row id value ∷ rows) ≡ first_of name rows
-first_behind name id value rows apart = rw (other_text id name apart) refl
+match_row_is_found_behind : (name id value : Text) (rows : List Row) → id ≢ name
+    → first_of name (match_row id value ∷ rows) ≡ first_of name rows
+match_row_is_found_behind name id value rows apart = rw (match_row_name_is_other id name apart) refl
 
 -- what is found first among rows is what is found first among arguments, if it is so behind the first of them
-named_behind : (name other value : Text) (rows : List Row) (arguments : List Argument)
-    → first_of name rows ≡ value_of name arguments
-    → first_of name (row other value ∷ rows) ≡ value_of name (option other value ∷ arguments)
-named_behind name other value rows arguments behind = go (bytes_eq other name) refl
+match_row_named_behind : (name other value : Text) (rows : List Row) (arguments : List Argument)
+    → first_of name rows ≡ argument_value_of name arguments
+    → first_of name (match_row other value ∷ rows) ≡ argument_value_of name (option other value ∷ arguments)
+match_row_named_behind name other value rows arguments behind = go (bytes_eq other name) refl
   where
     go : (b : Bool) → bytes_eq other name ≡ b
-        → first_of name (row other value ∷ rows) ≡ value_of name (option other value ∷ arguments)
+        → first_of name (match_row other value ∷ rows) ≡ argument_value_of name (option other value ∷ arguments)
     go true is = rw is refl
     go false is = rw is behind
 
 -- a name gives the value of the argument of that name
-pub told_named : (name : Text) (ids : List Text) (arguments : List Argument)
-    → first_of name (told ids arguments) ≡ value_of name (named ids arguments)
-told_named name ids [] = refl
-told_named name [] (positional text ∷ arguments) = told_named name [] arguments
-told_named name (id ∷ ids) (positional text ∷ arguments) =
-    named_behind name id text (told ids arguments) (named ids arguments) (told_named name ids arguments)
-told_named name ids (option other value ∷ arguments) =
-    named_behind name other value (told ids arguments) (named ids arguments) (told_named name ids arguments)
+pub match_rows_give_named_value : (name : Text) (ids : List Text) (arguments : List Argument)
+    → first_of name (match_rows_of ids arguments) ≡ argument_value_of name (named_arguments ids arguments)
+match_rows_give_named_value name ids [] = refl
+match_rows_give_named_value name [] (positional text ∷ arguments) = match_rows_give_named_value name [] arguments
+match_rows_give_named_value name (id ∷ ids) (positional text ∷ arguments) =
+    match_row_named_behind name id text (match_rows_of ids arguments) (named_arguments ids arguments) (match_rows_give_named_value name ids arguments)
+match_rows_give_named_value name ids (option other value ∷ arguments) =
+    match_row_named_behind name other value (match_rows_of ids arguments) (named_arguments ids arguments) (match_rows_give_named_value name ids arguments)
 
 -- a name of an option gives its value
-pub told_option : (name : Text) (ids : List Text) (arguments : List Argument) → All (λ id. id ≢ name) ids
-    → first_of name (told ids arguments) ≡ value_of name arguments
-told_option name ids [] apart = refl
-told_option name [] (positional text ∷ arguments) apart = told_option name [] arguments apart
-told_option name (id ∷ ids) (positional text ∷ arguments) apart =
-    first_behind name id text (told ids arguments) (All-head (λ i. i ≢ name) id ids apart)
-    ∙ told_option name ids arguments (All-tail (λ i. i ≢ name) id ids apart)
-told_option name ids (option other value ∷ arguments) apart =
-    named_behind name other value (told ids arguments) arguments (told_option name ids arguments apart)
+pub match_rows_give_option : (name : Text) (ids : List Text) (arguments : List Argument) → All (λ id. id ≢ name) ids
+    → first_of name (match_rows_of ids arguments) ≡ argument_value_of name arguments
+match_rows_give_option name ids [] apart = refl
+match_rows_give_option name [] (positional text ∷ arguments) apart = match_rows_give_option name [] arguments apart
+match_rows_give_option name (id ∷ ids) (positional text ∷ arguments) apart =
+    match_row_is_found_behind name id text (match_rows_of ids arguments) (All-head (λ i. i ≢ name) id ids apart)
+    ∙ match_rows_give_option name ids arguments (All-tail (λ i. i ≢ name) id ids apart)
+match_rows_give_option name ids (option other value ∷ arguments) apart =
+    match_row_named_behind name other value (match_rows_of ids arguments) arguments (match_rows_give_option name ids arguments apart)
 
 -- a name of a positional gives the one in its place
-pub told_positional : (place : ℕ) (name : Text) (ids : List Text) (arguments : List Argument)
+pub match_rows_give_positional : (place : ℕ) (name : Text) (ids : List Text) (arguments : List Argument)
     → slice_get ids place ≡ Some name → AllPairs (λ a b. a ≢ b) ids
-    → All (λ other. other ≢ name) (names_in arguments)
-    → first_of name (told ids arguments) ≡ slice_get (positionals_in arguments) place
-told_positional place name ids [] at distinct apart = refl
-told_positional place name [] (positional text ∷ arguments) at distinct apart = cc
-told_positional zero name (id ∷ ids) (positional text ∷ arguments) at distinct apart =
-    first_here name id text (told ids arguments) cc
-told_positional (suc place) name (id ∷ ids) (positional text ∷ arguments) at distinct apart =
-    first_behind name id text (told ids arguments)
-    (at_place (λ other. id ≢ other) place name ids at (AllPairs-head (λ a b. a ≢ b) id ids distinct))
-    ∙ told_positional place name ids arguments at (AllPairs-tail (λ a b. a ≢ b) id ids distinct) apart
-told_positional place name ids (option other value ∷ arguments) at distinct apart =
-    first_behind name other value (told ids arguments) (All-head (λ o. o ≢ name) other (names_in arguments) apart)
-    ∙ told_positional place name ids arguments at distinct (All-tail (λ o. o ≢ name) other (names_in arguments) apart)
+    → All (λ other. other ≢ name) (names_in_arguments arguments)
+    → first_of name (match_rows_of ids arguments) ≡ slice_get (positionals_in_arguments arguments) place
+match_rows_give_positional place name ids [] at distinct apart = refl
+match_rows_give_positional place name [] (positional text ∷ arguments) at distinct apart = cc
+match_rows_give_positional zero name (id ∷ ids) (positional text ∷ arguments) at distinct apart =
+    match_row_is_found_first name id text (match_rows_of ids arguments) cc
+match_rows_give_positional (suc place) name (id ∷ ids) (positional text ∷ arguments) at distinct apart =
+    match_row_is_found_behind name id text (match_rows_of ids arguments)
+    (match_row_name_at_place (λ other. id ≢ other) place name ids at (AllPairs-list_head (λ a b. a ≢ b) id ids distinct))
+    ∙ match_rows_give_positional place name ids arguments at (AllPairs-list_tail (λ a b. a ≢ b) id ids distinct) apart
+match_rows_give_positional place name ids (option other value ∷ arguments) at distinct apart =
+    match_row_is_found_behind name other value (match_rows_of ids arguments) (All-head (λ o. o ≢ name) other (names_in_arguments arguments) apart)
+    ∙ match_rows_give_positional place name ids arguments at distinct (All-tail (λ o. o ≢ name) other (names_in_arguments arguments) apart)

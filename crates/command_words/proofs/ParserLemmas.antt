@@ -16,96 +16,96 @@ use Rattle.clap.proofs.WalkLemmas.{first_value-rows}
 use Rattle.clap.specs.Words.{App, first_of, found_of, matches_of, rows_of}
 use Rattle.clap.specs.declared.builder.value_parser.Reading.{Reading}
 use Rattle.clap.specs.declared.parser.matches.ArgMatches.{ArgMatches}
-use Rattle.command_words.specs.Arguments.{Text, Argument, AreOfForm, AreWellFormed}
-use Rattle.command_words.specs.Forms.{form_of, word_of}
+use Rattle.command_words.specs.Arguments.{Text, Argument, AreArgumentsOfForm, AreWellFormedArguments}
+use Rattle.command_words.specs.Forms.{form_of, form_word_of}
 use Rattle.command_words.specs.Matches.{AreMatchesOf}
 use Rattle.command_words.specs.Parser.{parser_for}
 use Rattle.command_words.specs.declared.command_word.CommandWord.{CommandWord}
 use Rattle.command_words.specs.declared.command_word.CommandWord.TheVariants.{Weigh, Report, Format, Audit, Make, Demo}
-use Rattle.command_words.proofs.ParserNameLemmas.{AreNoOptions, IsNoOption, Places, fit}
-use Rattle.command_words.proofs.OneReadingLemmas.{no_list}
-use Rattle.command_words.proofs.MatchRowLemmas.{at_place, same_text, told, told_named, told_option, told_positional}
-use Rattle.command_words.proofs.ParserWalkLemmas.{Knows, Reaches, built_option, last_position, reaches_all, standing}
+use Rattle.command_words.proofs.ParserNameLemmas.{AreNoParserOptionNames, IsNoParserOptionName, ParserPlacesNames, arguments_fit_parser_names}
+use Rattle.command_words.proofs.OneReadingLemmas.{one_reading_of_empty_list}
+use Rattle.command_words.proofs.MatchRowLemmas.{match_row_name_at_place, match_row_name_is_same, match_rows_of, match_rows_give_named_value, match_rows_give_option, match_rows_give_positional}
+use Rattle.command_words.proofs.ParserWalkLemmas.{WalkKnowsOption, WalkReaches, parser_walk_option, parser_walk_final_position, walk_reaches_all_arguments, standing_walk}
 
 -- ---- after the walk
 
 -- an argument with no default value gets no row
-no_default : (values : List Text) (b : Bool) (id : Text) (how : Reading) (rows : List Row) → is_empty values ≡ true
+parser_default_adds_no_row : (values : List Text) (b : Bool) (id : Text) (how : Reading) (rows : List Row) → is_empty values ≡ true
     → cond b rows (default_rows id how values rows) ≡ rows
-no_default values true id how rows empty = refl
-no_default [] false id how rows empty = refl
-no_default (value ∷ values) false id how rows empty =
+parser_default_adds_no_row values true id how rows empty = refl
+parser_default_adds_no_row [] false id how rows empty = refl
+parser_default_adds_no_row (value ∷ values) false id how rows empty =
     let some : length (value ∷ values) ≡ 0 = eqb-true _ 0 empty in absurd (omega arith)
 
-no_defaults : (rules : List Rule) (rows : List Row) → list_all (λ a. is_empty a.defaults) rules ≡ true
+parser_defaults_add_no_rows : (rules : List Rule) (rows : List Row) → list_all (λ a. is_empty a.defaults) rules ≡ true
     → fold with_default rows rules ≡ rows
-no_defaults [] rows empty = refl
-no_defaults (a ∷ rules) rows empty =
+parser_defaults_add_no_rows [] rows empty = refl
+parser_defaults_add_no_rows (a ∷ rules) rows empty =
     let parts = and_parts _ _ empty in
-    ap (λ rs. fold with_default rs rules) (no_default a.defaults (has_row a.id rows) a.id _ rows parts.0)
-    ∙ no_defaults rules rows parts.1
+    ap (λ rs. fold with_default rs rules) (parser_default_adds_no_row a.defaults (has_row a.id rows) a.id _ rows parts.0)
+    ∙ parser_defaults_add_no_rows rules rows parts.1
 
 -- nothing is required, and nothing has a default
-pub record IsOptional (s : Shape) : Type 0 where
+pub record ParserDemandsNothing (s : Shape) : Type 0 where
   pub empty : list_all (λ a. is_empty a.defaults) s.rules ≡ true
   pub passes : list_all default_passes s.rules ≡ true
   pub valid : (rows : List Row) → is_valid s rows false ≡ true
 
-module _ (s : Shape) (optional : IsOptional s) (words : List Text) (position : ℕ) (rows : List Row)
-    (reached : Reaches s (standing nothing_held 1) words position rows) where
+module _ (s : Shape) (parser_demands_nothing : ParserDemandsNothing s) (words : List Text) (position : ℕ) (rows : List Row)
+    (reached : WalkReaches s (standing_walk nothing_held 1) words position rows) where
   -- nothing comes to the rows at the end
-  pub rows_reached : rows_after s.rules [] words ≡ rows
-  rows_reached = rw reached.ends (no_defaults s.rules _ optional.empty ∙ reached.holds.rows_are)
+  pub parser_reaches_rows : rows_after s.rules [] words ≡ rows
+  parser_reaches_rows = rw reached.ends (parser_defaults_add_no_rows s.rules _ parser_demands_nothing.empty ∙ reached.holds.rows_are)
 
   -- no word is a subcommand
-  pub never_stopped : stop_after s.rules [] words ≡ None
-  never_stopped = ap (λ (w : Walk). w.stopped) reached.ends
+  pub parser_never_stops : stop_after s.rules [] words ≡ None
+  parser_never_stops = ap (λ (w : Walk). w.stopped) reached.ends
 
   -- and the parse passes
-  pub level_reached : level_passes s [] nothing_held words false ≡ true
-  level_reached =
-      rw (reached.passes, reached.ends, reached.holds.passes, optional.passes)
-      (optional.valid (finished s.rules reached.held))
+  pub parser_level_passes : level_passes s [] nothing_held words false ≡ true
+  parser_level_passes =
+      rw (reached.passes, reached.ends, reached.holds.passes, parser_demands_nothing.passes)
+      (parser_demands_nothing.valid (finished s.rules reached.held))
 
 -- ---- the commands
 
 -- the parser of a command
 abbrev pub parser : CommandWord → App
-parser command = parser_for (word_of command) (form_of command)
+parser command = parser_for (form_word_of command) (form_of command)
 
 -- its shape, once it is built
-abbrev pub shape : CommandWord → Shape
-shape command = (built (parser command)).top
+abbrev pub parser_shape : CommandWord → Shape
+parser_shape command = (built (parser command)).top
 
-optional : (command : CommandWord) → IsOptional (shape command)
-optional Weigh = record { empty = refl; passes = refl; valid = λ rows. refl }
-optional Report = record { empty = refl; passes = refl; valid = λ rows. refl }
-optional Format = record { empty = refl; passes = refl; valid = λ rows. refl }
-optional Audit = record { empty = refl; passes = refl; valid = λ rows. refl }
-optional Make = record { empty = refl; passes = refl; valid = λ rows. refl }
-optional Demo = record { empty = refl; passes = refl; valid = λ rows. refl }
+parser_demands_nothing : (command : CommandWord) → ParserDemandsNothing (parser_shape command)
+parser_demands_nothing Weigh = record { empty = refl; passes = refl; valid = λ rows. refl }
+parser_demands_nothing Report = record { empty = refl; passes = refl; valid = λ rows. refl }
+parser_demands_nothing Format = record { empty = refl; passes = refl; valid = λ rows. refl }
+parser_demands_nothing Audit = record { empty = refl; passes = refl; valid = λ rows. refl }
+parser_demands_nothing Make = record { empty = refl; passes = refl; valid = λ rows. refl }
+parser_demands_nothing Demo = record { empty = refl; passes = refl; valid = λ rows. refl }
 
 -- two texts that differ in a byte
-apart_by : (text other : Text) → bytes_eq text other ≡ false → text ≢ other
-apart_by text other differ same = true≢false (sym (same_text other) ∙ ap (λ t. bytes_eq t other) (sym same) ∙ differ)
+parser_texts_are_apart : (text other : Text) → bytes_eq text other ≡ false → text ≢ other
+parser_texts_are_apart text other differ same = true≢false (sym (match_row_name_is_same other) ∙ ap (λ t. bytes_eq t other) (sym same) ∙ differ)
 
 -- what holds of each text holds of those that a list contains
-each_contained : (P : Text → Type 0) (texts : List Text) (name : Text) → All P texts → Contains texts name → P name
-each_contained P texts name all within = subst P within.2 (all within.0 name within.1)
+parser_all_holds_of_each : (P : Text → Type 0) (texts : List Text) (name : Text) → All P texts → Contains texts name → P name
+parser_all_holds_of_each P texts name all within = subst P within.2 (all within.0 name within.1)
 
 -- an option that a look-up finds
-known_by : (s : Shape) (byte : ℕ) (name : Text) → arg_by_long s.rules (byte ∷ name) ≡ Some (built_option (byte ∷ name))
-    → arg_by_id s.rules (byte ∷ name) ≡ Some (built_option (byte ∷ name)) → Knows s (byte ∷ name)
-known_by s byte name met known = record { met = met; known = known; named = λ same. no_list byte name (sym same) }
+parser_knows_found_option : (s : Shape) (byte : ℕ) (name : Text) → arg_by_long s.rules (byte ∷ name) ≡ Some (parser_walk_option (byte ∷ name))
+    → arg_by_id s.rules (byte ∷ name) ≡ Some (parser_walk_option (byte ∷ name)) → WalkKnowsOption s (byte ∷ name)
+parser_knows_found_option s byte name met known = record { met = met; known = known; named = λ same. one_reading_of_empty_list byte name (sym same) }
 
 -- each option and each positional of a command stands in its parser
-each_known : (command : CommandWord) → All (Knows (shape command)) (form_of command).options
-each_known Weigh =
-    let k = known_by (shape Weigh) in
-    All-from_recursion (Knows (shape Weigh)) (form_of Weigh).options (k _ _ refl refl, (k _ _ refl refl, tt))
-each_known Report =
-    let k = known_by (shape Report) in
-    All-from_recursion (Knows (shape Report)) (form_of Report).options (
+parser_knows_each_option : (command : CommandWord) → All (WalkKnowsOption (parser_shape command)) (form_of command).options
+parser_knows_each_option Weigh =
+    let k = parser_knows_found_option (parser_shape Weigh) in
+    All-from_recursion (WalkKnowsOption (parser_shape Weigh)) (form_of Weigh).options (k _ _ refl refl, (k _ _ refl refl, tt))
+parser_knows_each_option Report =
+    let k = parser_knows_found_option (parser_shape Report) in
+    All-from_recursion (WalkKnowsOption (parser_shape Report)) (form_of Report).options (
       k _ _ refl refl,
       (
         k _ _ refl refl,
@@ -124,153 +124,153 @@ each_known Report =
         ),
       ),
     )
-each_known Format =
-    let k = known_by (shape Format) in
-    All-from_recursion (Knows (shape Format)) (form_of Format).options
+parser_knows_each_option Format =
+    let k = parser_knows_found_option (parser_shape Format) in
+    All-from_recursion (WalkKnowsOption (parser_shape Format)) (form_of Format).options
     (k _ _ refl refl, (k _ _ refl refl, (k _ _ refl refl, (k _ _ refl refl, (k _ _ refl refl, tt)))))
-each_known Audit =
-    let k = known_by (shape Audit) in
-    All-from_recursion (Knows (shape Audit)) (form_of Audit).options (
+parser_knows_each_option Audit =
+    let k = parser_knows_found_option (parser_shape Audit) in
+    All-from_recursion (WalkKnowsOption (parser_shape Audit)) (form_of Audit).options (
       k _ _ refl refl,
       (
         k _ _ refl refl,
         (k _ _ refl refl, (k _ _ refl refl, (k _ _ refl refl, (k _ _ refl refl, (k _ _ refl refl, tt))))),
       ),
     )
-each_known Make = All-nil (Knows (shape Make))
-each_known Demo =
-    let k = known_by (shape Demo) in
-    All-from_recursion (Knows (shape Demo)) (form_of Demo).options (
+parser_knows_each_option Make = All-nil (WalkKnowsOption (parser_shape Make))
+parser_knows_each_option Demo =
+    let k = parser_knows_found_option (parser_shape Demo) in
+    All-from_recursion (WalkKnowsOption (parser_shape Demo)) (form_of Demo).options (
       k _ _ refl refl,
       (k _ _ refl refl, (k _ _ refl refl, (k _ _ refl refl, (k _ _ refl refl, (k _ _ refl refl, tt))))),
     )
 
-places : (command : CommandWord) → Places (shape command) 1 (form_of command).positionals
-places Weigh = (record { placed = refl; known = refl }, (record { placed = refl; known = refl }, tt))
-places Report = tt
-places Format = tt
-places Audit = tt
-places Make = (record { placed = refl; known = refl }, (record { placed = refl; known = refl }, tt))
-places Demo = (record { placed = refl; known = refl }, (record { placed = refl; known = refl }, tt))
+parser_has_positional_places : (command : CommandWord) → ParserPlacesNames (parser_shape command) 1 (form_of command).positionals
+parser_has_positional_places Weigh = (record { placed = refl; known = refl }, (record { placed = refl; known = refl }, tt))
+parser_has_positional_places Report = tt
+parser_has_positional_places Format = tt
+parser_has_positional_places Audit = tt
+parser_has_positional_places Make = (record { placed = refl; known = refl }, (record { placed = refl; known = refl }, tt))
+parser_has_positional_places Demo = (record { placed = refl; known = refl }, (record { placed = refl; known = refl }, tt))
 
 -- a positional of `weigh` is none of its options
-no_option : (id : Text) → bytes_eq id (codes "capture") ≡ false → bytes_eq id (codes "weigh") ≡ false
-    → IsNoOption (form_of Weigh).options id
-no_option id capture weigh name within =
-    each_contained (λ other. id ≢ other) (form_of Weigh).options name
+no_option_of_weigh_parser : (id : Text) → bytes_eq id (codes "capture") ≡ false → bytes_eq id (codes "weigh") ≡ false
+    → IsNoParserOptionName (form_of Weigh).options id
+no_option_of_weigh_parser id capture weigh name within =
+    parser_all_holds_of_each (λ other. id ≢ other) (form_of Weigh).options name
     (All-from_recursion (λ other. id ≢ other) (form_of Weigh).options
-    (apart_by id _ capture, (apart_by id _ weigh, tt))) within
+    (parser_texts_are_apart id _ capture, (parser_texts_are_apart id _ weigh, tt))) within
 
 -- nor is a positional of `demo` one of its
-no_option_of_demo : (id : Text) → bytes_eq id (codes "shards") ≡ false → bytes_eq id (codes "capacity") ≡ false
+no_option_of_demo_parser : (id : Text) → bytes_eq id (codes "shards") ≡ false → bytes_eq id (codes "capacity") ≡ false
     → bytes_eq id (codes "phi") ≡ false → bytes_eq id (codes "deal") ≡ false
     → bytes_eq id (codes "block") ≡ false → bytes_eq id (codes "workers") ≡ false
-    → IsNoOption (form_of Demo).options id
-no_option_of_demo id shards capacity phi deal block workers name within =
-    each_contained (λ other. id ≢ other) (form_of Demo).options name
+    → IsNoParserOptionName (form_of Demo).options id
+no_option_of_demo_parser id shards capacity phi deal block workers name within =
+    parser_all_holds_of_each (λ other. id ≢ other) (form_of Demo).options name
     (All-from_recursion (λ other. id ≢ other) (form_of Demo).options (
-      apart_by id _ shards,
+      parser_texts_are_apart id _ shards,
       (
-        apart_by id _ capacity,
-        (apart_by id _ phi, (apart_by id _ deal, (apart_by id _ block, (apart_by id _ workers, tt)))),
+        parser_texts_are_apart id _ capacity,
+        (parser_texts_are_apart id _ phi, (parser_texts_are_apart id _ deal, (parser_texts_are_apart id _ block, (parser_texts_are_apart id _ workers, tt)))),
       ),
     )) within
 
-no_options : (command : CommandWord) → AreNoOptions (form_of command).options (form_of command).positionals
-no_options Weigh =
-    All-from_recursion (IsNoOption (form_of Weigh).options) (form_of Weigh).positionals
-    (no_option _ refl refl, (no_option _ refl refl, tt))
-no_options Report = All-nil (IsNoOption (form_of Report).options)
-no_options Format = All-nil (IsNoOption (form_of Format).options)
-no_options Audit = All-nil (IsNoOption (form_of Audit).options)
-no_options Make =
-    All-from_recursion (IsNoOption []) (form_of Make).positionals (
+no_options_of_parser : (command : CommandWord) → AreNoParserOptionNames (form_of command).options (form_of command).positionals
+no_options_of_parser Weigh =
+    All-from_recursion (IsNoParserOptionName (form_of Weigh).options) (form_of Weigh).positionals
+    (no_option_of_weigh_parser _ refl refl, (no_option_of_weigh_parser _ refl refl, tt))
+no_options_of_parser Report = All-nil (IsNoParserOptionName (form_of Report).options)
+no_options_of_parser Format = All-nil (IsNoParserOptionName (form_of Format).options)
+no_options_of_parser Audit = All-nil (IsNoParserOptionName (form_of Audit).options)
+no_options_of_parser Make =
+    All-from_recursion (IsNoParserOptionName []) (form_of Make).positionals (
       λ name within. omega (arith, within.1),
       (λ name within. omega (arith, within.1), tt),
     )
-no_options Demo =
-    All-from_recursion (IsNoOption (form_of Demo).options) (form_of Demo).positionals (
-      no_option_of_demo _ refl refl refl refl refl refl,
-      (no_option_of_demo _ refl refl refl refl refl refl, tt),
+no_options_of_parser Demo =
+    All-from_recursion (IsNoParserOptionName (form_of Demo).options) (form_of Demo).positionals (
+      no_option_of_demo_parser _ refl refl refl refl refl refl,
+      (no_option_of_demo_parser _ refl refl refl refl refl refl, tt),
     )
 
-none_apart : AllPairs {X = Text} (λ a b. a ≢ b) []
-none_apart = λ earlier later default before within. absurd (omega arith)
+empty_parser_texts_are_apart : AllPairs {X = Text} (λ a b. a ≢ b) []
+empty_parser_texts_are_apart = λ earlier later default before within. absurd (omega arith)
 
-two_apart : (one two : Text) → bytes_eq one two ≡ false → AllPairs (λ a b. a ≢ b) (one ∷ two ∷ [])
-two_apart one two differ = AllPairs-cons (λ a b. a ≢ b) one (two ∷ [])
-    (All-from_recursion (λ b. one ≢ b) (two ∷ []) (apart_by one two differ, tt))
-    (AllPairs-cons (λ a b. a ≢ b) two [] (All-nil (λ b. two ≢ b)) none_apart)
+two_parser_texts_are_apart : (one two : Text) → bytes_eq one two ≡ false → AllPairs (λ a b. a ≢ b) (one ∷ two ∷ [])
+two_parser_texts_are_apart one two differ = AllPairs-cons (λ a b. a ≢ b) one (two ∷ [])
+    (All-from_recursion (λ b. one ≢ b) (two ∷ []) (parser_texts_are_apart one two differ, tt))
+    (AllPairs-cons (λ a b. a ≢ b) two [] (All-nil (λ b. two ≢ b)) empty_parser_texts_are_apart)
 
 -- the positionals of a command have names of their own
-are_apart : (command : CommandWord) → AllPairs (λ a b. a ≢ b) (form_of command).positionals
-are_apart Weigh = two_apart (codes "SRC") (codes "DST") refl
-are_apart Report = none_apart
-are_apart Format = none_apart
-are_apart Audit = none_apart
-are_apart Make = two_apart (codes "SEED") (codes "FRAMES") refl
-are_apart Demo = two_apart (codes "SEED") (codes "FRAMES") refl
+parser_positionals_are_apart : (command : CommandWord) → AllPairs (λ a b. a ≢ b) (form_of command).positionals
+parser_positionals_are_apart Weigh = two_parser_texts_are_apart (codes "SRC") (codes "DST") refl
+parser_positionals_are_apart Report = empty_parser_texts_are_apart
+parser_positionals_are_apart Format = empty_parser_texts_are_apart
+parser_positionals_are_apart Audit = empty_parser_texts_are_apart
+parser_positionals_are_apart Make = two_parser_texts_are_apart (codes "SEED") (codes "FRAMES") refl
+parser_positionals_are_apart Demo = two_parser_texts_are_apart (codes "SEED") (codes "FRAMES") refl
 
 -- well-formed words bring the walk to the rows of their arguments
 module _ (command : CommandWord) (words : List Text) (arguments : List Argument)
-    (well_formed : AreWellFormed (form_of command) words arguments) where
-  form_reached : Reaches (shape command) (standing nothing_held 1) words (last_position 1 arguments)
-      (told (form_of command).positionals arguments)
-  form_reached =
+    (well_formed : AreWellFormedArguments (form_of command) words arguments) where
+  parser_reaches_form_rows : WalkReaches (parser_shape command) (standing_walk nothing_held 1) words (parser_walk_final_position 1 arguments)
+      (match_rows_of (form_of command).positionals arguments)
+  parser_reaches_form_rows =
       let of_form = well_formed.of_form in
       let knows =
       λ (name : Text) (within : Contains (form_of command).options name).
-      each_contained (Knows (shape command)) (form_of command).options name (each_known command) within in
-      let fits = fit (form_of command).options (shape command) knows 1 (form_of command).positionals [] arguments
-      (places command) (no_options command) (are_apart command) of_form.as_many of_form.known
+      parser_all_holds_of_each (WalkKnowsOption (parser_shape command)) (form_of command).options name (parser_knows_each_option command) within in
+      let fits = arguments_fit_parser_names (form_of command).options (parser_shape command) knows 1 (form_of command).positionals [] arguments
+      (parser_has_positional_places command) (no_options_of_parser command) (parser_positionals_are_apart command) of_form.as_many of_form.known
       of_form.once (λ place default within. refl) (λ place default within. refl) in
-      reaches_all (shape command) words arguments (form_of command).positionals 1 [] nothing_held
+      walk_reaches_all_arguments (parser_shape command) words arguments (form_of command).positionals 1 [] nothing_held
       well_formed.spelled fits (record { passes = refl; rows_are = refl })
 
 -- the parser takes the words
-pub well_formed_taken : (command : CommandWord) (words : List Text) (arguments : List Argument)
-    → AreWellFormed (form_of command) words arguments → takes (parser command) words ≡ true
-well_formed_taken Weigh words arguments well_formed =
-    let reached = form_reached Weigh words arguments well_formed in
-    rw (never_stopped (shape Weigh) (optional Weigh) words _ _ reached)
-    (level_reached (shape Weigh) (optional Weigh) words _ _ reached)
-well_formed_taken Report words arguments well_formed =
-    let reached = form_reached Report words arguments well_formed in
-    rw (never_stopped (shape Report) (optional Report) words _ _ reached)
-    (level_reached (shape Report) (optional Report) words _ _ reached)
-well_formed_taken Format words arguments well_formed =
-    let reached = form_reached Format words arguments well_formed in
-    rw (never_stopped (shape Format) (optional Format) words _ _ reached)
-    (level_reached (shape Format) (optional Format) words _ _ reached)
-well_formed_taken Audit words arguments well_formed =
-    let reached = form_reached Audit words arguments well_formed in
-    rw (never_stopped (shape Audit) (optional Audit) words _ _ reached)
-    (level_reached (shape Audit) (optional Audit) words _ _ reached)
-well_formed_taken Make words arguments well_formed =
-    let reached = form_reached Make words arguments well_formed in
-    rw (never_stopped (shape Make) (optional Make) words _ _ reached)
-    (level_reached (shape Make) (optional Make) words _ _ reached)
-well_formed_taken Demo words arguments well_formed =
-    let reached = form_reached Demo words arguments well_formed in
-    rw (never_stopped (shape Demo) (optional Demo) words _ _ reached)
-    (level_reached (shape Demo) (optional Demo) words _ _ reached)
+pub parser_takes_well_formed : (command : CommandWord) (words : List Text) (arguments : List Argument)
+    → AreWellFormedArguments (form_of command) words arguments → takes (parser command) words ≡ true
+parser_takes_well_formed Weigh words arguments well_formed =
+    let reached = parser_reaches_form_rows Weigh words arguments well_formed in
+    rw (parser_never_stops (parser_shape Weigh) (parser_demands_nothing Weigh) words _ _ reached)
+    (parser_level_passes (parser_shape Weigh) (parser_demands_nothing Weigh) words _ _ reached)
+parser_takes_well_formed Report words arguments well_formed =
+    let reached = parser_reaches_form_rows Report words arguments well_formed in
+    rw (parser_never_stops (parser_shape Report) (parser_demands_nothing Report) words _ _ reached)
+    (parser_level_passes (parser_shape Report) (parser_demands_nothing Report) words _ _ reached)
+parser_takes_well_formed Format words arguments well_formed =
+    let reached = parser_reaches_form_rows Format words arguments well_formed in
+    rw (parser_never_stops (parser_shape Format) (parser_demands_nothing Format) words _ _ reached)
+    (parser_level_passes (parser_shape Format) (parser_demands_nothing Format) words _ _ reached)
+parser_takes_well_formed Audit words arguments well_formed =
+    let reached = parser_reaches_form_rows Audit words arguments well_formed in
+    rw (parser_never_stops (parser_shape Audit) (parser_demands_nothing Audit) words _ _ reached)
+    (parser_level_passes (parser_shape Audit) (parser_demands_nothing Audit) words _ _ reached)
+parser_takes_well_formed Make words arguments well_formed =
+    let reached = parser_reaches_form_rows Make words arguments well_formed in
+    rw (parser_never_stops (parser_shape Make) (parser_demands_nothing Make) words _ _ reached)
+    (parser_level_passes (parser_shape Make) (parser_demands_nothing Make) words _ _ reached)
+parser_takes_well_formed Demo words arguments well_formed =
+    let reached = parser_reaches_form_rows Demo words arguments well_formed in
+    rw (parser_never_stops (parser_shape Demo) (parser_demands_nothing Demo) words _ _ reached)
+    (parser_level_passes (parser_shape Demo) (parser_demands_nothing Demo) words _ _ reached)
 
 -- and finds the rows of their arguments
-pub well_formed_found : (command : CommandWord) (words : List Text) (arguments : List Argument)
-    → AreWellFormed (form_of command) words arguments
-    → matches_of (parser command) words ≡ told (form_of command).positionals arguments
-well_formed_found Weigh words arguments well_formed =
-    rows_reached (shape Weigh) (optional Weigh) words _ _ (form_reached Weigh words arguments well_formed)
-well_formed_found Report words arguments well_formed =
-    rows_reached (shape Report) (optional Report) words _ _ (form_reached Report words arguments well_formed)
-well_formed_found Format words arguments well_formed =
-    rows_reached (shape Format) (optional Format) words _ _ (form_reached Format words arguments well_formed)
-well_formed_found Audit words arguments well_formed =
-    rows_reached (shape Audit) (optional Audit) words _ _ (form_reached Audit words arguments well_formed)
-well_formed_found Make words arguments well_formed =
-    rows_reached (shape Make) (optional Make) words _ _ (form_reached Make words arguments well_formed)
-well_formed_found Demo words arguments well_formed =
-    rows_reached (shape Demo) (optional Demo) words _ _ (form_reached Demo words arguments well_formed)
+pub parser_finds_well_formed : (command : CommandWord) (words : List Text) (arguments : List Argument)
+    → AreWellFormedArguments (form_of command) words arguments
+    → matches_of (parser command) words ≡ match_rows_of (form_of command).positionals arguments
+parser_finds_well_formed Weigh words arguments well_formed =
+    parser_reaches_rows (parser_shape Weigh) (parser_demands_nothing Weigh) words _ _ (parser_reaches_form_rows Weigh words arguments well_formed)
+parser_finds_well_formed Report words arguments well_formed =
+    parser_reaches_rows (parser_shape Report) (parser_demands_nothing Report) words _ _ (parser_reaches_form_rows Report words arguments well_formed)
+parser_finds_well_formed Format words arguments well_formed =
+    parser_reaches_rows (parser_shape Format) (parser_demands_nothing Format) words _ _ (parser_reaches_form_rows Format words arguments well_formed)
+parser_finds_well_formed Audit words arguments well_formed =
+    parser_reaches_rows (parser_shape Audit) (parser_demands_nothing Audit) words _ _ (parser_reaches_form_rows Audit words arguments well_formed)
+parser_finds_well_formed Make words arguments well_formed =
+    parser_reaches_rows (parser_shape Make) (parser_demands_nothing Make) words _ _ (parser_reaches_form_rows Make words arguments well_formed)
+parser_finds_well_formed Demo words arguments well_formed =
+    parser_reaches_rows (parser_shape Demo) (parser_demands_nothing Demo) words _ _ (parser_reaches_form_rows Demo words arguments well_formed)
 
 -- the parser is one of which `clap` says what it finds
 pub simple_parser : (command : CommandWord) → is_simple (parser command) ≡ true
@@ -283,24 +283,24 @@ simple_parser Demo = refl
 
 -- ---- what the matches tell
 
-not_contained : (texts : List Text) (name : Text) → (Contains texts name → ⊥) → All (λ text. text ≢ name) texts
-not_contained texts name never = λ place default within same.
+parser_texts_all_differ : (texts : List Text) (name : Text) → (Contains texts name → ⊥) → All (λ text. text ≢ name) texts
+parser_texts_all_differ texts name never = λ place default within same.
     never (place, within, get_or_default texts place name default within ∙ same)
 
 -- matches with the rows of arguments tell them
-pub rows_tell : (command : CommandWord) (arguments : List Argument) (matches : ArgMatches)
-    → AreOfForm (form_of command) arguments
-    → rows_of (found_of matches) ≡ told (form_of command).positionals arguments
+pub parser_found_tells_arguments : (command : CommandWord) (arguments : List Argument) (matches : ArgMatches)
+    → AreArgumentsOfForm (form_of command) arguments
+    → rows_of (found_of matches) ≡ match_rows_of (form_of command).positionals arguments
     → AreMatchesOf (form_of command) arguments matches
-rows_tell command arguments matches of_form rows = record {
+parser_found_tells_arguments command arguments matches of_form rows = record {
   options = λ name never. first_value-rows (found_of matches) name ∙ ap (first_of name) rows
-      ∙ told_option name (form_of command).positionals arguments
-      (not_contained (form_of command).positionals name never);
+      ∙ match_rows_give_option name (form_of command).positionals arguments
+      (parser_texts_all_differ (form_of command).positionals name never);
   positionals = λ place name at. first_value-rows (found_of matches) name ∙ ap (first_of name) rows
-      ∙ told_positional place name (form_of command).positionals arguments at (are_apart command)
+      ∙ match_rows_give_positional place name (form_of command).positionals arguments at (parser_positionals_are_apart command)
       (λ k default within same.
-      at_place (IsNoOption (form_of command).options) place name (form_of command).positionals at
-      (no_options command) _ (of_form.known k default within) (sym same));
+      match_row_name_at_place (IsNoParserOptionName (form_of command).options) place name (form_of command).positionals at
+      (no_options_of_parser command) _ (of_form.known k default within) (sym same));
   by_name = λ name. first_value-rows (found_of matches) name ∙ ap (first_of name) rows
-      ∙ told_named name (form_of command).positionals arguments;
+      ∙ match_rows_give_named_value name (form_of command).positionals arguments;
 }

@@ -9,13 +9,13 @@ use Rattle.command_words.specs.Arguments.{Text}
 use Rattle.command_words.specs.Words.{texts}
 
 -- one more name, and its rule
-pub rule_more : (f : Text → Rule) (start before after : App) (rule : Rule) (names : List (Bor Text)) (i : ℕ)
+pub parser_gets_one_more_rule : (f : Text → Rule) (start before after : App) (rule : Rule) (names : List (Bor Text)) (i : ℕ)
     (name : Bor Text) → i < length names
     → before ≡ fold (λ parser n. with_rule parser (f n)) start (take i (texts names))
     → rule ≡ f (slice_index_or names i name).now
     → after ≡ with_rule before rule
     → after ≡ fold (λ parser n. with_rule parser (f n)) start (take (i + 1) (texts names))
-rule_more f start before after rule names i name inside so_far is added =
+parser_gets_one_more_rule f start before after rule names i name inside so_far is added =
     let inside_texts : i < length (texts names) = omega (arith, length-map names (λ (n : Bor Text). n.now)) in
     let at : slice_index_or (texts names) i name.now ≡ (slice_index_or names i name).now =
     get_or-map (λ (n : Bor Text). n.now) names i name name.now inside in

@@ -6,11 +6,11 @@ use Rattle.std.proofs.lemmas.Bool.{cases_lt}
 use Rattle.frame_records.specs.declared.weigh.Weigh.{Weigh}
 use Rattle.deal_rules.specs.declared.deal_kind.DealKind.{DealKind}
 use Rattle.command_words.specs.Arguments.{Text}
-use Rattle.command_words.specs.Options.{Kind, number, choice, kind_of, place_of, IsNumber, IsAllowed, IsGoodText}
-use Rattle.command_words.specs.Options.{IsGood, IsNoNumber, IsNoChoice, IsOutside}
-use Rattle.command_words.specs.Settings.{Values, SetsNumber, SetsWeigh, SetsDeal}
-use Rattle.command_words.specs.Words.{IsFirstBad, HasValueFault}
-use Rattle.command_words.specs.OneValue.{AreGoodBefore, IsBadNumber, IsBadChoice}
+use Rattle.command_words.specs.Options.{OptionKind, number, choice, option_kind_of, option_place_of, IsOptionNumber, IsAllowedByOption, IsGoodOptionText}
+use Rattle.command_words.specs.Options.{IsGoodOption, IsNoOptionNumber, IsNoOptionChoice, IsOutsideOptionLimits}
+use Rattle.command_words.specs.Settings.{SettingValues, SetsNumberSetting, SetsWeighSetting, SetsDealSetting}
+use Rattle.command_words.specs.Words.{IsFirstBadValue, HasValueFault}
+use Rattle.command_words.specs.GivenValues.{AreGoodGivenValuesBefore, IsBadGivenNumber, IsBadGivenChoice}
 use Rattle.command_words.specs.declared.opt.Opt.{Opt}
 use Rattle.command_words.specs.declared.words_kind.WordsKind.{WordsKind}
 use Rattle.command_words.specs.declared.words_kind.WordsKind.TheVariants.{BadNumber, OutOfLimits, BadChoice}
@@ -19,90 +19,90 @@ use Rattle.deal_rules.specs.declared.deal_kind.DealKind.TheVariants as dealing
 use Rattle.command_words.specs.declared.opt.Opt.TheVariants as opt
 
 -- the option at a place
-abbrev opt_at : ℕ → Opt
-opt_at place =
+abbrev value_checked_at : ℕ → Opt
+value_checked_at place =
     if place == 0 then opt.Seed else if place == 1 then opt.Frames else if place == 2 then opt.Weigh else
     if place == 3 then opt.Shards else if place == 4 then opt.Capacity else if place == 5 then opt.Phi else
     if place == 6 then opt.Deal else if place == 7 then opt.Block else if place == 8 then opt.Workers else
     if place == 9 then opt.Callers else opt.Rounds
 
-at_place : (opt : Opt) → opt_at (place_of opt) ≡ opt
-at_place opt.Seed = refl
-at_place opt.Frames = refl
-at_place opt.Weigh = refl
-at_place opt.Shards = refl
-at_place opt.Capacity = refl
-at_place opt.Phi = refl
-at_place opt.Deal = refl
-at_place opt.Block = refl
-at_place opt.Workers = refl
-at_place opt.Callers = refl
-at_place opt.Rounds = refl
+value_checked_at-own : (opt : Opt) → value_checked_at (option_place_of opt) ≡ opt
+value_checked_at-own opt.Seed = refl
+value_checked_at-own opt.Frames = refl
+value_checked_at-own opt.Weigh = refl
+value_checked_at-own opt.Shards = refl
+value_checked_at-own opt.Capacity = refl
+value_checked_at-own opt.Phi = refl
+value_checked_at-own opt.Deal = refl
+value_checked_at-own opt.Block = refl
+value_checked_at-own opt.Workers = refl
+value_checked_at-own opt.Callers = refl
+value_checked_at-own opt.Rounds = refl
 
 -- options at one place are one option
-pub same_opt : (opt other : Opt) → place_of opt ≡ place_of other → opt ≡ other
-same_opt opt other same = sym (at_place opt) ∙ ap opt_at same ∙ at_place other
+pub value_check_tells_option : (opt other : Opt) → option_place_of opt ≡ option_place_of other → opt ≡ other
+value_check_tells_option opt other same = sym (value_checked_at-own opt) ∙ ap value_checked_at same ∙ value_checked_at-own other
 
 -- nothing stands before the first place
-pub good_before_first : (values : Values) → AreGoodBefore values 0
-good_before_first values other before = absurd (omega arith)
+pub values_before_first_are_good : (values : SettingValues) → AreGoodGivenValuesBefore values 0
+values_before_first_are_good values other before = absurd (omega arith)
 
 -- the value at a place is good, and so are those before the place behind it
-pub good_before_next : (values : Values) (opt : Opt) (told : Option Text) → values opt ≡ told
-    → AreGoodBefore values (place_of opt) → IsGood opt told
-    → AreGoodBefore values (suc (place_of opt))
-good_before_next values opt told same before good other below = go (cases_lt (place_of other) (place_of opt))
+pub values_before_next_are_good : (values : SettingValues) (opt : Opt) (told : Option Text) → values opt ≡ told
+    → AreGoodGivenValuesBefore values (option_place_of opt) → IsGoodOption opt told
+    → AreGoodGivenValuesBefore values (suc (option_place_of opt))
+values_before_next_are_good values opt told same before good other below = go (cases_lt (option_place_of other) (option_place_of opt))
   where
-    go : (place_of other < place_of opt) ⊎ (place_of opt ≤ place_of other) → IsGood other (values other)
+    go : (option_place_of other < option_place_of opt) ⊎ (option_place_of opt ≤ option_place_of other) → IsGoodOption other (values other)
     go (inl under) = before other under
     go (inr over) =
-        subst (λ o. IsGood o (values o)) (same_opt opt other (omega arith))
-        (subst (λ t. IsGood opt t) (sym same) good)
+        subst (λ o. IsGoodOption o (values o)) (value_check_tells_option opt other (omega arith))
+        (subst (λ t. IsGoodOption opt t) (sym same) good)
 
 -- a number that an option may have is good
-allowed_is_good : (kind : Kind) (text : Text) (value : ℕ) → IsNumber text value → IsAllowed kind value
-    → IsGoodText kind text
-allowed_is_good (number least greatest) text value is_number allowed = (value, is_number, allowed)
-allowed_is_good (choice words) text value is_number allowed = absurd allowed
+allowed_value_is_good : (kind : OptionKind) (text : Text) (value : ℕ) → IsOptionNumber text value → IsAllowedByOption kind value
+    → IsGoodOptionText kind text
+allowed_value_is_good (number least greatest) text value is_number allowed = (value, is_number, allowed)
+allowed_value_is_good (choice words) text value is_number allowed = absurd allowed
 
 -- a number that is set is good
-pub number_is_good : (opt : Opt) (default : ℕ) (told : Option Text) (value : ℕ) → SetsNumber opt default told value
-    → IsGood opt told
-number_is_good opt default None value sets = tt
-number_is_good opt default (Some text) value sets = allowed_is_good (kind_of opt) text value sets.0 sets.1
+pub numeric_value_is_good : (opt : Opt) (default : ℕ) (told : Option Text) (value : ℕ) → SetsNumberSetting opt default told value
+    → IsGoodOption opt told
+numeric_value_is_good opt default None value sets = tt
+numeric_value_is_good opt default (Some text) value sets = allowed_value_is_good (option_kind_of opt) text value sets.0 sets.1
 
 -- a way to weigh that is set is good
-pub weigh_is_good : (told : Option Text) (weigh : Weigh) → SetsWeigh told weigh → IsGood opt.Weigh told
-weigh_is_good None weigh sets = tt
-weigh_is_good (Some text) weighing.Bytes sets = (0, omega arith, sym sets)
-weigh_is_good (Some text) weighing.Packets sets = (1, omega arith, sym sets)
+pub weigh_value_is_good : (told : Option Text) (weigh : Weigh) → SetsWeighSetting told weigh → IsGoodOption opt.Weigh told
+weigh_value_is_good None weigh sets = tt
+weigh_value_is_good (Some text) weighing.Bytes sets = (0, omega arith, sym sets)
+weigh_value_is_good (Some text) weighing.Packets sets = (1, omega arith, sym sets)
 
 -- a way to deal that is set is good
-pub deal_is_good : (told : Option Text) (deal : DealKind) → SetsDeal told deal → IsGood opt.Deal told
-deal_is_good None deal sets = tt
-deal_is_good (Some text) dealing.RoundRobin sets = (0, omega arith, sym sets)
-deal_is_good (Some text) dealing.BySource sets = (1, omega arith, sym sets)
-deal_is_good (Some text) dealing.Free sets = (2, omega arith, sym sets)
+pub deal_value_is_good : (told : Option Text) (deal : DealKind) → SetsDealSetting told deal → IsGoodOption opt.Deal told
+deal_value_is_good None deal sets = tt
+deal_value_is_good (Some text) dealing.RoundRobin sets = (0, omega arith, sym sets)
+deal_value_is_good (Some text) dealing.BySource sets = (1, omega arith, sym sets)
+deal_value_is_good (Some text) dealing.Free sets = (2, omega arith, sym sets)
 
 -- a number that is bad, where all before it are good, is the first fault
-pub number_is_first : (values : Values) (opt : Opt) (told : Option Text) (kind : WordsKind) → values opt ≡ told
-    → AreGoodBefore values (place_of opt)
-    → IsBadNumber opt told kind → HasValueFault values kind
-number_is_first values opt None kind same before bad = absurd bad
-number_is_first values opt (Some text) (BadNumber at) same before bad =
-    subst (λ o. IsFirstBad IsNoNumber values o) (sym bad.0) record
+pub bad_numeric_value_is_first : (values : SettingValues) (opt : Opt) (told : Option Text) (kind : WordsKind) → values opt ≡ told
+    → AreGoodGivenValuesBefore values (option_place_of opt)
+    → IsBadGivenNumber opt told kind → HasValueFault values kind
+bad_numeric_value_is_first values opt None kind same before bad = absurd bad
+bad_numeric_value_is_first values opt (Some text) (BadNumber at) same before bad =
+    subst (λ o. IsFirstBadValue IsNoOptionNumber values o) (sym bad.0) record
     { before = before; text = text; value = same; is_bad = bad.1 }
-number_is_first values opt (Some text) (OutOfLimits at) same before bad =
-    subst (λ o. IsFirstBad IsOutside values o) (sym bad.0) record
+bad_numeric_value_is_first values opt (Some text) (OutOfLimits at) same before bad =
+    subst (λ o. IsFirstBadValue IsOutsideOptionLimits values o) (sym bad.0) record
     { before = before; text = text; value = same; is_bad = bad.1 }
-number_is_first values opt (Some text) _ same before bad = absurd bad
+bad_numeric_value_is_first values opt (Some text) _ same before bad = absurd bad
 
 -- a choice that is bad, where all before it are good, is the first fault
-pub choice_is_first : (values : Values) (opt : Opt) (told : Option Text) (kind : WordsKind) → values opt ≡ told
-    → AreGoodBefore values (place_of opt)
-    → IsBadChoice opt told kind → HasValueFault values kind
-choice_is_first values opt None kind same before bad = absurd bad
-choice_is_first values opt (Some text) (BadChoice at) same before bad =
-    subst (λ o. IsFirstBad IsNoChoice values o) (sym bad.0) record
+pub bad_choice_value_is_first : (values : SettingValues) (opt : Opt) (told : Option Text) (kind : WordsKind) → values opt ≡ told
+    → AreGoodGivenValuesBefore values (option_place_of opt)
+    → IsBadGivenChoice opt told kind → HasValueFault values kind
+bad_choice_value_is_first values opt None kind same before bad = absurd bad
+bad_choice_value_is_first values opt (Some text) (BadChoice at) same before bad =
+    subst (λ o. IsFirstBadValue IsNoOptionChoice values o) (sym bad.0) record
     { before = before; text = text; value = same; is_bad = bad.1 }
-choice_is_first values opt (Some text) _ same before bad = absurd bad
+bad_choice_value_is_first values opt (Some text) _ same before bad = absurd bad

@@ -1,20 +1,20 @@
 -- The commands, and what each takes.
 use Rattle.std.specs.Prelude.{◌≡◌, List, [], ◌∷◌, codes}
-use Rattle.command_words.specs.Arguments.{Text, Argument, Form, AreWellFormed}
+use Rattle.command_words.specs.Arguments.{Text, Argument, ArgumentForm, AreWellFormedArguments}
 use Rattle.command_words.specs.declared.command_word.CommandWord.{CommandWord}
 use Rattle.command_words.specs.declared.command_word.CommandWord.TheVariants.{Weigh, Report, Format, Audit, Make, Demo}
 
 -- the name of a command, which is the first word of the command line
-abbrev pub word_of : CommandWord → Text
-word_of Weigh = codes "weigh"
-word_of Report = codes "report"
-word_of Format = codes "format"
-word_of Audit = codes "audit"
-word_of Make = codes "make"
-word_of Demo = codes "demo"
+abbrev pub form_word_of : CommandWord → Text
+form_word_of Weigh = codes "weigh"
+form_word_of Report = codes "report"
+form_word_of Format = codes "format"
+form_word_of Audit = codes "audit"
+form_word_of Make = codes "make"
+form_word_of Demo = codes "demo"
 
 -- the positionals and options that each command takes
-abbrev pub form_of : CommandWord → Form
+abbrev pub form_of : CommandWord → ArgumentForm
 form_of Weigh = record {
   positionals = codes "SRC" ∷ codes "DST" ∷ [];
   options = codes "capture" ∷ codes "weigh" ∷ [];
@@ -48,7 +48,7 @@ form_of Demo = record {
 }
 
 -- the words are a command's name followed by well-formed words that spell these arguments
-pub record AreWordsOf (words : List Text) (command : CommandWord) (arguments : List Argument) : Type 0 where
+pub record AreFormWords (words : List Text) (command : CommandWord) (arguments : List Argument) : Type 0 where
   pub behind : List Text
-  pub begun : words ≡ word_of command ∷ behind
-  pub well_formed : AreWellFormed (form_of command) behind arguments
+  pub begun : words ≡ form_word_of command ∷ behind
+  pub well_formed : AreWellFormedArguments (form_of command) behind arguments

@@ -8,115 +8,115 @@ use Rattle.command_words.specs.declared.opt.Opt.TheVariants.{Block, Workers, Cal
 use Rattle.prefix_lattice.specs.{most_shards}
 
 -- the name of an option or a positional
-abbrev pub name_of : Opt → Text
-name_of Seed = codes "SEED"
-name_of Frames = codes "FRAMES"
-name_of Weigh = codes "weigh"
-name_of Shards = codes "shards"
-name_of Capacity = codes "capacity"
-name_of Phi = codes "phi"
-name_of Deal = codes "deal"
-name_of Block = codes "block"
-name_of Workers = codes "workers"
-name_of Callers = codes "callers"
-name_of Rounds = codes "rounds"
+abbrev pub option_name_of : Opt → Text
+option_name_of Seed = codes "SEED"
+option_name_of Frames = codes "FRAMES"
+option_name_of Weigh = codes "weigh"
+option_name_of Shards = codes "shards"
+option_name_of Capacity = codes "capacity"
+option_name_of Phi = codes "phi"
+option_name_of Deal = codes "deal"
+option_name_of Block = codes "block"
+option_name_of Workers = codes "workers"
+option_name_of Callers = codes "callers"
+option_name_of Rounds = codes "rounds"
 
 -- the index of an option or a positional in the order in which values are checked
-abbrev pub place_of : Opt → ℕ
-place_of Seed = 0
-place_of Frames = 1
-place_of Weigh = 2
-place_of Shards = 3
-place_of Capacity = 4
-place_of Phi = 5
-place_of Deal = 6
-place_of Block = 7
-place_of Workers = 8
-place_of Callers = 9
-place_of Rounds = 10
+abbrev pub option_place_of : Opt → ℕ
+option_place_of Seed = 0
+option_place_of Frames = 1
+option_place_of Weigh = 2
+option_place_of Shards = 3
+option_place_of Capacity = 4
+option_place_of Phi = 5
+option_place_of Deal = 6
+option_place_of Block = 7
+option_place_of Workers = 8
+option_place_of Callers = 9
+option_place_of Rounds = 10
 
 -- what the value of an option may be: a number from the least to the greatest, or one of some choices
-pub data Kind : Type 0 where
-  number : ℕ → ℕ → Kind
-  choice : List Text → Kind
+pub data OptionKind : Type 0 where
+  number : ℕ → ℕ → OptionKind
+  choice : List Text → OptionKind
 
 -- the greatest seed, which may be any number of 64 bits
-abbrev pub greatest_seed : ℕ
-greatest_seed = 2 ^ 64 - 1
+abbrev pub seed_option_limit : ℕ
+seed_option_limit = 2 ^ 64 - 1
 
 -- the most frames that are made
-abbrev pub greatest_frames : ℕ
-greatest_frames = 1000000
+abbrev pub frames_option_limit : ℕ
+frames_option_limit = 1000000
 
 -- the greatest capacity of tables that the command line takes, which is that of the tables themselves
-abbrev pub greatest_capacity : ℕ
-greatest_capacity = 4096
+abbrev pub capacity_option_limit : ℕ
+capacity_option_limit = 4096
 
 -- the greatest share, the whole, in parts per million
-abbrev pub greatest_phi : ℕ
-greatest_phi = 1000000
+abbrev pub phi_option_limit : ℕ
+phi_option_limit = 1000000
 
 -- the most records that one fold counts
-abbrev pub greatest_block : ℕ
-greatest_block = 65536
+abbrev pub block_option_limit : ℕ
+block_option_limit = 65536
 
 -- the most threads that fold records
-abbrev pub greatest_workers : ℕ
-greatest_workers = 16
+abbrev pub workers_option_limit : ℕ
+workers_option_limit = 16
 
 -- the most threads that report besides the calling one
-abbrev pub greatest_callers : ℕ
-greatest_callers = 8
+abbrev pub callers_option_limit : ℕ
+callers_option_limit = 8
 
 -- the most reports that each of them makes while records are folded
-abbrev pub greatest_rounds : ℕ
-greatest_rounds = 32
+abbrev pub rounds_option_limit : ℕ
+rounds_option_limit = 32
 
 -- the values that each option or positional takes
-abbrev pub kind_of : Opt → Kind
-kind_of Seed = number 0 greatest_seed
-kind_of Frames = number 1 greatest_frames
-kind_of Weigh = choice (codes "bytes" ∷ codes "packets" ∷ [])
-kind_of Shards = number 1 most_shards
-kind_of Capacity = number 2 greatest_capacity
-kind_of Phi = number 1 greatest_phi
-kind_of Deal = choice (codes "round" ∷ codes "source" ∷ codes "free" ∷ [])
-kind_of Block = number 1 greatest_block
-kind_of Workers = number 1 greatest_workers
-kind_of Callers = number 0 greatest_callers
-kind_of Rounds = number 0 greatest_rounds
+abbrev pub option_kind_of : Opt → OptionKind
+option_kind_of Seed = number 0 seed_option_limit
+option_kind_of Frames = number 1 frames_option_limit
+option_kind_of Weigh = choice (codes "bytes" ∷ codes "packets" ∷ [])
+option_kind_of Shards = number 1 most_shards
+option_kind_of Capacity = number 2 capacity_option_limit
+option_kind_of Phi = number 1 phi_option_limit
+option_kind_of Deal = choice (codes "round" ∷ codes "source" ∷ codes "free" ∷ [])
+option_kind_of Block = number 1 block_option_limit
+option_kind_of Workers = number 1 workers_option_limit
+option_kind_of Callers = number 0 callers_option_limit
+option_kind_of Rounds = number 0 rounds_option_limit
 
 -- the text is a number below 2^64 in decimal, without leading zeros
-pub record IsNumber (text : Text) (value : ℕ) : Type 0 where
+pub record IsOptionNumber (text : Text) (value : ℕ) : Type 0 where
   pub spelled : text ≡ decimal value
   pub bounded : value < 2 ^ 64
 
 -- the option takes numbers, and this number is within its limits
-abbrev pub IsAllowed : Kind → ℕ → Type 0
-IsAllowed (number least greatest) value = (least ≤ value) × (value ≤ greatest)
-IsAllowed (choice words) value = ⊥
+abbrev pub IsAllowedByOption : OptionKind → ℕ → Type 0
+IsAllowedByOption (number least greatest) value = (least ≤ value) × (value ≤ greatest)
+IsAllowedByOption (choice words) value = ⊥
 
 -- the text is a value that the option may have
-abbrev pub IsGoodText : Kind → Text → Type 0
-IsGoodText (number least greatest) text = (value : ℕ) × IsNumber text value × IsAllowed (number least greatest) value
-IsGoodText (choice words) text = Contains words text
+abbrev pub IsGoodOptionText : OptionKind → Text → Type 0
+IsGoodOptionText (number least greatest) text = (value : ℕ) × IsOptionNumber text value × IsAllowedByOption (number least greatest) value
+IsGoodOptionText (choice words) text = Contains words text
 
 -- the option has a value that it may have, or is missing
-abbrev pub IsGood : Opt → Option Text → Type 0
-IsGood opt None = ⊤
-IsGood opt (Some text) = IsGoodText (kind_of opt) text
+abbrev pub IsGoodOption : Opt → Option Text → Type 0
+IsGoodOption opt None = ⊤
+IsGoodOption opt (Some text) = IsGoodOptionText (option_kind_of opt) text
 
 -- the option takes numbers, and the text is not a number
-abbrev pub IsNoNumber : Kind → Text → Type 0
-IsNoNumber (number least greatest) text = (value : ℕ) → IsNumber text value → ⊥
-IsNoNumber (choice words) text = ⊥
+abbrev pub IsNoOptionNumber : OptionKind → Text → Type 0
+IsNoOptionNumber (number least greatest) text = (value : ℕ) → IsOptionNumber text value → ⊥
+IsNoOptionNumber (choice words) text = ⊥
 
 -- the option takes numbers, and the text is a number outside its limits
-abbrev pub IsOutside : Kind → Text → Type 0
-IsOutside (number least greatest) text = (value : ℕ) × IsNumber text value × ((value < least) ⊎ (greatest < value))
-IsOutside (choice words) text = ⊥
+abbrev pub IsOutsideOptionLimits : OptionKind → Text → Type 0
+IsOutsideOptionLimits (number least greatest) text = (value : ℕ) × IsOptionNumber text value × ((value < least) ⊎ (greatest < value))
+IsOutsideOptionLimits (choice words) text = ⊥
 
 -- the option takes one of some choices, and the text is none of them
-abbrev pub IsNoChoice : Kind → Text → Type 0
-IsNoChoice (number least greatest) text = ⊥
-IsNoChoice (choice words) text = Contains words text → ⊥
+abbrev pub IsNoOptionChoice : OptionKind → Text → Type 0
+IsNoOptionChoice (number least greatest) text = ⊥
+IsNoOptionChoice (choice words) text = Contains words text → ⊥

@@ -1,11 +1,11 @@
 -- The parser that `clap` is given for a form, which no public contract cites.
 use Rattle.std.specs.Prelude.{true, List, fold, Some}
 use Rattle.clap.specs.Words.{App, Rule, new_app, new_rule, with_rule}
-use Rattle.command_words.specs.Arguments.{Text, Form}
+use Rattle.command_words.specs.Arguments.{Text, ArgumentForm}
 
 -- the rule for an option of this name, which takes a value
-abbrev pub option_rule : Text → Rule
-option_rule name = record (new_rule name) { long = Some name }
+abbrev pub parser_rule_for : Text → Rule
+parser_rule_for name = record (new_rule name) { long = Some name }
 
 -- a parser of the words after the program's name and the command's name, with no `--help`
 abbrev pub bare_parser : Text → App
@@ -14,13 +14,13 @@ bare_parser word =
     record app { top = record app.top { no_binary_name = true; disable_help_flag = true } }
 
 -- a parser with positionals of these names added
-abbrev pub with_positionals : App → List Text → App
-with_positionals app names = fold (λ parser name. with_rule parser (new_rule name)) app names
+abbrev pub parser_with_positionals : App → List Text → App
+parser_with_positionals app names = fold (λ parser name. with_rule parser (new_rule name)) app names
 
 -- a parser with options of these names added
-abbrev pub with_options : App → List Text → App
-with_options app names = fold (λ parser name. with_rule parser (option_rule name)) app names
+abbrev pub parser_with_options : App → List Text → App
+parser_with_options app names = fold (λ parser name. with_rule parser (parser_rule_for name)) app names
 
 -- a parser that has the positionals and the options of a form, and no other
-abbrev pub parser_for : Text → Form → App
-parser_for word form = with_options (with_positionals (bare_parser word) form.positionals) form.options
+abbrev pub parser_for : Text → ArgumentForm → App
+parser_for word form = parser_with_options (parser_with_positionals (bare_parser word) form.positionals) form.options

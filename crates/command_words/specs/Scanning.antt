@@ -2,28 +2,28 @@
 use Rattle.std.specs.Prelude.{ℕ, ◌≡◌, ◌≢◌, List, length, map, All, AllPairs, Contains, Option, Some, None, option_map}
 use Rattle.std.specs.Borrow.{Bor}
 use Rattle.command_words.specs.declared.form_names.FormNames.{FormNames}
-use Rattle.command_words.specs.Arguments.{Text, Argument, positional, option, SpellsAll, positionals_in, names_in, Form}
+use Rattle.command_words.specs.Arguments.{Text, Argument, positional, option, SpellAllArguments, positionals_in_arguments, names_in_arguments, ArgumentForm}
 
 -- the name of the option that an argument gives, if the argument is an option
-abbrev pub option_name : Argument → Option Text
-option_name (positional text) = None
-option_name (option name value) = Some name
+abbrev pub scanned_option_name : Argument → Option Text
+scanned_option_name (positional text) = None
+scanned_option_name (option name value) = Some name
 
 -- the form with these names
-abbrev pub form_named : FormNames → Form
-form_named names = record {
+abbrev pub scanned_form : FormNames → ArgumentForm
+scanned_form names = record {
   positionals = map (λ name. name.now) names.positionals.now;
   options = map (λ name. name.now) names.options.now;
   required = map (λ name. name.now) names.required.now;
 }
 
 -- the text that a reference points to, if there is a reference
-abbrev pub text_at : Option (Bor Text) → Option Text
-text_at word = option_map (λ text. text.now) word
+abbrev pub scanned_text_at : Option (Bor Text) → Option Text
+scanned_text_at word = option_map (λ text. text.now) word
 
 -- the words spell exactly this many positionals, and options of a form, none of them twice
-pub record FitsRest (form : Form) (positionals : ℕ) (words : List Text) (arguments : List Argument) : Type 0 where
-  pub spelled : SpellsAll words arguments
-  pub as_many : length (positionals_in arguments) ≡ positionals
-  pub known : All (λ name. Contains form.options name) (names_in arguments)
-  pub once : AllPairs (λ name other. name ≢ other) (names_in arguments)
+pub record FitsScannedRest (form : ArgumentForm) (positionals : ℕ) (words : List Text) (arguments : List Argument) : Type 0 where
+  pub spelled : SpellAllArguments words arguments
+  pub as_many : length (positionals_in_arguments arguments) ≡ positionals
+  pub known : All (λ name. Contains form.options name) (names_in_arguments arguments)
+  pub once : AllPairs (λ name other. name ≢ other) (names_in_arguments arguments)

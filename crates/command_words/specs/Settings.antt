@@ -4,11 +4,11 @@ use Rattle.frame_records.specs.declared.weigh.Weigh.{Weigh}
 use Rattle.frame_records.specs.declared.weigh.Weigh.TheVariants as weighing
 use Rattle.deal_rules.specs.declared.deal_kind.DealKind.{DealKind}
 use Rattle.deal_rules.specs.declared.deal_kind.DealKind.TheVariants as dealing
-use Rattle.command_words.specs.Arguments.{Text, Argument, value_of, named}
+use Rattle.command_words.specs.Arguments.{Text, Argument, argument_value_of, named_arguments}
 use Rattle.command_words.specs.Forms.{form_of}
-use Rattle.command_words.specs.Options.{name_of, kind_of, IsNumber, IsAllowed, greatest_capacity, greatest_phi}
-use Rattle.command_words.specs.Options.{greatest_frames}
-use Rattle.command_words.specs.Options.{greatest_block, greatest_workers, greatest_callers, greatest_rounds}
+use Rattle.command_words.specs.Options.{option_name_of, option_kind_of, IsOptionNumber, IsAllowedByOption, capacity_option_limit, phi_option_limit}
+use Rattle.command_words.specs.Options.{frames_option_limit}
+use Rattle.command_words.specs.Options.{block_option_limit, workers_option_limit, callers_option_limit, rounds_option_limit}
 use Rattle.command_words.specs.declared.command_word.CommandWord.{CommandWord}
 use Rattle.command_words.specs.declared.opt.Opt.{Opt}
 use Rattle.command_words.specs.declared.opt.Opt.TheVariants.{Seed, Frames, Weigh as ByWeigh, Shards, Capacity, Phi}
@@ -18,92 +18,92 @@ use Rattle.command_words.specs.declared.settings.Settings.{Settings}
 use Rattle.prefix_lattice.specs.{most_shards}
 
 -- the value of each option or positional that is present
-abbrev pub Values : Type 0
-Values = Opt → Option Text
+abbrev pub SettingValues : Type 0
+SettingValues = Opt → Option Text
 
 -- the value that the arguments of a command give each option and each positional, by its name
-abbrev pub values_in : CommandWord → List Argument → Values
-values_in command arguments = λ opt. value_of (name_of opt) (named (form_of command).positionals arguments)
+abbrev pub setting_values_in : CommandWord → List Argument → SettingValues
+setting_values_in command arguments = λ opt. argument_value_of (option_name_of opt) (named_arguments (form_of command).positionals arguments)
 
 -- the path that arguments give for a store
-abbrev pub store_in : List Argument → Option Text
-store_in arguments = value_of (codes "store") arguments
+abbrev pub store_setting_in : List Argument → Option Text
+store_setting_in arguments = argument_value_of (codes "store") arguments
 
 -- the number that an option sets: the default if the option is missing, else its value, within its limits
-abbrev pub SetsNumber : Opt → ℕ → Option Text → ℕ → Type 0
-SetsNumber opt default None value = value ≡ default
-SetsNumber opt default (Some text) value = IsNumber text value × IsAllowed (kind_of opt) value
+abbrev pub SetsNumberSetting : Opt → ℕ → Option Text → ℕ → Type 0
+SetsNumberSetting opt default None value = value ≡ default
+SetsNumberSetting opt default (Some text) value = IsOptionNumber text value × IsAllowedByOption (option_kind_of opt) value
 
 -- the value of `--weigh` for each way to weigh traffic
-abbrev pub weigh_word : Weigh → Text
-weigh_word weighing.Bytes = codes "bytes"
-weigh_word weighing.Packets = codes "packets"
+abbrev pub weigh_setting_word : Weigh → Text
+weigh_setting_word weighing.Bytes = codes "bytes"
+weigh_setting_word weighing.Packets = codes "packets"
 
 -- the value of `--deal` for each kind of dealing
-abbrev pub deal_word : DealKind → Text
-deal_word dealing.RoundRobin = codes "round"
-deal_word dealing.BySource = codes "source"
-deal_word dealing.Free = codes "free"
+abbrev pub deal_setting_word : DealKind → Text
+deal_setting_word dealing.RoundRobin = codes "round"
+deal_setting_word dealing.BySource = codes "source"
+deal_setting_word dealing.Free = codes "free"
 
 -- how traffic is weighed: by bytes if the option is missing
-abbrev pub SetsWeigh : Option Text → Weigh → Type 0
-SetsWeigh None weigh = weigh ≡ weighing.Bytes
-SetsWeigh (Some text) weigh = text ≡ weigh_word weigh
+abbrev pub SetsWeighSetting : Option Text → Weigh → Type 0
+SetsWeighSetting None weigh = weigh ≡ weighing.Bytes
+SetsWeighSetting (Some text) weigh = text ≡ weigh_setting_word weigh
 
 -- how records are dealt: in turn if the option is missing
-abbrev pub SetsDeal : Option Text → DealKind → Type 0
-SetsDeal None deal = deal ≡ dealing.RoundRobin
-SetsDeal (Some text) deal = text ≡ deal_word deal
+abbrev pub SetsDealSetting : Option Text → DealKind → Type 0
+SetsDealSetting None deal = deal ≡ dealing.RoundRobin
+SetsDealSetting (Some text) deal = text ≡ deal_setting_word deal
 
 -- whether cuts are saved: exactly if a store is named
-abbrev pub SetsStore : Option Text → Bool → Type 0
-SetsStore None store = store ≡ false
-SetsStore (Some path) store = store ≡ true
+abbrev pub SetsStoreSetting : Option Text → Bool → Type 0
+SetsStoreSetting None store = store ≡ false
+SetsStoreSetting (Some path) store = store ≡ true
 
 -- the settings that the values of options and the path of a store give, with defaults filled in
-pub record SetsSettings (values : Values) (path : Option Text) (settings : Settings) : Type 0 where
-  pub weigh : SetsWeigh (values ByWeigh) settings.weigh
-  pub shards : SetsNumber Shards 4 (values Shards) settings.shards
-  pub capacity : SetsNumber Capacity 512 (values Capacity) settings.capacity
-  pub phi : SetsNumber Phi 10000 (values Phi) settings.phi
-  pub deal : SetsDeal (values Deal) settings.deal
-  pub block : SetsNumber Block 1024 (values Block) settings.block
-  pub workers : SetsNumber Workers 4 (values Workers) settings.workers
-  pub callers : SetsNumber Callers 0 (values Callers) settings.callers
-  pub rounds : SetsNumber Rounds 0 (values Rounds) settings.rounds
-  pub store : SetsStore path settings.store
+pub record SetsSettings (values : SettingValues) (path : Option Text) (settings : Settings) : Type 0 where
+  pub weigh : SetsWeighSetting (values ByWeigh) settings.weigh
+  pub shards : SetsNumberSetting Shards 4 (values Shards) settings.shards
+  pub capacity : SetsNumberSetting Capacity 512 (values Capacity) settings.capacity
+  pub phi : SetsNumberSetting Phi 10000 (values Phi) settings.phi
+  pub deal : SetsDealSetting (values Deal) settings.deal
+  pub block : SetsNumberSetting Block 1024 (values Block) settings.block
+  pub workers : SetsNumberSetting Workers 4 (values Workers) settings.workers
+  pub callers : SetsNumberSetting Callers 0 (values Callers) settings.callers
+  pub rounds : SetsNumberSetting Rounds 0 (values Rounds) settings.rounds
+  pub store : SetsStoreSetting path settings.store
 
 -- the number that a positional gives: its value, within its limits
-abbrev pub GivesNumber : Opt → Option Text → ℕ → Type 0
-GivesNumber opt None value = ⊥
-GivesNumber opt (Some text) value = IsNumber text value × IsAllowed (kind_of opt) value
+abbrev pub GivesNumberSetting : Opt → Option Text → ℕ → Type 0
+GivesNumberSetting opt None value = ⊥
+GivesNumberSetting opt (Some text) value = IsOptionNumber text value × IsAllowedByOption (option_kind_of opt) value
 
 -- the traffic that values give: the seed that it is made from, and how many frames are made
-pub record GivesTraffic (values : Values) (seed frames : ℕ) : Type 0 where
-  pub seed_given : GivesNumber Seed (values Seed) seed
-  pub frames_given : GivesNumber Frames (values Frames) frames
+pub record GivesTrafficSettings (values : SettingValues) (seed frames : ℕ) : Type 0 where
+  pub seed_given : GivesNumberSetting Seed (values Seed) seed
+  pub frames_given : GivesNumberSetting Frames (values Frames) frames
 
 -- so many frames can be made from this seed
-pub record CanBeMade (seed frames : ℕ) : Type 0 where
+pub record AreTrafficSettings (seed frames : ℕ) : Type 0 where
   pub is_seed : seed < 2 ^ 64
   pub some_frames : 1 ≤ frames
-  pub few_frames : frames ≤ greatest_frames
+  pub few_frames : frames ≤ frames_option_limit
 
 -- tables of this capacity can't hide a prefix of this share: phi times capacity is at least 2,000,000
-abbrev pub IsWide : Settings → Type 0
-IsWide settings = 2 * greatest_phi ≤ settings.phi * settings.capacity
+abbrev pub AreWideSettings : Settings → Type 0
+AreWideSettings settings = 2 * phi_option_limit ≤ settings.phi * settings.capacity
 
 -- each number of the settings is within its limits
-pub record AreLimited (settings : Settings) : Type 0 where
+pub record AreLimitedSettings (settings : Settings) : Type 0 where
   pub some_shards : 1 ≤ settings.shards
   pub few_shards : settings.shards ≤ most_shards
   pub least_capacity : 2 ≤ settings.capacity
-  pub most_capacity : settings.capacity ≤ greatest_capacity
+  pub most_capacity : settings.capacity ≤ capacity_option_limit
   pub some_phi : 1 ≤ settings.phi
-  pub most_phi : settings.phi ≤ greatest_phi
+  pub most_phi : settings.phi ≤ phi_option_limit
   pub some_block : 1 ≤ settings.block
-  pub most_block : settings.block ≤ greatest_block
+  pub most_block : settings.block ≤ block_option_limit
   pub some_workers : 1 ≤ settings.workers
-  pub few_workers : settings.workers ≤ greatest_workers
-  pub few_callers : settings.callers ≤ greatest_callers
-  pub few_rounds : settings.rounds ≤ greatest_rounds
+  pub few_workers : settings.workers ≤ workers_option_limit
+  pub few_callers : settings.callers ≤ callers_option_limit
+  pub few_rounds : settings.rounds ≤ rounds_option_limit

@@ -1,8 +1,8 @@
 //! The names of commands, and what each command takes.
 
 ghost use Rattle.std.specs.Prelude.{◌≡◌, ◌≢◌, IfSome, IfNone};
-ghost use Rattle.command_words.specs.Forms.{word_of, form_of};
-ghost use Rattle.command_words.specs.Scanning.{form_named};
+ghost use Rattle.command_words.specs.Forms.{form_word_of, form_of};
+ghost use Rattle.command_words.specs.Scanning.{scanned_form};
 ghost use Rattle.command_words.specs.declared.command_word.CommandWord.{CommandWord};
 
 use crate::form_names::FormNames;
@@ -46,8 +46,8 @@ static DEMO_OPTIONS: [&str; 6] = ["shards", "capacity", "phi", "deal", "block", 
 impl CommandWord {
     /// The command of this name, if there is one.
     pub fn of(word: &str) -> Option<CommandWord>
-        ensures some { IfSome result (λ command. word.now ≡ word_of command) }
-        ensures none { IfNone result ((command : CommandWord) → word.now ≢ word_of command) }
+        ensures some { IfSome result (λ command. word.now ≡ form_word_of command) }
+        ensures none { IfNone result ((command : CommandWord) → word.now ≢ form_word_of command) }
     {
         match word {
             "weigh" => Some(CommandWord::Weigh),
@@ -62,7 +62,7 @@ impl CommandWord {
 
     /// The name as it is written on the command line.
     pub fn word<'a>(self) -> &'a str
-        ensures { result.now ≡ word_of self }
+        ensures { result.now ≡ form_word_of self }
     {
         match self {
             CommandWord::Weigh => "weigh",
@@ -76,7 +76,7 @@ impl CommandWord {
 
     /// What the command takes.
     pub(crate) fn form<'a>(self) -> FormNames<'a>
-        ensures { form_named result ≡ form_of self }
+        ensures { scanned_form result ≡ form_of self }
     {
         match self {
             CommandWord::Weigh => FormNames {

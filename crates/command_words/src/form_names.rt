@@ -1,7 +1,7 @@
 //! What the words after a command's name may be.
 
 ghost use Rattle.std.specs.Prelude.{◌↔◌, Contains, IsTrue};
-ghost use Rattle.command_words.specs.Scanning.{form_named};
+ghost use Rattle.command_words.specs.Scanning.{scanned_form};
 
 /// The names of positionals, in their order, the names of options, and those of the options that are required.
 #[derive(Clone, Copy)]
@@ -14,7 +14,7 @@ pub(crate) struct FormNames<'a> {
 impl FormNames<'_> {
     /// Whether there is an option of this name.
     pub(crate) fn has_option(&self, name: &str) -> bool
-        ensures { IsTrue result ↔ Contains (form_named self.now).options name.now }
+        ensures { IsTrue result ↔ Contains (scanned_form self.now).options name.now }
     {
         self.options.contains(&name)
     }

@@ -3,7 +3,7 @@
 ghost use Rattle.std.specs.Prelude.{◌≡◌, ◌⊎◌, IfOk, IsOk, Err, Contains, unwrap_or, []};
 ghost use Rattle.clap.specs.Words.{found_of, first_value};
 ghost use Rattle.command_words.specs.Forms.{form_of};
-ghost use Rattle.command_words.specs.Paths.{NamesPaths};
+ghost use Rattle.command_words.specs.NamedPaths.{NamesPaths};
 ghost use Rattle.command_words.specs.Words.{texts, AskFor, HasWordsFault};
 ghost use Rattle.command_words.specs.declared.command.Command.{Command};
 ghost use Rattle.command_words.specs.declared.words_kind.WordsKind.{WordsKind};

@@ -3,8 +3,8 @@
 ghost use Rattle.std.specs.Prelude.{◌≡◌, ◌⊎◌, List, Ok, Err, IfOk, IfErr};
 ghost use Rattle.command_words.specs.Arguments.{Text};
 ghost use Rattle.command_words.specs.Matches.{AreMatchesOfWords};
-ghost use Rattle.command_words.specs.Settings.{IsWide};
-ghost use Rattle.command_words.specs.Words.{texts, AskFor, HasWordsFault, IsLimited};
+ghost use Rattle.command_words.specs.Settings.{AreWideSettings};
+ghost use Rattle.command_words.specs.Words.{texts, AskFor, HasWordsFault, AreLimitedWords};
 ghost use Rattle.command_words.specs.declared.command.Command.{Command};
 ghost use Rattle.command_words.specs.declared.command.Command.TheVariants.{Demo as DemoOf};
 ghost use Rattle.command_words.specs.declared.command_word.CommandWord.{CommandWord};
@@ -39,7 +39,7 @@ pub(crate) struct CommandLine<'a> {
 /// for `report`, `audit` and `demo` the bound on `phi` times the capacity.
 pub fn read_words(alloc: Global, words: &[&str]) -> Result<Command, WordsRefusal>
     ensures ok { IfOk result (AskFor (texts words.now)) }
-    ensures limited { IfOk result IsLimited }
+    ensures limited { IfOk result AreLimitedWords }
     ensures bad { (kind : WordsKind) → result ≡ Err (Bad kind) → HasWordsFault (texts words.now) kind }
     ensures complete { (command : Command) → AskFor (texts words.now) command → (result ≡ Ok command) ⊎ (result ≡ Err OutOfMemory) }
     ensures exact { (kind : WordsKind) → HasWordsFault (texts words.now) kind → (result ≡ Err (Bad kind)) ⊎ (result ≡ Err OutOfMemory) }
@@ -161,8 +161,8 @@ fn demo_command(matches: &ArgMatches<'_>) -> Result<Command, WordsKind>
 
 // The demo of what values give, if its tables are large enough for its share.
 fn demo_of(given: Given) -> Result<Command, WordsKind>
-    ensures ok { IfOk result (λ command. (command ≡ DemoOf given.seed given.frames given.settings) × IsWide given.settings) }
-    ensures err { IfErr result (λ kind. (kind ≡ Bound) × (IsWide given.settings → ⊥)) }
+    ensures ok { IfOk result (λ command. (command ≡ DemoOf given.seed given.frames given.settings) × AreWideSettings given.settings) }
+    ensures err { IfErr result (λ kind. (kind ≡ Bound) × (AreWideSettings given.settings → ⊥)) }
 {
     Ok(Command::Demo {
         seed: given.seed,

@@ -7,111 +7,111 @@ use Rattle.std.proofs.lemmas.List.Folds.{list_any-append}
 use Rattle.std.proofs.lemmas.Bool.{cases_Bool, or_parts, or_from, or_cases, and_parts, and_right, not_from_true}
 use Rattle.std.proofs.lemmas.Bool.{not_from_false, both_ways, false_from_ne_true, false≢true}
 use Rattle.prefix_lattice.specs.{RecordValue, PrefixValue, covers, under, same_prefix, strictly_under, meet}
-use Rattle.prefix_lattice.specs.{lines_under, one_covers, closest, covering_count, kept_meet, unless_under_third}
-use Rattle.prefix_lattice.specs.{under_third, kept_among, kept_pairs, ObeysStaircase}
-use Rattle.conditioned_bounds.proofs.WeightLemmas.{mark, is_left, Balances}
+use Rattle.prefix_lattice.specs.{lines_under, one_line_covers, closest, covering_line_count, kept_meet, unless_under_third_line}
+use Rattle.prefix_lattice.specs.{under_third_line, kept_among, kept_pairs, LinesObeyStaircase}
+use Rattle.conditioned_bounds.proofs.JointWeightLemmas.{joint_weight_mark, is_left_in_joint_weight, JointWeightBalances}
 
 -- what is under a prefix covers no more than it
-abbrev pub CoveringGoesUp : Type 0
-CoveringGoesUp =
+abbrev pub BalanceCoveringGoesUp : Type 0
+BalanceCoveringGoesUp =
     (lower upper : PrefixValue) (r : RecordValue) → under lower upper ≡ true → covers lower r ≡ true
     → covers upper r ≡ true
 
 -- a meet is under the first of its two prefixes
-abbrev pub MeetsAreUnder : Type 0
-MeetsAreUnder = (first second m : PrefixValue) → meet first second ≡ Some m → under m first ≡ true
+abbrev pub BalanceMeetsAreUnder : Type 0
+BalanceMeetsAreUnder = (first second m : PrefixValue) → meet first second ≡ Some m → under m first ≡ true
 
 -- some pass a test
-pub count_by-some : (p : PrefixValue → Bool) (qs : List PrefixValue) → list_any p qs ≡ true → 1 ≤ count_by p qs
-count_by-some p [] any = absurd (false≢true any)
-count_by-some p (q ∷ qs) any =
+pub balance_count-some : (p : PrefixValue → Bool) (qs : List PrefixValue) → list_any p qs ≡ true → 1 ≤ count_by p qs
+balance_count-some p [] any = absurd (false≢true any)
+balance_count-some p (q ∷ qs) any =
     ⊎_elim
-    (λ first. let one : mark (p q) ≡ 1 = ap mark first in omega (arith, sum_by-cons (λ x. mark (p x)) q qs))
-    (λ later. omega (arith, sum_by-cons (λ x. mark (p x)) q qs, count_by-some p qs later))
+    (λ first. let one : joint_weight_mark (p q) ≡ 1 = ap joint_weight_mark first in omega (arith, sum_by-cons (λ x. joint_weight_mark (p x)) q qs))
+    (λ later. omega (arith, sum_by-cons (λ x. joint_weight_mark (p x)) q qs, balance_count-some p qs later))
     (or_cases (p q) (list_any p qs) any)
 
 -- none passes a test
-pub count_by-none : (p : PrefixValue → Bool) (qs : List PrefixValue) → list_any p qs ≡ false → count_by p qs ≡ 0
-count_by-none p [] none = refl
-count_by-none p (q ∷ qs) none =
+pub balance_count-none : (p : PrefixValue → Bool) (qs : List PrefixValue) → list_any p qs ≡ false → count_by p qs ≡ 0
+balance_count-none p [] none = refl
+balance_count-none p (q ∷ qs) none =
     let parts : (p q ≡ false) × (list_any p qs ≡ false) = or_parts (p q) (list_any p qs) none in
-    let zero_first : mark (p q) ≡ 0 = ap mark parts.0 in
-    omega (arith, sum_by-cons (λ x. mark (p x)) q qs, count_by-none p qs parts.1)
+    let zero_first : joint_weight_mark (p q) ≡ 0 = ap joint_weight_mark parts.0 in
+    omega (arith, sum_by-cons (λ x. joint_weight_mark (p x)) q qs, balance_count-none p qs parts.1)
 
 -- no meet of a prefix that doesn't cover a record covers it
-meets_of_first-none : CoveringGoesUp → MeetsAreUnder
+balance_first_meets-none : BalanceCoveringGoesUp → BalanceMeetsAreUnder
     → (all : List PrefixValue) (first : PrefixValue) (r : RecordValue) → covers first r ≡ false
-    → (rest : List PrefixValue) → one_covers (filter_map (kept_meet all first) rest) r ≡ false
-meets_of_first-none up lower all first r none [] = refl
-meets_of_first-none up lower all first r none (second ∷ rest) =
+    → (rest : List PrefixValue) → one_line_covers (filter_map (kept_meet all first) rest) r ≡ false
+balance_first_meets-none up lower all first r none [] = refl
+balance_first_meets-none up lower all first r none (second ∷ rest) =
     (elim (meet first second) as
     (λ o. meet first second ≡ o
-    → one_covers (cons_option (unless_under_third all first second o) (filter_map (kept_meet all first) rest)) r
+    → one_line_covers (cons_option (unless_under_third_line all first second o) (filter_map (kept_meet all first) rest)) r
     ≡ false) [
-      | None ↦ λ is. meets_of_first-none up lower all first r none rest
+      | None ↦ λ is. balance_first_meets-none up lower all first r none rest
       | Some m ↦ λ is.
           let apart : covers m r ≡ false =
           false_from_ne_true (covers m r)
           (λ yes. both_ways (covers first r) none (up m first r (lower first second m is) yes)) in
-          elim (under_third all first second m) as
-          (λ b. one_covers (cons_option (cond b None (Some m)) (filter_map (kept_meet all first) rest)) r ≡ false) [
-            | true ↦ meets_of_first-none up lower all first r none rest
+          elim (under_third_line all first second m) as
+          (λ b. one_line_covers (cons_option (cond b None (Some m)) (filter_map (kept_meet all first) rest)) r ≡ false) [
+            | true ↦ balance_first_meets-none up lower all first r none rest
             | false ↦
-                or_from (covers m r) (one_covers (filter_map (kept_meet all first) rest) r) apart
-                (meets_of_first-none up lower all first r none rest)
+                or_from (covers m r) (one_line_covers (filter_map (kept_meet all first) rest) r) apart
+                (balance_first_meets-none up lower all first r none rest)
           ]
     ]) refl
 
 -- where no member covers a record, no meet does
-pub kept_among-none : CoveringGoesUp → MeetsAreUnder
+pub balance_meets-none : BalanceCoveringGoesUp → BalanceMeetsAreUnder
     → (all : List PrefixValue) (r : RecordValue) (firsts : List PrefixValue)
-    → one_covers firsts r ≡ false → one_covers (kept_among all firsts) r ≡ false
-kept_among-none up lower all r [] none = refl
-kept_among-none up lower all r (first ∷ rest) none =
-    let parts : (covers first r ≡ false) × (one_covers rest r ≡ false) =
-    or_parts (covers first r) (one_covers rest r) none in
+    → one_line_covers firsts r ≡ false → one_line_covers (kept_among all firsts) r ≡ false
+balance_meets-none up lower all r [] none = refl
+balance_meets-none up lower all r (first ∷ rest) none =
+    let parts : (covers first r ≡ false) × (one_line_covers rest r ≡ false) =
+    or_parts (covers first r) (one_line_covers rest r) none in
     list_any-append (λ q. covers q r) (filter_map (kept_meet all first) rest) (kept_among all rest)
-    ∙ or_from (one_covers (filter_map (kept_meet all first) rest) r) (one_covers (kept_among all rest) r)
-    (meets_of_first-none up lower all first r parts.0 rest) (kept_among-none up lower all r rest parts.1)
+    ∙ or_from (one_line_covers (filter_map (kept_meet all first) rest) r) (one_line_covers (kept_among all rest) r)
+    (balance_first_meets-none up lower all first r parts.0 rest) (balance_meets-none up lower all r rest parts.1)
 
 -- a prefix covers what a line under it covers
-pub covers-lines_under : CoveringGoesUp → (p : PrefixValue) (r : RecordValue) (lines : List PrefixValue)
-    → one_covers (lines_under p lines) r ≡ true → covers p r ≡ true
-covers-lines_under up p r [] any = absurd (false≢true any)
-covers-lines_under up p r (line ∷ lines) any =
+pub balance_lines-covers : BalanceCoveringGoesUp → (p : PrefixValue) (r : RecordValue) (lines : List PrefixValue)
+    → one_line_covers (lines_under p lines) r ≡ true → covers p r ≡ true
+balance_lines-covers up p r [] any = absurd (false≢true any)
+balance_lines-covers up p r (line ∷ lines) any =
     (elim (strictly_under line p) as
-    (λ b. strictly_under line p ≡ b → one_covers (cond b (line ∷ lines_under p lines) (lines_under p lines)) r
+    (λ b. strictly_under line p ≡ b → one_line_covers (cond b (line ∷ lines_under p lines) (lines_under p lines)) r
     ≡ true → covers p r ≡ true) [
       | true ↦ λ is found. ⊎_elim
           (λ first. up line p r (and_parts (under line p) (not (same_prefix line p)) is).0 first)
-          (λ later. covers-lines_under up p r lines later)
-          (or_cases (covers line r) (one_covers (lines_under p lines) r) found)
-      | false ↦ λ is found. covers-lines_under up p r lines found
+          (λ later. balance_lines-covers up p r lines later)
+          (or_cases (covers line r) (one_line_covers (lines_under p lines) r) found)
+      | false ↦ λ is found. balance_lines-covers up p r lines found
     ]) refl any
 
 -- a record is in balance where the closest lines cover it if any line does, and obey the law of the staircase
-pub balances : CoveringGoesUp → MeetsAreUnder → (p : PrefixValue) (lines : List PrefixValue) (r : RecordValue)
-    → one_covers (closest p lines) r ≡ one_covers (lines_under p lines) r → ObeysStaircase (closest p lines) r
-    → Balances p lines (closest p lines) (kept_pairs (closest p lines)) r
+pub balances : BalanceCoveringGoesUp → BalanceMeetsAreUnder → (p : PrefixValue) (lines : List PrefixValue) (r : RecordValue)
+    → one_line_covers (closest p lines) r ≡ one_line_covers (lines_under p lines) r → LinesObeyStaircase (closest p lines) r
+    → JointWeightBalances p lines (closest p lines) (kept_pairs (closest p lines)) r
 balances up lower p lines r explained stairs =
     ⊎_elim
     (λ any.
-    let whole : mark (covers p r) ≡ 1 = ap mark (covers-lines_under up p r lines any) in
-    let nothing_left : mark (is_left p lines r) ≡ 0 =
-    ap mark
-    (and_right (covers p r) (not (one_covers (lines_under p lines) r))
-    (not_from_true (one_covers (lines_under p lines) r) any)) in
-    let kept : covering_count r (kept_pairs (closest p lines)) + 1 ≡ covering_count r (closest p lines) =
-    stairs (count_by-some (λ q. covers q r) (closest p lines) (explained ∙ any)) in
+    let whole : joint_weight_mark (covers p r) ≡ 1 = ap joint_weight_mark (balance_lines-covers up p r lines any) in
+    let nothing_left : joint_weight_mark (is_left_in_joint_weight p lines r) ≡ 0 =
+    ap joint_weight_mark
+    (and_right (covers p r) (not (one_line_covers (lines_under p lines) r))
+    (not_from_true (one_line_covers (lines_under p lines) r) any)) in
+    let kept : covering_line_count r (kept_pairs (closest p lines)) + 1 ≡ covering_line_count r (closest p lines) =
+    stairs (balance_count-some (λ q. covers q r) (closest p lines) (explained ∙ any)) in
     omega arith)
     (λ none.
-    let no_line : one_covers (closest p lines) r ≡ false = explained ∙ none in
-    let near : covering_count r (closest p lines) ≡ 0 = count_by-none (λ q. covers q r) (closest p lines) no_line in
-    let meets : covering_count r (kept_pairs (closest p lines)) ≡ 0 =
-    count_by-none (λ q. covers q r) (kept_pairs (closest p lines))
-    (kept_among-none up lower (closest p lines) r (closest p lines) no_line) in
-    let all_left : mark (is_left p lines r) ≡ mark (covers p r) =
-    elim (covers p r) as (λ b. mark (b && not (one_covers (lines_under p lines) r)) ≡ mark b)
-    [ true ↦ ap mark (not_from_false (one_covers (lines_under p lines) r) none) | false ↦ refl ] in
+    let no_line : one_line_covers (closest p lines) r ≡ false = explained ∙ none in
+    let near : covering_line_count r (closest p lines) ≡ 0 = balance_count-none (λ q. covers q r) (closest p lines) no_line in
+    let meets : covering_line_count r (kept_pairs (closest p lines)) ≡ 0 =
+    balance_count-none (λ q. covers q r) (kept_pairs (closest p lines))
+    (balance_meets-none up lower (closest p lines) r (closest p lines) no_line) in
+    let all_left : joint_weight_mark (is_left_in_joint_weight p lines r) ≡ joint_weight_mark (covers p r) =
+    elim (covers p r) as (λ b. joint_weight_mark (b && not (one_line_covers (lines_under p lines) r)) ≡ joint_weight_mark b)
+    [ true ↦ ap joint_weight_mark (not_from_false (one_line_covers (lines_under p lines) r) none) | false ↦ refl ] in
     omega arith)
-    (cases_Bool (one_covers (lines_under p lines) r))
+    (cases_Bool (one_line_covers (lines_under p lines) r))

@@ -8,46 +8,46 @@ use Rattle.std.proofs.lemmas.Bool.{false≢true, eqb-true, eq-eqb, ne_eqb, and_p
 use Rattle.std.proofs.lemmas.Bool.{cases_lt}
 use Rattle.std.proofs.lemmas.List.Folds.{list_any-append, list_any_none}
 use Rattle.std.proofs.lemmas.List.Elements.{All-push, All-weaker, All-nil}
-use Rattle.prefix_lattice.specs.{index_of, node_at, level_of, PrefixValue, IsPrefix, node_of}
+use Rattle.prefix_lattice.specs.{node_index, node_at, node_level, PrefixValue, IsPrefix, node_of_prefix}
 use Rattle.prefix_lattice.specs.{under, same_prefix, strictly_under}
-use Rattle.prefix_lattice.proofs.NodePlaceLemmas.{node_at-index_of, index_small}
-use Rattle.conditioned_bounds.specs.Uppers.{upper_at, code_of, AreCodesAbove}
-use Rattle.conditioned_bounds.proofs.UpperLemmas.{KeysAreApart, key_small, node_kept, same_code}
+use Rattle.prefix_lattice.proofs.NodePlaceLemmas.{node_at_own_place, node_place_is_small}
+use Rattle.conditioned_bounds.specs.Uppers.{upper_at, upper_code, AreUpperCodes}
+use Rattle.conditioned_bounds.proofs.UpperLemmas.{UpperKeysAreApart, upper_key_is_small, upper_node_is_valid, same_upper_code}
 use Rattle.conditioned_bounds.proofs.UpperLemmas.{upper-only}
 
 -- what the laws of the lattice say of prefixes that are under others
-pub record AreOrdered : Type 0 where
+pub record CodeOrderHolds : Type 0 where
   pub reflexive : (prefix : PrefixValue) → under prefix prefix ≡ true
   pub antisymmetric : (prefix other : PrefixValue) → under prefix other ≡ true → under other prefix ≡ true
       → prefix ≡ other
   pub level : (lower upper : PrefixValue) → strictly_under lower upper ≡ true
-      → level_of (node_of upper) < level_of (node_of lower)
+      → node_level (node_of_prefix upper) < node_level (node_of_prefix lower)
 
 -- a prefix that is strictly under another is under it
-pub under-strictly : (lower upper : PrefixValue) → strictly_under lower upper ≡ true → under lower upper ≡ true
-under-strictly lower upper is = (and_parts (under lower upper) (not (same_prefix lower upper)) is).0
+pub code_above-under : (lower upper : PrefixValue) → strictly_under lower upper ≡ true → under lower upper ≡ true
+code_above-under lower upper is = (and_parts (under lower upper) (not (same_prefix lower upper)) is).0
 
 -- and is under it where the nodes differ
-pub strictly-by_node : AreOrdered → (lower upper : PrefixValue) → under lower upper ≡ true
-    → node_of lower ≢ node_of upper → strictly_under lower upper ≡ true
-strictly-by_node order lower upper is differ =
+pub code_above-by_node : CodeOrderHolds → (lower upper : PrefixValue) → under lower upper ≡ true
+    → node_of_prefix lower ≢ node_of_prefix upper → strictly_under lower upper ≡ true
+code_above-by_node order lower upper is differ =
     and_from (under lower upper) (not (same_prefix lower upper)) is
     (ap not (false_from_ne_true (same_prefix lower upper) (λ same.
     let both = and_parts (under lower upper) (under upper lower) same in
-    differ (ap node_of (order.antisymmetric lower upper both.0 both.1)))))
+    differ (ap node_of_prefix (order.antisymmetric lower upper both.0 both.1)))))
 
 -- a prefix isn't strictly under one of its own node
-pub not_under_own_node : AreOrdered → (lower upper : PrefixValue) → node_of lower ≡ node_of upper
+pub no_code_above_own_node : CodeOrderHolds → (lower upper : PrefixValue) → node_of_prefix lower ≡ node_of_prefix upper
     → strictly_under lower upper ≡ false
-not_under_own_node order lower upper same =
+no_code_above_own_node order lower upper same =
     false_from_ne_true (strictly_under lower upper) (λ is.
-    let level : level_of (node_of lower) ≡ level_of (node_of upper) = ap level_of same in
+    let level : node_level (node_of_prefix lower) ≡ node_level (node_of_prefix upper) = ap node_level same in
     omega (arith, order.level lower upper is, level))
 
 -- a relation of each pair, and of each element with one that is appended
-pub AllPairs-push : {X : Type 0} (R : X → X → Type 0) (xs : List X) (y : X) → AllPairs R xs → All (λ x. R x y) xs
+pub AllPairs-push_code : {X : Type 0} (R : X → X → Type 0) (xs : List X) (y : X) → AllPairs R xs → All (λ x. R x y) xs
     → AllPairs R (xs ++ y ∷ [])
-AllPairs-push {X} R xs y pairs all = λ i j d before within.
+AllPairs-push_code {X} R xs y pairs all = λ i j d before within.
     let few : j < length xs + 1 = omega (arith, within, length_push xs y) in
     let first : get_or xs i d ≡ get_or (xs ++ y ∷ []) i d =
     sym (get_or_append_left xs (y ∷ []) d i (omega (arith, before, few))) in
@@ -64,8 +64,8 @@ AllPairs-push {X} R xs y pairs all = λ i j d before within.
 pub record CodesBefore (prefix : PrefixValue) (place : ℕ) (codes : List ℕ) : Type 0 where
   pub small : All (λ code. code < place * 2 ^ 64) codes
   pub distinct : AllPairs (λ code other. code ≢ other) codes
-  pub members : (upper : PrefixValue) → IsPrefix upper → index_of (node_of upper) < place
-      → list_any (λ code. eqb code (code_of upper)) codes ≡ strictly_under prefix upper
+  pub members : (upper : PrefixValue) → IsPrefix upper → node_index (node_of_prefix upper) < place
+      → list_any (λ code. eqb code (upper_code upper)) codes ≡ strictly_under prefix upper
 
 -- none before the first
 pub codes_none : (prefix : PrefixValue) → CodesBefore prefix 0 []
@@ -76,56 +76,56 @@ codes_none prefix = record {
 }
 
 -- codes below a number are not that number
-none_reaches : (codes : List ℕ) (bound code : ℕ) → All (λ c. c < bound) codes → bound ≤ code
+codes_below_never_reach : (codes : List ℕ) (bound code : ℕ) → All (λ c. c < bound) codes → bound ≤ code
     → list_any (λ c. eqb c code) codes ≡ false
-none_reaches codes bound code small above =
+codes_below_never_reach codes bound code small above =
     list_any_none (λ c. eqb c code) codes
     (All-weaker (λ c. c < bound) (λ c. eqb c code ≡ false)
     (λ c below. ne_eqb c code (λ same. omega (arith, below, above, same))) codes small)
 
 -- a node at which the prefix is strictly under none
 pub codes_skip : (prefix : PrefixValue) (place : ℕ) (codes : List ℕ) → place < 25 → CodesBefore prefix place codes
-    → ((upper : PrefixValue) → IsPrefix upper → node_of upper ≡ node_at place → strictly_under prefix upper ≡ false)
+    → ((upper : PrefixValue) → IsPrefix upper → node_of_prefix upper ≡ node_at place → strictly_under prefix upper ≡ false)
     → CodesBefore prefix (place + 1) codes
 codes_skip prefix place codes within before none = record {
   small =
       All-weaker (λ code. code < place * 2 ^ 64) (λ code. code < (place + 1) * 2 ^ 64)
       (λ code below. omega (arith, below)) codes before.small;
   distinct = before.distinct;
-  members = λ upper is less. by upper is (cases_lt (index_of (node_of upper)) place) less;
+  members = λ upper is less. by upper is (cases_lt (node_index (node_of_prefix upper)) place) less;
 }
   where
     by : (upper : PrefixValue) → IsPrefix upper
-        → (index_of (node_of upper) < place) ⊎ (place ≤ index_of (node_of upper))
-        → index_of (node_of upper) < place + 1
-        → list_any (λ code. eqb code (code_of upper)) codes ≡ strictly_under prefix upper
+        → (node_index (node_of_prefix upper) < place) ⊎ (place ≤ node_index (node_of_prefix upper))
+        → node_index (node_of_prefix upper) < place + 1
+        → list_any (λ code. eqb code (upper_code upper)) codes ≡ strictly_under prefix upper
     by upper is (inl less) _ = before.members upper is less
     by upper is (inr not_less) less =
-        let at : index_of (node_of upper) ≡ place = omega arith in
-        none_reaches codes (place * 2 ^ 64) (code_of upper) before.small (omega (arith, at))
-        ∙ sym (none upper is (sym (node_at-index_of (node_of upper) (node_kept upper is)) ∙ ap node_at at))
+        let at : node_index (node_of_prefix upper) ≡ place = omega arith in
+        codes_below_never_reach codes (place * 2 ^ 64) (upper_code upper) before.small (omega (arith, at))
+        ∙ sym (none upper is (sym (node_at_own_place (node_of_prefix upper) (upper_node_is_valid upper is)) ∙ ap node_at at))
 
 -- a node at which the prefix is strictly under one
-pub codes_add : KeysAreApart → (prefix : PrefixValue) (place : ℕ) (codes : List ℕ) (upper : PrefixValue)
-    → CodesBefore prefix place codes → IsPrefix upper → index_of (node_of upper) ≡ place
+pub codes_add : UpperKeysAreApart → (prefix : PrefixValue) (place : ℕ) (codes : List ℕ) (upper : PrefixValue)
+    → CodesBefore prefix place codes → IsPrefix upper → node_index (node_of_prefix upper) ≡ place
     → strictly_under prefix upper ≡ true
-    → CodesBefore prefix (place + 1) (codes ++ code_of upper ∷ [])
+    → CodesBefore prefix (place + 1) (codes ++ upper_code upper ∷ [])
 codes_add apart prefix place codes upper before upper_is at is =
-    let small = key_small upper upper_is in
-    let low : place * 2 ^ 64 ≤ code_of upper = omega (arith, at) in
-    let high : code_of upper < (place + 1) * 2 ^ 64 = omega (arith, at, small) in
+    let small = upper_key_is_small upper upper_is in
+    let low : place * 2 ^ 64 ≤ upper_code upper = omega (arith, at) in
+    let high : upper_code upper < (place + 1) * 2 ^ 64 = omega (arith, at, small) in
     record {
       small =
-          All-push (λ code. code < (place + 1) * 2 ^ 64) codes (code_of upper)
+          All-push (λ code. code < (place + 1) * 2 ^ 64) codes (upper_code upper)
           (All-weaker (λ code. code < place * 2 ^ 64) (λ code. code < (place + 1) * 2 ^ 64)
           (λ code below. omega (arith, below)) codes before.small) high;
       distinct =
-          AllPairs-push (λ code other. code ≢ other) codes (code_of upper) before.distinct
-          (All-weaker (λ code. code < place * 2 ^ 64) (λ code. code ≢ code_of upper)
+          AllPairs-push_code (λ code other. code ≢ other) codes (upper_code upper) before.distinct
+          (All-weaker (λ code. code < place * 2 ^ 64) (λ code. code ≢ upper_code upper)
           (λ code below same. omega (arith, below, low, same)) codes before.small);
       members = λ other other_is less.
-          list_any-append (λ code. eqb code (code_of other)) codes (code_of upper ∷ [])
-          ∙ by other other_is (cases_lt (index_of (node_of other)) place) less low;
+          list_any-append (λ code. eqb code (upper_code other)) codes (upper_code upper ∷ [])
+          ∙ by other other_is (cases_lt (node_index (node_of_prefix other)) place) less low;
     }
   where
     or_false : (a b : Bool) → a ≡ false → (a || (b || false)) ≡ b
@@ -147,36 +147,36 @@ codes_add apart prefix place codes upper before upper_is at is =
     some-injective x y same = cc
 
     by : (other : PrefixValue) → IsPrefix other
-        → (index_of (node_of other) < place) ⊎ (place ≤ index_of (node_of other))
-        → index_of (node_of other) < place + 1 → place * 2 ^ 64 ≤ code_of upper
-        → (list_any (λ code. eqb code (code_of other)) codes || (eqb (code_of upper) (code_of other) || false))
+        → (node_index (node_of_prefix other) < place) ⊎ (place ≤ node_index (node_of_prefix other))
+        → node_index (node_of_prefix other) < place + 1 → place * 2 ^ 64 ≤ upper_code upper
+        → (list_any (λ code. eqb code (upper_code other)) codes || (eqb (upper_code upper) (upper_code other) || false))
         ≡ strictly_under prefix other
     by other other_is (inl less) _ low =
-        let small = key_small other other_is in
-        or_other (list_any (λ code. eqb code (code_of other)) codes) (eqb (code_of upper) (code_of other))
-        (ne_eqb (code_of upper) (code_of other) (λ same. omega (arith, small, less, low, same)))
+        let small = upper_key_is_small other other_is in
+        or_other (list_any (λ code. eqb code (upper_code other)) codes) (eqb (upper_code upper) (upper_code other))
+        (ne_eqb (upper_code upper) (upper_code other) (λ same. omega (arith, small, less, low, same)))
         ∙ before.members other other_is less
     by other other_is (inr not_less) less low =
-        let here : index_of (node_of other) ≡ place = omega arith in
-        or_false (list_any (λ code. eqb code (code_of other)) codes) (eqb (code_of upper) (code_of other))
-        (none_reaches codes (place * 2 ^ 64) (code_of other) before.small (omega (arith, here)))
-        ∙ same_truth (eqb (code_of upper) (code_of other)) (strictly_under prefix other)
+        let here : node_index (node_of_prefix other) ≡ place = omega arith in
+        or_false (list_any (λ code. eqb code (upper_code other)) codes) (eqb (upper_code upper) (upper_code other))
+        (codes_below_never_reach codes (place * 2 ^ 64) (upper_code other) before.small (omega (arith, here)))
+        ∙ same_truth (eqb (upper_code upper) (upper_code other)) (strictly_under prefix other)
         (λ same.
         subst (λ p. strictly_under prefix p ≡ true)
-        (same_code apart upper other upper_is other_is (eqb-true (code_of upper) (code_of other) same)) is)
+        (same_upper_code apart upper other upper_is other_is (eqb-true (upper_code upper) (upper_code other) same)) is)
         (λ is_other.
-        let node : node_of upper ≡ node_of other =
-        sym (node_at-index_of (node_of upper) (node_kept upper upper_is)) ∙ ap node_at (at ∙ sym here)
-        ∙ node_at-index_of (node_of other) (node_kept other other_is) in
+        let node : node_of_prefix upper ≡ node_of_prefix other =
+        sym (node_at_own_place (node_of_prefix upper) (upper_node_is_valid upper upper_is)) ∙ ap node_at (at ∙ sym here)
+        ∙ node_at_own_place (node_of_prefix other) (upper_node_is_valid other other_is) in
         let one : upper ≡ other =
         some-injective upper other
-        (sym (upper-only prefix upper (under-strictly prefix upper is)) ∙ ap (upper_at prefix) node
-        ∙ upper-only prefix other (under-strictly prefix other is_other)) in
-        eq-eqb (code_of upper) (code_of other) (ap code_of one))
+        (sym (upper-only prefix upper (code_above-under prefix upper is)) ∙ ap (upper_at prefix) node
+        ∙ upper-only prefix other (code_above-under prefix other is_other)) in
+        eq-eqb (upper_code upper) (upper_code other) (ap upper_code one))
 
 -- after the last node they are all
-pub codes_all : (prefix : PrefixValue) (codes : List ℕ) → CodesBefore prefix 25 codes → AreCodesAbove prefix codes
+pub codes_all : (prefix : PrefixValue) (codes : List ℕ) → CodesBefore prefix 25 codes → AreUpperCodes prefix codes
 codes_all prefix codes before = record {
   distinct = before.distinct;
-  members = λ upper is. before.members upper is (index_small (node_of upper) (node_kept upper is));
+  members = λ upper is. before.members upper is (node_place_is_small (node_of_prefix upper) (upper_node_is_valid upper is));
 }

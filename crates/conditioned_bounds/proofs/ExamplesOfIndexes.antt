@@ -7,12 +7,12 @@ use Rattle.std.specs.Prelude.{vec_len, vec_capacity}
 use Rattle.std.specs.BTreeMap.{BTreeMap, is_at}
 use Rattle.std.specs.declared.alloc.Global.{Global}
 use Rattle.std.proofs.lemmas.Bool.{false≢true}
-use Rattle.prefix_lattice.proofs.ListLemmas.{Contains-head}
-use Rattle.prefix_lattice.specs.{NodeValue, PrefixValue, AreLeadingBytes, IsPrefix, node_of, strictly_under}
-use Rattle.conditioned_bounds.specs.Uppers.{keeps_no_more, shortened, upper_at, code_of, AreCodesAbove}
-use Rattle.conditioned_bounds.specs.Members.{line_limit, AreMembers}
-use Rattle.conditioned_bounds.specs.Numbers.{kept_numbers, numbers_at, IsRoomy, HasRoom}
-use Rattle.conditioned_bounds.specs.LineIndex.{root, line_of, AreIndexed}
+use Rattle.prefix_lattice.proofs.ListLemmas.{Contains-list_head}
+use Rattle.prefix_lattice.specs.{NodeValue, PrefixValue, AreLeadingBytes, IsPrefix, node_of_prefix, strictly_under}
+use Rattle.conditioned_bounds.specs.Uppers.{has_upper, shortened_to_upper, upper_at, upper_code, AreUpperCodes}
+use Rattle.conditioned_bounds.specs.Members.{member_limit, AreMembers}
+use Rattle.conditioned_bounds.specs.LineNumbers.{line_numbers, line_numbers_at, LineNumbersHaveRoom, HasRoomForLineNumber}
+use Rattle.conditioned_bounds.specs.LineIndex.{line_index_root, indexed_line, LinesAreIndexed}
 
 -- 10.1.0.0/16 20.0.0.0/8
 abbrev net : PrefixValue
@@ -22,14 +22,14 @@ net = record { source = 10 ∷ 1 ∷ []; dest = 20 ∷ [] }
 abbrev node : ℕ → ℕ → NodeValue
 node sources dests = record { source_bytes = sources; dest_bytes = dests }
 
-pub a_node_of_fewer_source_bytes : keeps_no_more (node 1 1) net ≡ true
+pub a_node_of_fewer_source_bytes : has_upper (node 1 1) net ≡ true
 a_node_of_fewer_source_bytes = refl
 
-pub a_node_of_more_destination_bytes : keeps_no_more (node 1 2) net ≡ false
+pub a_node_of_more_destination_bytes : has_upper (node 1 2) net ≡ false
 a_node_of_more_destination_bytes = refl
 
 -- 10.0.0.0/8 0.0.0.0/0
-pub net_cut_down : shortened net (node 1 0) ≡ record { source = 10 ∷ []; dest = [] }
+pub net_cut_down : shortened_to_upper net (node 1 0) ≡ record { source = 10 ∷ []; dest = [] }
 net_cut_down = refl
 
 pub net_is_under_one_prefix_of_a_node : upper_at net (node 1 1) ≡ Some (record { source = 10 ∷ []; dest = 20 ∷ [] })
@@ -39,35 +39,35 @@ pub net_is_under_none_of_a_node_that_keeps_more : upper_at net (node 3 0) ≡ No
 net_is_under_none_of_a_node_that_keeps_more = refl
 
 -- node 11 of the 25, and 10.1.0.0 and 20.0.0.0
-pub code_of_the_net : code_of net ≡ 11 * 2 ^ 64 + 0x0a01000014000000
+pub code_of_the_net : upper_code net ≡ 11 * 2 ^ 64 + 0x0a01000014000000
 code_of_the_net = refl
 
 -- 10.0.0.0/8 and 10.0.0.0/16 have one address, and differ in their nodes
-pub nets_of_one_address_have_two_codes : code_of (record { source = 10 ∷ []; dest = [] })
-    ≢ code_of (record { source = 10 ∷ 0 ∷ []; dest = [] })
+pub nets_of_one_address_have_two_codes : upper_code (record { source = 10 ∷ []; dest = [] })
+    ≢ upper_code (record { source = 10 ∷ 0 ∷ []; dest = [] })
 nets_of_one_address_have_two_codes same = omega (arith, same)
 
-no_upper : (source dest : List ℕ) → false ≡ strictly_under root (record { source = source; dest = dest })
+no_upper : (source dest : List ℕ) → false ≡ strictly_under line_index_root (record { source = source; dest = dest })
 no_upper [] [] = refl
 no_upper [] (byte ∷ dest) = refl
 no_upper (byte ∷ source) dest = refl
 
-root_is_prefix : IsPrefix root
+root_is_prefix : IsPrefix line_index_root
 root_is_prefix =
     let none : AreLeadingBytes [] = record { few = omega arith; bytes = λ place. omega arith } in
     record { source = none; dest = none }
 
 -- nothing is above the root
-pub the_root_has_no_codes_above : AreCodesAbove root []
+pub the_root_has_no_codes_above : AreUpperCodes line_index_root []
 the_root_has_no_codes_above = record {
   distinct = λ i j d before within. absurd (omega arith);
   members = λ upper is. no_upper upper.source upper.dest;
 }
 
-pub the_root_is_not_above_itself : ¬ AreCodesAbove root (code_of root ∷ [])
-the_root_is_not_above_itself above = false≢true (sym (above.members root root_is_prefix))
+pub the_root_is_not_above_itself : ¬ AreUpperCodes line_index_root (upper_code line_index_root ∷ [])
+the_root_is_not_above_itself above = false≢true (sym (above.members line_index_root root_is_prefix))
 
-pub limit_of_an_index : line_limit ≡ 2 ^ 24
+pub limit_of_an_index : member_limit ≡ 2 ^ 24
 limit_of_an_index = refl
 
 -- no prefixes, no codes, no nodes
@@ -81,55 +81,55 @@ no_members = record {
 }
 
 -- a member whose code is missing wouldn't be found
-pub a_member_has_its_code : ¬ AreMembers (root ∷ []) (record { keys = [] }) (node_of root ∷ [])
-a_member_has_its_code are = false≢true (are.coded root (Contains-head root []))
+pub a_member_has_its_code : ¬ AreMembers (line_index_root ∷ []) (record { keys = [] }) (node_of_prefix line_index_root ∷ [])
+a_member_has_its_code are = false≢true (are.coded line_index_root (Contains-list_head line_index_root []))
 
 -- a map of one code, with the numbers that are kept under it
 pub numbers_of_a_code : (kept : BTreeMap ℕ (Vec ℕ Global)) (numbers : Vec ℕ Global)
-    → kept.entries ≡ (5, numbers) ∷ [] → numbers_at kept 5 ≡ numbers.items
+    → kept.entries ≡ (5, numbers) ∷ [] → line_numbers_at kept 5 ≡ numbers.items
 numbers_of_a_code kept numbers is =
-    ap (λ (entries : List (ℕ × Vec ℕ Global)). kept_numbers (lookup (is_at (nat_cmp 5)) entries)) is
+    ap (λ (entries : List (ℕ × Vec ℕ Global)). line_numbers (lookup (is_at (nat_cmp 5)) entries)) is
 
 pub no_numbers_of_another_code : (kept : BTreeMap ℕ (Vec ℕ Global)) (numbers : Vec ℕ Global)
-    → kept.entries ≡ (5, numbers) ∷ [] → numbers_at kept 6 ≡ []
+    → kept.entries ≡ (5, numbers) ∷ [] → line_numbers_at kept 6 ≡ []
 no_numbers_of_another_code kept numbers is =
-    ap (λ (entries : List (ℕ × Vec ℕ Global)). kept_numbers (lookup (is_at (nat_cmp 6)) entries)) is
+    ap (λ (entries : List (ℕ × Vec ℕ Global)). line_numbers (lookup (is_at (nat_cmp 6)) entries)) is
 
-pub nothing_kept_is_no_number : kept_numbers None ≡ []
+pub nothing_kept_is_no_number : line_numbers None ≡ []
 nothing_kept_is_no_number = refl
 
 pub another_code_has_no_room : (kept : BTreeMap ℕ (Vec ℕ Global)) (numbers : Vec ℕ Global)
-    → kept.entries ≡ (5, numbers) ∷ [] → ¬ HasRoom kept 6
+    → kept.entries ≡ (5, numbers) ∷ [] → ¬ HasRoomForLineNumber kept 6
 another_code_has_no_room kept numbers is room =
-    subst (λ (entries : List (ℕ × Vec ℕ Global)). IsRoomy (lookup (is_at (nat_cmp 6)) entries)) is room
+    subst (λ (entries : List (ℕ × Vec ℕ Global)). LineNumbersHaveRoom (lookup (is_at (nat_cmp 6)) entries)) is room
 
 pub no_room_where_the_capacity_is_used_up : (numbers : Vec ℕ Global) → vec_len numbers ≡ vec_capacity numbers
-    → ¬ IsRoomy (Some numbers)
+    → ¬ LineNumbersHaveRoom (Some numbers)
 no_room_where_the_capacity_is_used_up numbers full room = omega (arith, full, room)
 
-pub first_line : line_of (net ∷ root ∷ []) 0 ≡ net
+pub first_line : indexed_line (net ∷ line_index_root ∷ []) 0 ≡ net
 first_line = refl
 
-pub no_line_of_a_number_past_the_last : line_of (net ∷ []) 1 ≡ root
+pub no_line_of_a_number_past_the_last : indexed_line (net ∷ []) 1 ≡ line_index_root
 no_line_of_a_number_past_the_last = refl
 
-nothing_at : (kept : BTreeMap ℕ (Vec ℕ Global)) (code : ℕ) → kept.entries ≡ [] → numbers_at kept code ≡ []
+nothing_at : (kept : BTreeMap ℕ (Vec ℕ Global)) (code : ℕ) → kept.entries ≡ [] → line_numbers_at kept code ≡ []
 nothing_at kept code is =
-    ap (λ (entries : List (ℕ × Vec ℕ Global)). kept_numbers (lookup (is_at (nat_cmp code)) entries)) is
+    ap (λ (entries : List (ℕ × Vec ℕ Global)). line_numbers (lookup (is_at (nat_cmp code)) entries)) is
 
-pub no_lines_are_indexed_by_nothing : (kept : BTreeMap ℕ (Vec ℕ Global)) → kept.entries ≡ [] → AreIndexed [] kept
+pub no_lines_are_indexed_by_nothing : (kept : BTreeMap ℕ (Vec ℕ Global)) → kept.entries ≡ [] → LinesAreIndexed [] kept
 no_lines_are_indexed_by_nothing kept is = record {
   few = omega arith;
   distinct = λ i j d before within. absurd (omega arith);
   numbers = λ code.
       subst (All (λ number. number < 0)) (sym (nothing_at kept code is)) (λ k d within. absurd (omega arith));
-  under = λ prefix is_prefix. ap (map (line_of [])) (nothing_at kept (code_of prefix) is);
+  under = λ prefix is_prefix. ap (map (indexed_line [])) (nothing_at kept (upper_code prefix) is);
 }
 
 -- the root would miss the net under it
 pub a_line_is_not_indexed_by_nothing : (kept : BTreeMap ℕ (Vec ℕ Global)) → kept.entries ≡ []
-    → ¬ AreIndexed (net ∷ []) kept
+    → ¬ LinesAreIndexed (net ∷ []) kept
 a_line_is_not_indexed_by_nothing kept is are =
     let missed : 0 ≡ 1 =
-    ap length (sym (ap (map (line_of (net ∷ []))) (nothing_at kept (code_of root) is)) ∙ are.under root root_is_prefix) in
+    ap length (sym (ap (map (indexed_line (net ∷ []))) (nothing_at kept (upper_code line_index_root) is)) ∙ are.under line_index_root root_is_prefix) in
     omega (arith, missed)

@@ -11,53 +11,53 @@ use Rattle.std.proofs.lemmas.List.Elements.{All-push, All-weaker, All-head, All-
 use Rattle.std.proofs.lemmas.List.Elements.{filter_passes}
 use Rattle.std.proofs.lemmas.List.Sums.{length-filter, count_by-le-length}
 use Rattle.prefix_lattice.specs.{PrefixValue, IsPrefix, strictly_under, lines_under, closest}
-use Rattle.conditioned_bounds.specs.Uppers.{code_of, AreCodesAbove}
-use Rattle.conditioned_bounds.specs.Numbers.{numbers_at}
-use Rattle.conditioned_bounds.specs.LineIndex.{AreIndexed, line_of, root}
-use Rattle.conditioned_bounds.specs.Members.{line_limit}
-use Rattle.conditioned_bounds.proofs.CodeLemmas.{AllPairs-push}
+use Rattle.conditioned_bounds.specs.Uppers.{upper_code, AreUpperCodes}
+use Rattle.conditioned_bounds.specs.LineNumbers.{line_numbers_at}
+use Rattle.conditioned_bounds.specs.LineIndex.{LinesAreIndexed, indexed_line, line_index_root}
+use Rattle.conditioned_bounds.specs.Members.{member_limit}
+use Rattle.conditioned_bounds.proofs.CodeLemmas.{AllPairs-push_code}
 
 -- lines are indexed by whatever keeps the same numbers
-pub indexed_same : (lines : List PrefixValue) (kept others : BTreeMap ℕ (Vec ℕ Global))
-    → ((code : ℕ) → numbers_at others code ≡ numbers_at kept code) → AreIndexed lines kept → AreIndexed lines others
-indexed_same lines kept others same are = record {
+pub index-same : (lines : List PrefixValue) (kept others : BTreeMap ℕ (Vec ℕ Global))
+    → ((code : ℕ) → line_numbers_at others code ≡ line_numbers_at kept code) → LinesAreIndexed lines kept → LinesAreIndexed lines others
+index-same lines kept others same are = record {
   few = are.few;
   distinct = are.distinct;
   numbers = λ code. subst (All (λ number. number < length lines)) (sym (same code)) (are.numbers code);
-  under = λ prefix is. ap (map (line_of lines)) (same (code_of prefix)) ∙ are.under prefix is;
+  under = λ prefix is. ap (map (indexed_line lines)) (same (upper_code prefix)) ∙ are.under prefix is;
 }
 
 -- the lines of numbers stay where one is appended
-lines-stay : (lines : List PrefixValue) (line : PrefixValue) (numbers : List ℕ)
+index_lines-stay : (lines : List PrefixValue) (line : PrefixValue) (numbers : List ℕ)
     → All (λ number. number < length lines) numbers
-    → map (line_of (lines ++ line ∷ [])) numbers ≡ map (line_of lines) numbers
-lines-stay lines line [] few = refl
-lines-stay lines line (number ∷ numbers) few =
-    ap (λ l. l ∷ map (line_of (lines ++ line ∷ [])) numbers)
-    (get_or_append_left lines (line ∷ []) root number (All-head (λ n. n < length lines) number numbers few))
-    ∙ ap (λ ls. line_of lines number ∷ ls)
-    (lines-stay lines line numbers (All-tail (λ n. n < length lines) number numbers few))
+    → map (indexed_line (lines ++ line ∷ [])) numbers ≡ map (indexed_line lines) numbers
+index_lines-stay lines line [] few = refl
+index_lines-stay lines line (number ∷ numbers) few =
+    ap (λ l. l ∷ map (indexed_line (lines ++ line ∷ [])) numbers)
+    (get_or_append_left lines (line ∷ []) line_index_root number (All-head (λ n. n < length lines) number numbers few))
+    ∙ ap (λ ls. indexed_line lines number ∷ ls)
+    (index_lines-stay lines line numbers (All-tail (λ n. n < length lines) number numbers few))
 
 -- one more line, whose number is noted under the codes of all prefixes above it
-pub indexed_push : (lines : List PrefixValue) (line : PrefixValue) (kept noted : BTreeMap ℕ (Vec ℕ Global))
-    (codes : List ℕ) (number : ℕ) → AreIndexed lines kept → ¬ Contains lines line → AreCodesAbove line codes
-    → number ≡ length lines → length lines + 1 < line_limit
-    → ((code : ℕ) → numbers_at noted code
+pub index-push : (lines : List PrefixValue) (line : PrefixValue) (kept noted : BTreeMap ℕ (Vec ℕ Global))
+    (codes : List ℕ) (number : ℕ) → LinesAreIndexed lines kept → ¬ Contains lines line → AreUpperCodes line codes
+    → number ≡ length lines → length lines + 1 < member_limit
+    → ((code : ℕ) → line_numbers_at noted code
     ≡ (if list_any (λ other. eqb other code) codes
-    then numbers_at kept code ++ number ∷ [] else numbers_at kept code))
-    → AreIndexed (lines ++ line ∷ []) noted
-indexed_push lines line kept noted codes number are new above is_number less notes = record {
+    then line_numbers_at kept code ++ number ∷ [] else line_numbers_at kept code))
+    → LinesAreIndexed (lines ++ line ∷ []) noted
+index-push lines line kept noted codes number are new above is_number less notes = record {
   few = omega (arith, less, length_push lines line);
   distinct =
-      AllPairs-push (λ one other. one ≢ other) lines line are.distinct
+      AllPairs-push_code (λ one other. one ≢ other) lines line are.distinct
       (λ k d within same. new (k, within, same-at k d within ∙ same));
   numbers = λ code.
       subst (All (λ n. n < length (lines ++ line ∷ []))) (sym (notes code))
       (few code (list_any (λ other. eqb other code) codes));
   under = λ prefix is.
-      ap (map (line_of (lines ++ line ∷ []))) (notes (code_of prefix))
-      ∙ ap (λ b. map (line_of (lines ++ line ∷ []))
-      (if b then numbers_at kept (code_of prefix) ++ number ∷ [] else numbers_at kept (code_of prefix)))
+      ap (map (indexed_line (lines ++ line ∷ []))) (notes (upper_code prefix))
+      ∙ ap (λ b. map (indexed_line (lines ++ line ∷ []))
+      (if b then line_numbers_at kept (upper_code prefix) ++ number ∷ [] else line_numbers_at kept (upper_code prefix)))
       (above.members prefix is)
       ∙ by prefix is (strictly_under line prefix) refl
       ∙ sym (filter-append (λ l. strictly_under l prefix) lines (line ∷ []));
@@ -67,66 +67,66 @@ indexed_push lines line kept noted codes number are new above is_number less not
     same-at k d within = get_or_default lines k line d within
 
     few : (code : ℕ) (b : Bool) → All (λ n. n < length (lines ++ line ∷ []))
-        (if b then numbers_at kept code ++ number ∷ [] else numbers_at kept code)
+        (if b then line_numbers_at kept code ++ number ∷ [] else line_numbers_at kept code)
     few code true =
-        All-push (λ n. n < length (lines ++ line ∷ [])) (numbers_at kept code) number
+        All-push (λ n. n < length (lines ++ line ∷ [])) (line_numbers_at kept code) number
         (All-weaker (λ n. n < length lines) (λ n. n < length (lines ++ line ∷ []))
-        (λ n less. omega (arith, less, length_push lines line)) (numbers_at kept code) (are.numbers code))
+        (λ n less. omega (arith, less, length_push lines line)) (line_numbers_at kept code) (are.numbers code))
         (omega (arith, is_number, length_push lines line))
     few code false =
         All-weaker (λ n. n < length lines) (λ n. n < length (lines ++ line ∷ []))
-        (λ n less. omega (arith, less, length_push lines line)) (numbers_at kept code) (are.numbers code)
+        (λ n less. omega (arith, less, length_push lines line)) (line_numbers_at kept code) (are.numbers code)
 
     stays : (prefix : PrefixValue) → IsPrefix prefix
-        → map (line_of (lines ++ line ∷ [])) (numbers_at kept (code_of prefix)) ≡ lines_under prefix lines
+        → map (indexed_line (lines ++ line ∷ [])) (line_numbers_at kept (upper_code prefix)) ≡ lines_under prefix lines
     stays prefix is =
-        lines-stay lines line (numbers_at kept (code_of prefix)) (are.numbers (code_of prefix)) ∙ are.under prefix is
+        index_lines-stay lines line (line_numbers_at kept (upper_code prefix)) (are.numbers (upper_code prefix)) ∙ are.under prefix is
 
     by : (prefix : PrefixValue) → IsPrefix prefix → (b : Bool) → strictly_under line prefix ≡ b
-        → map (line_of (lines ++ line ∷ []))
-        (if b then numbers_at kept (code_of prefix) ++ number ∷ [] else numbers_at kept (code_of prefix))
+        → map (indexed_line (lines ++ line ∷ []))
+        (if b then line_numbers_at kept (upper_code prefix) ++ number ∷ [] else line_numbers_at kept (upper_code prefix))
         ≡ lines_under prefix lines ++ cond (strictly_under line prefix) (line ∷ []) []
     by prefix is true strictly =
-        map-append (line_of (lines ++ line ∷ [])) (numbers_at kept (code_of prefix)) (number ∷ [])
-        ∙ ap (λ ls. ls ++ line_of (lines ++ line ∷ []) number ∷ []) (stays prefix is)
+        map-append (indexed_line (lines ++ line ∷ [])) (line_numbers_at kept (upper_code prefix)) (number ∷ [])
+        ∙ ap (λ ls. ls ++ indexed_line (lines ++ line ∷ []) number ∷ []) (stays prefix is)
         ∙ ap (λ l. lines_under prefix lines ++ l ∷ [])
-        (get_or_push lines line root number (sym is_number))
+        (get_or_push lines line line_index_root number (sym is_number))
         ∙ ap (λ b. lines_under prefix lines ++ cond b (line ∷ []) []) (sym strictly)
     by prefix is false strictly =
         stays prefix is ∙ sym (append-nil (lines_under prefix lines))
         ∙ ap (λ b. lines_under prefix lines ++ cond b (line ∷ []) []) (sym strictly)
 
 -- the line of a number under a prefix's code is strictly under the prefix
-pub number_strictly : (lines : List PrefixValue) (numbers : List ℕ) (prefix : PrefixValue) (at : ℕ)
-    → map (line_of lines) numbers ≡ lines_under prefix lines → at < length numbers
-    → strictly_under (line_of lines (get_or numbers at 0)) prefix ≡ true
-number_strictly lines numbers prefix at same within =
+pub index_line-strictly_under : (lines : List PrefixValue) (numbers : List ℕ) (prefix : PrefixValue) (at : ℕ)
+    → map (indexed_line lines) numbers ≡ lines_under prefix lines → at < length numbers
+    → strictly_under (indexed_line lines (get_or numbers at 0)) prefix ≡ true
+index_line-strictly_under lines numbers prefix at same within =
     let inside : at < length (lines_under prefix lines) =
-    subst (λ (ls : List PrefixValue). at < length ls) same (omega (arith, within, length-map numbers (line_of lines))) in
-    let passes : strictly_under (get_or (lines_under prefix lines) at root) prefix ≡ true =
-    All-get_or (λ line. strictly_under line prefix ≡ true) (lines_under prefix lines) at root inside
+    subst (λ (ls : List PrefixValue). at < length ls) same (omega (arith, within, length-map numbers (indexed_line lines))) in
+    let passes : strictly_under (get_or (lines_under prefix lines) at line_index_root) prefix ≡ true =
+    All-get_or (λ line. strictly_under line prefix ≡ true) (lines_under prefix lines) at line_index_root inside
     (filter_passes (λ line. strictly_under line prefix) lines) in
-    let here : get_or (map (line_of lines) numbers) at root ≡ line_of lines (get_or numbers at 0) =
-    get_or-map (line_of lines) numbers at 0 root within in
+    let here : get_or (map (indexed_line lines) numbers) at line_index_root ≡ indexed_line lines (get_or numbers at 0) =
+    get_or-map (indexed_line lines) numbers at 0 line_index_root within in
     subst (λ line. strictly_under line prefix ≡ true)
-    (ap (λ (ls : List PrefixValue). get_or ls at root) (sym same) ∙ here) passes
+    (ap (λ (ls : List PrefixValue). get_or ls at line_index_root) (sym same) ∙ here) passes
 
 -- one more number, whose line passes a test or fails it
-pub filter_line : (test : PrefixValue → Bool) (lines : List PrefixValue) (numbers : List ℕ) (at : ℕ)
-    (line : PrefixValue) (passes : Bool) → at < length numbers → line ≡ line_of lines (get_or numbers at 0)
+pub index_line-filter : (test : PrefixValue → Bool) (lines : List PrefixValue) (numbers : List ℕ) (at : ℕ)
+    (line : PrefixValue) (passes : Bool) → at < length numbers → line ≡ indexed_line lines (get_or numbers at 0)
     → test line ≡ passes
-    → filter test (map (line_of lines) (take (at + 1) numbers))
-    ≡ filter test (map (line_of lines) (take at numbers)) ++ cond passes (line ∷ []) []
-filter_line test lines numbers at line passes within is tested =
-    ap (λ ns. filter test (map (line_of lines) ns)) (take_more numbers at 0 within)
-    ∙ ap (filter test) (map-append (line_of lines) (take at numbers) (get_or numbers at 0 ∷ []))
-    ∙ filter-append test (map (line_of lines) (take at numbers)) (line_of lines (get_or numbers at 0) ∷ [])
-    ∙ ap (λ l. filter test (map (line_of lines) (take at numbers)) ++ cond (test l) (l ∷ []) []) (sym is)
-    ∙ ap (λ b. filter test (map (line_of lines) (take at numbers)) ++ cond b (line ∷ []) []) tested
+    → filter test (map (indexed_line lines) (take (at + 1) numbers))
+    ≡ filter test (map (indexed_line lines) (take at numbers)) ++ cond passes (line ∷ []) []
+index_line-filter test lines numbers at line passes within is tested =
+    ap (λ ns. filter test (map (indexed_line lines) ns)) (take_more numbers at 0 within)
+    ∙ ap (filter test) (map-append (indexed_line lines) (take at numbers) (get_or numbers at 0 ∷ []))
+    ∙ filter-append test (map (indexed_line lines) (take at numbers)) (indexed_line lines (get_or numbers at 0) ∷ [])
+    ∙ ap (λ l. filter test (map (indexed_line lines) (take at numbers)) ++ cond (test l) (l ∷ []) []) (sym is)
+    ∙ ap (λ b. filter test (map (indexed_line lines) (take at numbers)) ++ cond b (line ∷ []) []) tested
 
 -- the closest lines are at most as many as the lines
-pub closest_few : (prefix : PrefixValue) (lines : List PrefixValue) → length (closest prefix lines) ≤ length lines
-closest_few prefix lines =
+pub index_closest_are_few : (prefix : PrefixValue) (lines : List PrefixValue) → length (closest prefix lines) ≤ length lines
+index_closest_are_few prefix lines =
     let tops = filter-few (λ member. not (list_any (λ other. strictly_under member other) (lines_under prefix lines)))
     (lines_under prefix lines) in
     omega (arith, tops, filter-few (λ line. strictly_under line prefix) lines)

@@ -10,25 +10,25 @@ use Rattle.std.proofs.Math.Nat.{add-mul, mul_comm}
 use Rattle.prefix_lattice.specs.{PrefixValue}
 
 -- a sum of numbers that are nowhere greater
-pub sum_by-mono : (f g : PrefixValue → ℕ) (qs : List PrefixValue) → All (λ q. f q ≤ g q) qs → sum_by f qs ≤ sum_by g qs
-sum_by-mono f g [] all = omega arith
-sum_by-mono f g (q ∷ qs) all =
+pub interval_sum-mono : (f g : PrefixValue → ℕ) (qs : List PrefixValue) → All (λ q. f q ≤ g q) qs → sum_by f qs ≤ sum_by g qs
+interval_sum-mono f g [] all = omega arith
+interval_sum-mono f g (q ∷ qs) all =
     let first : f q ≤ g q = All-head (λ p. f p ≤ g p) q qs all in
-    omega (arith, sum_by-cons f q qs, sum_by-cons g q qs, sum_by-mono f g qs (All-tail (λ p. f p ≤ g p) q qs all))
+    omega (arith, sum_by-cons f q qs, sum_by-cons g q qs, interval_sum-mono f g qs (All-tail (λ p. f p ≤ g p) q qs all))
 
 -- a sum of the same numbers
-pub sum_by-same : (f g : PrefixValue → ℕ) (qs : List PrefixValue) → All (λ q. f q ≡ g q) qs → sum_by f qs ≡ sum_by g qs
-sum_by-same f g [] all = refl
-sum_by-same f g (q ∷ qs) all =
+pub interval_sum-same : (f g : PrefixValue → ℕ) (qs : List PrefixValue) → All (λ q. f q ≡ g q) qs → sum_by f qs ≡ sum_by g qs
+interval_sum-same f g [] all = refl
+interval_sum-same f g (q ∷ qs) all =
     let first : f q ≡ g q = All-head (λ p. f p ≡ g p) q qs all in
-    omega (arith, sum_by-cons f q qs, sum_by-cons g q qs, sum_by-same f g qs (All-tail (λ p. f p ≡ g p) q qs all))
+    omega (arith, sum_by-cons f q qs, sum_by-cons g q qs, interval_sum-same f g qs (All-tail (λ p. f p ≡ g p) q qs all))
 
 -- a sum of numbers that are greater by at most the whole divided by so many
-pub sum_by-slack : (f g : PrefixValue → ℕ) (times whole : ℕ) (qs : List PrefixValue)
+pub interval_sum-slack : (f g : PrefixValue → ℕ) (times whole : ℕ) (qs : List PrefixValue)
     → All (λ q. f q * times ≤ g q * times + whole) qs
     → sum_by f qs * times ≤ sum_by g qs * times + length qs * whole
-sum_by-slack f g times whole [] all = omega arith
-sum_by-slack f g times whole (q ∷ qs) all =
+interval_sum-slack f g times whole [] all = omega arith
+interval_sum-slack f g times whole (q ∷ qs) all =
     let first : f q * times ≤ g q * times + whole = All-head (λ p. f p * times ≤ g p * times + whole) q qs all in
     let fs : sum_by f (q ∷ qs) * times ≡ f q * times + sum_by f qs * times =
     ap (λ n. n * times) (sum_by-cons f q qs) ∙ add-mul (f q) (sum_by f qs) times in
@@ -37,30 +37,30 @@ sum_by-slack f g times whole (q ∷ qs) all =
     let more : length (q ∷ qs) * whole ≡ whole + length qs * whole =
     let one : length (q ∷ qs) ≡ 1 + length qs = omega arith in
     ap (λ n. n * whole) one ∙ add-mul 1 (length qs) whole ∙ (omega arith) in
-    omega (arith, sum_by-slack f g times whole qs (All-tail (λ p. f p * times ≤ g p * times + whole) q qs all))
+    omega (arith, interval_sum-slack f g times whole qs (All-tail (λ p. f p * times ≤ g p * times + whole) q qs all))
 
 -- the high is at most the whole divided by so many above the weight
-pub high-slack : (low high weight times whole : ℕ) → low ≤ weight → weight ≤ high → (high - low) * times ≤ whole
+pub interval_sum_high-slack : (low high weight times whole : ℕ) → low ≤ weight → weight ≤ high → (high - low) * times ≤ whole
     → high * times ≤ weight * times + whole
-high-slack low high weight times whole least most narrow =
+interval_sum_high-slack low high weight times whole least most narrow =
     let parts : high ≡ (high - low) + low = omega arith in
     let split : high * times ≡ (high - low) * times + low * times =
     ap (λ n. n * times) parts ∙ add-mul (high - low) low times in
     omega (arith, mul-le low times weight times least (omega arith))
 
 -- the weight is at most the whole divided by so many above the low
-pub low-slack : (low high weight times whole : ℕ) → low ≤ weight → weight ≤ high → (high - low) * times ≤ whole
+pub interval_sum_low-slack : (low high weight times whole : ℕ) → low ≤ weight → weight ≤ high → (high - low) * times ≤ whole
     → weight * times ≤ low * times + whole
-low-slack low high weight times whole least most narrow =
+interval_sum_low-slack low high weight times whole least most narrow =
     let parts : high ≡ (high - low) + low = omega arith in
     let split : high * times ≡ (high - low) * times + low * times =
     ap (λ n. n * times) parts ∙ add-mul (high - low) low times in
     omega (arith, mul-le weight times high times most (omega arith))
 
 -- a difference, taken so many times
-pub times_difference : (times ups downs most : ℕ) → downs ≤ ups → ups * times ≤ downs * times + most
+pub interval_sum-difference : (times ups downs most : ℕ) → downs ≤ ups → ups * times ≤ downs * times + most
     → (pos times *ℤ (pos ups -ℤ pos downs)) ≤ℤ pos most
-times_difference times ups downs most above within =
+interval_sum-difference times ups downs most above within =
     let same : pos ups -ℤ pos downs ≡ pos (ups - downs) = omega (arith, ints) in
     let parts : ups ≡ (ups - downs) + downs = omega arith in
     let split : ups * times ≡ (ups - downs) * times + downs * times =
@@ -70,10 +70,10 @@ times_difference times ups downs most above within =
     rw same (omega (arith, ints))
 
 -- a number that is reached, taken so many times
-pub times_reached : (times most least : ℕ) (top : ℤ) → pos least ≤ℤ top → (pos times *ℤ top) ≤ℤ pos most
+pub interval_sum-reached : (times most least : ℕ) (top : ℤ) → pos least ≤ℤ top → (pos times *ℤ top) ≤ℤ pos most
     → times * least ≤ most
-times_reached times most least (pos n) reached within =
+interval_sum-reached times most least (pos n) reached within =
     let fewer : least ≤ n = omega (arith, ints) in
     let more : times * n ≤ most = omega (arith, ints) in
     omega (arith, mul-le times least times n (omega arith) fewer)
-times_reached times most least (negsuc n) reached within = absurd (omega (arith, ints))
+interval_sum-reached times most least (negsuc n) reached within = absurd (omega (arith, ints))

@@ -1,11 +1,11 @@
-pub mod WeightLemmas
+pub mod JointWeightLemmas
 pub mod IntervalSumLemmas
 pub mod BalanceLemmas
 pub mod BoundLemmas
 pub mod UpperLemmas
 pub mod CodeLemmas
 pub mod MemberLemmas
-pub mod NumberLemmas
+pub mod NotedNumberLemmas
 pub mod SearchLemmas
 pub mod IndexLemmas
 pub mod MeetSumLemmas

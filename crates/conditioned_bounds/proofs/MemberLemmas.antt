@@ -8,11 +8,11 @@ use Rattle.std.specs.Cmp.{unsigned_tied}
 use Rattle.std.proofs.lemmas.Bool.{false≢true, eqb-true, eq-eqb, or_cases}
 use Rattle.std.proofs.lemmas.List.{length_push}
 use Rattle.std.proofs.lemmas.List.Elements.{All-push, All-weaker, Contains-push, Contains-push_cases, Contains-append_left}
-use Rattle.prefix_lattice.specs.{NodeValue, PrefixValue, IsPrefix, node_of}
-use Rattle.conditioned_bounds.specs.Uppers.{code_of}
-use Rattle.conditioned_bounds.specs.Members.{AreMembers, line_limit}
-use Rattle.conditioned_bounds.proofs.UpperLemmas.{KeysAreApart, same_code, same_node}
-use Rattle.prefix_lattice.proofs.ListLemmas.{Contains-head, Contains-tail}
+use Rattle.prefix_lattice.specs.{NodeValue, PrefixValue, IsPrefix, node_of_prefix}
+use Rattle.conditioned_bounds.specs.Uppers.{upper_code}
+use Rattle.conditioned_bounds.specs.Members.{AreMembers, member_limit}
+use Rattle.conditioned_bounds.proofs.UpperLemmas.{UpperKeysAreApart, same_upper_code, same_upper_node}
+use Rattle.prefix_lattice.proofs.ListLemmas.{Contains-list_head, Contains-list_tail}
 
 -- members whose parts are equal
 pub members_same : (members others : List PrefixValue) (codes other_codes : BTreeSet ℕ) (at other_at : List NodeValue)
@@ -24,65 +24,65 @@ members_same members others codes other_codes at other_at same same_codes same_a
     let of : AreMembers members other_codes at = record {
       few = are.few;
       prefixes = are.prefixes;
-      coded = λ prefix there. has (code_of prefix) ∙ are.coded prefix there;
-      found = λ prefix is there. are.found prefix is (sym (has (code_of prefix)) ∙ there);
+      coded = λ prefix there. has (upper_code prefix) ∙ are.coded prefix there;
+      found = λ prefix is there. are.found prefix is (sym (has (upper_code prefix)) ∙ there);
       nodes = are.nodes;
     } in
     subst (λ ms. AreMembers ms other_codes other_at) (sym same)
     (subst (AreMembers members other_codes) (sym same_at) of)
 
 -- one more member
-pub members_push : KeysAreApart → (members : List PrefixValue) (prefix : PrefixValue) (codes new_codes : BTreeSet ℕ)
-    (at new_at : List NodeValue) → AreMembers members codes at → IsPrefix prefix → length members + 1 < line_limit
+pub members_push : UpperKeysAreApart → (members : List PrefixValue) (prefix : PrefixValue) (codes new_codes : BTreeSet ℕ)
+    (at new_at : List NodeValue) → AreMembers members codes at → IsPrefix prefix → length members + 1 < member_limit
     → ((q : ℕ) → contains nat_cmp new_codes q
-    ≡ cond (eq_by_cmp nat_cmp (code_of prefix) q) true (contains nat_cmp codes q))
-    → ((node : NodeValue) → Contains at node → Contains new_at node) → Contains new_at (node_of prefix)
+    ≡ cond (eq_by_cmp nat_cmp (upper_code prefix) q) true (contains nat_cmp codes q))
+    → ((node : NodeValue) → Contains at node → Contains new_at node) → Contains new_at (node_of_prefix prefix)
     → AreMembers (members ++ prefix ∷ []) new_codes new_at
 members_push apart members prefix codes new_codes at new_at are is few adds kept there = record {
   few = omega (arith, few, length_push members prefix);
   prefixes = All-push IsPrefix members prefix are.prefixes is;
   coded = λ other among.
       ⊎_elim
-      (λ old. adds (code_of other)
-      ∙ old_or (eq_by_cmp nat_cmp (code_of prefix) (code_of other)) (contains nat_cmp codes (code_of other))
+      (λ old. adds (upper_code other)
+      ∙ old_or (eq_by_cmp nat_cmp (upper_code prefix) (upper_code other)) (contains nat_cmp codes (upper_code other))
       (are.coded other old))
-      (λ same. adds (code_of other)
-      ∙ ap (λ b. cond b true (contains nat_cmp codes (code_of other)))
-      (unsigned_tied (code_of prefix) (code_of other)
-      ∙ eq-eqb (code_of prefix) (code_of other) (ap code_of same)))
+      (λ same. adds (upper_code other)
+      ∙ ap (λ b. cond b true (contains nat_cmp codes (upper_code other)))
+      (unsigned_tied (upper_code prefix) (upper_code other)
+      ∙ eq-eqb (upper_code prefix) (upper_code other) (ap upper_code same)))
       (Contains-push_cases members prefix other among);
   found = λ other other_is has.
-      by other other_is (eqb (code_of prefix) (code_of other)) refl
-      (sym (ap (λ b. cond b true (contains nat_cmp codes (code_of other)))
-      (unsigned_tied (code_of prefix) (code_of other))) ∙ sym (adds (code_of other)) ∙ has);
+      by other other_is (eqb (upper_code prefix) (upper_code other)) refl
+      (sym (ap (λ b. cond b true (contains nat_cmp codes (upper_code other)))
+      (unsigned_tied (upper_code prefix) (upper_code other))) ∙ sym (adds (upper_code other)) ∙ has);
   nodes =
-      All-push (λ member. Contains new_at (node_of member)) members prefix
-      (All-weaker (λ member. Contains at (node_of member)) (λ member. Contains new_at (node_of member))
-      (λ member old. kept (node_of member) old) members are.nodes) there;
+      All-push (λ member. Contains new_at (node_of_prefix member)) members prefix
+      (All-weaker (λ member. Contains at (node_of_prefix member)) (λ member. Contains new_at (node_of_prefix member))
+      (λ member old. kept (node_of_prefix member) old) members are.nodes) there;
 }
   where
     old_or : (b old : Bool) → old ≡ true → cond b true old ≡ true
     old_or true old is = refl
     old_or false old is = is
 
-    by : (other : PrefixValue) → IsPrefix other → (b : Bool) → eqb (code_of prefix) (code_of other) ≡ b
-        → cond b true (contains nat_cmp codes (code_of other)) ≡ true → Contains (members ++ prefix ∷ []) other
+    by : (other : PrefixValue) → IsPrefix other → (b : Bool) → eqb (upper_code prefix) (upper_code other) ≡ b
+        → cond b true (contains nat_cmp codes (upper_code other)) ≡ true → Contains (members ++ prefix ∷ []) other
     by other other_is true same _ =
         subst (Contains (members ++ prefix ∷ []))
-        (same_code apart prefix other is other_is (eqb-true (code_of prefix) (code_of other) same))
+        (same_upper_code apart prefix other is other_is (eqb-true (upper_code prefix) (upper_code other) same))
         (Contains-push members prefix)
     by other other_is false _ has =
         Contains-append_left members (prefix ∷ []) other (are.found other other_is has)
 
 -- a node that was found is there, and one that was appended
-pub node_there : (nodes : List NodeValue) (node : NodeValue)
+pub member_node_is_there : (nodes : List NodeValue) (node : NodeValue)
     → list_any (λ (n : NodeValue). eqb n.source_bytes node.source_bytes && eqb n.dest_bytes node.dest_bytes) nodes
     ≡ true → Contains nodes node
-node_there [] node found = absurd (false≢true found)
-node_there (n ∷ nodes) node found =
+member_node_is_there [] node found = absurd (false≢true found)
+member_node_is_there (n ∷ nodes) node found =
     ⊎_elim
     (λ (here : (eqb n.source_bytes node.source_bytes && eqb n.dest_bytes node.dest_bytes) ≡ true).
-    subst (Contains (n ∷ nodes)) (same_node n node (sym here)) (Contains-head n nodes))
-    (λ later. Contains-tail n nodes node (node_there nodes node later))
+    subst (Contains (n ∷ nodes)) (same_upper_node n node (sym here)) (Contains-list_head n nodes))
+    (λ later. Contains-list_tail n nodes node (member_node_is_there nodes node later))
     (or_cases (eqb n.source_bytes node.source_bytes && eqb n.dest_bytes node.dest_bytes)
     (list_any (λ (m : NodeValue). eqb m.source_bytes node.source_bytes && eqb m.dest_bytes node.dest_bytes) nodes) found)

@@ -3,23 +3,23 @@ use Rattle.std.specs.Prelude.{ℕ, ◌≡◌, ◌≢◌, ◌<◌, List, length, 
 use Rattle.std.specs.BTreeMap.{BTreeMap}
 use Rattle.std.specs.declared.alloc.Global.{Global}
 use Rattle.prefix_lattice.specs.{PrefixValue, IsPrefix, lines_under}
-use Rattle.conditioned_bounds.specs.Uppers.{code_of}
-use Rattle.conditioned_bounds.specs.Members.{line_limit}
-use Rattle.conditioned_bounds.specs.Numbers.{numbers_at}
+use Rattle.conditioned_bounds.specs.Uppers.{upper_code}
+use Rattle.conditioned_bounds.specs.Members.{member_limit}
+use Rattle.conditioned_bounds.specs.LineNumbers.{line_numbers_at}
 
 -- the prefix that keeps no byte
-abbrev pub root : PrefixValue
-root = record { source = []; dest = [] }
+abbrev pub line_index_root : PrefixValue
+line_index_root = record { source = []; dest = [] }
 
 -- the line of a number
-abbrev pub line_of : List PrefixValue → ℕ → PrefixValue
-line_of lines number = slice_index_or lines number root
+abbrev pub indexed_line : List PrefixValue → ℕ → PrefixValue
+indexed_line lines number = slice_index_or lines number line_index_root
 
 -- there are fewer than 2^24 lines, all distinct, each number that is kept is that of a line, and those kept under a prefix's code are
 -- the numbers of the lines that are strictly under it, in the order of the lines
-pub record AreIndexed (lines : List PrefixValue) (kept : BTreeMap ℕ (Vec ℕ Global)) : Type 0 where
-  pub few : length lines < line_limit
+pub record LinesAreIndexed (lines : List PrefixValue) (kept : BTreeMap ℕ (Vec ℕ Global)) : Type 0 where
+  pub few : length lines < member_limit
   pub distinct : AllPairs (λ line other. line ≢ other) lines
-  pub numbers : (code : ℕ) → All (λ number. number < length lines) (numbers_at kept code)
+  pub numbers : (code : ℕ) → All (λ number. number < length lines) (line_numbers_at kept code)
   pub under : (prefix : PrefixValue) → IsPrefix prefix
-      → map (line_of lines) (numbers_at kept (code_of prefix)) ≡ lines_under prefix lines
+      → map (indexed_line lines) (line_numbers_at kept (upper_code prefix)) ≡ lines_under prefix lines

@@ -2,30 +2,30 @@
 use Rattle.std.specs.Prelude.{ℕ, ◌≡◌, ◌≢◌, ◌+◌, ◌*◌, ◌^◌, ◌==◌, ◌&&◌, nat_le, Bool, List, length, take, Option, None, Some}
 use Rattle.std.specs.Prelude.{AllPairs, if◌then◌else◌}
 use Rattle.std.specs.List.{list_any}
-use Rattle.prefix_lattice.specs.{NodeValue, index_of, PrefixValue, IsPrefix, node_of, key_of, strictly_under}
+use Rattle.prefix_lattice.specs.{NodeValue, node_index, PrefixValue, IsPrefix, node_of_prefix, prefix_key, strictly_under}
 
 -- whether a node keeps no more bytes of either address than a prefix
-abbrev pub keeps_no_more : NodeValue → PrefixValue → Bool
-keeps_no_more node prefix =
+abbrev pub has_upper : NodeValue → PrefixValue → Bool
+has_upper node prefix =
     nat_le node.source_bytes (length prefix.source) && nat_le node.dest_bytes (length prefix.dest)
 
 -- a prefix cut down to a node: as many of its leading bytes as the node keeps
-abbrev pub shortened : PrefixValue → NodeValue → PrefixValue
-shortened prefix node = record {
+abbrev pub shortened_to_upper : PrefixValue → NodeValue → PrefixValue
+shortened_to_upper prefix node = record {
   source = take node.source_bytes prefix.source;
   dest = take node.dest_bytes prefix.dest;
 }
 
 -- the prefix of a node that a prefix is under, if the node keeps no more bytes than it
 abbrev pub upper_at : PrefixValue → NodeValue → Option PrefixValue
-upper_at prefix node = if keeps_no_more node prefix then Some (shortened prefix node) else None
+upper_at prefix node = if has_upper node prefix then Some (shortened_to_upper prefix node) else None
 
 -- the code of a prefix: the index of its node, and its key in the 64 bits below; no two prefixes share one
-abbrev pub code_of : PrefixValue → ℕ
-code_of prefix = index_of (node_of prefix) * 2 ^ 64 + key_of prefix
+abbrev pub upper_code : PrefixValue → ℕ
+upper_code prefix = node_index (node_of_prefix prefix) * 2 ^ 64 + prefix_key prefix
 
 -- these are the codes of all prefixes that a prefix is strictly under, each once
-pub record AreCodesAbove (prefix : PrefixValue) (codes : List ℕ) : Type 0 where
+pub record AreUpperCodes (prefix : PrefixValue) (codes : List ℕ) : Type 0 where
   pub distinct : AllPairs (λ code other. code ≢ other) codes
   pub members : (upper : PrefixValue) → IsPrefix upper
-      → list_any (λ code. code == code_of upper) codes ≡ strictly_under prefix upper
+      → list_any (λ code. code == upper_code upper) codes ≡ strictly_under prefix upper

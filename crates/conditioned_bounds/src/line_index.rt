@@ -3,8 +3,8 @@
 ghost use Rattle.std.specs.Prelude.{◌≡◌, ◌≢◌, ℕ, ◌+◌, ◌*◌, ◌<◌, ◌++◌, ◌∷◌, [], List, length, AllPairs, Contains, OnOk, OnErr, IfOk, true, sum_by, pos, ◌-ℤ◌, ◌*ℤ◌, ◌≤ℤ◌};
 ghost use Rattle.std.specs.List.{list_any};
 ghost use Rattle.prefix_lattice.specs.{RecordValue, strictly_under, lines_under, closest, kept_pairs, conditioned_weight};
-ghost use Rattle.conditioned_bounds.specs.Bounds.{bound_of, asked_of, HoldWeights, AreNarrow, AreWeights};
-ghost use Rattle.conditioned_bounds.specs.Members.{line_limit};
+ghost use Rattle.conditioned_bounds.specs.Bounds.{bound_of, asked_for_bound, BoundsHoldWeights, BoundsAreNarrow, BoundsAreWeights};
+ghost use Rattle.conditioned_bounds.specs.Members.{member_limit};
 
 use crate::meet_sums::sum_of_meets;
 use crate::members::Members;
@@ -30,13 +30,13 @@ pub struct LineIndex {
 impl Model for LineIndex {
     ghost use Rattle.std.specs.Prelude.{List};
     ghost use Rattle.prefix_lattice.specs.{PrefixValue};
-    ghost use Rattle.conditioned_bounds.specs.LineIndex.{AreIndexed};
+    ghost use Rattle.conditioned_bounds.specs.LineIndex.{LinesAreIndexed};
 
     ghost Value = { List PrefixValue };
 
     ghost view = { λ i. i.lines };
 
-    ghost invariant = { λ i. AreIndexed i.lines i.under };
+    ghost invariant = { λ i. LinesAreIndexed i.lines i.under };
 }
 
 impl LineIndex {
@@ -55,7 +55,7 @@ impl LineIndex {
     /// first, so after an `Err` the lines are as before.
     pub fn push(&mut self, prefix: &Prefix) -> Result<(), AllocError>
         requires new { ¬ Contains self.old prefix.now }
-        requires few { length self.old + 1 < line_limit }
+        requires few { length self.old + 1 < member_limit }
         ensures ok { OnOk result (self.new ≡ self.old ++ prefix.now ∷ []) }
         ensures err { OnErr result (self.new ≡ self.old) }
     {
@@ -99,15 +99,15 @@ impl LineIndex {
 
         // Over any records:
         ensures at_least { IfOk result (λ parts. (records : List RecordValue)
-            → HoldWeights (I.low intervals.now) (I.high intervals.now) records (asked_of prefix.now self.now)
+            → BoundsHoldWeights (I.low intervals.now) (I.high intervals.now) records (asked_for_bound prefix.now self.now)
             → pos (conditioned_weight prefix.now self.now records) ≤ℤ parts.value) }
         ensures at_most { IfOk result (λ parts. (records : List RecordValue) (times whole : ℕ)
-            → HoldWeights (I.low intervals.now) (I.high intervals.now) records (asked_of prefix.now self.now)
-            → AreNarrow (I.low intervals.now) (I.high intervals.now) times whole (asked_of prefix.now self.now)
+            → BoundsHoldWeights (I.low intervals.now) (I.high intervals.now) records (asked_for_bound prefix.now self.now)
+            → BoundsAreNarrow (I.low intervals.now) (I.high intervals.now) times whole (asked_for_bound prefix.now self.now)
             → (pos times *ℤ parts.value) ≤ℤ pos (times * conditioned_weight prefix.now self.now records
             + (1 + parts.closest + parts.pairs) * whole)) }
         ensures exact { IfOk result (λ parts. (records : List RecordValue)
-            → AreWeights (I.low intervals.now) (I.high intervals.now) records (asked_of prefix.now self.now)
+            → BoundsAreWeights (I.low intervals.now) (I.high intervals.now) records (asked_for_bound prefix.now self.now)
             → parts.value ≡ pos (conditioned_weight prefix.now self.now records)) }
     {
         bounds_hold();

@@ -2,7 +2,7 @@
 
 ghost use Rattle.std.specs.Prelude.{◌≡◌, IfOk};
 ghost use Rattle.std.specs.List.{list_any};
-ghost use Rattle.prefix_lattice.specs.{strictly_under, lines_under, greatest, closest};
+ghost use Rattle.prefix_lattice.specs.{strictly_under, lines_under, greatest_lines, closest};
 
 use prefix_lattice::{Prefix, Prefixes};
 use std::alloc::{AllocError, Global};
@@ -31,7 +31,7 @@ fn lines_under(alloc: Global, prefix: &Prefix, lines: &[Prefix]) -> Result<Prefi
 
 /// The members that are strictly under no other member.
 fn greatest(alloc: Global, members: &[Prefix]) -> Result<Prefixes, AllocError>
-    ensures { IfOk result (λ tops. tops ≡ greatest members.now) }
+    ensures { IfOk result (λ tops. tops ≡ greatest_lines members.now) }
 {
     let mut tops = Prefixes::new(alloc);
     for member in members {

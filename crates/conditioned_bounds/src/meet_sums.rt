@@ -2,8 +2,8 @@
 
 ghost use Rattle.std.specs.Prelude.{◌≡◌, ◌*◌, ◌<◌, ◌≤◌, true, length, sum_by};
 ghost use Rattle.std.specs.List.{filter_map};
-ghost use Rattle.prefix_lattice.specs.{under, under_third, kept_meet, kept_pairs, total_limit};
-ghost use Rattle.conditioned_bounds.specs.Members.{line_limit};
+ghost use Rattle.prefix_lattice.specs.{under, under_third_line, kept_meet, kept_pairs, total_limit};
+ghost use Rattle.conditioned_bounds.specs.Members.{member_limit};
 
 use crate::Intervals;
 use crate::members::Members;
@@ -23,7 +23,7 @@ pub(crate) fn sum_of_meets<I: Intervals>(members: &Members, intervals: &I) -> Me
     ensures highs { result.highs ≡ sum_by (I.high intervals.now) (kept_pairs members.now) }
     ensures pairs { result.pairs ≡ length (kept_pairs members.now) }
     ensures bounded { result.highs ≤ result.pairs * total_limit }
-    ensures few { result.pairs ≤ line_limit * line_limit }
+    ensures few { result.pairs ≤ member_limit * member_limit }
 {
     let mut sum = MeetSum { highs: 0, pairs: 0 };
     let prefixes = members.as_slice();
@@ -42,7 +42,7 @@ fn sum_of_meets_with<I: Intervals>(
     seconds: &[Prefix],
     intervals: &I,
 ) -> MeetSum
-    requires { length seconds.now < line_limit }
+    requires { length seconds.now < member_limit }
     ensures highs { result.highs ≡ sum_by (I.high intervals.now) (filter_map (kept_meet members.now first.now) seconds.now) }
     ensures pairs { result.pairs ≡ length (filter_map (kept_meet members.now first.now) seconds.now) }
     ensures bounded { result.highs ≤ result.pairs * total_limit }
@@ -75,7 +75,7 @@ fn kept_meet(members: &Members, first: &Prefix, second: &Prefix) -> Option<Prefi
 fn is_under_third(members: &Members, first: &Prefix, second: &Prefix, meet: &Prefix) -> bool
     requires first { under meet.now first.now ≡ true }
     requires second { under meet.now second.now ≡ true }
-    ensures { result ≡ under_third members.now first.now second.now meet.now }
+    ensures { result ≡ under_third_line members.now first.now second.now meet.now }
 {
     prefixes_are_ordered();
     let first = first.node();

@@ -2,7 +2,7 @@
 
 ghost use Rattle.std.specs.Prelude.{◌≡◌, ◌++◌, IfOk, OnOk};
 ghost use Rattle.std.specs.List.{filter_map};
-ghost use Rattle.prefix_lattice.specs.{same_prefix, under_third, kept_meet, kept_pairs};
+ghost use Rattle.prefix_lattice.specs.{same_prefix, under_third_line, kept_meet, kept_pairs};
 
 use prefix_lattice::{Prefix, Prefixes};
 use std::alloc::{AllocError, Global};
@@ -50,7 +50,7 @@ fn kept_meet(members: &[Prefix], first: &Prefix, second: &Prefix) -> Option<Pref
 }
 
 fn is_under_third(members: &[Prefix], first: &Prefix, second: &Prefix, meet: &Prefix) -> bool
-    ensures { result ≡ under_third members.now first.now second.now meet.now }
+    ensures { result ≡ under_third_line members.now first.now second.now meet.now }
 {
     members.iter().any(|third| meet.under(third)
         && !(is_same(third, first) || is_same(third, second)))

@@ -1,8 +1,8 @@
 //! Prefixes in their order, found by node and key.
 
 ghost use Rattle.std.specs.Prelude.{◌≡◌, ◌+◌, ◌<◌, ◌++◌, ◌∷◌, [], ◌↔◌, All, Contains, IsTrue, OnOk, OnErr, IfOk, length, slice_get, Some};
-ghost use Rattle.prefix_lattice.specs.{PrefixValue, IsPrefix, node_of};
-ghost use Rattle.conditioned_bounds.specs.Members.{line_limit};
+ghost use Rattle.prefix_lattice.specs.{PrefixValue, IsPrefix, node_of_prefix};
+ghost use Rattle.conditioned_bounds.specs.Members.{member_limit};
 
 use crate::uppers::code_of;
 use prefix_lattice::{Node, Prefix, Prefixes, keys_are_of_their_node};
@@ -44,7 +44,7 @@ impl Members {
 
     /// These prefixes, of which there are fewer than 2^24.
     pub(crate) fn of(alloc: Global, prefixes: &Prefixes) -> Result<Members, AllocError>
-        requires { length prefixes.now < line_limit }
+        requires { length prefixes.now < member_limit }
         ensures { IfOk result (λ members. members ≡ prefixes.now) }
     {
         let mut members = Members::new(alloc);
@@ -56,7 +56,7 @@ impl Members {
 
     /// Appends a prefix. After an `Err` the members are as before.
     pub(crate) fn push(&mut self, prefix: &Prefix) -> Result<(), AllocError>
-        requires { length self.old + 1 < line_limit }
+        requires { length self.old + 1 < member_limit }
         ensures ok { OnOk result (self.new ≡ self.old ++ prefix.now ∷ []) }
         ensures err { OnErr result (self.new ≡ self.old) }
     {
@@ -81,7 +81,7 @@ impl Members {
 
     /// The nodes that have a member.
     pub(crate) fn nodes(&self) -> &[Node]
-        ensures { All (λ member. Contains result.now (node_of member)) self.now }
+        ensures { All (λ member. Contains result.now (node_of_prefix member)) self.now }
     {
         self.nodes.as_slice()
     }
@@ -89,7 +89,7 @@ impl Members {
     /// How many members there are, fewer than 2^24.
     pub(crate) fn len(&self) -> usize
         ensures length { result ≡ length self.now }
-        ensures few { result < line_limit }
+        ensures few { result < member_limit }
     {
         self.prefixes.len()
     }
@@ -97,7 +97,7 @@ impl Members {
     /// The members in their order.
     pub(crate) fn as_slice(&self) -> &[Prefix]
         ensures value { result.now ≡ self.now }
-        ensures few { length self.now < line_limit }
+        ensures few { length self.now < member_limit }
     {
         self.prefixes.as_slice()
     }

@@ -2,14 +2,14 @@
 
 ghost use Rattle.std.specs.Prelude.{◌≡◌, ◌≢◌, ◌==◌, ℕ, ◌++◌, ◌∷◌, [], All, AllPairs, false, OnOk, if◌then◌else◌};
 ghost use Rattle.std.specs.List.{list_any};
-ghost use Rattle.conditioned_bounds.specs.Numbers.{numbers_at, HasRoom};
+ghost use Rattle.conditioned_bounds.specs.LineNumbers.{line_numbers_at, HasRoomForLineNumber};
 
 use std::alloc::{AllocError, Global};
 use std::collections::BTreeMap;
 
 /// The numbers that are kept under a code.
 pub(crate) fn numbers_at(kept: &BTreeMap<u128, Vec<u32>>, code: u128) -> &[u32]
-    ensures { result.now ≡ numbers_at kept.now code }
+    ensures { result.now ≡ line_numbers_at kept.now code }
 {
     match kept.get(&code) {
         Some(numbers) => numbers.as_slice(),
@@ -23,8 +23,8 @@ pub(crate) fn make_room(
     kept: &mut BTreeMap<u128, Vec<u32>>,
     codes: &[u128],
 ) -> Result<(), AllocError>
-    ensures same { (code : ℕ) → numbers_at kept.new code ≡ numbers_at kept.old code }
-    ensures room { OnOk result (All (HasRoom kept.new) codes.now) }
+    ensures same { (code : ℕ) → line_numbers_at kept.new code ≡ line_numbers_at kept.old code }
+    ensures room { OnOk result (All (HasRoomForLineNumber kept.new) codes.now) }
 {
     for code in codes {
         make_room_at(alloc, kept, *code)?;
@@ -38,9 +38,9 @@ fn make_room_at(
     kept: &mut BTreeMap<u128, Vec<u32>>,
     code: u128,
 ) -> Result<(), AllocError>
-    ensures same { (other : ℕ) → numbers_at kept.new other ≡ numbers_at kept.old other }
-    ensures room { OnOk result (HasRoom kept.new code) }
-    ensures kept { (other : ℕ) → HasRoom kept.old other → HasRoom kept.new other }
+    ensures same { (other : ℕ) → line_numbers_at kept.new other ≡ line_numbers_at kept.old other }
+    ensures room { OnOk result (HasRoomForLineNumber kept.new code) }
+    ensures kept { (other : ℕ) → HasRoomForLineNumber kept.old other → HasRoomForLineNumber kept.new other }
 {
     if let Some(numbers) = kept.get_mut(&code) {
         numbers.reserve(1)?;
@@ -54,9 +54,9 @@ fn make_room_at(
 /// Appends a number under each of these codes, which have room for it. It allocates no memory.
 pub(crate) fn note(kept: &mut BTreeMap<u128, Vec<u32>>, codes: &[u128], number: u32)
     requires distinct { AllPairs (λ code other. code ≢ other) codes.now }
-    requires room { All (HasRoom kept.old) codes.now }
-    ensures { (code : ℕ) → numbers_at kept.new code
-        ≡ (if list_any (λ other. other == code) codes.now then numbers_at kept.old code ++ number ∷ [] else numbers_at kept.old code) }
+    requires room { All (HasRoomForLineNumber kept.old) codes.now }
+    ensures { (code : ℕ) → line_numbers_at kept.new code
+        ≡ (if list_any (λ other. other == code) codes.now then line_numbers_at kept.old code ++ number ∷ [] else line_numbers_at kept.old code) }
 {
     for code in codes {
         note_at(kept, *code, number);
@@ -65,10 +65,10 @@ pub(crate) fn note(kept: &mut BTreeMap<u128, Vec<u32>>, codes: &[u128], number: 
 
 // Appends a number under a code that has room for it.
 fn note_at(kept: &mut BTreeMap<u128, Vec<u32>>, code: u128, number: u32)
-    requires { HasRoom kept.old code }
-    ensures noted { (other : ℕ) → numbers_at kept.new other
-        ≡ (if code == other then numbers_at kept.old other ++ number ∷ [] else numbers_at kept.old other) }
-    ensures kept { (other : ℕ) → (code == other) ≡ false → HasRoom kept.old other → HasRoom kept.new other }
+    requires { HasRoomForLineNumber kept.old code }
+    ensures noted { (other : ℕ) → line_numbers_at kept.new other
+        ≡ (if code == other then line_numbers_at kept.old other ++ number ∷ [] else line_numbers_at kept.old other) }
+    ensures kept { (other : ℕ) → (code == other) ≡ false → HasRoomForLineNumber kept.old other → HasRoomForLineNumber kept.new other }
 {
     if let Some(numbers) = kept.get_mut(&code) {
         let _ = numbers.push(number);

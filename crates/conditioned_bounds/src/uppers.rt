@@ -2,7 +2,7 @@
 
 ghost use Rattle.std.specs.Prelude.{◌≡◌, IfOk};
 ghost use Rattle.prefix_lattice.specs.{IsPrefix, IsNode};
-ghost use Rattle.conditioned_bounds.specs.Uppers.{upper_at, code_of, AreCodesAbove};
+ghost use Rattle.conditioned_bounds.specs.Uppers.{upper_at, upper_code, AreUpperCodes};
 
 use prefix_lattice::{Node, Prefix, Record, keys_are_of_their_node, prefixes_are_ordered};
 use std::alloc::{AllocError, Global};
@@ -28,7 +28,7 @@ pub(crate) fn upper(prefix: &Prefix, node: Node) -> Option<Prefix>
 
 /// The number of a prefix, by its node and then by its key. No two prefixes share one.
 pub(crate) fn code_of(prefix: &Prefix) -> u128
-    ensures value { result ≡ code_of prefix.now }
+    ensures value { result ≡ upper_code prefix.now }
     ensures prefix { IsPrefix prefix.now }
 {
     u128::from(prefix.node().index()) << 64 | u128::from(prefix.key())
@@ -36,7 +36,7 @@ pub(crate) fn code_of(prefix: &Prefix) -> u128
 
 /// The numbers of all prefixes that this prefix is strictly under, each once.
 pub(crate) fn codes_above(alloc: Global, prefix: &Prefix) -> Result<Vec<u128>, AllocError>
-    ensures { IfOk result (λ codes. AreCodesAbove prefix.now codes.items) }
+    ensures { IfOk result (λ codes. AreUpperCodes prefix.now codes.items) }
 {
     prefixes_are_ordered();
     keys_are_of_their_node();

@@ -3,16 +3,16 @@ use Rattle.std.proofs.Common.{◌≡◌, ℕ, zero, suc, ◌+◌, ◌*◌, ◌^�
 use Rattle.std.proofs.Common.{arith}
 use Rattle.std.proofs.Math.ListN.{replicate}
 use Rattle.std.specs.Prelude.{slice_index_or}
-use Rattle.prefix_lattice.specs.{RecordValue, index_of, AreLeadingBytes, PrefixValue, IsPrefix, node_of, key_of}
+use Rattle.prefix_lattice.specs.{RecordValue, node_index, AreLeadingBytes, PrefixValue, IsPrefix, node_of_prefix, prefix_key}
 use Rattle.space_saving.specs.declared.entry.Entry.{Entry}
-use Rattle.space_saving.specs.{TableValue, Interval}
-use Rattle.shard_state.specs.{fold_from, SnapshotValue, CutValue, total_of_cut}
+use Rattle.space_saving.specs.{TableValue, TableInterval}
+use Rattle.shard_state.specs.{fold_snapshot_from, SnapshotValue, CutValue, total_of_cut}
 use Rattle.cut_merge.specs.Tables.{first_seen, merged_interval, table_keys, monitored_keys}
 use Rattle.cut_merge.specs.MergedInterval.{node_tables, merged_interval_in, monitored_at, IsWithinTotal}
 use Rattle.cut_merge.specs.declared.key_interval.KeyInterval.{KeyInterval}
 use Rattle.cut_merge.specs.NodeMerge.{NodeMergeValue}
-use Rattle.cut_merge.specs.Merged.{MergedValue, nothing_merged, interval_for_key, merge_at, interval_for}
-use Rattle.cut_merge.specs.Merged.{candidates_at, RepresentsCut, IsMerged}
+use Rattle.cut_merge.specs.Merged.{MergedValue, nothing_merged, interval_for_key, merge_at, merged_interval_for}
+use Rattle.cut_merge.specs.Merged.{merged_candidates_at, RepresentsCut, IsMerged}
 
 -- each key stands where it is seen first
 pub keys_are_seen_once : first_seen (3 ∷ 1 ∷ 3 ∷ 2 ∷ 1 ∷ []) ≡ 3 ∷ 1 ∷ 2 ∷ []
@@ -59,7 +59,7 @@ packet host = record { src = 0x0a000000 + host; dst = 0x14000001; weight = 1 }
 
 -- a shard that counted some packets, in tables of capacity 2
 abbrev shard : ℕ → List RecordValue → SnapshotValue
-shard position packets = record { capacity = 2; position = position; tables = fold_from 0 2 (replicate 25 []) packets }
+shard position packets = record { capacity = 2; position = position; tables = fold_snapshot_from 0 2 (replicate 25 []) packets }
 
 -- hosts 1, 1 and 2 in one shard, and 1, 3 and 4 in another, whose table keeps 3 and then 4 in place of 1
 abbrev cut : CutValue
@@ -134,14 +134,14 @@ merged = record { capacity = 2; total = 6; nodes = replicate 24 nothing_merged +
 pub whole_addresses_stand_last : merge_at (record { source_bytes = 4; dest_bytes = 4 }) merged ≡ hosts
 whole_addresses_stand_last = refl
 
-pub merged_intervals_are_those_of_the_cut : interval_for merged (host_prefix 1) ≡ merged_interval_in cut (host_prefix 1)
+pub merged_intervals_are_those_of_the_cut : merged_interval_for merged (host_prefix 1) ≡ merged_interval_in cut (host_prefix 1)
 merged_intervals_are_those_of_the_cut = refl
 
 -- host 9 may have been missed in both shards
-pub interval_of_a_host_that_no_shard_monitors : interval_for merged (host_prefix 9) ≡ record { low = 0; high = 2 }
+pub interval_of_a_host_that_no_shard_monitors : merged_interval_for merged (host_prefix 9) ≡ record { low = 0; high = 2 }
 interval_of_a_host_that_no_shard_monitors = refl
 
-pub candidates_are_the_monitored_keys : candidates_at merged (record { source_bytes = 4; dest_bytes = 4 })
+pub candidates_are_the_monitored_keys : merged_candidates_at merged (record { source_bytes = 4; dest_bytes = 4 })
     ≡ monitored_at cut (record { source_bytes = 4; dest_bytes = 4 })
 candidates_are_the_monitored_keys = refl
 
@@ -156,7 +156,7 @@ root_is_prefix =
 
 pub merged_of_one_node_does_not_stand_for_the_cut : ¬ RepresentsCut merged cut
 merged_of_one_node_does_not_stand_for_the_cut stands =
-    let high : 0 ≡ 6 = ap (λ (i : Interval). i.high) (stands.intervals root root_is_prefix) in omega (arith, high)
+    let high : 0 ≡ 6 = ap (λ (i : TableInterval). i.high) (stands.intervals root root_is_prefix) in omega (arith, high)
 
 -- a cut of one shard that counted nothing
 abbrev nothing_counted : CutValue
@@ -179,12 +179,12 @@ nothing_represents_nothing_counted =
       capacity = refl;
       total = refl;
       intervals = λ prefix is_prefix.
-          ap (λ merge. interval_for_key merge (key_of prefix)) (alike nothing_merged 25 (index_of (node_of prefix)))
-          ∙ sym (ap (λ entries. merged_interval (table entries ∷ []) (key_of prefix))
-          (alike [] 25 (index_of (node_of prefix))));
+          ap (λ merge. interval_for_key merge (prefix_key prefix)) (alike nothing_merged 25 (node_index (node_of_prefix prefix)))
+          ∙ sym (ap (λ entries. merged_interval (table entries ∷ []) (prefix_key prefix))
+          (alike [] 25 (node_index (node_of_prefix prefix))));
       candidates = λ node is_node.
-          ap (λ (merge : NodeMergeValue). merge.keys) (alike nothing_merged 25 (index_of node))
-          ∙ sym (ap (λ entries. monitored_keys (table entries ∷ [])) (alike [] 25 (index_of node)));
+          ap (λ (merge : NodeMergeValue). merge.keys) (alike nothing_merged 25 (node_index node))
+          ∙ sym (ap (λ entries. monitored_keys (table entries ∷ [])) (alike [] 25 (node_index node)));
     }
 
 pub nothing_is_merged : IsMerged nothing

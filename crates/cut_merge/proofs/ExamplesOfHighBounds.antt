@@ -2,22 +2,22 @@
 use Rattle.std.proofs.Common.{◌≡◌, ◌≤◌, ◌^◌, ◌-◌, [], ◌∷◌, None, Some, refl, arith}
 use Rattle.std.proofs.lemmas.Bool.{false≢true}
 use Rattle.space_saving.specs.{TableValue}
-use Rattle.cut_merge.specs.HighBounds.{cell_count, greatest_bound, HighBoundsValue, home_of, cell_of, high_bound, NotesKey}
-use Rattle.cut_merge.specs.HighBounds.{AddsMissing, counted_by, NotesEntries, BoundRuns}
+use Rattle.cut_merge.specs.HighBounds.{high_bound_cell_count, greatest_high_bound, HighBoundsValue, high_bound_home, high_bound_cell, high_bound, HighBoundsNoteKey}
+use Rattle.cut_merge.specs.HighBounds.{HighBoundsAddMissing, counted_in_high_bound, HighBoundsNoteEntries, AreHighBoundsOfRuns}
 
 -- the highest twelve bits of nothing, and of the multiplier
-pub home_of_key_0 : home_of 0 ≡ 0
-unfolding home_of
+pub home_of_key_0 : high_bound_home 0 ≡ 0
+unfolding high_bound_home
 home_of_key_0 = refl
 
-pub home_of_key_1 : home_of 1 ≡ 2531
-unfolding home_of
+pub home_of_key_1 : high_bound_home 1 ≡ 2531
+unfolding high_bound_home
 home_of_key_1 = refl
 
-pub cells_are_as_many_as_twelve_bits_tell_apart : cell_count ≡ 2 ^ 12
+pub cells_are_as_many_as_twelve_bits_tell_apart : high_bound_cell_count ≡ 2 ^ 12
 cells_are_as_many_as_twelve_bits_tell_apart = refl
 
-pub the_greatest_bound_has_64_bits : greatest_bound ≡ 2 ^ 64 - 1
+pub the_greatest_bound_has_64_bits : greatest_high_bound ≡ 2 ^ 64 - 1
 the_greatest_bound_has_64_bits = refl
 
 -- a full table of two entries, whose least count is 3
@@ -28,37 +28,37 @@ full = record {
 }
 
 -- 7 is 4 more than a missing key has, and there is one entry
-pub counted_by_an_entry : counted_by full (Some (record { key = 5; count = 7; error = 0 })) ≡ 5
+pub counted_by_an_entry : counted_in_high_bound full (Some (record { key = 5; count = 7; error = 0 })) ≡ 5
 counted_by_an_entry = refl
 
-pub counted_by_no_entry : counted_by full None ≡ 0
+pub counted_by_no_entry : counted_in_high_bound full None ≡ 0
 counted_by_no_entry = refl
 
 -- one cell, in which 5 is counted, and a missing key's high of 3
 abbrev bounds : HighBoundsValue
 bounds = record { cells = 5 ∷ []; missing = 3 }
 
-pub counted_in_the_home_of_key_0 : cell_of bounds 0 ≡ 5
-unfolding home_of
+pub counted_in_the_home_of_key_0 : high_bound_cell bounds 0 ≡ 5
+unfolding high_bound_home
 counted_in_the_home_of_key_0 = refl
 
 pub bound_of_key_0 : high_bound bounds 0 ≡ 8
-unfolding home_of
+unfolding high_bound_home
 bound_of_key_0 = refl
 
 -- an entry of key 0 whose high is 3 above that of a missing key, and the missing key's high of one more table
-pub an_entry_of_key_0 : NotesKey bounds bounds 7 0 → 1 ≤ cell_of bounds 7
+pub an_entry_of_key_0 : HighBoundsNoteKey bounds bounds 7 0 → 1 ≤ high_bound_cell bounds 7
 an_entry_of_key_0 notes = omega (arith, notes.noted)
 
-pub a_high_of_2_more : AddsMissing bounds (record { cells = 5 ∷ []; missing = 5 }) 2
+pub a_high_of_2_more : HighBoundsAddMissing bounds (record { cells = 5 ∷ []; missing = 5 }) 2
 a_high_of_2_more = record { missing = refl; raises = omega arith; cells = refl }
 
-pub a_high_is_not_left_out : ¬ AddsMissing bounds bounds 2
+pub a_high_is_not_left_out : ¬ HighBoundsAddMissing bounds bounds 2
 a_high_is_not_left_out adds = let missing : 3 ≡ 5 = adds.missing in omega (arith, missing)
 
-pub no_entries_change_nothing : NotesEntries (record { capacity = 2; entries = [] }) bounds bounds 0
+pub no_entries_change_nothing : HighBoundsNoteEntries (record { capacity = 2; entries = [] }) bounds bounds 0
 no_entries_change_nothing = record { missing = refl; raises = λ key. omega arith; noted = λ key. omega arith }
 
 -- without runs no key has a high
-pub bounds_of_no_runs : BoundRuns [] bounds
+pub bounds_of_no_runs : AreHighBoundsOfRuns [] bounds
 bounds_of_no_runs = record { highs = λ key. omega arith; known = λ key there. absurd (false≢true there) }

@@ -3,14 +3,14 @@ use Rattle.std.proofs.Common.{◌≡◌, ℕ, ◌≤◌, true, false, [], ◌∷
 use Rattle.std.proofs.Common.{⊎_elim, arith}
 use Rattle.std.specs.Option.{option_map}
 use Rattle.std.proofs.lemmas.Bool.{cases_eq, ne_eqb}
-use Rattle.prefix_lattice.proofs.ListLemmas.{Contains-cons, Contains-nil}
+use Rattle.prefix_lattice.proofs.ListLemmas.{Contains-list_cons, Contains-empty_list}
 use Rattle.space_saving.specs.declared.entry.Entry.{Entry}
-use Rattle.space_saving.specs.{TableValue, entry_of}
+use Rattle.space_saving.specs.{TableValue, table_entry}
 use Rattle.cut_merge.specs.declared.key_interval.KeyInterval.{KeyInterval}
-use Rattle.cut_merge.specs.Run.{RunValue, interval_of_entry, missing_high, IsRun, run_entry, interval_or, run_interval}
-use Rattle.cut_merge.specs.Run.{is_monitored_in, IsRunOf}
+use Rattle.cut_merge.specs.Run.{RunValue, run_interval_of_entry, missing_run_high, IsRun, run_entry, run_interval_or, run_interval}
+use Rattle.cut_merge.specs.Run.{is_monitored_in_run, IsRunOf}
 use Rattle.cut_merge.specs.NodeMerge.{NodeMergeValue, is_monitored}
-use Rattle.cut_merge.specs.Merged.{nothing_merged, interval_for_key, seen, IsBounded, AddsTable, RepresentsTables}
+use Rattle.cut_merge.specs.Merged.{nothing_merged, interval_for_key, seen, IsBoundedForMerge, MergesTable, RepresentsTables}
 
 -- an entry of a key, with a count and an error
 abbrev entry : ℕ → ℕ → ℕ → Entry
@@ -39,21 +39,21 @@ abbrev both : NodeMergeValue
 both = record { runs = run_of_full ∷ run_of_roomy ∷ []; keys = 8 ∷ 5 ∷ [] }
 
 -- the error may be another key's weight
-pub interval_of_an_entry_with_an_error : interval_of_entry (entry 8 3 1) ≡ weighing 8 2 3
+pub interval_of_an_entry_with_an_error : run_interval_of_entry (entry 8 3 1) ≡ weighing 8 2 3
 interval_of_an_entry_with_an_error = refl
 
 -- a key that is missing may have been at the head
-pub missing_in_a_full_table : missing_high full ≡ 3
+pub missing_in_a_full_table : missing_run_high full ≡ 3
 missing_in_a_full_table = refl
 
-pub missing_where_room_is_left : missing_high roomy ≡ 0
+pub missing_where_room_is_left : missing_run_high roomy ≡ 0
 missing_where_room_is_left = refl
 
 -- what is in a list of one key
 only : (interval : KeyInterval) → Contains (weighing 5 2 4 ∷ []) interval → weighing 5 2 4 ≡ interval
 only interval there =
-    ⊎_elim (λ is. is) (λ later. absurd (Contains-nil interval later))
-    (Contains-cons (weighing 5 2 4) [] interval there)
+    ⊎_elim (λ is. is) (λ later. absurd (Contains-empty_list interval later))
+    (Contains-list_cons (weighing 5 2 4) [] interval there)
 
 pub one_key_is_a_run : IsRun run_of_roomy.intervals
 one_key_is_a_run = record {
@@ -75,10 +75,10 @@ the_run_has_key_8 = refl
 pub and_not_key_6 : run_entry 6 run_of_full ≡ None
 and_not_key_6 = refl
 
-pub key_8_is_monitored : is_monitored_in 8 run_of_full ≡ true
+pub key_8_is_monitored : is_monitored_in_run 8 run_of_full ≡ true
 key_8_is_monitored = refl
 
-pub a_missing_key_weighs_at_least_nothing : interval_or 3 None ≡ record { low = 0; high = 3 }
+pub a_missing_key_weighs_at_least_nothing : run_interval_or 3 None ≡ record { low = 0; high = 3 }
 a_missing_key_weighs_at_least_nothing = refl
 
 pub interval_in_one_run : run_interval run_of_full 8 ≡ record { low = 2; high = 3 }
@@ -103,11 +103,11 @@ a_new_key_is_appended = refl
 pub a_seen_key_stays : seen (8 ∷ 5 ∷ []) 8 ≡ 8 ∷ 5 ∷ []
 a_seen_key_stays = refl
 
-pub bounded_in_the_full_table : IsBounded 8 full
+pub bounded_in_the_full_table : IsBoundedForMerge 8 full
 bounded_in_the_full_table = record { ordered = omega arith; within_total = omega arith; above_missing = omega arith }
 
 -- with its greatest count at the head, a table would take a missing key for heavier than one that it has
-pub unbounded_where_counts_fall : ¬ IsBounded 8 (record { capacity = 2; entries = entry 5 7 0 ∷ entry 8 3 1 ∷ [] })
+pub unbounded_where_counts_fall : ¬ IsBoundedForMerge 8 (record { capacity = 2; entries = entry 5 7 0 ∷ entry 8 3 1 ∷ [] })
 unbounded_where_counts_fall bounded = let above : 7 ≤ 3 = bounded.above_missing in omega (arith, above)
 
 -- the run of the table with room
@@ -115,7 +115,7 @@ pub run_of_the_table_with_room : IsRunOf run_of_roomy roomy
 run_of_the_table_with_room = record {
   entries = λ key. ⊎_elim
       (λ (is : key ≡ 5).
-      subst (λ k. run_entry k run_of_roomy ≡ option_map interval_of_entry (entry_of k roomy.entries)) (sym is) refl)
+      subst (λ k. run_entry k run_of_roomy ≡ option_map run_interval_of_entry (table_entry k roomy.entries)) (sym is) refl)
       (λ other. rw (ne_eqb 5 key (λ is. other (sym is))) refl)
       (cases_eq key 5);
   missing = refl;
@@ -128,7 +128,7 @@ no_run_of_a_full_table is = let high : 0 ≡ 3 = is.missing in omega (arith, hig
 abbrev first : NodeMergeValue
 first = record { runs = run_of_roomy ∷ []; keys = 5 ∷ [] }
 
-pub adds_the_table_with_room : AddsTable nothing_merged roomy first
+pub adds_the_table_with_room : MergesTable nothing_merged roomy first
 adds_the_table_with_room = record {
   run = run_of_roomy;
   is_run = run_of_the_table_with_room;
@@ -136,7 +136,7 @@ adds_the_table_with_room = record {
   keys = refl;
 }
 
-pub adds_no_table_twice : ¬ AddsTable first roomy first
+pub adds_no_table_twice : ¬ MergesTable first roomy first
 adds_no_table_twice adds = let same : 1 ≡ 2 = ap length adds.runs in omega (arith, same)
 
 pub represents_the_table_with_room : RepresentsTables first (roomy ∷ [])

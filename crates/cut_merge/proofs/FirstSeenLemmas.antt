@@ -11,43 +11,43 @@ use Rattle.std.proofs.lemmas.List.Folds.{list_any-append}
 use Rattle.std.proofs.lemmas.List.Sums.{length-filter, count_by-le-length}
 use Rattle.std.proofs.lemmas.Map.Views.{any-filter_same}
 use Rattle.std.specs.List.{list_any}
-use Rattle.prefix_lattice.proofs.ListLemmas.{Contains-head, Contains-tail, Contains-cons, Contains-nil}
+use Rattle.prefix_lattice.proofs.ListLemmas.{Contains-list_head, Contains-list_tail, Contains-list_cons, Contains-empty_list}
 use Rattle.cut_merge.specs.Tables.{first_seen}
 use Rattle.cut_merge.specs.Merged.{seen}
 
 -- the keys that differ from a first one
-abbrev others : ℕ → List ℕ → List ℕ
-others first keys = filter (λ other. not (eqb first other)) keys
+abbrev first_seen_others : ℕ → List ℕ → List ℕ
+first_seen_others first keys = filter (λ other. not (eqb first other)) keys
 
 -- one more key than the first, among those that differ from the first
-others-seen_same : (first key : ℕ) (keys : List ℕ) → eqb key first ≡ true
-    → others first (seen keys key) ≡ others first keys
-others-seen_same first key keys same =
+first_seen_others-same_key : (first key : ℕ) (keys : List ℕ) → eqb key first ≡ true
+    → first_seen_others first (seen keys key) ≡ first_seen_others first keys
+first_seen_others-same_key first key keys same =
     let k : first ≡ key = sym (eqb-true key first same) in
     (elim (list_any (λ other. eqb key other) keys) as
-    (λ b. others first (if b then keys else keys ++ key ∷ []) ≡ others first keys) [
+    (λ b. first_seen_others first (if b then keys else keys ++ key ∷ []) ≡ first_seen_others first keys) [
       | true ↦ refl
       | false ↦ filter-append (λ other. not (eqb first other)) keys (key ∷ [])
-          ∙ ap (λ b. others first keys ++ cond (not b) (key ∷ []) []) (eq-eqb first key k)
-          ∙ append-nil (others first keys)
+          ∙ ap (λ b. first_seen_others first keys ++ cond (not b) (key ∷ []) []) (eq-eqb first key k)
+          ∙ append-nil (first_seen_others first keys)
     ])
 
 -- and another key, which stays among them
-others-seen_other : (first key : ℕ) (keys : List ℕ) → eqb key first ≡ false
-    → others first (seen keys key) ≡ seen (others first keys) key
-others-seen_other first key keys differs =
+first_seen_others-other_key : (first key : ℕ) (keys : List ℕ) → eqb key first ≡ false
+    → first_seen_others first (seen keys key) ≡ seen (first_seen_others first keys) key
+first_seen_others-other_key first key keys differs =
     let apart : eqb first key ≡ false = by_cases (eqb first key) refl in
-    let kept : list_any (λ other. eqb key other) (others first keys) ≡ list_any (λ other. eqb key other) keys =
+    let kept : list_any (λ other. eqb key other) (first_seen_others first keys) ≡ list_any (λ other. eqb key other) keys =
     any-filter_same (λ other. eqb key other) (λ other. not (eqb first other)) true
     (λ other is. subst (λ o. not (eqb first o) ≡ true) (eqb-true key other is) (ap not apart)) keys in
     (elim (list_any (λ other. eqb key other) keys) as
-    (λ b. others first (if b then keys else keys ++ key ∷ [])
-    ≡ (if b then others first keys else others first keys ++ key ∷ [])) [
+    (λ b. first_seen_others first (if b then keys else keys ++ key ∷ [])
+    ≡ (if b then first_seen_others first keys else first_seen_others first keys ++ key ∷ [])) [
       | true ↦ refl
       | false ↦
           filter-append (λ other. not (eqb first other)) keys (key ∷ [])
-          ∙ ap (λ b. others first keys ++ cond (not b) (key ∷ []) []) apart
-    ]) ∙ ap (λ b. if b then others first keys else others first keys ++ key ∷ []) (sym kept)
+          ∙ ap (λ b. first_seen_others first keys ++ cond (not b) (key ∷ []) []) apart
+    ]) ∙ ap (λ b. if b then first_seen_others first keys else first_seen_others first keys ++ key ∷ []) (sym kept)
   where
     by_cases : (b : Bool) → eqb first key ≡ b → eqb first key ≡ false
     by_cases true same = absurd (false≢true (sym differs ∙ eq-eqb key first (sym (eqb-true first key same))))
@@ -57,24 +57,24 @@ others-seen_other first key keys differs =
 pub first_seen-push : (keys : List ℕ) (key : ℕ) → first_seen (keys ++ key ∷ []) ≡ seen (first_seen keys) key
 first_seen-push [] key = refl
 first_seen-push (first ∷ keys) key =
-    ap (λ rest. first ∷ others first rest) (first_seen-push keys key) ∙ by (eqb key first) refl
+    ap (λ rest. first ∷ first_seen_others first rest) (first_seen-push keys key) ∙ by (eqb key first) refl
   where
     by : (b : Bool) → eqb key first ≡ b
-        → first ∷ others first (seen (first_seen keys) key) ≡ seen (first ∷ others first (first_seen keys)) key
-    by true same = ap (λ rest. first ∷ rest) (others-seen_same first key (first_seen keys) same)
+        → first ∷ first_seen_others first (seen (first_seen keys) key) ≡ seen (first ∷ first_seen_others first (first_seen keys)) key
+    by true same = ap (λ rest. first ∷ rest) (first_seen_others-same_key first key (first_seen keys) same)
         ∙ ap (λ b.
         if b
-        || list_any (λ other. eqb key other) (others first (first_seen keys)) then first
-        ∷ others first (first_seen keys) else first ∷ others first (first_seen keys) ++ key ∷ []) (sym same)
-    by false differs = ap (λ rest. first ∷ rest) (others-seen_other first key (first_seen keys) differs)
-        ∙ (elim (list_any (λ other. eqb key other) (others first (first_seen keys))) as
-        (λ b. first ∷ (if b then others first (first_seen keys) else others first (first_seen keys) ++ key ∷ [])
-        ≡ (if b then first ∷ others first (first_seen keys) else first ∷ others first (first_seen keys) ++ key
+        || list_any (λ other. eqb key other) (first_seen_others first (first_seen keys)) then first
+        ∷ first_seen_others first (first_seen keys) else first ∷ first_seen_others first (first_seen keys) ++ key ∷ []) (sym same)
+    by false differs = ap (λ rest. first ∷ rest) (first_seen_others-other_key first key (first_seen keys) differs)
+        ∙ (elim (list_any (λ other. eqb key other) (first_seen_others first (first_seen keys))) as
+        (λ b. first ∷ (if b then first_seen_others first (first_seen keys) else first_seen_others first (first_seen keys) ++ key ∷ [])
+        ≡ (if b then first ∷ first_seen_others first (first_seen keys) else first ∷ first_seen_others first (first_seen keys) ++ key
         ∷ [])) [ true ↦ refl | false ↦ refl ])
         ∙ ap (λ b.
         if b
-        || list_any (λ other. eqb key other) (others first (first_seen keys)) then first
-        ∷ others first (first_seen keys) else first ∷ others first (first_seen keys) ++ key ∷ [])
+        || list_any (λ other. eqb key other) (first_seen_others first (first_seen keys)) then first
+        ∷ first_seen_others first (first_seen keys) else first ∷ first_seen_others first (first_seen keys) ++ key ∷ [])
         (sym differs)
 
 -- and so of many
@@ -85,42 +85,42 @@ first_seen-append keys (key ∷ more) =
     ∙ ap (λ start. fold seen start more) (first_seen-push keys key)
 
 -- a key that differs from the first stands among the others
-others-contains : (first key : ℕ) (keys : List ℕ) → eqb first key ≡ false → Contains keys key
-    → Contains (others first keys) key
-others-contains first key [] differs there = absurd (Contains-nil key there)
-others-contains first key (k ∷ keys) differs there =
-    by (eqb first k) refl (others-contains first key keys differs) (Contains-cons k keys key there)
+first_seen_others-contains : (first key : ℕ) (keys : List ℕ) → eqb first key ≡ false → Contains keys key
+    → Contains (first_seen_others first keys) key
+first_seen_others-contains first key [] differs there = absurd (Contains-empty_list key there)
+first_seen_others-contains first key (k ∷ keys) differs there =
+    by (eqb first k) refl (first_seen_others-contains first key keys differs) (Contains-list_cons k keys key there)
   where
-    by : (b : Bool) → eqb first k ≡ b → (Contains keys key → Contains (others first keys) key)
+    by : (b : Bool) → eqb first k ≡ b → (Contains keys key → Contains (first_seen_others first keys) key)
         → (k ≡ key) ⊎ Contains keys key
-        → Contains (cond (not b) (k ∷ others first keys) (others first keys)) key
+        → Contains (cond (not b) (k ∷ first_seen_others first keys) (first_seen_others first keys)) key
     by true same rest (inl is) = absurd (false≢true (sym differs ∙ ap (eqb first) (sym is) ∙ same))
     by true same rest (inr later) = rest later
-    by false _ rest (inl is) = subst (Contains (k ∷ others first keys)) is (Contains-head k (others first keys))
-    by false _ rest (inr later) = Contains-tail k (others first keys) key (rest later)
+    by false _ rest (inl is) = subst (Contains (k ∷ first_seen_others first keys)) is (Contains-list_head k (first_seen_others first keys))
+    by false _ rest (inr later) = Contains-list_tail k (first_seen_others first keys) key (rest later)
 
 -- each key of a list is seen
 pub first_seen-contains : (keys : List ℕ) (key : ℕ) → Contains keys key → Contains (first_seen keys) key
 first_seen-contains [] key there = there
 first_seen-contains (first ∷ keys) key there =
-    by (eqb first key) refl (first_seen-contains keys key) (Contains-cons first keys key there)
+    by (eqb first key) refl (first_seen-contains keys key) (Contains-list_cons first keys key there)
   where
     by : (b : Bool) → eqb first key ≡ b → (Contains keys key → Contains (first_seen keys) key)
         → (first ≡ key) ⊎ Contains keys key
-        → Contains (first ∷ others first (first_seen keys)) key
+        → Contains (first ∷ first_seen_others first (first_seen keys)) key
     by _ _ rest (inl is) =
-        subst (Contains (first ∷ others first (first_seen keys))) is
-        (Contains-head first (others first (first_seen keys)))
+        subst (Contains (first ∷ first_seen_others first (first_seen keys))) is
+        (Contains-list_head first (first_seen_others first (first_seen keys)))
     by true same rest (inr _) =
-        subst (Contains (first ∷ others first (first_seen keys))) (eqb-true first key same)
-        (Contains-head first (others first (first_seen keys)))
+        subst (Contains (first ∷ first_seen_others first (first_seen keys))) (eqb-true first key same)
+        (Contains-list_head first (first_seen_others first (first_seen keys)))
     by false differs rest (inr later) =
-        Contains-tail first (others first (first_seen keys)) key
-        (others-contains first key (first_seen keys) differs (rest later))
+        Contains-list_tail first (first_seen_others first (first_seen keys)) key
+        (first_seen_others-contains first key (first_seen keys) differs (rest later))
 
 -- two keys differ whichever comes first
-differs-flip : (first key : ℕ) → eqb key first ≡ false → eqb first key ≡ false
-differs-flip first key differs =
+first_seen_differs_either_way : (first key : ℕ) → eqb key first ≡ false → eqb first key ≡ false
+first_seen_differs_either_way first key differs =
     by (eqb first key) refl
   where
     by : (b : Bool) → eqb first key ≡ b → eqb first key ≡ false
@@ -136,19 +136,19 @@ first_seen-any key (first ∷ keys) =
   where
     by : (b : Bool) → eqb key first ≡ b
         → list_any (λ other. eqb key other) (first_seen keys) ≡ list_any (λ other. eqb key other) keys
-        → (b || list_any (λ other. eqb key other) (others first (first_seen keys)))
+        → (b || list_any (λ other. eqb key other) (first_seen_others first (first_seen keys)))
         ≡ (b || list_any (λ other. eqb key other) keys)
     by true same rest = refl
     by false differs rest =
         any-filter_same (λ other. eqb key other) (λ other. not (eqb first other)) true
         (λ other is. subst (λ o. not (eqb first o) ≡ true) (eqb-true key other is)
-        (ap not (differs-flip first key differs))) (first_seen keys)
+        (ap not (first_seen_differs_either_way first key differs))) (first_seen keys)
         ∙ rest
 
 -- one more key leaves whether another is seen
-seen-any : (key other : ℕ) (keys : List ℕ) → eqb key other ≡ false
+first_seen-any_after_key : (key other : ℕ) (keys : List ℕ) → eqb key other ≡ false
     → list_any (λ k. eqb key k) (seen keys other) ≡ list_any (λ k. eqb key k) keys
-seen-any key other keys differs =
+first_seen-any_after_key key other keys differs =
     by (list_any (λ k. eqb other k) keys)
   where
     last : (b : Bool) → (b || (false || false)) ≡ b
@@ -163,19 +163,19 @@ seen-any key other keys differs =
         ∙ last (list_any (λ k. eqb key k) keys)
 
 -- and so do many that are not the key
-pub seen-any_others : (key : ℕ) (keys more : List ℕ) → list_any (λ k. eqb key k) more ≡ false
+pub first_seen-any_after_others : (key : ℕ) (keys more : List ℕ) → list_any (λ k. eqb key k) more ≡ false
     → list_any (λ k. eqb key k) (fold seen keys more) ≡ list_any (λ k. eqb key k) keys
-seen-any_others key keys [] none = refl
-seen-any_others key keys (other ∷ more) none =
+first_seen-any_after_others key keys [] none = refl
+first_seen-any_after_others key keys (other ∷ more) none =
     let parts : (eqb key other ≡ false) × (list_any (λ k. eqb key k) more ≡ false) =
     or_parts (eqb key other) (list_any (λ k. eqb key k) more) none in
-    seen-any_others key (seen keys other) more parts.1 ∙ seen-any key other keys parts.0
+    first_seen-any_after_others key (seen keys other) more parts.1 ∙ first_seen-any_after_key key other keys parts.0
 
 -- what holds of each key of a list holds of each that is seen
 pub first_seen-all : (P : ℕ → Type 0) (keys : List ℕ) → All P keys → All P (first_seen keys)
 first_seen-all P [] all = all
 first_seen-all P (first ∷ keys) all =
-    All-cons P first (others first (first_seen keys)) (All-head P first keys all)
+    All-cons P first (first_seen_others first (first_seen keys)) (All-head P first keys all)
     (All-filter (λ other. not (eqb first other)) P (first_seen keys)
     (first_seen-all P keys (All-tail P first keys all)))
 
@@ -183,10 +183,10 @@ first_seen-all P (first ∷ keys) all =
 pub first_seen-distinct : (keys : List ℕ) → AllPairs (λ key other. key ≢ other) (first_seen keys)
 first_seen-distinct [] = λ i j d before below. absurd (omega arith)
 first_seen-distinct (first ∷ keys) =
-    AllPairs-cons (λ key other. key ≢ other) first (others first (first_seen keys))
+    AllPairs-cons (λ key other. key ≢ other) first (first_seen_others first (first_seen keys))
     (All-weaker (λ other. not (eqb first other) ≡ true) (λ other. first ≢ other)
     (λ other passes same. false≢true (sym (ap not (eq-eqb first other same)) ∙ passes))
-    (others first (first_seen keys)) (filter_passes (λ other. not (eqb first other)) (first_seen keys)))
+    (first_seen_others first (first_seen keys)) (filter_passes (λ other. not (eqb first other)) (first_seen keys)))
     (AllPairs-filter (λ key other. key ≢ other) (λ other. not (eqb first other)) (first_seen keys)
     (first_seen-distinct keys))
 

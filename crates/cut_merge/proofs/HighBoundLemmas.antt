@@ -9,44 +9,44 @@ use Rattle.std.proofs.lemmas.List.{take_more, get_or-set_same, get_or-set_other}
 use Rattle.std.proofs.lemmas.List.Sums.{sum_by_push}
 use Rattle.std.proofs.lemmas.List.Folds.{list_any-append}
 use Rattle.std.proofs.lemmas.Option.{none-some, get_or_from_slice_get, slice_get_within}
-use Rattle.space_saving.specs.{TableValue, Interval, entry_of, interval_in, interval_from}
+use Rattle.space_saving.specs.{TableValue, TableInterval, table_entry, interval_in_table, table_interval_from}
 use Rattle.space_saving.specs.declared.entry.Entry.{Entry}
-use Rattle.cut_merge.specs.Run.{RunValue, IsRunOf, interval_of_entry, run_interval, is_monitored_in, missing_high}
+use Rattle.cut_merge.specs.Run.{RunValue, IsRunOf, run_interval_of_entry, run_interval, is_monitored_in_run, missing_run_high}
 use Rattle.cut_merge.specs.NodeMerge.{is_monitored}
-use Rattle.cut_merge.specs.HighBounds.{HighBoundsValue, home_of, cell_of, greatest_bound, NotesKey}
-use Rattle.cut_merge.specs.HighBounds.{counted_by, NotesEntries, BoundRuns}
-use Rattle.cut_merge.proofs.TableMergeLemmas.{interval-of_run}
+use Rattle.cut_merge.specs.HighBounds.{HighBoundsValue, high_bound_home, high_bound_cell, greatest_high_bound, HighBoundsNoteKey}
+use Rattle.cut_merge.specs.HighBounds.{counted_in_high_bound, HighBoundsNoteEntries, AreHighBoundsOfRuns}
+use Rattle.cut_merge.proofs.TableMergeLemmas.{table_merge_interval_of_run}
 
 -- an entry that is appended is that of its key, if no earlier one is
-push_here : (key : ℕ) (entries : List Entry) (entry : Entry) → entry_of key entries ≡ None → eqb entry.key key ≡ true
-    → entry_of key (entries ++ entry ∷ []) ≡ Some entry
-push_here key [] entry none same = ap (λ b. cond b (Some entry) None) same
-push_here key (f ∷ fs) entry none same =
-    by (eqb f.key key) none (λ rest. push_here key fs entry rest same)
+high_bound_entry_pushed : (key : ℕ) (entries : List Entry) (entry : Entry) → table_entry key entries ≡ None → eqb entry.key key ≡ true
+    → table_entry key (entries ++ entry ∷ []) ≡ Some entry
+high_bound_entry_pushed key [] entry none same = ap (λ b. cond b (Some entry) None) same
+high_bound_entry_pushed key (f ∷ fs) entry none same =
+    by (eqb f.key key) none (λ rest. high_bound_entry_pushed key fs entry rest same)
   where
-    by : (b : Bool) → cond b (Some f) (entry_of key fs) ≡ None
-        → (entry_of key fs ≡ None → entry_of key (fs ++ entry ∷ []) ≡ Some entry)
-        → cond b (Some f) (entry_of key (fs ++ entry ∷ [])) ≡ Some entry
+    by : (b : Bool) → cond b (Some f) (table_entry key fs) ≡ None
+        → (table_entry key fs ≡ None → table_entry key (fs ++ entry ∷ []) ≡ Some entry)
+        → cond b (Some f) (table_entry key (fs ++ entry ∷ [])) ≡ Some entry
     by true is rest = absurd (none-some f (sym is))
     by false is rest = rest is
 
 -- and changes nothing for another key
-push_other : (key : ℕ) (entries : List Entry) (entry : Entry) → eqb entry.key key ≡ false
-    → entry_of key (entries ++ entry ∷ []) ≡ entry_of key entries
-push_other key [] entry differs = ap (λ b. cond b (Some entry) None) differs
-push_other key (f ∷ fs) entry differs =
-    ap (λ rest. cond (eqb f.key key) (Some f) rest) (push_other key fs entry differs)
+high_bound_other_entry_pushed : (key : ℕ) (entries : List Entry) (entry : Entry) → eqb entry.key key ≡ false
+    → table_entry key (entries ++ entry ∷ []) ≡ table_entry key entries
+high_bound_other_entry_pushed key [] entry differs = ap (λ b. cond b (Some entry) None) differs
+high_bound_other_entry_pushed key (f ∷ fs) entry differs =
+    ap (λ rest. cond (eqb f.key key) (Some f) rest) (high_bound_other_entry_pushed key fs entry differs)
 
 -- no entry is counted at first
-pub notes_none : (table : TableValue) (bounds : HighBoundsValue) → NotesEntries table bounds bounds 0
-notes_none table bounds = record { missing = refl; raises = λ key. omega arith; noted = λ key. omega arith }
+pub high_bound_notes_none : (table : TableValue) (bounds : HighBoundsValue) → HighBoundsNoteEntries table bounds bounds 0
+high_bound_notes_none table bounds = record { missing = refl; raises = λ key. omega arith; noted = λ key. omega arith }
 
 -- and one more at the next place
-pub notes_more : (table : TableValue) (old now new : HighBoundsValue) (place : ℕ) (entry : Entry)
-    → NotesEntries table old now place → slice_get table.entries place ≡ Some entry
-    → entry_of entry.key (take place table.entries) ≡ None
-    → NotesKey now new entry.key (entry.count - missing_high table) → NotesEntries table old new (place + 1)
-notes_more table old now new place entry notes at apart one =
+pub high_bound_notes_more : (table : TableValue) (old now new : HighBoundsValue) (place : ℕ) (entry : Entry)
+    → HighBoundsNoteEntries table old now place → slice_get table.entries place ≡ Some entry
+    → table_entry entry.key (take place table.entries) ≡ None
+    → HighBoundsNoteKey now new entry.key (entry.count - missing_run_high table) → HighBoundsNoteEntries table old new (place + 1)
+high_bound_notes_more table old now new place entry notes at apart one =
     let within = slice_get_within table.entries place entry at in
     let read : get_or table.entries place entry ≡ entry =
     get_or_from_slice_get table.entries place entry entry at in
@@ -56,49 +56,49 @@ notes_more table old now new place entry notes at apart one =
       missing = one.missing ∙ notes.missing;
       raises = λ key. omega (arith, notes.raises key, one.raises key);
       noted = λ key.
-          subst (λ entries. min greatest_bound (cell_of old key + counted_by table (entry_of key entries)) ≤ cell_of new key)
+          subst (λ entries. min greatest_high_bound (high_bound_cell old key + counted_in_high_bound table (table_entry key entries)) ≤ high_bound_cell new key)
           (sym more) (by key (eqb entry.key key) refl);
     }
   where
     by : (key : ℕ) (b : Bool) → eqb entry.key key ≡ b
-        → min greatest_bound
-        (cell_of old key + counted_by table (entry_of key (take place table.entries ++ entry ∷ [])))
-        ≤ cell_of new key
+        → min greatest_high_bound
+        (high_bound_cell old key + counted_in_high_bound table (table_entry key (take place table.entries ++ entry ∷ [])))
+        ≤ high_bound_cell new key
     by key true same =
-        subst (λ k. min greatest_bound
-        (cell_of old k + counted_by table (entry_of k (take place table.entries ++ entry ∷ []))) ≤ cell_of new k)
+        subst (λ k. min greatest_high_bound
+        (high_bound_cell old k + counted_in_high_bound table (table_entry k (take place table.entries ++ entry ∷ []))) ≤ high_bound_cell new k)
         (eqb-true entry.key key same)
-        (subst (λ found. min greatest_bound (cell_of old entry.key + counted_by table found) ≤ cell_of new entry.key)
-        (sym (push_here entry.key (take place table.entries) entry apart
+        (subst (λ found. min greatest_high_bound (high_bound_cell old entry.key + counted_in_high_bound table found) ≤ high_bound_cell new entry.key)
+        (sym (high_bound_entry_pushed entry.key (take place table.entries) entry apart
         (ap (eqb entry.key) (eqb-true entry.key key same) ∙ same)))
         (omega (arith, notes.raises entry.key, one.noted)))
     by key false differs =
-        subst (λ found. min greatest_bound (cell_of old key + counted_by table found) ≤ cell_of new key)
-        (sym (push_other key (take place table.entries) entry differs))
+        subst (λ found. min greatest_high_bound (high_bound_cell old key + counted_in_high_bound table found) ≤ high_bound_cell new key)
+        (sym (high_bound_other_entry_pushed key (take place table.entries) entry differs))
         (omega (arith, notes.noted key, one.raises key))
 
 -- bounds that are raised still fit
-pub bounds_raised : (runs : List RunValue) (old new : HighBoundsValue) → BoundRuns runs old
-    → old.missing ≤ new.missing → ((key : ℕ) → cell_of old key ≤ cell_of new key) → BoundRuns runs new
-bounds_raised runs old new fit missing raises = record {
+pub high_bounds_raised : (runs : List RunValue) (old new : HighBoundsValue) → AreHighBoundsOfRuns runs old
+    → old.missing ≤ new.missing → ((key : ℕ) → high_bound_cell old key ≤ high_bound_cell new key) → AreHighBoundsOfRuns runs new
+high_bounds_raised runs old new fit missing raises = record {
   highs = λ key. omega (arith, fit.highs key, missing, raises key);
   known = λ key is. omega (arith, fit.known key is, raises key);
 }
 
 -- one more run fits where its table's entries were counted
-pub bounds_more : (runs : List RunValue) (run : RunValue) (table : TableValue) (old new : HighBoundsValue)
-    → BoundRuns runs old → IsRunOf run table
-    → ((key : ℕ) → missing_high table ≤ (interval_in table key).high)
-    → new.missing ≡ min greatest_bound (old.missing + missing_high table)
-    → ((key : ℕ) → min greatest_bound (cell_of old key + counted_by table (entry_of key table.entries))
-    ≤ cell_of new key)
-    → BoundRuns (runs ++ run ∷ []) new
-bounds_more runs run table old new fit is above missing noted = record {
+pub high_bounds_with_more_runs : (runs : List RunValue) (run : RunValue) (table : TableValue) (old new : HighBoundsValue)
+    → AreHighBoundsOfRuns runs old → IsRunOf run table
+    → ((key : ℕ) → missing_run_high table ≤ (interval_in_table table key).high)
+    → new.missing ≡ min greatest_high_bound (old.missing + missing_run_high table)
+    → ((key : ℕ) → min greatest_high_bound (high_bound_cell old key + counted_in_high_bound table (table_entry key table.entries))
+    ≤ high_bound_cell new key)
+    → AreHighBoundsOfRuns (runs ++ run ∷ []) new
+high_bounds_with_more_runs runs run table old new fit is above missing noted = record {
   highs = λ key.
       let sum = sum_by_push (λ (r : RunValue). (run_interval r key).high) runs run in
-      let high : (run_interval run key).high ≡ (interval_from (entry_of key table.entries) table).high =
-      ap (λ (i : Interval). i.high) (interval-of_run run table key is) in
-      high_more key (entry_of key table.entries) (sum_by (λ (r : RunValue). (run_interval r key).high) runs)
+      let high : (run_interval run key).high ≡ (table_interval_from (table_entry key table.entries) table).high =
+      ap (λ (i : TableInterval). i.high) (table_merge_interval_of_run run table key is) in
+      high_more key (table_entry key table.entries) (sum_by (λ (r : RunValue). (run_interval r key).high) runs)
       (sum_by (λ (r : RunValue). (run_interval r key).high) (runs ++ run ∷ []))
       (above key) (noted key) (fit.highs key) (sum ∙ ap (λ n. sum_by (λ (r : RunValue). (run_interval r key).high) runs + n) high);
   known = λ key there.
@@ -106,18 +106,18 @@ bounds_more runs run table old new fit is above missing noted = record {
       (λ (old_is : is_monitored key runs ≡ true).
       omega (arith, fit.known key old_is, noted key))
       (λ last.
-      some_counted key (entry_of key table.entries)
-      (sym (ap is_some (is.entries key)) ∙ or_last (is_monitored_in key run) last) (noted key))
-      (or_cases (is_monitored key runs) (list_any (λ r. is_monitored_in key r) (run ∷ []))
-      (sym (list_any-append (λ r. is_monitored_in key r) runs (run ∷ [])) ∙ there));
+      some_counted key (table_entry key table.entries)
+      (sym (ap is_some (is.entries key)) ∙ or_last (is_monitored_in_run key run) last) (noted key))
+      (or_cases (is_monitored key runs) (list_any (λ r. is_monitored_in_run key r) (run ∷ []))
+      (sym (list_any-append (λ r. is_monitored_in_run key r) runs (run ∷ [])) ∙ there));
 }
   where
     high_more : (key : ℕ) (found : Option Entry) (before after : ℕ)
-        → missing_high table ≤ (interval_from found table).high
-        → min greatest_bound (cell_of old key + counted_by table found) ≤ cell_of new key
-        → min greatest_bound before ≤ old.missing + cell_of old key
-        → after ≡ before + (interval_from found table).high
-        → min greatest_bound after ≤ new.missing + cell_of new key
+        → missing_run_high table ≤ (table_interval_from found table).high
+        → min greatest_high_bound (high_bound_cell old key + counted_in_high_bound table found) ≤ high_bound_cell new key
+        → min greatest_high_bound before ≤ old.missing + high_bound_cell old key
+        → after ≡ before + (table_interval_from found table).high
+        → min greatest_high_bound after ≤ new.missing + high_bound_cell new key
     high_more key None before after above_missing counted bound is_after =
         omega (arith, counted, bound, is_after, missing)
     high_more key (Some entry) before after above_missing counted bound is_after =
@@ -127,34 +127,34 @@ bounds_more runs run table old new fit is above missing noted = record {
     or_last true is_true = refl
     or_last false is_true = is_true
 
-    some_counted : (key : ℕ) (found : Option Entry) → is_some (option_map interval_of_entry found) ≡ true
-        → min greatest_bound (cell_of old key + counted_by table found) ≤ cell_of new key → 0 < cell_of new key
+    some_counted : (key : ℕ) (found : Option Entry) → is_some (option_map run_interval_of_entry found) ≡ true
+        → min greatest_high_bound (high_bound_cell old key + counted_in_high_bound table found) ≤ high_bound_cell new key → 0 < high_bound_cell new key
     some_counted key None none counted = absurd (false≢true none)
     some_counted key (Some entry) some counted = omega (arith, counted)
 
 -- one cell is raised, and so is the bound of each key whose home it is
-pub cell_raised : (cells : List ℕ) (key excess raised : ℕ) (missing : ℕ) → home_of key < length cells
-    → ((other : ℕ) → get_or cells (home_of other) 0 ≤ greatest_bound)
-    → raised ≡ min greatest_bound (get_or cells (home_of key) 0 + excess + 1)
-    → NotesKey (record { cells = cells; missing = missing })
-    (record { cells = set cells (home_of key) raised; missing = missing }) key excess
-cell_raised cells key excess raised missing within bounded is = record {
+pub high_bound_cell_raised : (cells : List ℕ) (key excess raised : ℕ) (missing : ℕ) → high_bound_home key < length cells
+    → ((other : ℕ) → get_or cells (high_bound_home other) 0 ≤ greatest_high_bound)
+    → raised ≡ min greatest_high_bound (get_or cells (high_bound_home key) 0 + excess + 1)
+    → HighBoundsNoteKey (record { cells = cells; missing = missing })
+    (record { cells = set cells (high_bound_home key) raised; missing = missing }) key excess
+high_bound_cell_raised cells key excess raised missing within bounded is = record {
   missing = refl;
   raises = λ other.
       ⊎_elim
-      (λ (same : home_of other ≡ home_of key).
-      let now : get_or (set cells (home_of key) raised) (home_of other) 0 ≡ raised =
-      ap (λ h. get_or (set cells (home_of key) raised) h 0) same
-      ∙ get_or-set_same cells (home_of key) raised 0 within in
-      let here : get_or cells (home_of other) 0 ≡ get_or cells (home_of key) 0 = ap (λ h. get_or cells h 0) same in
+      (λ (same : high_bound_home other ≡ high_bound_home key).
+      let now : get_or (set cells (high_bound_home key) raised) (high_bound_home other) 0 ≡ raised =
+      ap (λ h. get_or (set cells (high_bound_home key) raised) h 0) same
+      ∙ get_or-set_same cells (high_bound_home key) raised 0 within in
+      let here : get_or cells (high_bound_home other) 0 ≡ get_or cells (high_bound_home key) 0 = ap (λ h. get_or cells h 0) same in
       omega (arith, now, is, here, bounded other))
       (λ differs.
-      let stays : get_or (set cells (home_of key) raised) (home_of other) 0 ≡ get_or cells (home_of other) 0 =
-      get_or-set_other cells (home_of key) (home_of other) raised 0 differs in
+      let stays : get_or (set cells (high_bound_home key) raised) (high_bound_home other) 0 ≡ get_or cells (high_bound_home other) 0 =
+      get_or-set_other cells (high_bound_home key) (high_bound_home other) raised 0 differs in
       omega (arith, stays))
-      (cases_eq (home_of other) (home_of key));
+      (cases_eq (high_bound_home other) (high_bound_home key));
   noted =
-      let now : get_or (set cells (home_of key) raised) (home_of key) 0 ≡ raised =
-      get_or-set_same cells (home_of key) raised 0 within in
+      let now : get_or (set cells (high_bound_home key) raised) (high_bound_home key) 0 ≡ raised =
+      get_or-set_same cells (high_bound_home key) raised 0 within in
       omega (arith, now, is);
 }

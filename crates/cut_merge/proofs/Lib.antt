@@ -4,7 +4,7 @@ pub mod ExamplesOfHighBounds
 pub mod RunLemmas
 pub mod FirstSeenLemmas
 pub mod TableMergeLemmas
-pub mod KeyLemmas
+pub mod NewKeyLemmas
 pub mod HighBoundLemmas
 pub mod CutTableLemmas
 pub mod CutMergeLemmas

@@ -3,52 +3,52 @@ use Rattle.std.proofs.Common.{◌≡◌, ℕ, ◌*◌, ◌≤◌, List, [], ◌�
 use Rattle.std.proofs.lemmas.List.{length-map}
 use Rattle.std.proofs.lemmas.List.Elements.{All-nil, All-head, All-tail, All-append, All-map}
 use Rattle.std.specs.List.{flat_map}
-use Rattle.prefix_lattice.specs.{NodeValue, IsNode, IsKeyOf}
+use Rattle.prefix_lattice.specs.{NodeValue, IsNode, IsPrefixKey}
 use Rattle.space_saving.specs.declared.entry.Entry.{Entry}
-use Rattle.shard_state.specs.{SnapshotValue, IsSnapshot, table_at, CutValue, IsCut}
+use Rattle.shard_state.specs.{SnapshotValue, IsSnapshot, snapshot_table_at, CutValue, IsCut}
 use Rattle.cut_merge.specs.Tables.{table_keys}
 use Rattle.cut_merge.specs.MergedInterval.{node_tables, monitored_at}
 use Rattle.cut_merge.proofs.FirstSeenLemmas.{first_seen-all, first_seen-length}
 
 -- the keys of all entries at a node, over shards and places
-abbrev pub node_keys : CutValue → NodeValue → List ℕ
-node_keys cut node = flat_map table_keys (node_tables node cut)
+abbrev pub all_monitored_keys : CutValue → NodeValue → List ℕ
+all_monitored_keys cut node = flat_map table_keys (node_tables node cut)
 
 -- each table has keys of its node
-keyed_shards : (node : NodeValue) → IsNode node → (shards : List SnapshotValue) → All IsSnapshot shards
-    → All (IsKeyOf node) (flat_map table_keys (map (table_at node) shards))
-keyed_shards node is_node [] kept = All-nil (IsKeyOf node)
-keyed_shards node is_node (shard ∷ shards) kept =
-    All-append (IsKeyOf node) (table_keys (table_at node shard)) (flat_map table_keys (map (table_at node) shards))
-    (All-map (IsKeyOf node) (λ (e : Entry). e.key) (table_at node shard).entries
+monitored_keys_fit_node : (node : NodeValue) → IsNode node → (shards : List SnapshotValue) → All IsSnapshot shards
+    → All (IsPrefixKey node) (flat_map table_keys (map (snapshot_table_at node) shards))
+monitored_keys_fit_node node is_node [] kept = All-nil (IsPrefixKey node)
+monitored_keys_fit_node node is_node (shard ∷ shards) kept =
+    All-append (IsPrefixKey node) (table_keys (snapshot_table_at node shard)) (flat_map table_keys (map (snapshot_table_at node) shards))
+    (All-map (IsPrefixKey node) (λ (e : Entry). e.key) (snapshot_table_at node shard).entries
     ((All-head IsSnapshot shard shards kept).tables node is_node).keyed)
-    (keyed_shards node is_node shards (All-tail IsSnapshot shard shards kept))
+    (monitored_keys_fit_node node is_node shards (All-tail IsSnapshot shard shards kept))
 
 -- they are keys of the node
 pub monitored_keyed : (cut : CutValue) (node : NodeValue) → IsCut cut → IsNode node
-    → All (IsKeyOf node) (monitored_at cut node)
+    → All (IsPrefixKey node) (monitored_at cut node)
 monitored_keyed cut node kept is_node =
-    first_seen-all (IsKeyOf node) (node_keys cut node) (keyed_shards node is_node cut.shards kept.kept)
+    first_seen-all (IsPrefixKey node) (all_monitored_keys cut node) (monitored_keys_fit_node node is_node cut.shards kept.kept)
 
 -- each table has at most as many entries as its capacity says
-few_in_shards : (node : NodeValue) (capacity : ℕ) → IsNode node → (shards : List SnapshotValue)
+monitored_keys_few_in_shards : (node : NodeValue) (capacity : ℕ) → IsNode node → (shards : List SnapshotValue)
     → All (λ (s : SnapshotValue). s.capacity ≡ capacity) shards → All IsSnapshot shards
-    → length (flat_map table_keys (map (table_at node) shards)) ≤ length shards * capacity
-few_in_shards node capacity is_node [] alike kept = omega arith
-few_in_shards node capacity is_node (shard ∷ shards) alike kept =
-    let table = table_at node shard in
+    → length (flat_map table_keys (map (snapshot_table_at node) shards)) ≤ length shards * capacity
+monitored_keys_few_in_shards node capacity is_node [] alike kept = omega arith
+monitored_keys_few_in_shards node capacity is_node (shard ∷ shards) alike kept =
+    let table = snapshot_table_at node shard in
     let same : shard.capacity ≡ capacity = All-head (λ (s : SnapshotValue). s.capacity ≡ capacity) shard shards alike in
     let fits = (((All-head IsSnapshot shard shards kept).tables node is_node).are_entries).is_table.fits in
     let first : length table.entries ≤ capacity = subst (λ m. length table.entries ≤ m) same fits in
     let rest =
-    few_in_shards node capacity is_node shards
+    monitored_keys_few_in_shards node capacity is_node shards
     (All-tail (λ (s : SnapshotValue). s.capacity ≡ capacity) shard shards alike)
     (All-tail IsSnapshot shard shards kept) in
     omega (
       arith,
       first,
       rest,
-      length-append (table_keys table) (flat_map table_keys (map (table_at node) shards)),
+      length-append (table_keys table) (flat_map table_keys (map (snapshot_table_at node) shards)),
       length-map table.entries (λ (e : Entry). e.key),
       add-mul 1 (length shards) capacity,
     )
@@ -59,6 +59,6 @@ pub monitored_few : (cut : CutValue) (node : NodeValue) → IsCut cut → IsNode
 monitored_few cut node kept is_node =
     omega (
       arith,
-      first_seen-length (node_keys cut node),
-      few_in_shards node cut.capacity is_node cut.shards kept.alike kept.kept,
+      first_seen-length (all_monitored_keys cut node),
+      monitored_keys_few_in_shards node cut.capacity is_node cut.shards kept.alike kept.kept,
     )

@@ -1,7 +1,7 @@
 -- The merged tables of one node: the run of each table, and the keys that some table monitors.
 use Rattle.std.specs.Prelude.{ℕ, Bool, List}
 use Rattle.std.specs.List.{list_any}
-use Rattle.cut_merge.specs.Run.{RunValue, is_monitored_in}
+use Rattle.cut_merge.specs.Run.{RunValue, is_monitored_in_run}
 
 -- the run of each shard's table, and the keys that they monitor, in the order in which they were first seen
 pub record NodeMergeValue : Type 0 where
@@ -10,4 +10,4 @@ pub record NodeMergeValue : Type 0 where
 
 -- whether one of the runs has the key
 abbrev pub is_monitored : ℕ → List RunValue → Bool
-is_monitored key runs = list_any (λ run. is_monitored_in key run) runs
+is_monitored key runs = list_any (λ run. is_monitored_in_run key run) runs

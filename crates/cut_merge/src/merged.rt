@@ -3,7 +3,7 @@
 ghost use Rattle.std.specs.Prelude.{◌≡◌, ◌<◌, ◌≤◌, ℕ, IfOk};
 ghost use Rattle.prefix_lattice.specs.{IsNode, total_limit};
 ghost use Rattle.shard_state.specs.{CutValue, total_of_cut};
-ghost use Rattle.cut_merge.specs.Merged.{RepresentsTables, merge_at, interval_for, candidates_at, RepresentsCut, interval_for_key};
+ghost use Rattle.cut_merge.specs.Merged.{RepresentsTables, merge_at, merged_interval_for, merged_candidates_at, RepresentsCut, interval_for_key};
 ghost use Rattle.cut_merge.specs.MergedInterval.{node_tables, merged_interval_in, monitored_at, IsWithinTotal};
 
 use crate::laws::tables_are_bounded;
@@ -69,8 +69,8 @@ impl Merged {
     /// The least and the greatest weight that the prefix can have had over all shards, in bytes or packets, whether
     /// or not a shard monitors it. The least is at most the greatest, which is at most the total.
     pub fn interval(&self, prefix: &Prefix) -> (u64, u64)
-        ensures low { result.0 ≡ (interval_for self.now prefix.now).low }
-        ensures high { result.1 ≡ (interval_for self.now prefix.now).high }
+        ensures low { result.0 ≡ (merged_interval_for self.now prefix.now).low }
+        ensures high { result.1 ≡ (merged_interval_for self.now prefix.now).high }
         ensures of_cut { (cut : CutValue) → RepresentsCut self.now cut → merged_interval_in cut prefix.now ≡ record { low = result.0; high = result.1 } }
         ensures ordered { result.0 ≤ result.1 }
         ensures within_total { result.1 ≤ self.now.total }
@@ -83,7 +83,7 @@ impl Merged {
     /// high of its interval. It takes no search, so a caller that asks for heavy prefixes can pass over most of the
     /// others by it.
     pub fn at_most(&self, prefix: &Prefix) -> u64
-        ensures { (interval_for self.now prefix.now).high ≤ result }
+        ensures { (merged_interval_for self.now prefix.now).high ≤ result }
     {
         self.merge_of(prefix.node()).at_most(prefix.key())
     }
@@ -91,7 +91,7 @@ impl Merged {
     /// The keys that some shard monitors at the node, each once, in the order in which they are first seen: shard
     /// by shard, in the order of each table's entries.
     pub fn candidates(&self, node: Node) -> &[u64]
-        ensures known { result.now ≡ candidates_at self.now node }
+        ensures known { result.now ≡ merged_candidates_at self.now node }
         ensures of_cut { (cut : CutValue) → RepresentsCut self.now cut → result.now ≡ monitored_at cut node }
     {
         self.merge_of(node).keys()

@@ -2,11 +2,11 @@
 
 ghost use Rattle.std.specs.Prelude.{◌≡◌, ◌==◌, ◌^◌, ◌<◌, ◌≤◌, ℕ, true, [], IfOk, OnOk, fold, length};
 ghost use Rattle.std.specs.List.{list_any};
-ghost use Rattle.space_saving.specs.{AreApart};
-ghost use Rattle.cut_merge.specs.Merged.{seen, AddsTable, IsBounded, interval_for_key};
+ghost use Rattle.space_saving.specs.{AreApartInTable};
+ghost use Rattle.cut_merge.specs.Merged.{seen, MergesTable, IsBoundedForMerge, interval_for_key};
 ghost use Rattle.cut_merge.specs.NodeMerge.{is_monitored};
-ghost use Rattle.cut_merge.specs.Run.{IsRunOf, missing_high};
-ghost use Rattle.cut_merge.specs.HighBounds.{cell_of, NotesEntries};
+ghost use Rattle.cut_merge.specs.Run.{IsRunOf, missing_run_high};
+ghost use Rattle.cut_merge.specs.HighBounds.{high_bound_cell, HighBoundsNoteEntries};
 ghost use Rattle.cut_merge.specs.Tables.{table_keys};
 
 use crate::high_bounds::HighBounds;
@@ -26,13 +26,13 @@ pub(crate) struct NodeMerge {
 
 impl Model for NodeMerge {
     ghost use Rattle.cut_merge.specs.NodeMerge.{NodeMergeValue};
-    ghost use Rattle.cut_merge.specs.HighBounds.{BoundRuns};
+    ghost use Rattle.cut_merge.specs.HighBounds.{AreHighBoundsOfRuns};
 
     ghost Value = { NodeMergeValue };
 
     ghost view = { λ m. record { runs = m.runs.items; keys = m.keys.items } };
 
-    ghost invariant = { λ m. BoundRuns m.runs.items m.bounds };
+    ghost invariant = { λ m. AreHighBoundsOfRuns m.runs.items m.bounds };
 }
 
 impl NodeMerge {
@@ -50,9 +50,9 @@ impl NodeMerge {
     /// Merges one more table in. After an `Err` the table may be merged in part.
     pub(crate) fn add(&mut self, alloc: Global, table: &Flat) -> Result<(), AllocError>
         requires known { (key : ℕ) → list_any (λ other. key == other) self.old.keys ≡ is_monitored key self.old.runs }
-        requires apart { AreApart table.now.entries }
-        requires bounded { (key : ℕ) → IsBounded key table.now }
-        ensures { OnOk result (AddsTable self.old table.now self.new) }
+        requires apart { AreApartInTable table.now.entries }
+        requires bounded { (key : ℕ) → IsBoundedForMerge key table.now }
+        ensures { OnOk result (MergesTable self.old table.now self.new) }
     {
         let run = Run::of(alloc, table)?;
         self.bounds.add_missing(run.missing());
@@ -108,11 +108,11 @@ fn note_keys(
     missing: u64,
 ) -> Result<(), AllocError>
     requires known { (key : ℕ) → list_any (λ other. key == other) keys.old.items ≡ is_monitored key runs.now }
-    requires bounded { (key : ℕ) → is_monitored key runs.now ≡ true → 0 < cell_of bounds.old key }
-    requires missing { missing ≡ missing_high table.now }
+    requires bounded { (key : ℕ) → is_monitored key runs.now ≡ true → 0 < high_bound_cell bounds.old key }
+    requires missing { missing ≡ missing_run_high table.now }
     ensures keys { OnOk result (keys.new.items ≡ fold seen keys.old.items (table_keys table.now)) }
-    ensures bounds { OnOk result (NotesEntries table.now bounds.old bounds.new (length table.now.entries)) }
-    ensures raises { (key : ℕ) → cell_of bounds.old key ≤ cell_of bounds.new key }
+    ensures bounds { OnOk result (HighBoundsNoteEntries table.now bounds.old bounds.new (length table.now.entries)) }
+    ensures raises { (key : ℕ) → high_bound_cell bounds.old key ≤ high_bound_cell bounds.new key }
     ensures same { bounds.new.missing ≡ bounds.old.missing }
 {
     for place in 0..table.len() {
@@ -127,7 +127,7 @@ fn note_keys(
 
 // Whether one of these runs has the key. Where its home is empty, none has.
 fn is_known(bounds: &HighBounds, runs: &[Run], key: u64) -> bool
-    requires { is_monitored key runs.now ≡ true → 0 < cell_of bounds.now key }
+    requires { is_monitored key runs.now ≡ true → 0 < high_bound_cell bounds.now key }
     ensures { result ≡ is_monitored key runs.now }
 {
     if bounds.is_empty_at(key) {

@@ -12,112 +12,112 @@ use Rattle.std.proofs.lemmas.List.Sorted.{IsPermutation-cons, IsPermutation-appe
 use Rattle.std.proofs.lemmas.List.Sorted.{length_permutation, sum_by-IsPermutation}
 use Rattle.std.proofs.lemmas.Grind.{same_number_lists}
 use Rattle.std.proofs.lemmas.Option.{slice_get-get_or}
-use Rattle.prefix_lattice.specs.{RecordValue, PrefixValue, covers, weight_of, total_weight}
+use Rattle.prefix_lattice.specs.{RecordValue, PrefixValue, covers, prefix_weight, total_weight}
 use Rattle.deal_rules.specs.declared.deal_kind.DealKind.{DealKind}
-use Rattle.deal_rules.proofs.ShardListLemmas.{length-dealing}
-use Rattle.deal_rules.specs.Dealing.{dealt_list, dealt_lists, AreDealt, FollowRule, IsDealing, AreShardLists}
+use Rattle.deal_rules.proofs.ShardListLemmas.{each_shard_has_list}
+use Rattle.deal_rules.specs.Dealing.{dealt_list, dealt_lists, AreDealt, DealingFollowsRule, IsDealing, AreDealingLists}
 
 -- the lists of so many shards, from shard `from` on, end to end
-abbrev joined : (ℕ → List RecordValue) → ℕ → ℕ → List RecordValue
-joined f from count = flat_map (λ list. list) (map f (range_with_len from count))
+abbrev joined_dealing : (ℕ → List RecordValue) → ℕ → ℕ → List RecordValue
+joined_dealing f from count = flat_map (λ list. list) (map f (range_with_len from count))
 
 -- the record goes to the front of its shard's list
-abbrev with_first : ℕ → RecordValue → (ℕ → List RecordValue) → ℕ → List RecordValue
-with_first n r f shard = cond (eqb n shard) (r ∷ f shard) (f shard)
+abbrev dealing_with_first : ℕ → RecordValue → (ℕ → List RecordValue) → ℕ → List RecordValue
+dealing_with_first n r f shard = cond (eqb n shard) (r ∷ f shard) (f shard)
 
-later_than : (n from : ℕ) → from ≤ n → (n ≡ from → ⊥) → from + 1 ≤ n
-later_than n from least apart = omega (arith, least, apart)
+dealing_shard_is_later : (n from : ℕ) → from ≤ n → (n ≡ from → ⊥) → from + 1 ≤ n
+dealing_shard_is_later n from least apart = omega (arith, least, apart)
 
 -- shards behind the record's own stay as they were
-joined-past : (n : ℕ) (r : RecordValue) (f : ℕ → List RecordValue) (from count : ℕ) → n < from
-    → joined (with_first n r f) from count ≡ joined f from count
-joined-past n r f from zero past = refl
-joined-past n r f from (suc count) past =
+joined_dealing-past : (n : ℕ) (r : RecordValue) (f : ℕ → List RecordValue) (from count : ℕ) → n < from
+    → joined_dealing (dealing_with_first n r f) from count ≡ joined_dealing f from count
+joined_dealing-past n r f from zero past = refl
+joined_dealing-past n r f from (suc count) past =
     cond_both (eqb n from) (r ∷ f from) (f from)
-    (λ l. l ++ joined (with_first n r f) (from + 1) count ≡ joined f from (suc count))
+    (λ l. l ++ joined_dealing (dealing_with_first n r f) (from + 1) count ≡ joined_dealing f from (suc count))
     (λ here. let e : n ≡ from = eqb-true n from here in absurd (omega (arith, e, past)))
-    (λ other. ap (λ l. f from ++ l) (joined-past n r f (from + 1) count (omega (arith, past))))
+    (λ other. ap (λ l. f from ++ l) (joined_dealing-past n r f (from + 1) count (omega (arith, past))))
 
 -- the record comes once to all lists, wherever its shard stands
-joined-first : (n : ℕ) (r : RecordValue) (f : ℕ → List RecordValue) (from count : ℕ) → from ≤ n → n < from + count
-    → IsPermutation (r ∷ joined f from count) (joined (with_first n r f) from count)
-joined-first n r f from zero least most = absurd (omega (arith, least, most))
-joined-first n r f from (suc count) least most =
+joined_dealing-first : (n : ℕ) (r : RecordValue) (f : ℕ → List RecordValue) (from count : ℕ) → from ≤ n → n < from + count
+    → IsPermutation (r ∷ joined_dealing f from count) (joined_dealing (dealing_with_first n r f) from count)
+joined_dealing-first n r f from zero least most = absurd (omega (arith, least, most))
+joined_dealing-first n r f from (suc count) least most =
     cond_both (eqb n from) (r ∷ f from) (f from)
-    (λ l. IsPermutation (r ∷ joined f from (suc count)) (l ++ joined (with_first n r f) (from + 1) count))
+    (λ l. IsPermutation (r ∷ joined_dealing f from (suc count)) (l ++ joined_dealing (dealing_with_first n r f) (from + 1) count))
     (λ here. let e : n ≡ from = eqb-true n from here in
-    subst (λ l. IsPermutation (r ∷ joined f from (suc count)) ((r ∷ f from) ++ l))
-    (sym (joined-past n r f (from + 1) count (omega (arith, e))))
-    (IsPermutation-refl (r ∷ joined f from (suc count))))
+    subst (λ l. IsPermutation (r ∷ joined_dealing f from (suc count)) ((r ∷ f from) ++ l))
+    (sym (joined_dealing-past n r f (from + 1) count (omega (arith, e))))
+    (IsPermutation-refl (r ∷ joined_dealing f from (suc count))))
     (λ other. let apart : n ≡ from → ⊥ = eqb-false n from other in
-    let later : IsPermutation (r ∷ joined f (from + 1) count) (joined (with_first n r f) (from + 1) count) =
-    joined-first n r f (from + 1) count (later_than n from least apart) (omega (arith, most)) in
-    IsPermutation-trans _ _ _ (IsPermutation-sym _ _ (IsPermutation-middle (f from) r (joined f (from + 1) count)))
+    let later : IsPermutation (r ∷ joined_dealing f (from + 1) count) (joined_dealing (dealing_with_first n r f) (from + 1) count) =
+    joined_dealing-first n r f (from + 1) count (dealing_shard_is_later n from least apart) (omega (arith, most)) in
+    IsPermutation-trans _ _ _ (IsPermutation-sym _ _ (IsPermutation-middle (f from) r (joined_dealing f (from + 1) count)))
     (IsPermutation-append_right (f from) _ _ later))
 
 -- no record, no list
-joined-none : (from count : ℕ) → joined (λ shard. []) from count ≡ []
-joined-none from zero = refl
-joined-none from (suc count) = joined-none (from + 1) count
+joined_dealing-none : (from count : ℕ) → joined_dealing (λ shard. []) from count ≡ []
+joined_dealing-none from zero = refl
+joined_dealing-none from (suc count) = joined_dealing-none (from + 1) count
 
-dealt_list-cons : (shard n : ℕ) (ns : List ℕ) (r : RecordValue) (rs : List RecordValue)
-    → dealt_list shard (n ∷ ns) (r ∷ rs) ≡ with_first n r (λ s. dealt_list s ns rs) shard
-dealt_list-cons shard n ns r rs =
+dealing-cons : (shard n : ℕ) (ns : List ℕ) (r : RecordValue) (rs : List RecordValue)
+    → dealt_list shard (n ∷ ns) (r ∷ rs) ≡ dealing_with_first n r (λ s. dealt_list s ns rs) shard
+dealing-cons shard n ns r rs =
     let record_of : ℕ × RecordValue → RecordValue = λ dealt. dealt.1 in
     let later : List (ℕ × RecordValue) = filter (λ (dealt : ℕ × RecordValue). eqb dealt.0 shard) (zip ns rs) in
     elim (eqb n shard) as
     (λ b. map record_of (cond b ((n, r) ∷ later) later) ≡ cond b (r ∷ map record_of later) (map record_of later))
     [ true ↦ refl | false ↦ refl ]
 
-joined-same : (f g : ℕ → List RecordValue) → ((shard : ℕ) → f shard ≡ g shard) → (from count : ℕ)
-    → joined f from count ≡ joined g from count
-joined-same f g same from zero = refl
-joined-same f g same from (suc count) =
-    ap (λ l. l ++ joined f (from + 1) count) (same from)
-    ∙ ap (λ l. g from ++ l) (joined-same f g same (from + 1) count)
+joined_dealing-same : (f g : ℕ → List RecordValue) → ((shard : ℕ) → f shard ≡ g shard) → (from count : ℕ)
+    → joined_dealing f from count ≡ joined_dealing g from count
+joined_dealing-same f g same from zero = refl
+joined_dealing-same f g same from (suc count) =
+    ap (λ l. l ++ joined_dealing f (from + 1) count) (same from)
+    ∙ ap (λ l. g from ++ l) (joined_dealing-same f g same (from + 1) count)
 
 -- the lists of all shards together are the records in another order
-dealt_lists-permuted : (shards : ℕ) (ns : List ℕ) (rs : List RecordValue) → length ns ≡ length rs
+dealing-permuted : (shards : ℕ) (ns : List ℕ) (rs : List RecordValue) → length ns ≡ length rs
     → All (λ n. n < shards) ns
     → IsPermutation rs (flat_map (λ list. list) (dealt_lists shards ns rs))
-dealt_lists-permuted shards [] [] same below =
-    subst (λ l. IsPermutation [] l) (sym (joined-none 0 shards)) (IsPermutation-refl [])
-dealt_lists-permuted shards [] (r ∷ rs) same below = absurd (omega (arith, same))
-dealt_lists-permuted shards (n ∷ ns) [] same below = absurd (omega (arith, same))
-dealt_lists-permuted shards (n ∷ ns) (r ∷ rs) same below =
+dealing-permuted shards [] [] same below =
+    subst (λ l. IsPermutation [] l) (sym (joined_dealing-none 0 shards)) (IsPermutation-refl [])
+dealing-permuted shards [] (r ∷ rs) same below = absurd (omega (arith, same))
+dealing-permuted shards (n ∷ ns) [] same below = absurd (omega (arith, same))
+dealing-permuted shards (n ∷ ns) (r ∷ rs) same below =
     let f : ℕ → List RecordValue = λ s. dealt_list s ns rs in
-    let earlier : IsPermutation rs (joined f 0 shards) =
-    dealt_lists-permuted shards ns rs (omega (arith, same)) (All-tail (λ m. m < shards) n ns below) in
-    let first : IsPermutation (r ∷ joined f 0 shards) (joined (with_first n r f) 0 shards) =
-    joined-first n r f 0 shards (omega arith)
+    let earlier : IsPermutation rs (joined_dealing f 0 shards) =
+    dealing-permuted shards ns rs (omega (arith, same)) (All-tail (λ m. m < shards) n ns below) in
+    let first : IsPermutation (r ∷ joined_dealing f 0 shards) (joined_dealing (dealing_with_first n r f) 0 shards) =
+    joined_dealing-first n r f 0 shards (omega arith)
     (let h : n < shards = All-head (λ m. m < shards) n ns below in omega (arith, h)) in
     subst (λ l. IsPermutation (r ∷ rs) l)
-    (sym (joined-same (λ s. dealt_list s (n ∷ ns) (r ∷ rs)) (with_first n r f)
-    (λ s. dealt_list-cons s n ns r rs) 0 shards))
-    (IsPermutation-trans (r ∷ rs) (r ∷ joined f 0 shards) _ (IsPermutation-cons r rs (joined f 0 shards) earlier) first)
+    (sym (joined_dealing-same (λ s. dealt_list s (n ∷ ns) (r ∷ rs)) (dealing_with_first n r f)
+    (λ s. dealing-cons s n ns r rs) 0 shards))
+    (IsPermutation-trans (r ∷ rs) (r ∷ joined_dealing f 0 shards) _ (IsPermutation-cons r rs (joined_dealing f 0 shards) earlier) first)
 
-sum_by-joined : {X : Type 0} (f : X → ℕ) → (lists : List (List X))
+joined_dealing-sum : {X : Type 0} (f : X → ℕ) → (lists : List (List X))
     → sum_by f (flat_map (λ list. list) lists) ≡ sum_by (sum_by f) lists
-sum_by-joined f [] = refl
-sum_by-joined f (l ∷ ls) =
-    sum_by-append f l (flat_map (λ list. list) ls) ∙ ap (λ n. sum_by f l + n) (sum_by-joined f ls)
+joined_dealing-sum f [] = refl
+joined_dealing-sum f (l ∷ ls) =
+    sum_by-append f l (flat_map (λ list. list) ls) ∙ ap (λ n. sum_by f l + n) (joined_dealing-sum f ls)
     ∙ sym (sum_by-cons (sum_by f) l ls)
 
-sum_by-same : {X : Type 0} (f g : X → ℕ) → ((x : X) → f x ≡ g x) → (xs : List X) → sum_by f xs ≡ sum_by g xs
-sum_by-same f g same [] = refl
-sum_by-same f g same (x ∷ xs) =
-    sum_by-cons f x xs ∙ ap (λ n. n + sum_by f xs) (same x) ∙ ap (λ n. g x + n) (sum_by-same f g same xs)
+dealing_sum-same : {X : Type 0} (f g : X → ℕ) → ((x : X) → f x ≡ g x) → (xs : List X) → sum_by f xs ≡ sum_by g xs
+dealing_sum-same f g same [] = refl
+dealing_sum-same f g same (x ∷ xs) =
+    sum_by-cons f x xs ∙ ap (λ n. n + sum_by f xs) (same x) ∙ ap (λ n. g x + n) (dealing_sum-same f g same xs)
     ∙ sym (sum_by-cons g x xs)
 
 -- what covered records weigh, as a sum over all of them
-weight_of-sum : (prefix : PrefixValue) (rs : List RecordValue)
-    → weight_of prefix rs ≡ sum_by (λ rec. cond (covers prefix rec) rec.weight 0) rs
-weight_of-sum prefix [] = refl
-weight_of-sum prefix (r ∷ rs) =
+dealing_weight-sum : (prefix : PrefixValue) (rs : List RecordValue)
+    → prefix_weight prefix rs ≡ sum_by (λ rec. cond (covers prefix rec) rec.weight 0) rs
+dealing_weight-sum prefix [] = refl
+dealing_weight-sum prefix (r ∷ rs) =
     let weigh : RecordValue → ℕ = λ rec. rec.weight in
     let part : RecordValue → ℕ = λ rec. cond (covers prefix rec) rec.weight 0 in
     let later : List RecordValue = filter (covers prefix) rs in
-    let ih : sum_by weigh later ≡ sum_by part rs = weight_of-sum prefix rs in
+    let ih : sum_by weigh later ≡ sum_by part rs = dealing_weight-sum prefix rs in
     let here : sum_by weigh (cond (covers prefix r) (r ∷ later) later)
     ≡ cond (covers prefix r) r.weight 0 + sum_by weigh later =
     elim (covers prefix r) as
@@ -126,57 +126,57 @@ weight_of-sum prefix (r ∷ rs) =
     here ∙ ap (λ n. part r + n) ih ∙ sym (sum_by-cons part r rs)
 
 -- the laws, of lists that are dealt
-pub permuted : (shards : ℕ) (records : List RecordValue) (numbers : List ℕ) (lists : List (List RecordValue))
+pub dealing_permutes_records : (shards : ℕ) (records : List RecordValue) (numbers : List ℕ) (lists : List (List RecordValue))
     → AreDealt shards records numbers lists
     → IsPermutation records (flat_map (λ list. list) lists)
-permuted shards records numbers lists dealt =
+dealing_permutes_records shards records numbers lists dealt =
     subst (λ (ls : List (List RecordValue)). IsPermutation records (flat_map (λ list. list) ls)) (sym dealt.parted)
-    (dealt_lists-permuted shards numbers records dealt.as_many dealt.below)
+    (dealing-permuted shards numbers records dealt.as_many dealt.below)
 
-pub summed : (shards : ℕ) (records : List RecordValue) (numbers : List ℕ) (lists : List (List RecordValue))
+pub dealing_keeps_sums : (shards : ℕ) (records : List RecordValue) (numbers : List ℕ) (lists : List (List RecordValue))
     → AreDealt shards records numbers lists
     → (weigh : RecordValue → ℕ) → sum_by (sum_by weigh) lists ≡ sum_by weigh records
-summed shards records numbers lists dealt weigh =
-    sym (sum_by-joined weigh lists)
-    ∙ sum_by-IsPermutation weigh records _ (permuted shards records numbers lists dealt)
+dealing_keeps_sums shards records numbers lists dealt weigh =
+    sym (joined_dealing-sum weigh lists)
+    ∙ sum_by-IsPermutation weigh records _ (dealing_permutes_records shards records numbers lists dealt)
 
-pub counted : (shards : ℕ) (records : List RecordValue) (numbers : List ℕ) (lists : List (List RecordValue))
+pub dealing_loses_no_record : (shards : ℕ) (records : List RecordValue) (numbers : List ℕ) (lists : List (List RecordValue))
     → AreDealt shards records numbers lists
     → sum_by (λ list. length list) lists ≡ length records
-counted shards records numbers lists dealt =
+dealing_loses_no_record shards records numbers lists dealt =
     sym (length-flat_map (λ list. list) lists)
-    ∙ length_permutation records _ (permuted shards records numbers lists dealt)
+    ∙ length_permutation records _ (dealing_permutes_records shards records numbers lists dealt)
 
-pub weighed : (shards : ℕ) (records : List RecordValue) (numbers : List ℕ) (lists : List (List RecordValue))
+pub dealing_keeps_each_weight : (shards : ℕ) (records : List RecordValue) (numbers : List ℕ) (lists : List (List RecordValue))
     → AreDealt shards records numbers lists
-    → (prefix : PrefixValue) → sum_by (weight_of prefix) lists ≡ weight_of prefix records
-weighed shards records numbers lists dealt prefix =
+    → (prefix : PrefixValue) → sum_by (prefix_weight prefix) lists ≡ prefix_weight prefix records
+dealing_keeps_each_weight shards records numbers lists dealt prefix =
     let part : RecordValue → ℕ = λ rec. cond (covers prefix rec) rec.weight 0 in
-    sum_by-same (weight_of prefix) (sum_by part) (weight_of-sum prefix) lists
-    ∙ summed shards records numbers lists dealt part ∙ sym (weight_of-sum prefix records)
+    dealing_sum-same (prefix_weight prefix) (sum_by part) (dealing_weight-sum prefix) lists
+    ∙ dealing_keeps_sums shards records numbers lists dealt part ∙ sym (dealing_weight-sum prefix records)
 
-pub total : (shards : ℕ) (records : List RecordValue) (numbers : List ℕ) (lists : List (List RecordValue))
+pub dealing_keeps_total : (shards : ℕ) (records : List RecordValue) (numbers : List ℕ) (lists : List (List RecordValue))
     → AreDealt shards records numbers lists
     → sum_by total_weight lists ≡ total_weight records
-total shards records numbers lists dealt = summed shards records numbers lists dealt (λ rec. rec.weight)
+dealing_keeps_total shards records numbers lists dealt = dealing_keeps_sums shards records numbers lists dealt (λ rec. rec.weight)
 
 -- a dealing has as many records as were dealt
-pub AreShardLists-dealing : (kind : DealKind) (may_answer : ℕ → RecordValue → ℕ → ℕ → Type 0) (shards : ℕ)
+pub dealing_is_small_enough : (kind : DealKind) (may_answer : ℕ → RecordValue → ℕ → ℕ → Type 0) (shards : ℕ)
     (records : List RecordValue) (lists : List (List RecordValue))
     → IsDealing kind may_answer shards records lists → 1 ≤ shards → shards ≤ 16 → length records ≤ 2 ^ 24
-    → AreShardLists lists
-AreShardLists-dealing kind may_answer shards records lists dealing some few small =
-    let long : length lists ≡ shards = length-dealing kind may_answer shards records lists dealing in
+    → AreDealingLists lists
+dealing_is_small_enough kind may_answer shards records lists dealing some few small =
+    let long : length lists ≡ shards = each_shard_has_list kind may_answer shards records lists dealing in
     let all : sum_by (λ list. length list) lists ≡ length records =
-    counted shards records dealing.numbers lists dealing.dealt in
+    dealing_loses_no_record shards records dealing.numbers lists dealing.dealt in
     record { some = omega (arith, long, some); few = omega (arith, long, few); small = omega (arith, all, small) }
 
 -- the number of each record, where the rule is a formula
-number_by_formula : (kind : DealKind) (formula : ℕ → RecordValue → ℕ → ℕ) (shards : ℕ) (records : List RecordValue)
+dealing_follows_formula : (kind : DealKind) (formula : ℕ → RecordValue → ℕ → ℕ) (shards : ℕ) (records : List RecordValue)
     (numbers : List ℕ) (place : ℕ) (d : RecordValue) → length numbers ≡ length records
-    → FollowRule kind (λ place rec shards number. number ≡ formula place rec shards) shards records numbers
+    → DealingFollowsRule kind (λ place rec shards number. number ≡ formula place rec shards) shards records numbers
     → place < length numbers → get_or numbers place 0 ≡ formula place (get_or records place d) shards
-number_by_formula kind formula shards records numbers place d same follow within =
+dealing_follows_formula kind formula shards records numbers place d same follow within =
     (follow place (get_or numbers place 0) (get_or records place d)
     (slice_get-get_or records place d (omega (arith, within, same)))
     (slice_get-get_or numbers place 0 within)).answered
@@ -192,9 +192,9 @@ one_dealing kind formula shards records lists others dealing other =
     let long : length dealing.numbers ≡ length other.numbers = dealing.dealt.as_many ∙ sym other.dealt.as_many in
     let numbers_are_one : dealing.numbers ≡ other.numbers =
     same_number_lists dealing.numbers other.numbers long
-    (λ place within. number_by_formula kind formula shards records dealing.numbers place d dealing.dealt.as_many
+    (λ place within. dealing_follows_formula kind formula shards records dealing.numbers place d dealing.dealt.as_many
     dealing.ruled within
-    ∙ sym (number_by_formula kind formula shards records other.numbers place d other.dealt.as_many other.ruled
+    ∙ sym (dealing_follows_formula kind formula shards records other.numbers place d other.dealt.as_many other.ruled
     (omega (arith, within, long)))) in
     dealing.dealt.parted ∙ ap (λ numbers. dealt_lists shards numbers records) numbers_are_one
     ∙ sym other.dealt.parted

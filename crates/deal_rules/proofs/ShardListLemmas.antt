@@ -12,41 +12,41 @@ use Rattle.std.proofs.lemmas.List.FromFn.{length-map-range_with_len, get_or-map-
 use Rattle.std.proofs.lemmas.Option.{slice_get_within, get_or_from_slice_get}
 use Rattle.prefix_lattice.specs.{RecordValue}
 use Rattle.deal_rules.specs.declared.deal_kind.DealKind.{DealKind}
-use Rattle.deal_rules.specs.Rule.{MayBeDealt}
-use Rattle.deal_rules.specs.Dealing.{dealt_list, dealt_lists, FollowRule, IsDealing}
+use Rattle.deal_rules.specs.DealRule.{RuleMayDeal}
+use Rattle.deal_rules.specs.Dealing.{dealt_list, dealt_lists, DealingFollowsRule, IsDealing}
 
-zip-push : (ns : List ℕ) (rs : List RecordValue) (n : ℕ) (r : RecordValue) → length ns ≡ length rs
+shard_list_zip-push : (ns : List ℕ) (rs : List RecordValue) (n : ℕ) (r : RecordValue) → length ns ≡ length rs
     → zip (ns ++ n ∷ []) (rs ++ r ∷ []) ≡ zip ns rs ++ (n, r) ∷ []
-zip-push [] [] n r same = refl
-zip-push [] (q ∷ rs) n r same = absurd (omega (arith, same))
-zip-push (m ∷ ns) [] n r same = absurd (omega (arith, same))
-zip-push (m ∷ ns) (q ∷ rs) n r same = ap (λ l. (m, q) ∷ l) (zip-push ns rs n r (omega (arith, same)))
+shard_list_zip-push [] [] n r same = refl
+shard_list_zip-push [] (q ∷ rs) n r same = absurd (omega (arith, same))
+shard_list_zip-push (m ∷ ns) [] n r same = absurd (omega (arith, same))
+shard_list_zip-push (m ∷ ns) (q ∷ rs) n r same = ap (λ l. (m, q) ∷ l) (shard_list_zip-push ns rs n r (omega (arith, same)))
 
 -- a record comes last in the list of its shard, and in no other
-dealt_list-push : (shard : ℕ) (ns : List ℕ) (rs : List RecordValue) (n : ℕ) (r : RecordValue) → length ns ≡ length rs
+shard_list-push : (shard : ℕ) (ns : List ℕ) (rs : List RecordValue) (n : ℕ) (r : RecordValue) → length ns ≡ length rs
     → dealt_list shard (ns ++ n ∷ []) (rs ++ r ∷ []) ≡ dealt_list shard ns rs ++ cond (eqb n shard) (r ∷ []) []
-dealt_list-push shard ns rs n r same =
+shard_list-push shard ns rs n r same =
     let is_here : ℕ × RecordValue → Bool = λ dealt. eqb dealt.0 shard in
     let record_of : ℕ × RecordValue → RecordValue = λ dealt. dealt.1 in
     let last : map record_of (cond (eqb n shard) ((n, r) ∷ []) []) ≡ cond (eqb n shard) (r ∷ []) [] =
     elim (eqb n shard) as (λ b. map record_of (cond b ((n, r) ∷ []) []) ≡ cond b (r ∷ []) [])
     [ true ↦ refl | false ↦ refl ] in
-    ap (λ l. map record_of (filter is_here l)) (zip-push ns rs n r same)
+    ap (λ l. map record_of (filter is_here l)) (shard_list_zip-push ns rs n r same)
     ∙ ap (map record_of) (filter-append is_here (zip ns rs) ((n, r) ∷ []))
     ∙ map-append record_of (filter is_here (zip ns rs)) (filter is_here ((n, r) ∷ []))
     ∙ ap (λ l. map record_of (filter is_here (zip ns rs)) ++ l) last
 
 -- each shard's list as one more record is pushed to its own
-pushed_at : (shards : ℕ) (ns : List ℕ) (rs : List RecordValue) (n : ℕ) (r : RecordValue) → length ns ≡ length rs
+shard_list_after_push : (shards : ℕ) (ns : List ℕ) (rs : List RecordValue) (n : ℕ) (r : RecordValue) → length ns ≡ length rs
     → n < shards → (shard : ℕ) → shard < shards
     → get_or (set (dealt_lists shards ns rs) n (dealt_list n ns rs ++ r ∷ [])) shard []
     ≡ dealt_list shard (ns ++ n ∷ []) (rs ++ r ∷ [])
-pushed_at shards ns rs n r same below shard within =
+shard_list_after_push shards ns rs n r same below shard within =
     let old = dealt_lists shards ns rs in
     let long : length old ≡ shards = length-map-range_with_len (λ s. dealt_list s ns rs) 0 shards in
     let read : get_or old shard [] ≡ dealt_list shard ns rs =
     get_or-map-range_with_len (λ s. dealt_list s ns rs) 0 shards shard shard [] within (omega arith) in
-    sym (dealt_list-push shard ns rs n r same
+    sym (shard_list-push shard ns rs n r same
     ∙ cond_both (eqb n shard) (r ∷ []) []
     (λ last. dealt_list shard ns rs ++ last ≡ get_or (set old n (dealt_list n ns rs ++ r ∷ [])) shard [])
     (λ here. let e : n ≡ shard = eqb-true n shard here in
@@ -57,73 +57,73 @@ pushed_at shards ns rs n r same below shard within =
     ∙ sym (get_or-set_other old n shard (dealt_list n ns rs ++ r ∷ []) [] (λ e. eqb-false n shard other (sym e)))))
 
 -- the lists as one more record is pushed to its shard's list
-pub dealt_lists-push : (shards : ℕ) (ns : List ℕ) (rs : List RecordValue) (n : ℕ) (r : RecordValue)
+pub shard_lists-push : (shards : ℕ) (ns : List ℕ) (rs : List RecordValue) (n : ℕ) (r : RecordValue)
     → length ns ≡ length rs → n < shards
     → set (dealt_lists shards ns rs) n (dealt_list n ns rs ++ r ∷ []) ≡ dealt_lists shards (ns ++ n ∷ []) (rs ++ r ∷ [])
-dealt_lists-push shards ns rs n r same below =
+shard_lists-push shards ns rs n r same below =
     let old = dealt_lists shards ns rs in
     let long : length old ≡ shards = length-map-range_with_len (λ shard. dealt_list shard ns rs) 0 shards in
     let now = set old n (dealt_list n ns rs ++ r ∷ []) in
     fill_by_all (λ shard. dealt_list shard (ns ++ n ∷ []) (rs ++ r ∷ [])) now shards []
     (length-set old n (dealt_list n ns rs ++ r ∷ []) ∙ long)
-    (λ k within. pushed_at shards ns rs n r same below k within)
+    (λ k within. shard_list_after_push shards ns rs n r same below k within)
 
 -- what is read of a list with one more element is read of the list, or is that element
-read-push : {X : Type 0} (xs : List X) (x : X) (place : ℕ) (read : X) → slice_get (xs ++ x ∷ []) place ≡ Some read
+shard_list_item-push : {X : Type 0} (xs : List X) (x : X) (place : ℕ) (read : X) → slice_get (xs ++ x ∷ []) place ≡ Some read
     → (slice_get xs place ≡ Some read) ⊎ ((place ≡ length xs) × (read ≡ x))
-read-push [] x zero read got = inr (refl, cc)
-read-push [] x (suc place) read got = cc
-read-push (y ∷ xs) x zero read got = inl got
-read-push (y ∷ xs) x (suc place) read got =
-    elim (read-push xs x place read got) [ inl h ↦ inl h | inr h ↦ inr (omega (arith, h.0), h.1) ]
+shard_list_item-push [] x zero read got = inr (refl, cc)
+shard_list_item-push [] x (suc place) read got = cc
+shard_list_item-push (y ∷ xs) x zero read got = inl got
+shard_list_item-push (y ∷ xs) x (suc place) read got =
+    elim (shard_list_item-push xs x place read got) [ inl h ↦ inl h | inr h ↦ inr (omega (arith, h.0), h.1) ]
 
-FollowRule-push : (kind : DealKind) (may_answer : ℕ → RecordValue → ℕ → ℕ → Type 0) (shards : ℕ)
+shard_list_rule-push : (kind : DealKind) (may_answer : ℕ → RecordValue → ℕ → ℕ → Type 0) (shards : ℕ)
     (rs : List RecordValue) (ns : List ℕ) (r : RecordValue) (n : ℕ)
-    → length ns ≡ length rs → FollowRule kind may_answer shards rs ns
-    → MayBeDealt kind may_answer (length rs) r shards n
-    → FollowRule kind may_answer shards (rs ++ r ∷ []) (ns ++ n ∷ [])
-FollowRule-push kind may_answer shards rs ns r n same follow last = λ place number rec read_rec read_number.
-    elim (read-push rs r place rec read_rec) [
-      | inl of_rec ↦ elim (read-push ns n place number read_number) [
+    → length ns ≡ length rs → DealingFollowsRule kind may_answer shards rs ns
+    → RuleMayDeal kind may_answer (length rs) r shards n
+    → DealingFollowsRule kind may_answer shards (rs ++ r ∷ []) (ns ++ n ∷ [])
+shard_list_rule-push kind may_answer shards rs ns r n same follow last = λ place number rec read_rec read_number.
+    elim (shard_list_item-push rs r place rec read_rec) [
+      | inl of_rec ↦ elim (shard_list_item-push ns n place number read_number) [
         | inl of_number ↦ follow place number rec of_rec of_number
         | inr is_last ↦
             let h : place < length rs = slice_get_within rs place rec of_rec in
             absurd (omega (arith, h, is_last.0, same))
       ]
-      | inr is_rec ↦ elim (read-push ns n place number read_number) [
+      | inr is_rec ↦ elim (shard_list_item-push ns n place number read_number) [
         | inl of_number ↦
             let h : place < length ns = slice_get_within ns place number of_number in
             absurd (omega (arith, h, is_rec.0, same))
-        | inr is_last ↦ subst (λ p. MayBeDealt kind may_answer p rec shards number) (sym is_rec.0)
-            (subst (λ q. MayBeDealt kind may_answer (length rs) q shards number) (sym is_rec.1)
-            (subst (λ m. MayBeDealt kind may_answer (length rs) r shards m) (sym is_last.1) last))
+        | inr is_last ↦ subst (λ p. RuleMayDeal kind may_answer p rec shards number) (sym is_rec.0)
+            (subst (λ q. RuleMayDeal kind may_answer (length rs) q shards number) (sym is_rec.1)
+            (subst (λ m. RuleMayDeal kind may_answer (length rs) r shards m) (sym is_last.1) last))
       ]
     ]
 
 -- a dealing has a list for each shard
-pub length-dealing : (kind : DealKind) (may_answer : ℕ → RecordValue → ℕ → ℕ → Type 0) (shards : ℕ)
+pub each_shard_has_list : (kind : DealKind) (may_answer : ℕ → RecordValue → ℕ → ℕ → Type 0) (shards : ℕ)
     (records : List RecordValue) (lists : List (List RecordValue))
     → IsDealing kind may_answer shards records lists → length lists ≡ shards
-length-dealing kind may_answer shards records lists dealing =
+each_shard_has_list kind may_answer shards records lists dealing =
     ap (λ (ls : List (List RecordValue)). length ls) dealing.dealt.parted
     ∙ length-map-range_with_len (λ shard. dealt_list shard dealing.numbers records) 0 shards
 
 -- no record is dealt yet
-pub IsDealing-none : (kind : DealKind) (may_answer : ℕ → RecordValue → ℕ → ℕ → Type 0) (shards : ℕ)
+pub shard_lists_start_empty : (kind : DealKind) (may_answer : ℕ → RecordValue → ℕ → ℕ → Type 0) (shards : ℕ)
     (lists : List (List RecordValue)) → lists ≡ dealt_lists shards [] []
     → IsDealing kind may_answer shards [] lists
-IsDealing-none kind may_answer shards lists empty = record {
+shard_lists_start_empty kind may_answer shards lists empty = record {
   numbers = [];
   dealt = record { as_many = refl; below = All-nil (λ n. n < shards); parted = empty };
   ruled = λ place number rec read_rec read_number. cc;
 }
 
 -- one more record is dealt
-pub IsDealing-push : (kind : DealKind) (may_answer : ℕ → RecordValue → ℕ → ℕ → Type 0) (shards : ℕ)
+pub shard_lists_take_record : (kind : DealKind) (may_answer : ℕ → RecordValue → ℕ → ℕ → Type 0) (shards : ℕ)
     (rs : List RecordValue) (lists : List (List RecordValue)) (r : RecordValue) (n : ℕ)
-    → IsDealing kind may_answer shards rs lists → MayBeDealt kind may_answer (length rs) r shards n
+    → IsDealing kind may_answer shards rs lists → RuleMayDeal kind may_answer (length rs) r shards n
     → IsDealing kind may_answer shards (rs ++ r ∷ []) (set lists n (get_or lists n [] ++ r ∷ []))
-IsDealing-push kind may_answer shards rs lists r n dealing last =
+shard_lists_take_record kind may_answer shards rs lists r n dealing last =
     let ns = dealing.numbers in
     let at : get_or (dealt_lists shards ns rs) n [] ≡ dealt_list n ns rs =
     get_or-map-range_with_len (λ s. dealt_list s ns rs) 0 shards n n [] last.below (omega arith) in
@@ -134,20 +134,20 @@ IsDealing-push kind may_answer shards rs lists r n dealing last =
         below = All-push (λ m. m < shards) ns n dealing.dealt.below last.below;
         parted = ap (λ (ls : List (List RecordValue)). set ls n (get_or ls n [] ++ r ∷ [])) dealing.dealt.parted
             ∙ ap (λ l. set (dealt_lists shards ns rs) n (l ++ r ∷ [])) at
-            ∙ dealt_lists-push shards ns rs n r dealing.dealt.as_many last.below;
+            ∙ shard_lists-push shards ns rs n r dealing.dealt.as_many last.below;
       };
-      ruled = FollowRule-push kind may_answer shards rs ns r n dealing.dealt.as_many dealing.ruled last;
+      ruled = shard_list_rule-push kind may_answer shards rs ns r n dealing.dealt.as_many dealing.ruled last;
     }
 
 -- the next record of a list is dealt: the list of its shard was `old` and is `new`
-pub IsDealing-more : (kind : DealKind) (may_answer : ℕ → RecordValue → ℕ → ℕ → Type 0) (shards : ℕ)
+pub shard_lists_take_next_record : (kind : DealKind) (may_answer : ℕ → RecordValue → ℕ → ℕ → Type 0) (shards : ℕ)
     (records : List RecordValue) (place : ℕ) (lists : List (List RecordValue)) (r : RecordValue) (n : ℕ)
     (old new : List RecordValue)
     → slice_get records place ≡ Some r → IsDealing kind may_answer shards (take place records) lists
-    → MayBeDealt kind may_answer place r shards n
+    → RuleMayDeal kind may_answer place r shards n
     → old ≡ get_or lists n old → new ≡ old ++ r ∷ []
     → IsDealing kind may_answer shards (take (place + 1) records) (set lists n new)
-IsDealing-more kind may_answer shards records place lists r n old new read dealing last was pushed =
+shard_lists_take_next_record kind may_answer shards records place lists r n old new read dealing last was pushed =
     let within : place < length records = slice_get_within records place r read in
     let long : length (take place records) ≡ place = length-take-le place records (omega (arith, within)) in
     let longer : take (place + 1) records ≡ take place records ++ r ∷ [] =
@@ -155,18 +155,18 @@ IsDealing-more kind may_answer shards records place lists r n old new read deali
     ∙ ap (λ q. take place records ++ q ∷ []) (get_or_from_slice_get records place r r read) in
     let here : n < length lists =
     let h = last.below in
-    let e = length-dealing kind may_answer shards (take place records) lists dealing in omega (arith, h, e) in
+    let e = each_shard_has_list kind may_answer shards (take place records) lists dealing in omega (arith, h, e) in
     let grown : new ≡ get_or lists n [] ++ r ∷ [] =
     pushed ∙ ap (λ l. l ++ r ∷ []) (was ∙ get_or_default lists n old [] here) in
     subst (λ (rs : List RecordValue). IsDealing kind may_answer shards rs (set lists n new)) (sym longer)
     (subst (λ l. IsDealing kind may_answer shards (take place records ++ r ∷ []) (set lists n l)) (sym grown)
-    (IsDealing-push kind may_answer shards (take place records) lists r n dealing
-    (subst (λ p. MayBeDealt kind may_answer p r shards n) (sym long) last)))
+    (shard_lists_take_record kind may_answer shards (take place records) lists r n dealing
+    (subst (λ p. RuleMayDeal kind may_answer p r shards n) (sym long) last)))
 
 -- all records are dealt
-pub IsDealing-all : (kind : DealKind) (may_answer : ℕ → RecordValue → ℕ → ℕ → Type 0) (shards : ℕ)
+pub shard_lists_hold_all_records : (kind : DealKind) (may_answer : ℕ → RecordValue → ℕ → ℕ → Type 0) (shards : ℕ)
     (records : List RecordValue) (place : ℕ) (lists : List (List RecordValue))
     → length records ≤ place → IsDealing kind may_answer shards (take place records) lists
     → IsDealing kind may_answer shards records lists
-IsDealing-all kind may_answer shards records place lists past dealing =
+shard_lists_hold_all_records kind may_answer shards records place lists past dealing =
     subst (λ (rs : List RecordValue). IsDealing kind may_answer shards rs lists) (take_all place records past) dealing

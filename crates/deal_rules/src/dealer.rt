@@ -3,7 +3,7 @@
 ghost use Rattle.std.specs.Prelude.{◌≡◌, ◌↔◌, ℕ, ◌<◌, ◌≤◌};
 ghost use Rattle.prefix_lattice.specs.{RecordValue, most_records, most_shards};
 ghost use Rattle.deal_rules.specs.declared.deal_kind.DealKind.{DealKind};
-ghost use Rattle.deal_rules.specs.Rule.{IsAsked, IsOfKind, MayBeDealt};
+ghost use Rattle.deal_rules.specs.DealRule.{IsAskedOfRule, RuleIsOfKind, RuleMayDeal};
 
 use crate::DealKind;
 use prefix_lattice::Record;
@@ -28,12 +28,12 @@ pub struct Dealer {
     kind: DealKind,
     rule: DealRule,
     ghost callable: { (place : ℕ) (rec : RecordValue) (shards : ℕ)
-        → IsAsked place rec shards → pre rule place rec shards },
+        → IsAskedOfRule place rec shards → pre rule place rec shards },
     ghost below: { (place : ℕ) (rec : RecordValue) (shards number : ℕ)
-        → IsAsked place rec shards → post rule place rec shards number → number < shards },
+        → IsAskedOfRule place rec shards → post rule place rec shards number → number < shards },
     ghost of_kind: { (place : ℕ) (rec : RecordValue) (shards number : ℕ)
-        → IsAsked place rec shards → post rule place rec shards number
-        → IsOfKind kind place rec shards number },
+        → IsAskedOfRule place rec shards → post rule place rec shards number
+        → RuleIsOfKind kind place rec shards number },
 }
 
 impl Deals for Dealer {
@@ -47,12 +47,12 @@ impl Dealer {
     /// and 1 to 16 shards it may be called, and it returns a number below the number of shards, by the kind's formula.
     pub fn new(kind: DealKind, rule: DealRule) -> Dealer
         requires callable { (place : ℕ) (rec : RecordValue) (shards : ℕ)
-            → IsAsked place rec shards → pre rule place rec shards }
+            → IsAskedOfRule place rec shards → pre rule place rec shards }
         requires below { (place : ℕ) (rec : RecordValue) (shards number : ℕ)
-            → IsAsked place rec shards → post rule place rec shards number → number < shards }
+            → IsAskedOfRule place rec shards → post rule place rec shards number → number < shards }
         requires of_kind { (place : ℕ) (rec : RecordValue) (shards number : ℕ)
-            → IsAsked place rec shards → post rule place rec shards number
-            → IsOfKind kind place rec shards number }
+            → IsAskedOfRule place rec shards → post rule place rec shards number
+            → RuleIsOfKind kind place rec shards number }
         ensures kind { ⟦<Dealer as Deals>⟧.kind_of result ≡ kind }
         ensures rule { (place : ℕ) (rec : RecordValue) (shards number : ℕ)
             → ⟦<Dealer as Deals>⟧.may_answer result place rec shards number ↔ post rule place rec shards number }
@@ -73,7 +73,7 @@ impl Dealer {
         requires early { place < most_records }
         requires some { 1 ≤ shards }
         requires few { shards ≤ most_shards }
-        ensures { MayBeDealt (⟦<Dealer as Deals>⟧.kind_of self.now) (⟦<Dealer as Deals>⟧.may_answer self.now)
+        ensures { RuleMayDeal (⟦<Dealer as Deals>⟧.kind_of self.now) (⟦<Dealer as Deals>⟧.may_answer self.now)
             place rec.now shards result }
     {
         // Reading the weight makes it known that the weight is at least 1.

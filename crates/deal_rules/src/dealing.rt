@@ -3,7 +3,7 @@
 ghost use Rattle.std.specs.Prelude.{◌≡◌, ℕ, ◌≤◌, List, [], length, IfOk};
 ghost use Rattle.std.specs.List.{flat_map, sum_by};
 ghost use Rattle.std.specs.List.Sorted.{IsPermutation};
-ghost use Rattle.prefix_lattice.specs.{PrefixValue, weight_of, total_weight, RecordValue, most_records, most_shards};
+ghost use Rattle.prefix_lattice.specs.{PrefixValue, prefix_weight, total_weight, RecordValue, most_records, most_shards};
 ghost use Rattle.deal_rules.specs.declared.deal_kind.DealKind.{DealKind};
 ghost use Rattle.deal_rules.specs.Dealing.{AreDealt, IsDealing, dealt_lists};
 
@@ -58,7 +58,7 @@ pub fn dealing_loses_nothing()
         → AreDealt shards records numbers lists → sum_by (λ list. length list) lists ≡ length records }
     ensures weighed { (shards : ℕ) (records : List RecordValue) (numbers : List ℕ) (lists : List (List RecordValue))
         → AreDealt shards records numbers lists
-        → (prefix : PrefixValue) → sum_by (weight_of prefix) lists ≡ weight_of prefix records }
+        → (prefix : PrefixValue) → sum_by (prefix_weight prefix) lists ≡ prefix_weight prefix records }
     ensures total { (shards : ℕ) (records : List RecordValue) (numbers : List ℕ) (lists : List (List RecordValue))
         → AreDealt shards records numbers lists → sum_by total_weight lists ≡ total_weight records }
 {}

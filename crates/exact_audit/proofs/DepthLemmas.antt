@@ -11,127 +11,127 @@ use Rattle.std.proofs.lemmas.Bool.{or_cases}
 use Rattle.std.proofs.lemmas.Bool.Decides.{nat_tests}
 use Rattle.std.proofs.lemmas.List.Elements.{All-head, All-tail}
 use Rattle.std.proofs.lemmas.List.Folds.{list_any_at}
-use Rattle.prefix_lattice.specs.{RecordValue, NodeValue, IsNode, index_of, node_at, PrefixValue, IsPrefix, covers}
-use Rattle.prefix_lattice.specs.{node_of}
-use Rattle.prefix_lattice.specs.{key_of, prefix_at, begins_with, strictly_under, lines_under, one_covers}
-use Rattle.prefix_lattice.proofs.NodePlaceLemmas.{node_at-index_of}
-use Rattle.prefix_lattice.proofs.ListLemmas.{Contains-head, Contains-tail}
+use Rattle.prefix_lattice.specs.{RecordValue, NodeValue, IsNode, node_index, node_at, PrefixValue, IsPrefix, covers}
+use Rattle.prefix_lattice.specs.{node_of_prefix}
+use Rattle.prefix_lattice.specs.{prefix_key, prefix_at, begins_with, strictly_under, lines_under, one_line_covers}
+use Rattle.prefix_lattice.proofs.NodePlaceLemmas.{node_at_own_place}
+use Rattle.prefix_lattice.proofs.ListLemmas.{Contains-list_head, Contains-list_tail}
 use Rattle.exact_audit.specs.declared.depths.Depths.{Depths}
-use Rattle.exact_audit.specs.LineCodes.{code_of, AreCodesOf}
-use Rattle.exact_audit.specs.Depths.{reaches, IsDepth, AreDepths, depth_at, explained}
-use Rattle.exact_audit.proofs.BoolListLemmas.{list_any-same, list_any-filter, list_any-either, list_any-weaker}
-use Rattle.exact_audit.proofs.BoolListLemmas.{same_truth}
+use Rattle.exact_audit.specs.LineCodes.{line_code_of, AreLineCodes}
+use Rattle.exact_audit.specs.Depths.{reaches_depth, IsDepth, AreDepths, depth_at, explained_by_depth}
+use Rattle.exact_audit.proofs.ListAnyLemmas.{list_any-same, list_any-filter, list_any-either, list_any-weaker}
+use Rattle.exact_audit.proofs.ListAnyLemmas.{list_any_truths_are_equal}
 
 -- the four bytes of an address
-abbrev bytes_of : ℕ → List ℕ
-bytes_of a = a / 256 / 256 / 256 % 256 ∷ a / 256 / 256 % 256 ∷ a / 256 % 256 ∷ a % 256 ∷ []
+abbrev depth_bytes_of : ℕ → List ℕ
+depth_bytes_of a = a / 256 / 256 / 256 % 256 ∷ a / 256 / 256 % 256 ∷ a / 256 % 256 ∷ a % 256 ∷ []
 
 -- what a list begins with is its front
-pub take-begins_with : (bytes front : List ℕ) → begins_with bytes front ≡ true → take (length front) bytes ≡ front
-take-begins_with bytes [] begins = refl
-take-begins_with [] (b ∷ front) begins = absurd (false≢true begins)
-take-begins_with (x ∷ bytes) (b ∷ front) begins =
+pub depth_front_is_taken : (bytes front : List ℕ) → begins_with bytes front ≡ true → take (length front) bytes ≡ front
+depth_front_is_taken bytes [] begins = refl
+depth_front_is_taken [] (b ∷ front) begins = absurd (false≢true begins)
+depth_front_is_taken (x ∷ bytes) (b ∷ front) begins =
     let both : (eqb x b ≡ true) × (begins_with bytes front ≡ true) =
     and_parts (eqb x b) (begins_with bytes front) begins in
     ap (λ d. d ∷ take (length front) bytes) (eqb-true x b both.0)
-    ∙ ap (λ l. b ∷ l) (take-begins_with bytes front both.1)
+    ∙ ap (λ l. b ∷ l) (depth_front_is_taken bytes front both.1)
 
 -- a list begins with each of its fronts
-pub begins_with-take : (bytes : List ℕ) (n : ℕ) → begins_with bytes (take n bytes) ≡ true
-begins_with-take bytes zero = refl
-begins_with-take [] (suc n) = refl
-begins_with-take (x ∷ bytes) (suc n) =
-    and_from (eqb x x) (begins_with bytes (take n bytes)) (eq-eqb x x refl) (begins_with-take bytes n)
+pub depth_bytes_begin_with_front : (bytes : List ℕ) (n : ℕ) → begins_with bytes (take n bytes) ≡ true
+depth_bytes_begin_with_front bytes zero = refl
+depth_bytes_begin_with_front [] (suc n) = refl
+depth_bytes_begin_with_front (x ∷ bytes) (suc n) =
+    and_from (eqb x x) (begins_with bytes (take n bytes)) (eq-eqb x x refl) (depth_bytes_begin_with_front bytes n)
 
-pub length-front : (bytes : List ℕ) (n : ℕ) → n ≤ length bytes → length (take n bytes) ≡ n
-length-front bytes zero few = refl
-length-front [] (suc n) few = absurd (omega arith)
-length-front (x ∷ bytes) (suc n) few = let rest = length-front bytes n (omega arith) in omega arith
+pub depth_front_length : (bytes : List ℕ) (n : ℕ) → n ≤ length bytes → length (take n bytes) ≡ n
+depth_front_length bytes zero few = refl
+depth_front_length [] (suc n) few = absurd (omega arith)
+depth_front_length (x ∷ bytes) (suc n) few = let rest = depth_front_length bytes n (omega arith) in omega arith
 
 -- of two fronts of one list, the one that is no shorter begins with the other
-pub front-of_front : (bytes : List ℕ) (m n : ℕ) → m ≤ length bytes → n ≤ length bytes
+pub shorter_depth_front_begins : (bytes : List ℕ) (m n : ℕ) → m ≤ length bytes → n ≤ length bytes
     → begins_with (take m bytes) (take n bytes) ≡ nat_le n m
-front-of_front bytes m zero few_m few_n = sym (le-leb 0 m (omega arith))
-front-of_front [] m (suc n) few_m few_n = absurd (omega arith)
-front-of_front (x ∷ bytes) zero (suc n) few_m few_n = sym (lt-leb (suc n) 0 (omega arith))
-front-of_front (x ∷ bytes) (suc m) (suc n) few_m few_n =
+shorter_depth_front_begins bytes m zero few_m few_n = sym (le-leb 0 m (omega arith))
+shorter_depth_front_begins [] m (suc n) few_m few_n = absurd (omega arith)
+shorter_depth_front_begins (x ∷ bytes) zero (suc n) few_m few_n = sym (lt-leb (suc n) 0 (omega arith))
+shorter_depth_front_begins (x ∷ bytes) (suc m) (suc n) few_m few_n =
     ap (λ b. b && begins_with (take m bytes) (take n bytes)) (eq-eqb x x refl)
-    ∙ front-of_front bytes m n (omega arith) (omega arith)
-    ∙ same_truth (nat_le n m) (nat_le (suc n) (suc m))
+    ∙ shorter_depth_front_begins bytes m n (omega arith) (omega arith)
+    ∙ list_any_truths_are_equal (nat_le n m) (nat_le (suc n) (suc m))
     (λ is. le-leb (suc n) (suc m) (let le = leb-true n m is in omega arith))
     (λ is. le-leb n m (let le = leb-true (suc n) (suc m) is in omega arith))
 
 -- a list that begins with another is no shorter
-pub begins_with-length : (bytes front : List ℕ) → begins_with bytes front ≡ true → length front ≤ length bytes
-begins_with-length bytes [] begins = omega arith
-begins_with-length [] (b ∷ front) begins = absurd (false≢true begins)
-begins_with-length (x ∷ bytes) (b ∷ front) begins =
-    let shorter = begins_with-length bytes front (and_parts (eqb x b) (begins_with bytes front) begins).1 in
+pub depth_front_is_no_longer : (bytes front : List ℕ) → begins_with bytes front ≡ true → length front ≤ length bytes
+depth_front_is_no_longer bytes [] begins = omega arith
+depth_front_is_no_longer [] (b ∷ front) begins = absurd (false≢true begins)
+depth_front_is_no_longer (x ∷ bytes) (b ∷ front) begins =
+    let shorter = depth_front_is_no_longer bytes front (and_parts (eqb x b) (begins_with bytes front) begins).1 in
     omega arith
 
 -- a line that covers a record is the record's prefix of its node
-pub covering_is_front : (line : PrefixValue) (rec : RecordValue) → covers line rec ≡ true
-    → prefix_at (node_of line) rec ≡ line
-covering_is_front line rec covered =
-    let both = and_parts (begins_with (bytes_of rec.src) line.source) (begins_with (bytes_of rec.dst) line.dest)
+pub covering_line_at_depth : (line : PrefixValue) (rec : RecordValue) → covers line rec ≡ true
+    → prefix_at (node_of_prefix line) rec ≡ line
+covering_line_at_depth line rec covered =
+    let both = and_parts (begins_with (depth_bytes_of rec.src) line.source) (begins_with (depth_bytes_of rec.dst) line.dest)
     covered in
     let make : List ℕ → List ℕ → PrefixValue = λ source dest. record { source = source; dest = dest } in
-    ap (λ source. make source (take (length line.dest) (bytes_of rec.dst)))
-    (take-begins_with (bytes_of rec.src) line.source both.0)
-    ∙ ap (make line.source) (take-begins_with (bytes_of rec.dst) line.dest both.1)
+    ap (λ source. make source (take (length line.dest) (depth_bytes_of rec.dst)))
+    (depth_front_is_taken (depth_bytes_of rec.src) line.source both.0)
+    ∙ ap (make line.source) (depth_front_is_taken (depth_bytes_of rec.dst) line.dest both.1)
 
 -- it keeps at most four bytes of each address
-pub covering_few : (line : PrefixValue) (rec : RecordValue) → covers line rec ≡ true
+pub covering_depth_is_bounded : (line : PrefixValue) (rec : RecordValue) → covers line rec ≡ true
     → (length line.source ≤ 4) × (length line.dest ≤ 4)
-covering_few line rec covered =
-    let both = and_parts (begins_with (bytes_of rec.src) line.source) (begins_with (bytes_of rec.dst) line.dest)
+covering_depth_is_bounded line rec covered =
+    let both = and_parts (begins_with (depth_bytes_of rec.src) line.source) (begins_with (depth_bytes_of rec.dst) line.dest)
     covered in
-    (begins_with-length (bytes_of rec.src) line.source both.0, begins_with-length (bytes_of rec.dst) line.dest both.1)
+    (depth_front_is_no_longer (depth_bytes_of rec.src) line.source both.0, depth_front_is_no_longer (depth_bytes_of rec.dst) line.dest both.1)
 
 -- which of two numbers of kept bytes is more, on both sides
-below_by_lengths : (s d l m : ℕ)
+more_depth_on_either_side : (s d l m : ℕ)
     → ((nat_le s l && nat_le d m) && not ((nat_le s l && nat_le d m) && (nat_le l s && nat_le m d)))
     ≡ ((nat_le (s + 1) l && nat_le d m) || (nat_le s l && nat_le (d + 1) m))
-below_by_lengths s d l m = grind (arith, nat_tests)
+more_depth_on_either_side s d l m = grind (arith, nat_tests)
 
 -- a front compared with a line's bytes, where a list begins with both
-line_front : (bytes front : List ℕ) (n : ℕ) → begins_with bytes front ≡ true → n ≤ length bytes
+depth_front_against_line : (bytes front : List ℕ) (n : ℕ) → begins_with bytes front ≡ true → n ≤ length bytes
     → (begins_with front (take n bytes) ≡ nat_le n (length front))
     × (begins_with (take n bytes) front ≡ nat_le (length front) n)
-line_front bytes front n begins few =
-    let is = take-begins_with bytes front begins in
-    let short = begins_with-length bytes front begins in (
-      ap (λ l. begins_with l (take n bytes)) (sym is) ∙ front-of_front bytes (length front) n short few,
-      ap (λ l. begins_with (take n bytes) l) (sym is) ∙ front-of_front bytes n (length front) few short,
+depth_front_against_line bytes front n begins few =
+    let is = depth_front_is_taken bytes front begins in
+    let short = depth_front_is_no_longer bytes front begins in (
+      ap (λ l. begins_with l (take n bytes)) (sym is) ∙ shorter_depth_front_begins bytes (length front) n short few,
+      ap (λ l. begins_with (take n bytes) l) (sym is) ∙ shorter_depth_front_begins bytes n (length front) few short,
     )
 
 -- whether a line that covers a record is strictly under the record's prefix of a node
-pub strictly_by_lengths : (node : NodeValue) (rec : RecordValue) → IsNode node → (line : PrefixValue)
+pub strictly_under_by_depth : (node : NodeValue) (rec : RecordValue) → IsNode node → (line : PrefixValue)
     → covers line rec ≡ true → strictly_under line (prefix_at node rec)
     ≡ ((nat_le (node.source_bytes + 1) (length line.source) && nat_le node.dest_bytes (length line.dest))
     || (nat_le node.source_bytes (length line.source) && nat_le (node.dest_bytes + 1) (length line.dest)))
-strictly_by_lengths node rec is line covered =
-    let both = and_parts (begins_with (bytes_of rec.src) line.source) (begins_with (bytes_of rec.dst) line.dest)
+strictly_under_by_depth node rec is line covered =
+    let both = and_parts (begins_with (depth_bytes_of rec.src) line.source) (begins_with (depth_bytes_of rec.dst) line.dest)
     covered in
-    let source = line_front (bytes_of rec.src) line.source node.source_bytes both.0 is.source in
-    let dest = line_front (bytes_of rec.dst) line.dest node.dest_bytes both.1 is.dest in
+    let source = depth_front_against_line (depth_bytes_of rec.src) line.source node.source_bytes both.0 is.source in
+    let dest = depth_front_against_line (depth_bytes_of rec.dst) line.dest node.dest_bytes both.1 is.dest in
     let shape = λ (a b c d : Bool). (a && b) && not ((a && b) && (c && d)) in
-    let sides = λ (a c : Bool). shape a (begins_with line.dest (take node.dest_bytes (bytes_of rec.dst))) c
-    (begins_with (take node.dest_bytes (bytes_of rec.dst)) line.dest) in
-    ap (λ a. sides a (begins_with (take node.source_bytes (bytes_of rec.src)) line.source)) source.0
+    let sides = λ (a c : Bool). shape a (begins_with line.dest (take node.dest_bytes (depth_bytes_of rec.dst))) c
+    (begins_with (take node.dest_bytes (depth_bytes_of rec.dst)) line.dest) in
+    ap (λ a. sides a (begins_with (take node.source_bytes (depth_bytes_of rec.src)) line.source)) source.0
     ∙ ap (λ c. sides (nat_le node.source_bytes (length line.source)) c) source.1
     ∙ ap (λ b. shape (nat_le node.source_bytes (length line.source)) b (nat_le (length line.source) node.source_bytes)
-    (begins_with (take node.dest_bytes (bytes_of rec.dst)) line.dest)) dest.0
+    (begins_with (take node.dest_bytes (depth_bytes_of rec.dst)) line.dest)) dest.0
     ∙ ap (λ d. shape (nat_le node.source_bytes (length line.source)) (nat_le node.dest_bytes (length line.dest))
     (nat_le (length line.source) node.source_bytes) d) dest.1
-    ∙ below_by_lengths node.source_bytes node.dest_bytes (length line.source) (length line.dest)
+    ∙ more_depth_on_either_side node.source_bytes node.dest_bytes (length line.source) (length line.dest)
 
 -- lines strictly under the record's prefix of a node cover it exactly where lines reach further down that cover it
-pub explained_by_reaches : (lines : List PrefixValue) (node : NodeValue) (rec : RecordValue) → IsNode node
-    → one_covers (lines_under (prefix_at node rec) lines) rec
-    ≡ (reaches lines rec (node.source_bytes + 1) node.dest_bytes || reaches lines rec node.source_bytes
+pub explained_by_reached_depth : (lines : List PrefixValue) (node : NodeValue) (rec : RecordValue) → IsNode node
+    → one_line_covers (lines_under (prefix_at node rec) lines) rec
+    ≡ (reaches_depth lines rec (node.source_bytes + 1) node.dest_bytes || reaches_depth lines rec node.source_bytes
     (node.dest_bytes + 1))
-explained_by_reaches lines node rec is =
+explained_by_reached_depth lines node rec is =
     list_any-filter (λ line. covers line rec) (λ line. strictly_under line (prefix_at node rec)) lines
     ∙ list_any-same (λ line. strictly_under line (prefix_at node rec) && covers line rec)
     (λ line. more_source line || more_dest line) lines same
@@ -158,12 +158,12 @@ explained_by_reaches lines node rec is =
         split (covers line rec) (strictly_under line (prefix_at node rec))
         (nat_le (node.source_bytes + 1) (length line.source) && nat_le node.dest_bytes (length line.dest))
         (nat_le node.source_bytes (length line.source) && nat_le (node.dest_bytes + 1) (length line.dest))
-        (strictly_by_lengths node rec is line)
+        (strictly_under_by_depth node rec is line)
 
 -- lines reach no less far where less is asked
-pub reaches_less : (lines : List PrefixValue) (rec : RecordValue) (s d t e : ℕ) → t ≤ s → e ≤ d
-    → reaches lines rec s d ≡ true → reaches lines rec t e ≡ true
-reaches_less lines rec s d t e less fewer =
+pub lesser_depth_is_reached : (lines : List PrefixValue) (rec : RecordValue) (s d t e : ℕ) → t ≤ s → e ≤ d
+    → reaches_depth lines rec s d ≡ true → reaches_depth lines rec t e ≡ true
+lesser_depth_is_reached lines rec s d t e less fewer =
     list_any-weaker (λ line. covers line rec && (nat_le s (length line.source) && nat_le d (length line.dest)))
     (λ line. covers line rec && (nat_le t (length line.source) && nat_le e (length line.dest))) lines
     (λ place default within. weaker (get_or lines place default))
@@ -182,37 +182,37 @@ reaches_less lines rec s d t e less fewer =
         (le_less s t (length line.source) less sides.0) (le_less d e (length line.dest) fewer sides.1))
 
 -- no line keeps more than four bytes of an address
-pub reaches_none : (lines : List PrefixValue) (rec : RecordValue) (s d : ℕ) → (4 < s) ⊎ (4 < d)
-    → reaches lines rec s d ≡ false
-reaches_none [] rec s d past = refl
-reaches_none (line ∷ lines) rec s d past =
+pub depth_past_four_is_unreached : (lines : List PrefixValue) (rec : RecordValue) (s d : ℕ) → (4 < s) ⊎ (4 < d)
+    → reaches_depth lines rec s d ≡ false
+depth_past_four_is_unreached [] rec s d past = refl
+depth_past_four_is_unreached (line ∷ lines) rec s d past =
     or_from (covers line rec && (nat_le s (length line.source) && nat_le d (length line.dest)))
-    (reaches lines rec s d)
+    (reaches_depth lines rec s d)
     (false_from_ne_true (covers line rec && (nat_le s (length line.source) && nat_le d (length line.dest))) (λ is.
     let both = and_parts (covers line rec) (nat_le s (length line.source) && nat_le d (length line.dest)) is in
     let sides = and_parts (nat_le s (length line.source)) (nat_le d (length line.dest)) both.1 in
     let source = leb-true s (length line.source) sides.0 in
     let dest = leb-true d (length line.dest) sides.1 in
-    let few = covering_few line rec both.0 in
+    let few = covering_depth_is_bounded line rec both.0 in
     ⊎_elim (λ (more : 4 < s). omega (arith, few, source, more)) (λ (more : 4 < d). omega (arith, few, dest, more))
     past))
-    (reaches_none lines rec s d past)
+    (depth_past_four_is_unreached lines rec s d past)
 
 -- where no line reaches further down, and none has the record's prefix of a node, none reaches there
-pub reaches_not : (lines : List PrefixValue) (rec : RecordValue) (s d : ℕ)
-    → list_any (λ line. nat_eq (code_of (prefix_at (record { source_bytes = s; dest_bytes = d }) rec)) (code_of line))
+pub depth_without_line_is_unreached : (lines : List PrefixValue) (rec : RecordValue) (s d : ℕ)
+    → list_any (λ line. nat_eq (line_code_of (prefix_at (record { source_bytes = s; dest_bytes = d }) rec)) (line_code_of line))
     lines ≡ false
-    → reaches lines rec (s + 1) d ≡ false → reaches lines rec s (d + 1) ≡ false → reaches lines rec s d ≡ false
-reaches_not [] rec s d none source dest = refl
-reaches_not (line ∷ lines) rec s d none source dest =
+    → reaches_depth lines rec (s + 1) d ≡ false → reaches_depth lines rec s (d + 1) ≡ false → reaches_depth lines rec s d ≡ false
+depth_without_line_is_unreached [] rec s d none source dest = refl
+depth_without_line_is_unreached (line ∷ lines) rec s d none source dest =
     let own = prefix_at (record { source_bytes = s; dest_bytes = d }) rec in
-    let nones = or_parts (nat_eq (code_of own) (code_of line))
-    (list_any (λ line. nat_eq (code_of own) (code_of line)) lines) none in
+    let nones = or_parts (nat_eq (line_code_of own) (line_code_of line))
+    (list_any (λ line. nat_eq (line_code_of own) (line_code_of line)) lines) none in
     let sources = or_parts (covers line rec && (nat_le (s + 1) (length line.source) && nat_le d (length line.dest)))
-    (reaches lines rec (s + 1) d) source in
+    (reaches_depth lines rec (s + 1) d) source in
     let dests = or_parts (covers line rec && (nat_le s (length line.source) && nat_le (d + 1) (length line.dest)))
-    (reaches lines rec s (d + 1)) dest in
-    or_from (covers line rec && (nat_le s (length line.source) && nat_le d (length line.dest))) (reaches lines rec s d)
+    (reaches_depth lines rec s (d + 1)) dest in
+    or_from (covers line rec && (nat_le s (length line.source) && nat_le d (length line.dest))) (reaches_depth lines rec s d)
     (false_from_ne_true (covers line rec && (nat_le s (length line.source) && nat_le d (length line.dest))) (λ is.
     let both = and_parts (covers line rec) (nat_le s (length line.source) && nat_le d (length line.dest)) is in
     let sides = and_parts (nat_le s (length line.source)) (nat_le d (length line.dest)) both.1 in
@@ -226,9 +226,9 @@ reaches_not (line ∷ lines) rec s d none source dest =
     let dest_same : d ≡ length line.dest = let le = leb-true d (length line.dest) sides.1 in omega arith in
     let make : ℕ → ℕ → PrefixValue = λ a b. prefix_at (record { source_bytes = a; dest_bytes = b }) rec in
     let same : own ≡ line = ap (λ a. make a d) source_same ∙ ap (make (length line.source)) dest_same
-    ∙ covering_is_front line rec both.0 in
-    false≢true (sym nones.0 ∙ eq-eqb (code_of own) (code_of line) (ap code_of same))))
-    (reaches_not lines rec s d nones.1 sources.1 dests.1)
+    ∙ covering_line_at_depth line rec both.0 in
+    false≢true (sym nones.0 ∙ eq-eqb (line_code_of own) (line_code_of line) (ap line_code_of same))))
+    (depth_without_line_is_unreached lines rec s d nones.1 sources.1 dests.1)
   where
     at_most : {b : Bool} (bytes : List ℕ) (n : ℕ) → (nat_le (n + 1) (length bytes) ≡ true → b ≡ true) → b ≡ false
         → length bytes ≤ n
@@ -238,79 +238,79 @@ reaches_not (line ∷ lines) rec s d none source dest =
         (λ (at : length bytes ≤ n). at) (cases_lt n (length bytes))
 
 -- two prefixes of one code are the same
-pub same_code : ((prefix other : PrefixValue) → IsPrefix prefix → IsPrefix other
-    → node_of prefix ≡ node_of other → key_of prefix ≡ key_of other → prefix ≡ other)
-    → (prefix other : PrefixValue) → IsPrefix prefix → IsPrefix other → key_of prefix < 2 ^ 64 → key_of other < 2 ^ 64
-    → code_of prefix ≡ code_of other → prefix ≡ other
-same_code apart prefix other is other_is small other_small same =
-    let index : index_of (node_of prefix) ≡ index_of (node_of other) = omega arith in
-    let key : key_of prefix ≡ key_of other = omega arith in
+pub depth_code_tells_prefix : ((prefix other : PrefixValue) → IsPrefix prefix → IsPrefix other
+    → node_of_prefix prefix ≡ node_of_prefix other → prefix_key prefix ≡ prefix_key other → prefix ≡ other)
+    → (prefix other : PrefixValue) → IsPrefix prefix → IsPrefix other → prefix_key prefix < 2 ^ 64 → prefix_key other < 2 ^ 64
+    → line_code_of prefix ≡ line_code_of other → prefix ≡ other
+depth_code_tells_prefix apart prefix other is other_is small other_small same =
+    let index : node_index (node_of_prefix prefix) ≡ node_index (node_of_prefix other) = omega arith in
+    let key : prefix_key prefix ≡ prefix_key other = omega arith in
     apart prefix other is other_is
-    (sym (node_at-index_of (node_of prefix) (kept prefix is)) ∙ ap node_at index
-    ∙ node_at-index_of (node_of other) (kept other other_is)) key
+    (sym (node_at_own_place (node_of_prefix prefix) (kept prefix is)) ∙ ap node_at index
+    ∙ node_at_own_place (node_of_prefix other) (kept other other_is)) key
   where
-    kept : (prefix : PrefixValue) → IsPrefix prefix → IsNode (node_of prefix)
+    kept : (prefix : PrefixValue) → IsPrefix prefix → IsNode (node_of_prefix prefix)
     kept prefix is = record { source = is.source.few; dest = is.dest.few }
 
 -- where lines have codes, whether one has the code of a prefix
-none_coded : (lines : List PrefixValue) (codes : List ℕ) (prefix : PrefixValue) → AreCodesOf lines codes
-    → list_any (nat_eq (code_of prefix)) codes ≡ false
-    → list_any (λ line. nat_eq (code_of prefix) (code_of line)) lines ≡ false
-none_coded lines codes prefix coded none = sym (coded.coded (code_of prefix)) ∙ none
+no_depth_line_is_coded : (lines : List PrefixValue) (codes : List ℕ) (prefix : PrefixValue) → AreLineCodes lines codes
+    → list_any (nat_eq (line_code_of prefix)) codes ≡ false
+    → list_any (λ line. nat_eq (line_code_of prefix) (line_code_of line)) lines ≡ false
+no_depth_line_is_coded lines codes prefix coded none = sym (coded.coded (line_code_of prefix)) ∙ none
 
 -- one more number of destination bytes, where no line has the record's prefix there
 pub depth_next : (lines : List PrefixValue) (codes : List ℕ) (rec : RecordValue) (s dest below : ℕ)
-    → AreCodesOf lines codes → IsDepth lines rec (s + 1) below → below ≤ dest
-    → list_any (nat_eq (code_of (prefix_at (record { source_bytes = s; dest_bytes = dest }) rec))) codes ≡ false
-    → ((d : ℕ) → dest + 1 ≤ d → reaches lines rec s d ≡ false) → (d : ℕ) → dest ≤ d → reaches lines rec s d ≡ false
+    → AreLineCodes lines codes → IsDepth lines rec (s + 1) below → below ≤ dest
+    → list_any (nat_eq (line_code_of (prefix_at (record { source_bytes = s; dest_bytes = dest }) rec))) codes ≡ false
+    → ((d : ℕ) → dest + 1 ≤ d → reaches_depth lines rec s d ≡ false) → (d : ℕ) → dest ≤ d → reaches_depth lines rec s d ≡ false
 depth_next lines codes rec s dest below coded depth past none before d at_least =
     ⊎_elim (λ (same : d < dest + 1).
     let is : dest ≡ d = omega arith in
-    subst (λ e. reaches lines rec s e ≡ false) is
-    (reaches_not lines rec s dest
-    (none_coded lines codes (prefix_at (record { source_bytes = s; dest_bytes = dest }) rec) coded none)
+    subst (λ e. reaches_depth lines rec s e ≡ false) is
+    (depth_without_line_is_unreached lines rec s dest
+    (no_depth_line_is_coded lines codes (prefix_at (record { source_bytes = s; dest_bytes = dest }) rec) coded none)
     (sym (depth dest) ∙ le-ltb dest below past) (before (dest + 1) (omega arith))))
     (λ (more : dest + 1 ≤ d). before d more) (cases_lt d (dest + 1))
 
 -- a line has a prefix of one of its codes
-pub has_line : ((prefix other : PrefixValue) → IsPrefix prefix → IsPrefix other
-    → node_of prefix ≡ node_of other → key_of prefix ≡ key_of other → prefix ≡ other)
-    → (lines : List PrefixValue) (codes : List ℕ) (prefix : PrefixValue) → AreCodesOf lines codes → IsPrefix prefix
-    → key_of prefix < 2 ^ 64 → list_any (nat_eq (code_of prefix)) codes ≡ true → Contains lines prefix
-has_line apart lines codes prefix coded is small has =
-    find lines coded.prefixes coded.small (sym (coded.coded (code_of prefix)) ∙ has)
+pub coded_depth_has_line : ((prefix other : PrefixValue) → IsPrefix prefix → IsPrefix other
+    → node_of_prefix prefix ≡ node_of_prefix other → prefix_key prefix ≡ prefix_key other → prefix ≡ other)
+    → (lines : List PrefixValue) (codes : List ℕ) (prefix : PrefixValue) → AreLineCodes lines codes → IsPrefix prefix
+    → prefix_key prefix < 2 ^ 64 → list_any (nat_eq (line_code_of prefix)) codes ≡ true → Contains lines prefix
+coded_depth_has_line apart lines codes prefix coded is small has =
+    find lines coded.prefixes coded.small (sym (coded.coded (line_code_of prefix)) ∙ has)
   where
-    find : (lines : List PrefixValue) → All IsPrefix lines → All (λ line. key_of line < 2 ^ 64) lines
-        → list_any (λ line. nat_eq (code_of prefix) (code_of line)) lines ≡ true → Contains lines prefix
+    find : (lines : List PrefixValue) → All IsPrefix lines → All (λ line. prefix_key line < 2 ^ 64) lines
+        → list_any (λ line. nat_eq (line_code_of prefix) (line_code_of line)) lines ≡ true → Contains lines prefix
     find [] are smalls has = absurd (false≢true has)
     find (line ∷ lines) are smalls has =
-        ⊎_elim (λ (here : nat_eq (code_of prefix) (code_of line) ≡ true).
+        ⊎_elim (λ (here : nat_eq (line_code_of prefix) (line_code_of line) ≡ true).
         subst (Contains (line ∷ lines))
-        (sym (same_code apart prefix line is (All-head IsPrefix line lines are) small
-        (All-head (λ line. key_of line < 2 ^ 64) line lines smalls) (eqb-true (code_of prefix) (code_of line) here)))
-        (Contains-head line lines))
-        (λ (there : list_any (λ line. nat_eq (code_of prefix) (code_of line)) lines ≡ true).
-        Contains-tail line lines prefix
-        (find lines (All-tail IsPrefix line lines are) (All-tail (λ line. key_of line < 2 ^ 64) line lines smalls)
+        (sym (depth_code_tells_prefix apart prefix line is (All-head IsPrefix line lines are) small
+        (All-head (λ line. prefix_key line < 2 ^ 64) line lines smalls) (eqb-true (line_code_of prefix) (line_code_of line) here)))
+        (Contains-list_head line lines))
+        (λ (there : list_any (λ line. nat_eq (line_code_of prefix) (line_code_of line)) lines ≡ true).
+        Contains-list_tail line lines prefix
+        (find lines (All-tail IsPrefix line lines are) (All-tail (λ line. prefix_key line < 2 ^ 64) line lines smalls)
         there))
-        (or_cases (nat_eq (code_of prefix) (code_of line))
-        (list_any (λ line. nat_eq (code_of prefix) (code_of line)) lines) has)
+        (or_cases (nat_eq (line_code_of prefix) (line_code_of line))
+        (list_any (λ line. nat_eq (line_code_of prefix) (line_code_of line)) lines) has)
 
 -- and no line has a prefix of no code
-pub has_no_line : (lines : List PrefixValue) (codes : List ℕ) (prefix : PrefixValue) → AreCodesOf lines codes
-    → list_any (nat_eq (code_of prefix)) codes ≡ false → ¬ Contains lines prefix
-has_no_line lines codes prefix coded none (place, within, same) =
-    false≢true (sym (none_coded lines codes prefix coded none)
-    ∙ list_any_at (λ line. nat_eq (code_of prefix) (code_of line)) lines place prefix within
-    (eq-eqb (code_of prefix) (code_of (get_or lines place prefix)) (sym (ap code_of same))))
+pub uncoded_depth_has_no_line : (lines : List PrefixValue) (codes : List ℕ) (prefix : PrefixValue) → AreLineCodes lines codes
+    → list_any (nat_eq (line_code_of prefix)) codes ≡ false → ¬ Contains lines prefix
+uncoded_depth_has_no_line lines codes prefix coded none (place, within, same) =
+    false≢true (sym (no_depth_line_is_coded lines codes prefix coded none)
+    ∙ list_any_at (λ line. nat_eq (line_code_of prefix) (line_code_of line)) lines place prefix within
+    (eq-eqb (line_code_of prefix) (line_code_of (get_or lines place prefix)) (sym (ap line_code_of same))))
 
 -- the depth where a line has the record's prefix, and none reaches further down
 pub depth_found : (lines : List PrefixValue) (rec : RecordValue) (s dest : ℕ) (prefix : PrefixValue)
-    → Contains lines prefix → covers prefix rec ≡ true → node_of prefix ≡ record { source_bytes = s; dest_bytes = dest }
-    → ((d : ℕ) → dest + 1 ≤ d → reaches lines rec s d ≡ false) → IsDepth lines rec s (dest + 1)
+    → Contains lines prefix → covers prefix rec ≡ true → node_of_prefix prefix ≡ record { source_bytes = s; dest_bytes = dest }
+    → ((d : ℕ) → dest + 1 ≤ d → reaches_depth lines rec s d ≡ false) → IsDepth lines rec s (dest + 1)
 depth_found lines rec s dest prefix (place, within, same) covered node none = λ d.
     ⊎_elim (λ (less : d < dest + 1).
-    lt-ltb d (dest + 1) less ∙ sym (reaches_less lines rec s dest s d (omega arith) (omega arith) here))
+    lt-ltb d (dest + 1) less ∙ sym (lesser_depth_is_reached lines rec s dest s d (omega arith) (omega arith) here))
     (λ (more : dest + 1 ≤ d). le-ltb d (dest + 1) more ∙ sym (none d more)) (cases_lt d (dest + 1))
   where
     source_is : length prefix.source ≡ s
@@ -329,21 +329,21 @@ depth_found lines rec s dest prefix (place, within, same) covered node none = λ
         (le-leb s (length prefix.source) (omega (arith, source_is)))
         (le-leb dest (length prefix.dest) (omega (arith, dest_is))))
 
-    here : reaches lines rec s dest ≡ true
+    here : reaches_depth lines rec s dest ≡ true
     here = list_any_at Test lines place prefix within (subst (λ p. Test p ≡ true) (sym same) passes)
 
 -- the depth where no line reaches further down than with one more source byte
 pub depth_end : (lines : List PrefixValue) (rec : RecordValue) (s dest below : ℕ) → IsDepth lines rec (s + 1) below
-    → dest ≤ below → ((d : ℕ) → dest ≤ d → reaches lines rec s d ≡ false) → IsDepth lines rec s below
+    → dest ≤ below → ((d : ℕ) → dest ≤ d → reaches_depth lines rec s d ≡ false) → IsDepth lines rec s below
 depth_end lines rec s dest below depth least none = λ d.
     ⊎_elim (λ (less : d < below).
     lt-ltb d below less
-    ∙ sym (reaches_less lines rec (s + 1) d s d (omega arith) (omega arith) (sym (depth d) ∙ lt-ltb d below less)))
+    ∙ sym (lesser_depth_is_reached lines rec (s + 1) d s d (omega arith) (omega arith) (sym (depth d) ∙ lt-ltb d below less)))
     (λ (more : below ≤ d). le-ltb d below more ∙ sym (none d (omega arith))) (cases_lt d below)
 
 -- no line reaches down with five source bytes
 pub depth_of_five : (lines : List PrefixValue) (rec : RecordValue) → IsDepth lines rec 5 0
-depth_of_five lines rec = λ d. le-ltb d 0 (omega arith) ∙ sym (reaches_none lines rec 5 d (inl (omega arith)))
+depth_of_five lines rec = λ d. le-ltb d 0 (omega arith) ∙ sym (depth_past_four_is_unreached lines rec 5 d (inl (omega arith)))
 
 -- the depth for each number of source bytes
 depths_at : (lines : List PrefixValue) (rec : RecordValue) (depths : Depths) → AreDepths lines rec depths
@@ -357,12 +357,12 @@ depths_at lines rec depths are (suc (suc (suc (suc (suc zero))))) few = are.five
 depths_at lines rec depths are (suc (suc (suc (suc (suc (suc n)))))) few = absurd (omega arith)
 
 -- depths tell at each node whether a line strictly under the record's prefix covers the record
-pub explained_is : (lines : List PrefixValue) (rec : RecordValue) (depths : Depths) (node : NodeValue)
+pub explained_by_depths : (lines : List PrefixValue) (rec : RecordValue) (depths : Depths) (node : NodeValue)
     → AreDepths lines rec depths → IsNode node
-    → explained depths node ≡ one_covers (lines_under (prefix_at node rec) lines) rec
-explained_is lines rec depths node are is =
+    → explained_by_depth depths node ≡ one_line_covers (lines_under (prefix_at node rec) lines) rec
+explained_by_depths lines rec depths node are is =
     ap (λ b. b || nat_lt (node.dest_bytes + 1) (depth_at depths node.source_bytes))
     (depths_at lines rec depths are (node.source_bytes + 1) (omega (arith, is.source)) node.dest_bytes)
-    ∙ ap (λ b. reaches lines rec (node.source_bytes + 1) node.dest_bytes || b)
+    ∙ ap (λ b. reaches_depth lines rec (node.source_bytes + 1) node.dest_bytes || b)
     (depths_at lines rec depths are node.source_bytes (omega (arith, is.source)) (node.dest_bytes + 1))
-    ∙ sym (explained_by_reaches lines node rec is)
+    ∙ sym (explained_by_reached_depth lines node rec is)

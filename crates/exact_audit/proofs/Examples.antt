@@ -3,19 +3,19 @@ use Rattle.std.proofs.Common.{◌≡◌, ℕ, ◌<◌, ◌≤◌, zero, suc, Lis
 use Rattle.std.proofs.Common.{Some}
 use Rattle.std.proofs.Common.{true, false, refl, arith}
 use Rattle.std.proofs.lemmas.List.Elements.{All-nil, All-cons}
-use Rattle.prefix_lattice.specs.{RecordValue, NodeValue, PrefixValue, IsPrefix, one_covers, lines_under}
-use Rattle.prefix_lattice.specs.{key_of}
+use Rattle.prefix_lattice.specs.{RecordValue, NodeValue, PrefixValue, IsPrefix, one_line_covers, lines_under}
+use Rattle.prefix_lattice.specs.{prefix_key}
 use Rattle.hhh_output.specs.declared.line.Line.{Line}
 use Rattle.hhh_output.specs.declared.report.Report.{Report}
-use Rattle.hhh_output.specs.{AreLines, HoldsWeight, IsThreshold}
+use Rattle.hhh_output.specs.{AreReportLines, HoldsWeightInSoundReport, IsThreshold}
 use Rattle.exact_audit.specs.declared.depths.Depths.{Depths}
 use Rattle.exact_audit.specs.declared.counted.Counted.{Counted}
 use Rattle.exact_audit.specs.declared.left_out.LeftOut.{LeftOut}
 use Rattle.exact_audit.specs.declared.verdict.Verdict.TheVariants.{BadPositions, BadTotal, BadThreshold, BadInterval}
 use Rattle.exact_audit.specs.Verdict.{IsLeftOut, IsVerdict}
-use Rattle.exact_audit.specs.Depths.{reaches, explained}
-use Rattle.exact_audit.specs.NodeSums.{key_weight, key_left}
-use Rattle.exact_audit.specs.Findings.{first_with}
+use Rattle.exact_audit.specs.Depths.{reaches_depth, explained_by_depth}
+use Rattle.exact_audit.specs.NodeSums.{node_sum_weight, node_sum_left}
+use Rattle.exact_audit.specs.Findings.{first_finding_with}
 
 abbrev packet : RecordValue
 packet = record { src = 0x0a010203; dst = 0x14010203; weight = 100 }
@@ -41,7 +41,7 @@ abbrev light : Line
 light = record { prefix = whole; lo = 99; hi = 99 }
 
 -- one line is in order
-pub one_line : (line : Line) → line.lo ≤ line.hi → AreLines (line ∷ [])
+pub one_line : (line : Line) → line.lo ≤ line.hi → AreReportLines (line ∷ [])
 one_line line ordered = record {
   few = omega arith;
   ordered = All-cons (λ (l : Line). l.lo ≤ l.hi) line [] ordered (All-nil (λ (l : Line). l.lo ≤ l.hi));
@@ -90,7 +90,7 @@ an_interval_below_the_weight = record {
     line = light;
     is = refl;
     fails = λ holds. omega (arith, holds.high);
-    passed = All-nil (HoldsWeight (packet ∷ []));
+    passed = All-nil (HoldsWeightInSoundReport (packet ∷ []));
   };
 }
 
@@ -122,36 +122,36 @@ pub no_line_is_left_out : ¬ IsLeftOut (whole ∷ []) (packet ∷ []) 1 whole 10
 no_line_is_left_out out = out.no_line (0, omega arith, refl)
 
 -- the line reaches down to four bytes on both sides, and no further
-pub the_line_reaches_the_hosts : reaches (whole ∷ []) packet 4 4 ≡ true
+pub the_line_reaches_the_hosts : reaches_depth (whole ∷ []) packet 4 4 ≡ true
 the_line_reaches_the_hosts = refl
 
-pub but_no_further : reaches (whole ∷ []) packet 4 5 ≡ false
+pub but_no_further : reaches_depth (whole ∷ []) packet 4 5 ≡ false
 but_no_further = refl
 
 -- so each depth is 5
 abbrev deep : Depths
 deep = record { zero = 5; one = 5; two = 5; three = 5; four = 5 }
 
-pub the_root_is_explained : explained deep root_node ≡ true
+pub the_root_is_explained : explained_by_depth deep root_node ≡ true
 the_root_is_explained = refl
 
-pub as_the_definition_says : one_covers (lines_under root (whole ∷ [])) packet ≡ true
+pub as_the_definition_says : one_line_covers (lines_under root (whole ∷ [])) packet ≡ true
 as_the_definition_says = refl
 
 -- a line doesn't explain its own prefix
-pub the_line_itself_is_not : explained deep host_node ≡ false
+pub the_line_itself_is_not : explained_by_depth deep host_node ≡ false
 the_line_itself_is_not = refl
 
 abbrev counted : List Counted
 counted = record { rec = packet; depths = deep } ∷ []
 
-pub all_weight_is_at_the_root : key_weight root_node 0 counted ≡ 100
+pub all_weight_is_at_the_root : node_sum_weight root_node 0 counted ≡ 100
 all_weight_is_at_the_root = refl
 
-pub none_of_it_is_left : key_left root_node 0 counted ≡ 0
+pub none_of_it_is_left : node_sum_left root_node 0 counted ≡ 0
 none_of_it_is_left = refl
 
-pub all_of_it_is_left_to_the_line : key_left host_node (key_of whole) counted ≡ 100
+pub all_of_it_is_left_to_the_line : node_sum_left host_node (prefix_key whole) counted ≡ 100
 all_of_it_is_left_to_the_line = refl
 
 -- a more specific prefix comes first, whichever was found first
@@ -161,8 +161,8 @@ at_root = record { prefix = root; weight = 100 }
 abbrev at_host : LeftOut
 at_host = record { prefix = whole; weight = 100 }
 
-pub the_host_comes_first : first_with (Some at_root) at_host ≡ at_host
+pub the_host_comes_first : first_finding_with (Some at_root) at_host ≡ at_host
 the_host_comes_first = refl
 
-pub and_stays_first : first_with (Some at_host) at_root ≡ at_host
+pub and_stays_first : first_finding_with (Some at_host) at_root ≡ at_host
 and_stays_first = refl

@@ -1,11 +1,11 @@
-pub mod BoolListLemmas
+pub mod ListAnyLemmas
 pub mod DepthLemmas
 pub mod LineCodeLemmas
-pub mod CountedLemmas
+pub mod CountedRecordLemmas
 pub mod NodeSumLemmas
 pub mod LeftOutLemmas
 pub mod LineTestLemmas
-pub mod ClosestLineLemmas
+pub mod KeptLineLemmas
 pub mod FindingLemmas
 pub mod VerdictLemmas
 pub mod OneVerdictLemmas

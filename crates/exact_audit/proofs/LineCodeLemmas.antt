@@ -7,30 +7,30 @@ use Rattle.std.proofs.lemmas.Bool.{false≢true, eqb-true, eq-eqb}
 use Rattle.std.proofs.lemmas.List.{map_more}
 use Rattle.std.proofs.lemmas.List.Elements.{All-push}
 use Rattle.std.proofs.lemmas.List.Folds.{list_any-append}
-use Rattle.prefix_lattice.specs.{PrefixValue, IsPrefix, key_of}
+use Rattle.prefix_lattice.specs.{PrefixValue, IsPrefix, prefix_key}
 use Rattle.hhh_output.specs.declared.line.Line.{Line}
-use Rattle.hhh_output.specs.{prefixes_of}
-use Rattle.exact_audit.specs.LineCodes.{code_of, AreCodesOf}
-use Rattle.exact_audit.proofs.BoolListLemmas.{same_truth}
+use Rattle.hhh_output.specs.{prefixes_of_lines}
+use Rattle.exact_audit.specs.LineCodes.{line_code_of, AreLineCodes}
+use Rattle.exact_audit.proofs.ListAnyLemmas.{list_any_truths_are_equal}
 
 -- one more prefix
-AreCodesOf-push : (lines : List PrefixValue) (prefix : PrefixValue) (codes new : List ℕ) → IsPrefix prefix
-    → key_of prefix < 2 ^ 64
-    → ((code : ℕ) → list_any (nat_eq code) new ≡ cond (nat_eq (code_of prefix) code) true
+AreLineCodes-push : (lines : List PrefixValue) (prefix : PrefixValue) (codes new : List ℕ) → IsPrefix prefix
+    → prefix_key prefix < 2 ^ 64
+    → ((code : ℕ) → list_any (nat_eq code) new ≡ cond (nat_eq (line_code_of prefix) code) true
     (list_any (nat_eq code) codes))
-    → AreCodesOf lines codes → AreCodesOf (lines ++ prefix ∷ []) new
-AreCodesOf-push lines prefix codes new is small adds before = record {
+    → AreLineCodes lines codes → AreLineCodes (lines ++ prefix ∷ []) new
+AreLineCodes-push lines prefix codes new is small adds before = record {
   prefixes = All-push IsPrefix lines prefix before.prefixes is;
-  small = All-push (λ line. key_of line < 2 ^ 64) lines prefix before.small small;
+  small = All-push (λ line. prefix_key line < 2 ^ 64) lines prefix before.small small;
   coded = λ code. adds code
-      ∙ ap (cond (nat_eq (code_of prefix) code) true) (before.coded code)
-      ∙ joined (nat_eq (code_of prefix) code) (nat_eq code (code_of prefix))
-      (list_any (λ line. nat_eq code (code_of line)) lines) (turned (code_of prefix) code)
-      ∙ sym (list_any-append (λ line. nat_eq code (code_of line)) lines (prefix ∷ []));
+      ∙ ap (cond (nat_eq (line_code_of prefix) code) true) (before.coded code)
+      ∙ joined (nat_eq (line_code_of prefix) code) (nat_eq code (line_code_of prefix))
+      (list_any (λ line. nat_eq code (line_code_of line)) lines) (turned (line_code_of prefix) code)
+      ∙ sym (list_any-append (λ line. nat_eq code (line_code_of line)) lines (prefix ∷ []));
 }
   where
     turned : (a b : ℕ) → nat_eq a b ≡ nat_eq b a
-    turned a b = same_truth (nat_eq a b) (nat_eq b a) (λ is. eq-eqb b a (sym (eqb-true a b is)))
+    turned a b = list_any_truths_are_equal (nat_eq a b) (nat_eq b a) (λ is. eq-eqb b a (sym (eqb-true a b is)))
         (λ is. eq-eqb a b (sym (eqb-true b a is)))
 
     joined : (a b c : Bool) → a ≡ b → cond a true c ≡ (c || (b || false))
@@ -42,13 +42,13 @@ AreCodesOf-push lines prefix codes new is small adds before = record {
     joined false false false same = refl
 
 -- one more line
-pub AreCodesOf-more : (lines : List Line) (index : ℕ) (line : Line) (codes new : List ℕ) → index < length lines
-    → line ≡ get_or lines index line → IsPrefix line.prefix → key_of line.prefix < 2 ^ 64
+pub AreLineCodes-more : (lines : List Line) (index : ℕ) (line : Line) (codes new : List ℕ) → index < length lines
+    → line ≡ get_or lines index line → IsPrefix line.prefix → prefix_key line.prefix < 2 ^ 64
     → ((code : ℕ)
-    → list_any (nat_eq code) new ≡ cond (nat_eq (code_of line.prefix) code) true (list_any (nat_eq code) codes))
-    → AreCodesOf (prefixes_of (take index lines)) codes → AreCodesOf (prefixes_of (take (index + 1) lines)) new
-AreCodesOf-more lines index line codes new within at is small adds before =
-    subst (λ prefixes. AreCodesOf prefixes new)
+    → list_any (nat_eq code) new ≡ cond (nat_eq (line_code_of line.prefix) code) true (list_any (nat_eq code) codes))
+    → AreLineCodes (prefixes_of_lines (take index lines)) codes → AreLineCodes (prefixes_of_lines (take (index + 1) lines)) new
+AreLineCodes-more lines index line codes new within at is small adds before =
+    subst (λ prefixes. AreLineCodes prefixes new)
     (sym (map_more (λ line. line.prefix) lines index line within
-    ∙ ap (λ (l : Line). prefixes_of (take index lines) ++ l.prefix ∷ []) (sym at)))
-    (AreCodesOf-push (prefixes_of (take index lines)) line.prefix codes new is small adds before)
+    ∙ ap (λ (l : Line). prefixes_of_lines (take index lines) ++ l.prefix ∷ []) (sym at)))
+    (AreLineCodes-push (prefixes_of_lines (take index lines)) line.prefix codes new is small adds before)

@@ -4,35 +4,35 @@ use Rattle.std.proofs.Common.{refl, subst, arith, ⊎_elim}
 use Rattle.std.proofs.lemmas.Bool.{cases_lt}
 use Rattle.std.proofs.lemmas.Option.{get_or_from_slice_get, slice_get_within}
 use Rattle.prefix_lattice.specs.{RecordValue, PrefixValue, conditioned_weight}
-use Rattle.shard_state.specs.{records_before}
+use Rattle.shard_state.specs.{records_before_cut}
 use Rattle.hhh_output.specs.declared.line.Line.{Line}
 use Rattle.hhh_output.specs.declared.report.Report.{Report}
-use Rattle.hhh_output.specs.{IsSound, IsThreshold, AreComplete}
+use Rattle.hhh_output.specs.{IsSound, IsThreshold, AreCompleteInSoundReport}
 use Rattle.exact_audit.specs.declared.verdict.Verdict.{Verdict}
 use Rattle.exact_audit.specs.declared.verdict.Verdict.TheVariants.{Good, BadPositions, BadTotal, BadThreshold}
 use Rattle.exact_audit.specs.declared.verdict.Verdict.TheVariants.{BadInterval, TooWide, LowLine, NotJustified, LeftOut}
 use Rattle.exact_audit.specs.declared.left_out.LeftOut.{LeftOut as Left}
 use Rattle.exact_audit.specs.Verdict.{IsFirstFailing, IsLeftOut, IsFirstLeftOut, IsLineVerdict, PassesHead, IsVerdict}
-use Rattle.exact_audit.specs.Findings.{IsFirstOf}
+use Rattle.exact_audit.specs.Findings.{IsFirstFinding}
 
 -- a total has one threshold
-pub one_threshold : (phi total threshold other : ℕ) → IsThreshold phi total threshold → IsThreshold phi total other
+pub verdict_threshold_is_unique : (phi total threshold other : ℕ) → IsThreshold phi total threshold → IsThreshold phi total other
     → threshold ≡ other
-one_threshold phi total threshold other is other_is =
+verdict_threshold_is_unique phi total threshold other is other_is =
     let least = is.least other other_is.heavy in
     let other_least = other_is.least threshold is.heavy in
     omega arith
 
 -- the first prefix of those left out
-pub first_left_out_is : (lines : List PrefixValue) (records : List RecordValue) (threshold : ℕ) (first : Left)
-    → IsFirstOf (IsLeftOut lines records threshold) (Some first)
+pub verdict_leaves_out_first : (lines : List PrefixValue) (records : List RecordValue) (threshold : ℕ) (first : Left)
+    → IsFirstFinding (IsLeftOut lines records threshold) (Some first)
     → IsFirstLeftOut lines records threshold first.prefix first.weight
-first_left_out_is lines records threshold first is = record { left_out = is.0; first = is.1 }
+verdict_leaves_out_first lines records threshold first is = record { left_out = is.0; first = is.1 }
 
 -- where none is left out
-pub none_left_out : (lines : List PrefixValue) (records : List RecordValue) (threshold : ℕ)
-    → IsFirstOf (IsLeftOut lines records threshold) None → AreComplete threshold lines records
-none_left_out lines records threshold none prefix is no_line =
+pub verdict_leaves_out_none : (lines : List PrefixValue) (records : List RecordValue) (threshold : ℕ)
+    → IsFirstFinding (IsLeftOut lines records threshold) None → AreCompleteInSoundReport threshold lines records
+verdict_leaves_out_none lines records threshold none prefix is no_line =
     ⊎_elim (λ (less : conditioned_weight prefix lines records < threshold). less)
     (λ (heavy : threshold ≤ conditioned_weight prefix lines records).
     absurd (none prefix (conditioned_weight prefix lines records)
@@ -43,7 +43,7 @@ none_left_out lines records threshold none prefix is no_line =
 pub verdict_from_lines : (lists : List (List RecordValue)) (capacity phi : ℕ) (report : Report) (verdict : Verdict)
     → PassesHead lists phi report
     → IsLineVerdict (record { capacity = capacity; threshold = report.threshold; total = report.total })
-    (records_before lists report.positions) report.lines verdict
+    (records_before_cut lists report.positions) report.lines verdict
     → IsVerdict lists capacity phi report verdict
 verdict_from_lines lists capacity phi report Good head lines = record {
   positions = head.positions;
@@ -65,35 +65,35 @@ verdict_from_lines lists capacity phi report (NotJustified number) head lines = 
 verdict_from_lines lists capacity phi report (LeftOut prefix weight) head lines = record { head = head; lines = lines }
 
 -- where all lines pass a test, none is the first that fails it
-pub none_fails : (Passes : Line → Type 0) (lines : List Line) (number : ℕ) → All Passes lines → IsFirstFailing Passes
+pub no_verdict_where_all_pass : (Passes : Line → Type 0) (lines : List Line) (number : ℕ) → All Passes lines → IsFirstFailing Passes
     lines number → ⊥
-none_fails Passes lines number all first =
+no_verdict_where_all_pass Passes lines number all first =
     first.fails (subst Passes (get_or_from_slice_get lines first.before first.line first.line first.is)
     (all first.before first.line (slice_get_within lines first.before first.line first.is)))
 
 -- a sound report gets no other verdict than that
-pub sound_is_good : (lists : List (List RecordValue)) (capacity phi : ℕ) (report : Report) (verdict : Verdict)
+pub verdict_on_sound_is_good : (lists : List (List RecordValue)) (capacity phi : ℕ) (report : Report) (verdict : Verdict)
     → IsSound report lists capacity phi → IsVerdict lists capacity phi report verdict → verdict ≡ Good
-sound_is_good lists capacity phi report Good sound is = refl
-sound_is_good lists capacity phi report BadPositions sound is = absurd (is sound.positions)
-sound_is_good lists capacity phi report BadTotal sound is = absurd (is.1 sound.total)
-sound_is_good lists capacity phi report BadThreshold sound is = absurd (is.2 sound.threshold)
-sound_is_good lists capacity phi report (BadInterval number) sound is =
-    absurd (none_fails _ report.lines number sound.interval is.lines)
-sound_is_good lists capacity phi report (TooWide number) sound is =
-    absurd (none_fails _ report.lines number sound.width is.lines.1)
-sound_is_good lists capacity phi report (LowLine number) sound is =
-    absurd (none_fails _ report.lines number sound.heavy is.lines.2)
-sound_is_good lists capacity phi report (NotJustified number) sound is =
-    absurd (none_fails _ report.lines number sound.justified is.lines.3)
-sound_is_good lists capacity phi report (LeftOut prefix weight) sound is =
+verdict_on_sound_is_good lists capacity phi report Good sound is = refl
+verdict_on_sound_is_good lists capacity phi report BadPositions sound is = absurd (is sound.positions)
+verdict_on_sound_is_good lists capacity phi report BadTotal sound is = absurd (is.1 sound.total)
+verdict_on_sound_is_good lists capacity phi report BadThreshold sound is = absurd (is.2 sound.threshold)
+verdict_on_sound_is_good lists capacity phi report (BadInterval number) sound is =
+    absurd (no_verdict_where_all_pass _ report.lines number sound.interval is.lines)
+verdict_on_sound_is_good lists capacity phi report (TooWide number) sound is =
+    absurd (no_verdict_where_all_pass _ report.lines number sound.width is.lines.1)
+verdict_on_sound_is_good lists capacity phi report (LowLine number) sound is =
+    absurd (no_verdict_where_all_pass _ report.lines number sound.heavy is.lines.2)
+verdict_on_sound_is_good lists capacity phi report (NotJustified number) sound is =
+    absurd (no_verdict_where_all_pass _ report.lines number sound.justified is.lines.3)
+verdict_on_sound_is_good lists capacity phi report (LeftOut prefix weight) sound is =
     let out = is.lines.4.left_out in
     absurd (omega (arith, sound.complete prefix out.is_prefix out.no_line, out.weighs, out.heavy))
 
 -- the verdict is that a report is sound exactly where it is
-pub good_exactly : (lists : List (List RecordValue)) (capacity phi : ℕ) (report : Report) (verdict : Verdict)
+pub verdict_is_good_iff_sound : (lists : List (List RecordValue)) (capacity phi : ℕ) (report : Report) (verdict : Verdict)
     → IsVerdict lists capacity phi report verdict → (verdict ≡ Good) ↔ IsSound report lists capacity phi
-good_exactly lists capacity phi report verdict is = (
+verdict_is_good_iff_sound lists capacity phi report verdict is = (
   λ same. subst (IsVerdict lists capacity phi report) same is,
-  λ sound. sound_is_good lists capacity phi report verdict sound is,
+  λ sound. verdict_on_sound_is_good lists capacity phi report verdict sound is,
 )

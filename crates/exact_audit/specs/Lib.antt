@@ -1,6 +1,6 @@
 pub mod Verdict
 -- within the crate
-pub mod Parts
+pub mod CountedParts
 pub mod LineCodes
 pub mod Depths
 pub mod NodeSums

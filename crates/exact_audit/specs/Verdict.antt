@@ -2,11 +2,11 @@
 use Rattle.std.specs.Prelude.{ℕ, ◌≡◌, ◌≢◌, ◌+◌, ◌≤◌, List, take, All, Contains, slice_get, Option, None, Some}
 use Rattle.std.specs.declared.cmp.Ordering.TheVariants.{Less}
 use Rattle.prefix_lattice.specs.{RecordValue, PrefixValue, IsPrefix, report_order, total_weight, conditioned_weight}
-use Rattle.shard_state.specs.{records_before}
+use Rattle.shard_state.specs.{records_before_cut}
 use Rattle.hhh_output.specs.declared.line.Line.{Line}
 use Rattle.hhh_output.specs.declared.report.Report.{Report}
-use Rattle.hhh_output.specs.{IsSound, ArePositionsWithin, IsThreshold, HoldsWeight, IsNarrowLine, IsHeavyLine}
-use Rattle.hhh_output.specs.{IsJustified, AreComplete, prefixes_of}
+use Rattle.hhh_output.specs.{IsSound, AreSoundPositions, IsThreshold, HoldsWeightInSoundReport, IsNarrowInSoundReport, IsHeavyInSoundReport}
+use Rattle.hhh_output.specs.{IsJustifiedInSoundReport, AreCompleteInSoundReport, prefixes_of_lines}
 use Rattle.exact_audit.specs.declared.verdict.Verdict.{Verdict}
 use Rattle.exact_audit.specs.declared.verdict.Verdict.TheVariants.{Good, BadPositions, BadTotal, BadThreshold}
 use Rattle.exact_audit.specs.declared.verdict.Verdict.TheVariants.{BadInterval, TooWide, LowLine, NotJustified, LeftOut}
@@ -48,19 +48,19 @@ pub record TestedBy : Type 0 where
 
 -- the interval of each line holds its prefix's weight
 abbrev pub HoldWeights : List RecordValue → List Line → Type 0
-HoldWeights records lines = All (HoldsWeight records) lines
+HoldWeights records lines = All (HoldsWeightInSoundReport records) lines
 
 -- no interval of a line is too wide
 abbrev pub AreNarrowLines : TestedBy → List Line → Type 0
-AreNarrowLines by lines = All (IsNarrowLine by.capacity by.total) lines
+AreNarrowLines by lines = All (IsNarrowInSoundReport by.capacity by.total) lines
 
 -- no high of a line is below the threshold
 abbrev pub AreHeavyLines : TestedBy → List Line → Type 0
-AreHeavyLines by lines = All (IsHeavyLine by.threshold) lines
+AreHeavyLines by lines = All (IsHeavyInSoundReport by.threshold) lines
 
 -- a line is justified among these lines
 abbrev pub IsJustifiedAmong : TestedBy → List RecordValue → List Line → Line → Type 0
-IsJustifiedAmong by records lines line = IsJustified by.capacity by.threshold (prefixes_of lines) records line
+IsJustifiedAmong by records lines line = IsJustifiedInSoundReport by.capacity by.threshold (prefixes_of_lines lines) records line
 
 -- each line is justified
 abbrev pub AreJustified : TestedBy → List RecordValue → List Line → Type 0
@@ -69,31 +69,31 @@ AreJustified by records lines = All (IsJustifiedAmong by records lines) lines
 -- the verdict on lines over the records that a report counts: the first of the last five tests that fails, with the
 -- first line that fails it or the first prefix that is left out
 abbrev pub IsLineVerdict : TestedBy → List RecordValue → List Line → Verdict → Type 0
-IsLineVerdict by records lines (BadInterval number) = IsFirstFailing (HoldsWeight records) lines number
+IsLineVerdict by records lines (BadInterval number) = IsFirstFailing (HoldsWeightInSoundReport records) lines number
 IsLineVerdict by records lines (TooWide number) =
-    HoldWeights records lines × IsFirstFailing (IsNarrowLine by.capacity by.total) lines number
+    HoldWeights records lines × IsFirstFailing (IsNarrowInSoundReport by.capacity by.total) lines number
 IsLineVerdict by records lines (LowLine number) =
-    HoldWeights records lines × AreNarrowLines by lines × IsFirstFailing (IsHeavyLine by.threshold) lines number
+    HoldWeights records lines × AreNarrowLines by lines × IsFirstFailing (IsHeavyInSoundReport by.threshold) lines number
 IsLineVerdict by records lines (NotJustified number) =
     HoldWeights records lines × AreNarrowLines by lines × AreHeavyLines by lines
     × IsFirstFailing (IsJustifiedAmong by records lines) lines number
 IsLineVerdict by records lines (LeftOut prefix weight) =
     HoldWeights records lines × AreNarrowLines by lines × AreHeavyLines by lines × AreJustified by records lines
-    × IsFirstLeftOut (prefixes_of lines) records by.threshold prefix weight
+    × IsFirstLeftOut (prefixes_of_lines lines) records by.threshold prefix weight
 IsLineVerdict by records lines Good =
     HoldWeights records lines × AreNarrowLines by lines × AreHeavyLines by lines × AreJustified by records lines
-    × AreComplete by.threshold (prefixes_of lines) records
+    × AreCompleteInSoundReport by.threshold (prefixes_of_lines lines) records
 IsLineVerdict by records lines BadPositions = ⊥
 IsLineVerdict by records lines BadTotal = ⊥
 IsLineVerdict by records lines BadThreshold = ⊥
 
 -- the total of a report is the weight of the records before its positions
 abbrev pub IsTotal : List (List RecordValue) → Report → Type 0
-IsTotal lists report = report.total ≡ total_weight (records_before lists report.positions)
+IsTotal lists report = report.total ≡ total_weight (records_before_cut lists report.positions)
 
 -- the three tests hold that speak of no line
 pub record PassesHead (lists : List (List RecordValue)) (phi : ℕ) (report : Report) : Type 0 where
-  pub positions : ArePositionsWithin report.positions lists
+  pub positions : AreSoundPositions report.positions lists
   pub total : IsTotal lists report
   pub threshold : IsThreshold phi report.total report.threshold
 
@@ -102,14 +102,14 @@ pub record IsVerdictOnLines (lists : List (List RecordValue)) (capacity phi : �
     : Type 0 where
   pub head : PassesHead lists phi report
   pub lines : IsLineVerdict (record { capacity = capacity; threshold = report.threshold; total = report.total })
-      (records_before lists report.positions) report.lines verdict
+      (records_before_cut lists report.positions) report.lines verdict
 
 -- the verdict on a report over lists of records: it is sound, or it passes the tests before the one that the verdict
 -- names, and fails that one, first in the line or with the prefix that the verdict names
 abbrev pub IsVerdict : List (List RecordValue) → ℕ → ℕ → Report → Verdict → Type 0
 IsVerdict lists capacity phi report Good = IsSound report lists capacity phi
-IsVerdict lists capacity phi report BadPositions = ¬ ArePositionsWithin report.positions lists
-IsVerdict lists capacity phi report BadTotal = ArePositionsWithin report.positions lists × ¬ IsTotal lists report
+IsVerdict lists capacity phi report BadPositions = ¬ AreSoundPositions report.positions lists
+IsVerdict lists capacity phi report BadTotal = AreSoundPositions report.positions lists × ¬ IsTotal lists report
 IsVerdict lists capacity phi report BadThreshold =
-    ArePositionsWithin report.positions lists × IsTotal lists report × ¬ IsThreshold phi report.total report.threshold
+    AreSoundPositions report.positions lists × IsTotal lists report × ¬ IsThreshold phi report.total report.threshold
 IsVerdict lists capacity phi report verdict = IsVerdictOnLines lists capacity phi report verdict

@@ -2,8 +2,8 @@
 
 ghost use Rattle.std.specs.Prelude.{◌≡◌, ◌≤◌, ◌<◌, ◌↔◌, List, length, IfOk};
 ghost use Rattle.prefix_lattice.specs.{RecordValue, total_weight, total_limit};
-ghost use Rattle.shard_state.specs.{least_capacity, most_capacity};
-ghost use Rattle.hhh_output.specs.{million, AreLines, IsSound};
+ghost use Rattle.shard_state.specs.{least_table_capacity, most_table_capacity};
+ghost use Rattle.hhh_output.specs.{threshold_million, AreReportLines, IsSound};
 ghost use Rattle.exact_audit.specs.declared.verdict.Verdict.TheVariants.{Good};
 ghost use Rattle.exact_audit.specs.Verdict.{IsLineVerdict, IsVerdict};
 ghost use Rattle.exact_audit.specs.Findings.{AreFindings};
@@ -34,10 +34,10 @@ pub fn audit(
     capacity: u32,
     phi: u32,
 ) -> Result<Verdict, AllocError>
-    requires least { least_capacity ≤ capacity }
-    requires most { capacity ≤ most_capacity }
+    requires least { least_table_capacity ≤ capacity }
+    requires most { capacity ≤ most_table_capacity }
     requires some { 1 ≤ phi }
-    requires share { phi ≤ million }
+    requires share { phi ≤ threshold_million }
     ensures verdict { IfOk result (IsVerdict dealt.now capacity phi report.now) }
     ensures good { IfOk result (λ verdict. (verdict ≡ Good) ↔ IsSound report.now dealt.now capacity phi) }
 {
@@ -68,9 +68,9 @@ fn verdict_of(
     threshold: u64,
     total: u64,
 ) -> Result<Verdict, AllocError>
-    requires lines { AreLines lines.now }
+    requires lines { AreReportLines lines.now }
     requires as_many { length findings.now.sums.items ≡ length lines.now }
-    requires capacity { capacity ≤ most_capacity }
+    requires capacity { capacity ≤ most_table_capacity }
     requires total { total < total_limit }
     ensures { IfOk result (λ verdict. (records : List RecordValue) → AreFindings lines.now records threshold findings.now
         → total_weight records ≡ total

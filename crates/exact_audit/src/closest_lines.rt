@@ -2,9 +2,9 @@
 
 ghost use Rattle.std.specs.Prelude.{◌≡◌, ◌<◌, ◌≤◌, ◌*◌, IfOk, length};
 ghost use Rattle.std.specs.List.{filter_map, list_any};
-ghost use Rattle.prefix_lattice.specs.{strictly_under, lines_under, greatest, closest, same_prefix, under_third, kept_meet, kept_pairs};
-ghost use Rattle.hhh_output.specs.{prefixes_of};
-ghost use Rattle.exact_audit.specs.Widths.{line_limit};
+ghost use Rattle.prefix_lattice.specs.{strictly_under, lines_under, greatest_lines, closest, same_prefix, under_third_line, kept_meet, kept_pairs};
+ghost use Rattle.hhh_output.specs.{prefixes_of_lines};
+ghost use Rattle.exact_audit.specs.Widths.{widths_limit};
 
 use hhh_output::Line;
 use prefix_lattice::Prefix;
@@ -17,7 +17,7 @@ pub(crate) fn closest(
     prefix: &Prefix,
     lines: &[Line],
 ) -> Result<Vec<Prefix>, AllocError>
-    ensures closest { IfOk result (λ found. found.items ≡ closest prefix.now (prefixes_of lines.now)) }
+    ensures closest { IfOk result (λ found. found.items ≡ closest prefix.now (prefixes_of_lines lines.now)) }
     ensures few { IfOk result (λ found. length found.items ≤ length lines.now) }
 {
     let under = lines_under(alloc, prefix, lines)?;
@@ -26,7 +26,7 @@ pub(crate) fn closest(
 
 // The lines that are strictly under a prefix.
 fn lines_under(alloc: Global, prefix: &Prefix, lines: &[Line]) -> Result<Vec<Prefix>, AllocError>
-    ensures under { IfOk result (λ under. under.items ≡ lines_under prefix.now (prefixes_of lines.now)) }
+    ensures under { IfOk result (λ under. under.items ≡ lines_under prefix.now (prefixes_of_lines lines.now)) }
     ensures few { IfOk result (λ under. length under.items ≤ length lines.now) }
 {
     let mut under = Vec::new(alloc);
@@ -40,7 +40,7 @@ fn lines_under(alloc: Global, prefix: &Prefix, lines: &[Line]) -> Result<Vec<Pre
 
 // The members that are strictly under no other member.
 fn greatest(alloc: Global, members: &[Prefix]) -> Result<Vec<Prefix>, AllocError>
-    ensures greatest { IfOk result (λ tops. tops.items ≡ greatest members.now) }
+    ensures greatest { IfOk result (λ tops. tops.items ≡ greatest_lines members.now) }
     ensures few { IfOk result (λ tops. length tops.items ≤ length members.now) }
 {
     let mut tops = Vec::new(alloc);
@@ -61,9 +61,9 @@ fn is_under_another(member: &Prefix, members: &[Prefix]) -> bool
 /// How many pairs of members are kept: those whose meet exists and is under no third member. It costs up to the cube
 /// of the number of members.
 pub(crate) fn count_kept_pairs(members: &[Prefix]) -> u64
-    requires { length members.now < line_limit }
+    requires { length members.now < widths_limit }
     ensures number { result ≡ length (kept_pairs members.now) }
-    ensures few { result ≤ line_limit * line_limit }
+    ensures few { result ≤ widths_limit * widths_limit }
 {
     let mut pairs = 0;
     for (place, first) in members.iter().enumerate() {
@@ -74,7 +74,7 @@ pub(crate) fn count_kept_pairs(members: &[Prefix]) -> u64
 
 // How many pairs of one member with each of these others are kept.
 fn count_kept_with(members: &[Prefix], first: &Prefix, seconds: &[Prefix]) -> u64
-    requires { length seconds.now < line_limit }
+    requires { length seconds.now < widths_limit }
     ensures number { result ≡ length (filter_map (kept_meet members.now first.now) seconds.now) }
     ensures few { result ≤ length seconds.now }
 {
@@ -100,7 +100,7 @@ fn kept_meet(members: &[Prefix], first: &Prefix, second: &Prefix) -> Option<Pref
 }
 
 fn is_under_third(members: &[Prefix], first: &Prefix, second: &Prefix, meet: &Prefix) -> bool
-    ensures { result ≡ under_third members.now first.now second.now meet.now }
+    ensures { result ≡ under_third_line members.now first.now second.now meet.now }
 {
     members.iter().any(|third| meet.under(third)
         && !(is_same(third, first) || is_same(third, second)))

@@ -2,11 +2,11 @@
 
 ghost use Rattle.std.specs.Prelude.{◌≡◌, ◌≤◌, ◌<◌, ◌*◌, ◌^◌, ◌++◌, ◌↔◌, List, length, All, IsTrue, IfOk, OnOk};
 ghost use Rattle.prefix_lattice.specs.{PrefixValue, RecordValue, total_weight, total_limit, most_records};
-ghost use Rattle.shard_state.specs.{records_before};
-ghost use Rattle.hhh_output.specs.{ArePositionsWithin};
-ghost use Rattle.exact_audit.specs.LineCodes.{AreCodesOf};
-ghost use Rattle.exact_audit.specs.NodeSums.{AreCounted};
-ghost use Rattle.exact_audit.specs.Parts.{part_at};
+ghost use Rattle.shard_state.specs.{records_before_cut};
+ghost use Rattle.hhh_output.specs.{AreSoundPositions};
+ghost use Rattle.exact_audit.specs.LineCodes.{AreLineCodes};
+ghost use Rattle.exact_audit.specs.NodeSums.{AreCountedInNodeSums};
+ghost use Rattle.exact_audit.specs.CountedParts.{counted_part_at};
 
 use crate::depths::Depths;
 use crate::line_codes::LineCodes;
@@ -24,7 +24,7 @@ pub(crate) struct Counted {
 
 /// Whether there are as many positions as shards, and none is past the end of its shard's records.
 pub(crate) fn are_within(dealt: &Dealt, positions: &Positions) -> bool
-    ensures { IsTrue result ↔ ArePositionsWithin positions.now dealt.now }
+    ensures { IsTrue result ↔ AreSoundPositions positions.now dealt.now }
 {
     if positions.len() != dealt.shards() as usize {
         return false;
@@ -39,8 +39,8 @@ pub(crate) fn are_within(dealt: &Dealt, positions: &Positions) -> bool
 
 /// The weight of the records before positions.
 pub(crate) fn total_before(dealt: &Dealt, positions: &Positions) -> u64
-    requires { ArePositionsWithin positions.now dealt.now }
-    ensures total { result ≡ total_weight (records_before dealt.now positions.now) }
+    requires { AreSoundPositions positions.now dealt.now }
+    ensures total { result ≡ total_weight (records_before_cut dealt.now positions.now) }
     ensures bounded { result < total_limit }
 {
     let mut total = 0;
@@ -57,9 +57,9 @@ pub(crate) fn count_before(
     positions: &Positions,
     lines: &LineCodes,
 ) -> Result<Vec<Counted>, AllocError>
-    requires { ArePositionsWithin positions.now dealt.now }
-    ensures { IfOk result (λ counted. (prefixes : List PrefixValue) → AreCodesOf prefixes lines.now.codes.keys
-        → AreCounted prefixes (records_before dealt.now positions.now) counted.items) }
+    requires { AreSoundPositions positions.now dealt.now }
+    ensures { IfOk result (λ counted. (prefixes : List PrefixValue) → AreLineCodes prefixes lines.now.codes.keys
+        → AreCountedInNodeSums prefixes (records_before_cut dealt.now positions.now) counted.items) }
 {
     let mut counted = Vec::new(alloc);
     for shard in 0..dealt.shards() {
@@ -70,9 +70,9 @@ pub(crate) fn count_before(
 
 // The records of a shard before its position.
 fn part<'a>(dealt: &'a Dealt, positions: &Positions, shard: u32) -> &'a [Record]
-    requires within { ArePositionsWithin positions.now dealt.now }
+    requires within { AreSoundPositions positions.now dealt.now }
     requires shard { shard < length dealt.now }
-    ensures value { result.now ≡ part_at dealt.now positions.now shard }
+    ensures value { result.now ≡ counted_part_at dealt.now positions.now shard }
     ensures few { length result.now ≤ most_records }
     ensures light { All (λ rec. rec.weight < 2 ^ 32) result.now }
 {
@@ -100,8 +100,8 @@ fn push_counted(
     records: &[Record],
     lines: &LineCodes,
 ) -> Result<(), AllocError>
-    ensures { OnOk result ((prefixes : List PrefixValue) (before : List RecordValue) → AreCodesOf prefixes lines.now.codes.keys
-        → AreCounted prefixes before counted.old.items → AreCounted prefixes (before ++ records.now) counted.new.items) }
+    ensures { OnOk result ((prefixes : List PrefixValue) (before : List RecordValue) → AreLineCodes prefixes lines.now.codes.keys
+        → AreCountedInNodeSums prefixes before counted.old.items → AreCountedInNodeSums prefixes (before ++ records.now) counted.new.items) }
 {
     counted.reserve(records.len())?;
     for rec in records {

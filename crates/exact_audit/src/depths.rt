@@ -2,8 +2,8 @@
 
 ghost use Rattle.std.specs.Prelude.{◌≡◌, ◌+◌, ◌≤◌, List};
 ghost use Rattle.prefix_lattice.specs.{PrefixValue};
-ghost use Rattle.exact_audit.specs.LineCodes.{AreCodesOf};
-ghost use Rattle.exact_audit.specs.Depths.{AreDepths, IsDepth, explained};
+ghost use Rattle.exact_audit.specs.LineCodes.{AreLineCodes};
+ghost use Rattle.exact_audit.specs.Depths.{AreDepths, IsDepth, explained_by_depth};
 
 use crate::line_codes::LineCodes;
 use prefix_lattice::{Node, Prefix, Record, keys_are_of_their_node};
@@ -23,7 +23,7 @@ pub(crate) struct Depths {
 impl Depths {
     /// The depths of a record under lines. It costs at most one look-up for each node.
     pub(crate) fn of(lines: &LineCodes, rec: &Record) -> Depths
-        ensures { (prefixes : List PrefixValue) → AreCodesOf prefixes lines.now.codes.keys → AreDepths prefixes rec.now result }
+        ensures { (prefixes : List PrefixValue) → AreLineCodes prefixes lines.now.codes.keys → AreDepths prefixes rec.now result }
     {
         let four = depth(lines, rec, 4, 0);
         let three = depth(lines, rec, 3, four);
@@ -41,7 +41,7 @@ impl Depths {
 
     /// Whether a line strictly under the record's prefix of a node covers the record.
     pub(crate) fn explained(&self, node: Node) -> bool
-        ensures { result ≡ explained self.now node }
+        ensures { result ≡ explained_by_depth self.now node }
     {
         let (own, below) = match node.source_bytes() {
             0 => (self.zero, self.one),
@@ -59,7 +59,7 @@ fn depth(lines: &LineCodes, rec: &Record, source_bytes: u8, below: u8) -> u8
     requires source { source_bytes ≤ 4 }
     requires few { below ≤ 5 }
     ensures few { result ≤ 5 }
-    ensures depth { (prefixes : List PrefixValue) → AreCodesOf prefixes lines.now.codes.keys
+    ensures depth { (prefixes : List PrefixValue) → AreLineCodes prefixes lines.now.codes.keys
         → IsDepth prefixes rec.now (source_bytes + 1) below → IsDepth prefixes rec.now source_bytes result }
 {
     keys_are_of_their_node();

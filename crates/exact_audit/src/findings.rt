@@ -1,11 +1,11 @@
 //! What passes over the records find, one node at a time.
 
 ghost use Rattle.std.specs.Prelude.{◌≡◌, ◌+◌, ◌≤◌, ◌<◌, List, length, IfOk};
-ghost use Rattle.prefix_lattice.specs.{RecordValue, index_of, total_weight, total_limit};
-ghost use Rattle.hhh_output.specs.{prefixes_of};
-ghost use Rattle.exact_audit.specs.LineCodes.{AreCodesOf};
-ghost use Rattle.exact_audit.specs.NodeSums.{AreCounted, AreNodeSums, records_of};
-ghost use Rattle.exact_audit.specs.Findings.{AreFindings, AreLineSumsBefore};
+ghost use Rattle.prefix_lattice.specs.{RecordValue, node_index, total_weight, total_limit};
+ghost use Rattle.hhh_output.specs.{prefixes_of_lines};
+ghost use Rattle.exact_audit.specs.LineCodes.{AreLineCodes};
+ghost use Rattle.exact_audit.specs.NodeSums.{AreCountedInNodeSums, AreNodeSums, records_in_node_sums};
+ghost use Rattle.exact_audit.specs.Findings.{AreFindings, AreFindingSumsBefore};
 
 use crate::counted::Counted;
 use crate::left_out::{LeftOut, first_left_out};
@@ -32,12 +32,12 @@ pub(crate) fn find(
     codes: &LineCodes,
     threshold: u64,
 ) -> Result<Findings, AllocError>
-    requires codes { AreCodesOf (prefixes_of lines.now) codes.now.codes.keys }
-    requires light { total_weight (records_of counted.now) < total_limit }
+    requires codes { AreLineCodes (prefixes_of_lines lines.now) codes.now.codes.keys }
+    requires light { total_weight (records_in_node_sums counted.now) < total_limit }
     requires some { 1 ≤ threshold }
     ensures as_many { IfOk result (λ findings. length findings.sums.items ≡ length lines.now) }
     ensures found { IfOk result (λ findings. (records : List RecordValue)
-        → AreCounted (prefixes_of lines.now) records counted.now → AreFindings lines.now records threshold findings) }
+        → AreCountedInNodeSums (prefixes_of_lines lines.now) records counted.now → AreFindings lines.now records threshold findings) }
 {
     let mut line_sums = vec![in alloc; Sums::NONE; lines.len()]?;
     let mut left_out = None;
@@ -57,9 +57,9 @@ pub(crate) fn find(
 fn note_lines(line_sums: &mut Vec<Sums>, lines: &[Line], node: Node, sums: &IndexMap<u64, Sums>)
     requires { length line_sums.old.items ≡ length lines.now }
     ensures as_many { length line_sums.new.items ≡ length lines.now }
-    ensures sums { (records : List RecordValue) → AreNodeSums node (prefixes_of lines.now) records sums.now
-        → AreLineSumsBefore (index_of node) lines.now records line_sums.old.items
-        → AreLineSumsBefore (index_of node + 1) lines.now records line_sums.new.items }
+    ensures sums { (records : List RecordValue) → AreNodeSums node (prefixes_of_lines lines.now) records sums.now
+        → AreFindingSumsBefore (node_index node) lines.now records line_sums.old.items
+        → AreFindingSumsBefore (node_index node + 1) lines.now records line_sums.new.items }
 {
     for (place, line) in lines.iter().enumerate() {
         if line.prefix.node().index() == node.index() {

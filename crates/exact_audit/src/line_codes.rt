@@ -2,9 +2,9 @@
 
 ghost use Rattle.std.specs.Prelude.{◌≡◌, ◌^◌, ◌<◌, nat_eq, IfOk};
 ghost use Rattle.std.specs.List.{list_any};
-ghost use Rattle.prefix_lattice.specs.{IsPrefix, key_of};
-ghost use Rattle.hhh_output.specs.{prefixes_of};
-ghost use Rattle.exact_audit.specs.LineCodes.{code_of, AreCodesOf};
+ghost use Rattle.prefix_lattice.specs.{IsPrefix, prefix_key};
+ghost use Rattle.hhh_output.specs.{prefixes_of_lines};
+ghost use Rattle.exact_audit.specs.LineCodes.{line_code_of, AreLineCodes};
 
 use hhh_output::Line;
 use indexmap::IndexSet;
@@ -20,7 +20,7 @@ pub(crate) struct LineCodes {
 impl LineCodes {
     /// The codes of these lines.
     pub(crate) fn of(alloc: Global, lines: &[Line]) -> Result<LineCodes, AllocError>
-        ensures { IfOk result (λ found. AreCodesOf (prefixes_of lines.now) found.codes.keys) }
+        ensures { IfOk result (λ found. AreLineCodes (prefixes_of_lines lines.now) found.codes.keys) }
     {
         let mut codes = IndexSet::new(alloc);
         for line in lines {
@@ -31,9 +31,9 @@ impl LineCodes {
 
     /// Whether a line has this prefix.
     pub(crate) fn has(&self, prefix: &Prefix) -> bool
-        ensures value { result ≡ list_any (nat_eq (code_of prefix.now)) self.now.codes.keys }
+        ensures value { result ≡ list_any (nat_eq (line_code_of prefix.now)) self.now.codes.keys }
         ensures prefix { IsPrefix prefix.now }
-        ensures small { key_of prefix.now < 2 ^ 64 }
+        ensures small { prefix_key prefix.now < 2 ^ 64 }
     {
         self.codes.contains(&code_of(prefix))
     }
@@ -41,9 +41,9 @@ impl LineCodes {
 
 // A number for each prefix, by its node and then by its key. No two prefixes share one.
 fn code_of(prefix: &Prefix) -> u128
-    ensures value { result ≡ code_of prefix.now }
+    ensures value { result ≡ line_code_of prefix.now }
     ensures prefix { IsPrefix prefix.now }
-    ensures small { key_of prefix.now < 2 ^ 64 }
+    ensures small { prefix_key prefix.now < 2 ^ 64 }
 {
     u128::from(prefix.node().index()) << 64 | u128::from(prefix.key())
 }

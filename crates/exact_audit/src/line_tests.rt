@@ -1,12 +1,12 @@
 //! The tests of lines. Each answers the number of the first line that fails it, counted from 1.
 
 ghost use Rattle.std.specs.Prelude.{◌≡◌, ◌+◌, ◌*◌, ◌≤◌, ◌<◌, ◌^◌, ◌↔◌, List, length, All, IsTrue, IfOk};
-ghost use Rattle.prefix_lattice.specs.{RecordValue, Holds, total_weight, total_limit};
-ghost use Rattle.shard_state.specs.{most_capacity};
-ghost use Rattle.hhh_output.specs.{HoldsWeight, IsHeavyLine, IsNarrowLine, prefixes_of};
+ghost use Rattle.prefix_lattice.specs.{RecordValue, IntervalHoldsWeight, total_weight, total_limit};
+ghost use Rattle.shard_state.specs.{most_table_capacity};
+ghost use Rattle.hhh_output.specs.{HoldsWeightInSoundReport, IsHeavyInSoundReport, IsNarrowInSoundReport, prefixes_of_lines};
 ghost use Rattle.exact_audit.specs.Verdict.{IsFirstFailure, IsJustifiedAmong};
-ghost use Rattle.exact_audit.specs.Widths.{line_limit, tested_by, widths_of};
-ghost use Rattle.exact_audit.specs.Findings.{AreLineSums};
+ghost use Rattle.exact_audit.specs.Widths.{widths_limit, tested_by_widths, widths_of};
+ghost use Rattle.exact_audit.specs.Findings.{AreFindingSums};
 
 use crate::closest_lines::{closest, count_kept_pairs};
 use crate::node_sums::Sums;
@@ -16,8 +16,8 @@ use std::alloc::{AllocError, Global};
 /// The first line whose interval doesn't hold its prefix's weight.
 pub(crate) fn bad_interval(lines: &[Line], sums: &[Sums]) -> Option<u64>
     requires { length sums.now ≡ length lines.now }
-    ensures { (records : List RecordValue) → AreLineSums lines.now records sums.now
-        → IsFirstFailure (HoldsWeight records) lines.now result }
+    ensures { (records : List RecordValue) → AreFindingSums lines.now records sums.now
+        → IsFirstFailure (HoldsWeightInSoundReport records) lines.now result }
 {
     for (place, line) in lines.iter().enumerate() {
         if !holds(line, sums[place].weight) {
@@ -29,7 +29,7 @@ pub(crate) fn bad_interval(lines: &[Line], sums: &[Sums]) -> Option<u64>
 
 // Whether the interval of a line holds a weight.
 fn holds(line: &Line, weight: u64) -> bool
-    ensures { IsTrue result ↔ Holds line.now.lo line.now.hi weight }
+    ensures { IsTrue result ↔ IntervalHoldsWeight line.now.lo line.now.hi weight }
 {
     line.lo <= weight && weight <= line.hi
 }
@@ -37,7 +37,7 @@ fn holds(line: &Line, weight: u64) -> bool
 /// The first line whose interval's width times the capacity is above the total.
 pub(crate) fn too_wide(lines: &[Line], capacity: u32, total: u64) -> Option<u64>
     requires { All (λ line. line.lo ≤ line.hi) lines.now }
-    ensures { IsFirstFailure (IsNarrowLine capacity total) lines.now result }
+    ensures { IsFirstFailure (IsNarrowInSoundReport capacity total) lines.now result }
 {
     for (place, line) in lines.iter().enumerate() {
         if u128::from(line.hi - line.lo) * u128::from(capacity) > u128::from(total) {
@@ -49,7 +49,7 @@ pub(crate) fn too_wide(lines: &[Line], capacity: u32, total: u64) -> Option<u64>
 
 /// The first line whose high is below the threshold.
 pub(crate) fn low_line(lines: &[Line], threshold: u64) -> Option<u64>
-    ensures { IsFirstFailure (IsHeavyLine threshold) lines.now result }
+    ensures { IsFirstFailure (IsHeavyInSoundReport threshold) lines.now result }
 {
     for (place, line) in lines.iter().enumerate() {
         if line.hi < threshold {
@@ -74,13 +74,13 @@ pub(crate) fn not_justified(
     sums: &[Sums],
     by: &Measures,
 ) -> Result<Option<u64>, AllocError>
-    requires few { length lines.now < line_limit }
+    requires few { length lines.now < widths_limit }
     requires as_many { length sums.now ≡ length lines.now }
-    requires capacity { by.now.capacity ≤ most_capacity }
+    requires capacity { by.now.capacity ≤ most_table_capacity }
     requires total { by.now.total < total_limit }
-    ensures { IfOk result (λ found. (records : List RecordValue) → AreLineSums lines.now records sums.now
+    ensures { IfOk result (λ found. (records : List RecordValue) → AreFindingSums lines.now records sums.now
         → total_weight records ≡ by.now.total
-        → IsFirstFailure (IsJustifiedAmong (tested_by by.now) records lines.now) lines.now found) }
+        → IsFirstFailure (IsJustifiedAmong (tested_by_widths by.now) records lines.now) lines.now found) }
 {
     for (place, line) in lines.iter().enumerate() {
         if !is_justified(alloc, line, lines, sums[place].left, by)? {
@@ -99,11 +99,11 @@ fn is_justified(
     left: u64,
     by: &Measures,
 ) -> Result<bool, AllocError>
-    requires few { length lines.now < line_limit }
-    requires capacity { by.now.capacity ≤ most_capacity }
+    requires few { length lines.now < widths_limit }
+    requires capacity { by.now.capacity ≤ most_table_capacity }
     requires total { by.now.total < total_limit }
     ensures { IfOk result (λ justified. IsTrue justified ↔ (by.now.capacity * by.now.threshold ≤ by.now.capacity * left
-        + widths_of line.now.prefix (prefixes_of lines.now) * by.now.total)) }
+        + widths_of line.now.prefix (prefixes_of_lines lines.now) * by.now.total)) }
 {
     if by.allows(left, 1) {
         return Ok(true);
@@ -119,7 +119,7 @@ fn is_justified(
 impl Measures {
     // Whether a conditioned weight is at least the threshold less this many widths, each the total over the capacity.
     fn allows(&self, left: u64, widths: u64) -> bool
-        requires capacity { self.now.capacity ≤ most_capacity }
+        requires capacity { self.now.capacity ≤ most_table_capacity }
         requires total { self.now.total < total_limit }
         ensures { IsTrue result ↔ (self.now.capacity * self.now.threshold
             ≤ self.now.capacity * left + widths * self.now.total) }

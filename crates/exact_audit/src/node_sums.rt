@@ -3,7 +3,7 @@
 ghost use Rattle.std.specs.Prelude.{◌≡◌, ◌+◌, ◌<◌, ◌^◌, ℕ, List, nat_eq, is_some, if◌then◌else◌, ◌&&◌, ◌||◌, not, IfOk, OnOk};
 ghost use Rattle.std.specs.HashMap.{get};
 ghost use Rattle.prefix_lattice.specs.{IsNode, PrefixValue, RecordValue, total_weight, total_limit};
-ghost use Rattle.exact_audit.specs.NodeSums.{AreCounted, AreNodeSums, HasKeysOf, records_of, sums_for};
+ghost use Rattle.exact_audit.specs.NodeSums.{AreCountedInNodeSums, AreNodeSums, HasNodeSumKeys, records_in_node_sums, sums_for};
 
 use crate::counted::Counted;
 use indexmap::IndexMap;
@@ -30,10 +30,10 @@ pub(crate) fn sums_at(
     node: Node,
 ) -> Result<IndexMap<u64, Sums>, AllocError>
     requires node { IsNode node }
-    requires light { total_weight (records_of counted.now) < total_limit }
-    ensures keys { IfOk result (HasKeysOf node) }
+    requires light { total_weight (records_in_node_sums counted.now) < total_limit }
+    ensures keys { IfOk result (HasNodeSumKeys node) }
     ensures sums { IfOk result (λ sums. (lines : List PrefixValue) (records : List RecordValue)
-        → AreCounted lines records counted.now → AreNodeSums node lines records sums) }
+        → AreCountedInNodeSums lines records counted.now → AreNodeSums node lines records sums) }
 {
     keys_tell_covering();
     keys_are_of_their_node();

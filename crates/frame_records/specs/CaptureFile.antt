@@ -1,12 +1,12 @@
 -- Files, as crates above see them: which frames are taken from a file, and for which fault it is refused.
 use Rattle.std.specs.Prelude.{ℕ, List}
 use Rattle.pcap_frames.specs.declared.fault.CaptureFault.{CaptureFault}
-use Rattle.pcap_frames.specs.{FrameValue, IsCapture, HasFault}
+use Rattle.pcap_frames.specs.{FrameValue, IsCapture, HasCaptureFault}
 
 -- these are the frames taken from a file: it is a capture of them
-abbrev pub HasFrames : List ℕ → List FrameValue → Type 0
-HasFrames file frames = IsCapture file frames
+abbrev pub HasCaptureFrames : List ℕ → List FrameValue → Type 0
+HasCaptureFrames file frames = IsCapture file frames
 
 -- a file is refused for this fault, which is its first
-abbrev pub IsRefusedFor : List ℕ → CaptureFault → Type 0
-IsRefusedFor file fault = HasFault file fault
+abbrev pub IsRefusedCapture : List ℕ → CaptureFault → Type 0
+IsRefusedCapture file fault = HasCaptureFault file fault

@@ -13,35 +13,35 @@ use Rattle.frame_records.specs.declared.skip.Skip.{Skip}
 use Rattle.frame_records.specs.declared.skip.Skip.TheVariants.{NotIpv4, Short, BadHeader}
 
 -- whether the captured bytes have the type of a VLAN tag at this offset
-abbrev pub has_tag_at : ℕ → FrameValue → Bool
-has_tag_at place frame =
+abbrev pub frame_has_tag_at : ℕ → FrameValue → Bool
+frame_has_tag_at place frame =
     nat_le (place + 2) frame.captured
     && (big_from place 2 frame.head == 0x8100 || big_from place 2 frame.head == 0x88a8)
 
 -- how many bytes of tags precede the type of the frame: a third tag counts as its type
-abbrev pub tag_bytes : FrameValue → ℕ
-tag_bytes frame = if not (has_tag_at 12 frame) then 0 else (if not (has_tag_at 16 frame) then 4 else 8)
+abbrev pub frame_tag_bytes : FrameValue → ℕ
+frame_tag_bytes frame = if not (frame_has_tag_at 12 frame) then 0 else (if not (frame_has_tag_at 16 frame) then 4 else 8)
 
 -- the offset of the network-layer header: after the addresses, the tags and the type
-abbrev pub network_place : FrameValue → ℕ
-network_place frame = 14 + tag_bytes frame
+abbrev pub frame_network_place : FrameValue → ℕ
+frame_network_place frame = 14 + frame_tag_bytes frame
 
 -- whether a byte begins an IPv4 header: version 4, and a header length of at least five 32-bit words
-abbrev pub begins_ipv4 : ℕ → Bool
-begins_ipv4 byte = byte / 16 == 4 && nat_le 5 (byte % 16)
+abbrev pub frame_begins_ipv4 : ℕ → Bool
+frame_begins_ipv4 byte = byte / 16 == 4 && nat_le 5 (byte % 16)
 
 -- why a frame whose network layer begins at this offset has no record
-abbrev pub skip_at : ℕ → FrameValue → Option Skip
-skip_at place frame =
+abbrev pub frame_skip_at : ℕ → FrameValue → Option Skip
+frame_skip_at place frame =
     if nat_lt frame.captured place then Some Short
     else (if not (big_from (place - 2) 2 frame.head == 0x0800) then Some NotIpv4
     else (if nat_lt frame.captured (place + 20) then Some Short
-    else (if not (begins_ipv4 (slice_index frame.head place)) then Some BadHeader
+    else (if not (frame_begins_ipv4 (slice_index frame.head place)) then Some BadHeader
     else None)))
 
 -- why a frame has no record, if it has none
-abbrev pub skip_of : FrameValue → Option Skip
-skip_of frame = skip_at (network_place frame) frame
+abbrev pub frame_skip_of : FrameValue → Option Skip
+frame_skip_of frame = frame_skip_at (frame_network_place frame) frame
 
 -- the weight of a frame: the greater of its two lengths, or one packet
 abbrev pub weight_of_frame : Weigh → FrameValue → ℕ
@@ -49,33 +49,33 @@ weight_of_frame Bytes frame = max frame.captured frame.original
 weight_of_frame Packets frame = 1
 
 -- the record of a frame whose network layer begins at this offset
-abbrev pub record_at : ℕ → Weigh → FrameValue → RecordValue
-record_at place weigh frame = record {
+abbrev pub frame_record_at : ℕ → Weigh → FrameValue → RecordValue
+frame_record_at place weigh frame = record {
   src = big_from (place + 12) 4 frame.head;
   dst = big_from (place + 16) 4 frame.head;
   weight = weight_of_frame weigh frame;
 }
 
 -- the record, unless the frame is skipped
-abbrev pub unless_skipped : Option Skip → RecordValue → Result RecordValue Skip
-unless_skipped None rec = Ok rec
-unless_skipped (Some skip) rec = Err skip
+abbrev pub frame_record_unless_skipped : Option Skip → RecordValue → Result RecordValue Skip
+frame_record_unless_skipped None rec = Ok rec
+frame_record_unless_skipped (Some skip) rec = Err skip
 
 -- the record of a frame, or why it has none
 abbrev pub record_of : Weigh → FrameValue → Result RecordValue Skip
-record_of weigh frame = unless_skipped (skip_of frame) (record_at (network_place frame) weigh frame)
+record_of weigh frame = frame_record_unless_skipped (frame_skip_of frame) (frame_record_at (frame_network_place frame) weigh frame)
 
 -- the records of some frames, in their order
-abbrev pub records_of : Weigh → List FrameValue → List RecordValue
-records_of weigh frames = filter_map (λ frame. result_ok (record_of weigh frame)) frames
+abbrev pub frame_records_of : Weigh → List FrameValue → List RecordValue
+frame_records_of weigh frames = filter_map (λ frame. result_ok (record_of weigh frame)) frames
 
 -- whether a frame is skipped for this reason
-abbrev pub is_skipped : Skip → Option Skip → Bool
-is_skipped NotIpv4 (Some NotIpv4) = true
-is_skipped Short (Some Short) = true
-is_skipped BadHeader (Some BadHeader) = true
-is_skipped _ _ = false
+abbrev pub is_skipped_frame : Skip → Option Skip → Bool
+is_skipped_frame NotIpv4 (Some NotIpv4) = true
+is_skipped_frame Short (Some Short) = true
+is_skipped_frame BadHeader (Some BadHeader) = true
+is_skipped_frame _ _ = false
 
 -- how many of some frames are skipped for this reason
 abbrev pub skipped : Skip → List FrameValue → ℕ
-skipped skip frames = count_by (λ frame. is_skipped skip (skip_of frame)) frames
+skipped skip frames = count_by (λ frame. is_skipped_frame skip (frame_skip_of frame)) frames

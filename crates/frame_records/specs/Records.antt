@@ -1,19 +1,19 @@
 -- The result of reading the records of a capture.
 use Rattle.std.specs.Prelude.{⊤, ℕ, ◌≡◌, ◌≤◌, List, length, Option, IfSome}
 use Rattle.std.specs.Io.KnownBytes.{Consumes}
-use Rattle.pcap_frames.specs.{FrameValue, most_frames}
-use Rattle.outside_io.specs.{Rose}
-use Rattle.frame_records.specs.CaptureFile.{HasFrames, IsRefusedFor}
+use Rattle.pcap_frames.specs.{FrameValue, most_frames_in_file}
+use Rattle.outside_io.specs.{FaultCountRose}
+use Rattle.frame_records.specs.CaptureFile.{HasCaptureFrames, IsRefusedCapture}
 use Rattle.pcap_frames.specs.declared.fault.ReadRefusal.{ReadRefusal}
 use Rattle.pcap_frames.specs.declared.fault.ReadRefusal.TheVariants.{Capture, ReadFault, OutOfMemory}
-use Rattle.frame_records.specs.FrameRecord.{records_of, skipped}
+use Rattle.frame_records.specs.FrameRecord.{frame_records_of, skipped}
 use Rattle.frame_records.specs.declared.weigh.Weigh.{Weigh}
 use Rattle.frame_records.specs.declared.skip.Skip.TheVariants.{NotIpv4, Short, BadHeader}
 use Rattle.frame_records.specs.declared.records.Records.{Records}
 
 -- the records and the four counts of some frames
 pub record AreRecordsOf (weigh : Weigh) (all : List FrameValue) (records : Records) : Type 0 where
-  pub list : records.list ≡ records_of weigh all
+  pub list : records.list ≡ frame_records_of weigh all
   pub frames : records.frames ≡ length all
   pub not_ipv4 : records.not_ipv4 ≡ skipped NotIpv4 all
   pub short : records.short ≡ skipped Short all
@@ -22,14 +22,14 @@ pub record AreRecordsOf (weigh : Weigh) (all : List FrameValue) (records : Recor
 -- the records are those of at most 16,777,216 frames, which are the frames of the source's bytes where these are known
 pub record HasRecords (weigh : Weigh) (left : Option (List ℕ)) (records : Records) : Type 0 where
   pub frames : List FrameValue
-  pub few : length frames ≤ most_frames
-  pub told : IfSome left (λ file. HasFrames file frames)
+  pub few : length frames ≤ most_frames_in_file
+  pub told : IfSome left (λ file. HasCaptureFrames file frames)
   pub are : AreRecordsOf weigh frames records
 
 -- each refusal has its cause: the known bytes have this first fault, or the source's count of faults rose
 abbrev pub HasRefused : Option (List ℕ) → ℕ → ℕ → ReadRefusal → Type 0
-HasRefused left before now (Capture fault) = IfSome left (λ file. IsRefusedFor file fault)
-HasRefused left before now ReadFault = Rose before now
+HasRefused left before now (Capture fault) = IfSome left (λ file. IsRefusedCapture file fault)
+HasRefused left before now ReadFault = FaultCountRose before now
 HasRefused left before now OutOfMemory = ⊤
 
 -- a front of the known bytes of the source was read, and the others remain

@@ -2,8 +2,8 @@
 
 ghost use Rattle.std.specs.Prelude.{◌≡◌, ◌≤◌, ◌+◌, min, length};
 ghost use Rattle.byteorder.specs.Endian.{big_from};
-ghost use Rattle.pcap_frames.specs.{content_of};
-ghost use Rattle.frame_records.specs.FrameRecord.{record_of, has_tag_at, tag_bytes, begins_ipv4};
+ghost use Rattle.pcap_frames.specs.{frame_content};
+ghost use Rattle.frame_records.specs.FrameRecord.{record_of, frame_has_tag_at, frame_tag_bytes, frame_begins_ipv4};
 
 use crate::{Skip, Weigh};
 use byteorder::{BigEndian, ByteOrder};
@@ -24,7 +24,7 @@ const IPV4: u16 = 0x0800;
 /// up to and including the type, `NotIpv4` for the type, `Short` for the 20 bytes after it, `BadHeader` for the first
 /// of these. IPv4 options, the other lengths in the header, fragments and the checksum are ignored.
 pub fn record_of(frame: &Frame<'_>, weigh: Weigh) -> Result<Record, Skip>
-    ensures { result ≡ record_of weigh (content_of frame.now) }
+    ensures { result ≡ record_of weigh (frame_content frame.now) }
 {
     let head = frame.head;
     let place = 14 + tag_bytes(frame);
@@ -49,7 +49,7 @@ pub fn record_of(frame: &Frame<'_>, weigh: Weigh) -> Result<Record, Skip>
 
 // How many bytes of VLAN tags precede the type: two tags at most.
 fn tag_bytes(frame: &Frame<'_>) -> usize
-    ensures tags { result ≡ tag_bytes (content_of frame.now) }
+    ensures tags { result ≡ frame_tag_bytes (frame_content frame.now) }
     ensures few { result ≤ 8 }
 {
     if !has_tag_at(frame, 12) {
@@ -63,7 +63,7 @@ fn tag_bytes(frame: &Frame<'_>) -> usize
 
 fn has_tag_at(frame: &Frame<'_>, place: usize) -> bool
     requires { place ≤ 16 }
-    ensures { result ≡ has_tag_at place (content_of frame.now) }
+    ensures { result ≡ frame_has_tag_at place (frame_content frame.now) }
 {
     if frame.head.len() < place + 2 {
         return false;
@@ -90,7 +90,7 @@ fn address_at(head: &[u8], place: usize) -> u32
 
 // Whether a byte begins an IPv4 header: version 4, and a header length of at least five 32-bit words.
 fn begins_ipv4(byte: u8) -> bool
-    ensures { result ≡ begins_ipv4 byte }
+    ensures { result ≡ frame_begins_ipv4 byte }
 {
     byte / 16 == 4 && byte % 16 >= 5
 }

@@ -3,7 +3,7 @@
 ghost use Rattle.std.specs.Prelude.{◌≡◌, ◌≤◌, ◌<◌, vec_len, length, IfOk, IfErr, OnOk, OnErr, IsErrOf};
 ghost use Rattle.std.specs.Io.KnownBytes.{IsAtEnd};
 ghost use Rattle.frame_records.specs.Records.{HasRecords, HasRefused, HasReadFront};
-ghost use Rattle.frame_records.specs.RecordVisitor.{weigh_by};
+ghost use Rattle.frame_records.specs.RecordVisitor.{weigh_of_visitor};
 ghost use Rattle.prefix_lattice.specs.{most_records};
 
 use crate::record_visitor::RecordVisitor;
@@ -45,7 +45,7 @@ fn read_weighed<S: Source, const PACKETS: bool>(
     buffer: &mut [u8],
 ) -> Result<Records, ReadRefusal>
     requires { 0 < length buffer.old }
-    ensures records { IfOk result (HasRecords (weigh_by PACKETS) (S.left source.old)) }
+    ensures records { IfOk result (HasRecords (weigh_of_visitor PACKETS) (S.left source.old)) }
     ensures few { IfOk result (λ records. length records.list ≤ most_records) }
     ensures at_end { OnOk result (IsAtEnd (S.left source.new)) }
     ensures refused { IfErr result (HasRefused (S.left source.old) (S.faults source.old) (S.faults source.new)) }

@@ -1,8 +1,8 @@
 //! A visitor that keeps the records of the frames that it is shown.
 
 ghost use Rattle.std.specs.Prelude.{◌≡◌, [], ◌∷◌, OnOk, OnErr};
-ghost use Rattle.pcap_frames.specs.{content_of, Sees};
-ghost use Rattle.frame_records.specs.RecordVisitor.{KeepsRecordsOf, weigh_by};
+ghost use Rattle.pcap_frames.specs.{frame_content, VisitorSees};
+ghost use Rattle.frame_records.specs.RecordVisitor.{VisitorKeepsRecordsOf, weigh_of_visitor};
 
 use crate::{Records, Weigh, record_of};
 use pcap_frames::{Frame, FrameVisitor};
@@ -18,7 +18,7 @@ pub(crate) struct RecordVisitor<const PACKETS: bool> {
 impl<const PACKETS: bool> RecordVisitor<PACKETS> {
     /// A visitor that has seen no frame.
     pub(crate) fn new(alloc: Global) -> Self
-        ensures { KeepsRecordsOf (weigh_by PACKETS) [] result.records }
+        ensures { VisitorKeepsRecordsOf (weigh_of_visitor PACKETS) [] result.records }
     {
         RecordVisitor {
             records: Records {
@@ -32,7 +32,7 @@ impl<const PACKETS: bool> RecordVisitor<PACKETS> {
     }
 
     fn weigh() -> Weigh
-        ensures { result ≡ weigh_by PACKETS }
+        ensures { result ≡ weigh_of_visitor PACKETS }
     {
         if PACKETS {
             Weigh::Packets
@@ -43,7 +43,7 @@ impl<const PACKETS: bool> RecordVisitor<PACKETS> {
 }
 
 impl<const PACKETS: bool> FrameVisitor for RecordVisitor<PACKETS> {
-    ghost represents = { λ v frames. KeepsRecordsOf (weigh_by PACKETS) frames v.records };
+    ghost represents = { λ v frames. VisitorKeepsRecordsOf (weigh_of_visitor PACKETS) frames v.records };
 
     fn frame(&mut self, frame: &Frame<'_>) -> Result<(), AllocError> {
         self.records.take(record_of(frame, Self::weigh()))

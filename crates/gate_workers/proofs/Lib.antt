@@ -1,5 +1,5 @@
-pub mod FeedLemmas
+pub mod FeedingLemmas
 pub mod CallLemmas
 pub mod Examples
-mod GatherLemmas
+mod GatheredLemmas
 pub mod ExamplesOfThreads

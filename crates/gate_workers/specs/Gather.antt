@@ -1,11 +1,11 @@
 -- What the threads of a plan do, and what comes back.
 use Rattle.std.specs.Prelude.{ℕ, ◌≡◌, ◌+◌, ◌<◌, List, length, fold, All, Ok, IfOk, slice_index_or}
-use Rattle.shard_state.specs.{BasesRepresent, HasShape, ShardValue, capacity_of, lists_of}
+use Rattle.shard_state.specs.{CoreBasesRepresent, HasCoreShape, ShardValue, core_capacity, core_lists}
 use Rattle.hhh_output.specs.{IsSound}
 use Rattle.hhh_output.specs.declared.reports.Reported.{Reported}
 use Rattle.position_words.specs.declared.view.View.{View}
-use Rattle.pass_tokens.specs.{IsPassOf, SeatValue, WordsValue, joined, newcomer, view}
-use Rattle.gate_workers.specs.Feed.{Feeds, HasSeenEnds}
+use Rattle.pass_tokens.specs.{IsPassOfBoard, SeatValue, WordsValue, view_after_join, newcomer_view, view}
+use Rattle.gate_workers.specs.Feed.{Feeds, HasFeedSeenEnds}
 use Rattle.gate_workers.specs.Call.{Calls}
 use Rattle.gate_workers.specs.declared.callers.Caller.{Caller}
 use Rattle.gate_workers.specs.declared.plan.ThreadPlan.{ThreadPlan}
@@ -13,75 +13,75 @@ use Rattle.gate_workers.specs.declared.gathered.Called.{Called}
 use Rattle.gate_workers.specs.declared.gathered.Gathered.{Gathered}
 
 -- a view after passes were split off
-abbrev pub after_splits : ℕ → View → View
-after_splits count view = record view { splits = view.splits + count }
+abbrev pub after_gather_splits : ℕ → View → View
+after_gather_splits count view = record view { splits = view.splits + count }
 
 -- a worker at its end: its pass was split off from this view, only fed, and has seen the end of each list
-pub record HasFed (opening : List ShardValue) (block : ℕ) (before worker : View) : Type 0 where
-  pub feeds : Feeds opening block (newcomer before) worker
-  pub ends : HasSeenEnds opening worker
+pub record HasGatheredFeed (opening : List ShardValue) (block : ℕ) (before worker : View) : Type 0 where
+  pub feeds : Feeds opening block (newcomer_view before) worker
+  pub ends : HasFeedSeenEnds opening worker
 
 -- a caller at its end: its pass was split off from this view, and read what its reports say
-abbrev pub HasCalled : List ShardValue → ThreadPlan → View → Called → Type 0
-HasCalled opening plan before called =
-    Calls opening plan.phi plan.rounds (newcomer before) (view called.pass) called.reports
+abbrev pub HasGatheredCalls : List ShardValue → ThreadPlan → View → Called → Type 0
+HasGatheredCalls opening plan before called =
+    Calls opening plan.phi plan.rounds (newcomer_view before) (view called.pass) called.reports
 
 -- each report of a caller is sound
-abbrev pub AreSound : List ShardValue → ℕ → List Reported → Type 0
-AreSound opening phi reports =
-    All (λ reported. IsSound reported.report (lists_of opening) (capacity_of opening) phi) reports
+abbrev pub AreGatheredSound : List ShardValue → ℕ → List Reported → Type 0
+AreGatheredSound opening phi reports =
+    All (λ reported. IsSound reported.report (core_lists opening) (core_capacity opening) phi) reports
 
 -- the calling thread made its rounds once, after all passes were split off from this view
-pub record GoesOnce (relates : View → View → Type 0) (passes : ℕ) (before : View) : Type 0 where
+pub record GathersOnce (relates : View → View → Type 0) (passes : ℕ) (before : View) : Type 0 where
   pub now : View
-  pub does : relates (after_splits passes before) now
+  pub does : relates (after_gather_splits passes before) now
 
 -- what comes back: the calling thread made its rounds once; each worker fed to the ends, and its pass is joined to that
 -- of the calling thread; each caller brings back its pass and its reports
 pub record Gathers (opening : List ShardValue) (plan : ThreadPlan) (relates : View → View → Type 0) (before : View)
     (gathered : Gathered) : Type 0 where
-  pub rounds : GoesOnce relates (plan.workers + plan.callers) before
+  pub rounds : GathersOnce relates (plan.workers + plan.callers) before
   pub workers : List View
   pub as_many_workers : length workers ≡ plan.workers
-  pub fed : All (HasFed opening plan.block before) workers
-  pub pass : view gathered.pass ≡ fold joined rounds.now workers
+  pub fed : All (HasGatheredFeed opening plan.block before) workers
+  pub pass : view gathered.pass ≡ fold view_after_join rounds.now workers
   pub as_many_callers : length gathered.called.items ≡ plan.callers
-  pub called : All (HasCalled opening plan before) gathered.called.items
+  pub called : All (HasGatheredCalls opening plan before) gathered.called.items
 
 -- within the crate: a pass that was split off from this view
-pub record IsSplitOff (board : WordsValue) (before : View) (pass : SeatValue) : Type 0 where
-  pub of_board : IsPassOf board pass
-  pub seen : view pass ≡ newcomer before
+pub record IsSplitOffToGather (board : WordsValue) (before : View) (pass : SeatValue) : Type 0 where
+  pub of_board : IsPassOfBoard board pass
+  pub seen : view pass ≡ newcomer_view before
 
 -- within the crate: a worker's pass before its thread and after it
-pub record FeedsToEnds (board : WordsValue) (block : ℕ) (before now : SeatValue) : Type 0 where
-  pub pass : IsPassOf board now
+pub record GathersFeedsToEnds (board : WordsValue) (block : ℕ) (before now : SeatValue) : Type 0 where
+  pub pass : IsPassOfBoard board now
   pub feeds : Feeds board.opening block (view before) (view now)
-  pub ends : HasSeenEnds board.opening (view now)
+  pub ends : HasFeedSeenEnds board.opening (view now)
 
 -- within the crate: a caller that can make its rounds
-pub record CanCall (board : WordsValue) (caller : Caller) : Type 0 where
-  pub pass : IsPassOf board caller.pass
-  pub shape : HasShape (length board.opening) (capacity_of board.opening) caller.cut
+pub record CanGatherCalls (board : WordsValue) (caller : Caller) : Type 0 where
+  pub pass : IsPassOfBoard board caller.pass
+  pub shape : HasCoreShape (length board.opening) (core_capacity board.opening) caller.cut
 
 -- within the crate: a caller before its thread and after it
-pub record MakesRounds (board : WordsValue) (plan : ThreadPlan) (before now : Caller) : Type 0 where
-  pub pass : IsPassOf board now.pass
+pub record GathersRounds (board : WordsValue) (plan : ThreadPlan) (before now : Caller) : Type 0 where
+  pub pass : IsPassOfBoard board now.pass
   pub calls : IfOk now.reports (Calls board.opening plan.phi plan.rounds (view before.pass) (view now.pass))
-  pub sound : IfOk now.reports (λ reports. BasesRepresent board.opening → AreSound board.opening plan.phi reports)
+  pub sound : IfOk now.reports (λ reports. CoreBasesRepresent board.opening → AreGatheredSound board.opening plan.phi reports)
 
 -- within the crate: a caller whose pass was split off from this view, after its thread
-pub record HasEnded (board : WordsValue) (plan : ThreadPlan) (before : View) (caller : Caller) : Type 0 where
-  pub pass : IsPassOf board caller.pass
-  pub calls : IfOk caller.reports (Calls board.opening plan.phi plan.rounds (newcomer before) (view caller.pass))
-  pub sound : IfOk caller.reports (λ reports. BasesRepresent board.opening → AreSound board.opening plan.phi reports)
+pub record HasGatheredEnd (board : WordsValue) (plan : ThreadPlan) (before : View) (caller : Caller) : Type 0 where
+  pub pass : IsPassOfBoard board caller.pass
+  pub calls : IfOk caller.reports (Calls board.opening plan.phi plan.rounds (newcomer_view before) (view caller.pass))
+  pub sound : IfOk caller.reports (λ reports. CoreBasesRepresent board.opening → AreGatheredSound board.opening plan.phi reports)
 
 -- within the crate: what a caller that met no error brings back
-pub record BringsBack (caller : Caller) (called : Called) : Type 0 where
+pub record GathersBack (caller : Caller) (called : Called) : Type 0 where
   pub pass : called.pass ≡ caller.pass
   pub reports : caller.reports ≡ Ok called.reports
 
 -- within the crate: each element of a list before and the one after at its place
-abbrev pub Each : {X : Type 0} → (X → X → Type 0) → List X → List X → Type 0
-Each {X} relates before now = (place : ℕ) (default : X) → place < length before
+abbrev pub EachGathered : {X : Type 0} → (X → X → Type 0) → List X → List X → Type 0
+EachGathered {X} relates before now = (place : ℕ) (default : X) → place < length before
     → relates (slice_index_or before place default) (slice_index_or now place default)

@@ -7,8 +7,8 @@ pub mod Gather
 pub use Rattle.position_words.specs.declared.view.Trail.{Trail}
 pub use Rattle.position_words.specs.declared.view.View.{View}
 -- the face: what contracts of other crates cite
-pub use Rattle.gate_workers.specs.Call.{Calls, IsReportAt, ReadsOnce, cut_at, states_at}
-pub use Rattle.gate_workers.specs.Feed.{HasSeenEnds}
-pub use Rattle.gate_workers.specs.Gather.{AreSound, Gathers, GoesOnce, HasCalled}
+pub use Rattle.gate_workers.specs.Call.{Calls, IsReportAtCall, CallReadsOnce, cut_at_call, states_at_call}
+pub use Rattle.gate_workers.specs.Feed.{HasFeedSeenEnds}
+pub use Rattle.gate_workers.specs.Gather.{AreGatheredSound, Gathers, GathersOnce, HasGatheredCalls}
 pub use Rattle.gate_workers.specs.Plan.{IsPlanFor}
-pub use Rattle.gate_workers.specs.Rounds.{IsLaterView, StaysReady}
+pub use Rattle.gate_workers.specs.Rounds.{IsLaterView, StaysReadyInRounds}

@@ -1,7 +1,7 @@
 -- What a plan of threads may ask for.
 use Rattle.std.specs.Prelude.{◌≡◌, ◌≤◌, List}
-use Rattle.shard_state.specs.{ShardValue, capacity_of, least_capacity, most_capacity}
-use Rattle.hhh_output.specs.{IsWideShare, million}
+use Rattle.shard_state.specs.{ShardValue, core_capacity, least_table_capacity, most_table_capacity}
+use Rattle.hhh_output.specs.{IsWideShare, threshold_million}
 use Rattle.gate_workers.specs.declared.plan.ThreadPlan.{ThreadPlan}
 
 -- a plan for a board: it has a worker, and the capacity of the board's tables, 2 to 4096, which can't hide a prefix of its
@@ -10,8 +10,8 @@ pub record IsPlanFor (opening : List ShardValue) (plan : ThreadPlan) : Type 0 wh
   pub some_workers : 1 ≤ plan.workers
   pub some_block : 1 ≤ plan.block
   pub some_share : 1 ≤ plan.phi
-  pub at_most_whole : plan.phi ≤ million
+  pub at_most_whole : plan.phi ≤ threshold_million
   pub wide : IsWideShare plan.phi plan.capacity
-  pub some_entries : least_capacity ≤ plan.capacity
-  pub few_entries : plan.capacity ≤ most_capacity
-  pub alike : plan.capacity ≡ capacity_of opening
+  pub some_entries : least_table_capacity ≤ plan.capacity
+  pub few_entries : plan.capacity ≤ most_table_capacity
+  pub alike : plan.capacity ≡ core_capacity opening

@@ -18,5 +18,5 @@ pub record IsLaterView (before now : View) : Type 0 where
       → slice_get now.trails shard ≡ Some later → IsLaterTrail trail later
 
 -- what holds of a board and a view still holds of a later view of the same steps
-abbrev pub StaysReady : (WordsValue → View → Type 0) → Type 0
-StaysReady ready = (board : WordsValue) (before now : View) → IsLaterView before now → ready board before → ready board now
+abbrev pub StaysReadyInRounds : (WordsValue → View → Type 0) → Type 0
+StaysReadyInRounds ready = (board : WordsValue) (before now : View) → IsLaterView before now → ready board before → ready board now

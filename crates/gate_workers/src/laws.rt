@@ -1,19 +1,19 @@
 //! Laws of what workers and callers do, each the contract of a function that does nothing.
 
 ghost use Rattle.std.specs.Prelude.{◌≡◌, ℕ, ◌+◌, ◌++◌, List, [], length};
-ghost use Rattle.shard_state.specs.{AreShards, BasesRepresent, CutRepresents, ShardValue, lists_of};
+ghost use Rattle.shard_state.specs.{AreCoreShards, CoreBasesRepresent, CutRepresents, ShardValue, core_lists};
 ghost use Rattle.hhh_output.specs.declared.report.Report.{Report};
 ghost use Rattle.hhh_output.specs.declared.reports.Reported.{Reported};
 ghost use Rattle.position_words.specs.declared.view.View.{View};
-ghost use Rattle.gate_workers.specs.Call.{Calls, IsReportAt, cut_at};
+ghost use Rattle.gate_workers.specs.Call.{Calls, IsReportAtCall, cut_at_call};
 
 use shard_state::shards_stand;
 
 /// The cut that a report at its own positions is of represents the shards' lists, if the base of each shard represents
 /// its list.
 pub fn reported_cuts_represent()
-    ensures { (opening : List ShardValue) (phi : ℕ) (report : Report) → AreShards opening → IsReportAt opening phi report
-        → BasesRepresent opening → CutRepresents (cut_at opening report.positions) (lists_of opening) }
+    ensures { (opening : List ShardValue) (phi : ℕ) (report : Report) → AreCoreShards opening → IsReportAtCall opening phi report
+        → CoreBasesRepresent opening → CutRepresents (cut_at_call opening report.positions) (core_lists opening) }
 {
     shards_stand();
 }

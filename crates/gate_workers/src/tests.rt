@@ -1,6 +1,6 @@
 ghost use Rattle.std.specs.Prelude.{◌≡◌, ◌<◌, ◌≤◌, length, IfOk};
-ghost use Rattle.shard_state.specs.{AreShards, HasShape, capacity_of};
-ghost use Rattle.pass_tokens.specs.{IsPassOf};
+ghost use Rattle.shard_state.specs.{AreCoreShards, HasCoreShape, core_capacity};
+ghost use Rattle.pass_tokens.specs.{IsPassOfBoard};
 
 use super::*;
 use hhh_output::Reports;
@@ -20,7 +20,7 @@ const TURNS: u32 = 10_000_000;
 
 // The shards of eleven packets that were dealt to two shards in turn: six and five packets, in tables of capacity 4.
 fn worked_states(alloc: Global) -> Result<Vec<ShardState>, AllocError>
-    ensures { IfOk result (λ states. AreShards states.items × (length states.items ≡ 2) × (capacity_of states.items ≡ 4)) }
+    ensures { IfOk result (λ states. AreCoreShards states.items × (length states.items ≡ 2) × (core_capacity states.items ≡ 4)) }
 {
     let mut states = Vec::new(alloc);
     states.push(started(alloc, &[1, 1, 1, 1, 1, 2])?)?;
@@ -30,7 +30,7 @@ fn worked_states(alloc: Global) -> Result<Vec<ShardState>, AllocError>
 
 // One shard of eight packets.
 fn eight_packets(alloc: Global) -> Result<Vec<ShardState>, AllocError>
-    ensures { IfOk result (λ states. AreShards states.items × (length states.items ≡ 1) × (capacity_of states.items ≡ 4)) }
+    ensures { IfOk result (λ states. AreCoreShards states.items × (length states.items ≡ 1) × (core_capacity states.items ≡ 4)) }
 {
     let mut states = Vec::new(alloc);
     states.push(started(alloc, &[1, 2, 1, 3, 1, 2, 1, 4])?)?;
@@ -65,8 +65,8 @@ fn list_of(alloc: Global, packets: &[u8]) -> Result<RecordList, AllocError>
 
 // A worker with blocks of one record.
 fn feeds<R: Wait, G: Gate>(rt: &R, board: &Board, pass: Pass, worker: u32, gate: &G) -> Pass
-    requires { IsPassOf board.now pass }
-    ensures { IsPassOf board.now result }
+    requires { IsPassOfBoard board.now pass }
+    ensures { IsPassOfBoard board.now result }
 {
     feed_all(rt, board, pass, worker, 1, gate)
 }
@@ -80,9 +80,9 @@ fn calls<R: Wait, G: Gate>(
     cut: Cut,
     gate: &G,
 ) -> Result<Reports, AllocError>
-    requires pass { IsPassOf board.now pass }
-    requires capacity { capacity_of board.now.opening ≡ 4 }
-    requires shape { HasShape (length board.now.opening) 4 cut }
+    requires pass { IsPassOfBoard board.now pass }
+    requires capacity { core_capacity board.now.opening ≡ 4 }
+    requires shape { HasCoreShape (length board.now.opening) 4 cut }
 {
     let (_pass, reports) = call_reports(rt, alloc, board, pass, 0, 2, 500_000, cut, gate);
     reports
@@ -242,9 +242,9 @@ struct Watching {
 
 impl Rounds for Watching {
     ghost use Rattle.std.specs.Prelude.{length, refl};
-    ghost use Rattle.shard_state.specs.{HasShape, capacity_of};
+    ghost use Rattle.shard_state.specs.{HasCoreShape, core_capacity};
 
-    ghost ready = { λ r board view. HasShape (length board.opening) (capacity_of board.opening) r.cut };
+    ghost ready = { λ r board view. HasCoreShape (length board.opening) (core_capacity board.opening) r.cut };
 
     ghost stays = { λ rounds board before now later ready. ready };
 
@@ -279,8 +279,8 @@ fn gathered<R: Threads + Wait + Sync, G: Gate + Sync>(
     plan: &ThreadPlan,
     gate: &G,
 ) -> Result<(Watching, Gathered), AllocError>
-    requires states { AreShards states.items }
-    requires capacity { capacity_of states.items ≡ 4 }
+    requires states { AreCoreShards states.items }
+    requires capacity { core_capacity states.items ≡ 4 }
     requires plan { (1 ≤ plan.now.workers) × (plan.now.block ≡ 1) × (plan.now.phi ≡ 500000) × (plan.now.capacity ≡ 4) }
 {
     let shards = states.len() as u32;

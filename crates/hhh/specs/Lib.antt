@@ -1,3 +1,3 @@
-pub mod Inputs
+pub mod ProgramInputs
 pub mod Rules
-pub mod Run
+pub mod ProgramRun

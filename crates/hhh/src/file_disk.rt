@@ -1,7 +1,7 @@
 //! A file of the system as a disk.
 
 ghost use Rattle.std.specs.Prelude.{◌≡◌, ◌<◌, ◌≤◌, ◌+◌, length, vec_len, drop, ⊤, false, true, is_err, None, IfOk, OnOk, OnErr};
-ghost use Rattle.outside_io.specs.{FailsByFault};
+ghost use Rattle.outside_io.specs.{FailsByFaultCount};
 
 use outside_io::{Failed, PathText};
 use slot_disk::Disk;
@@ -104,7 +104,7 @@ impl<'a> FileDisk<'a> {
     // Fails, and counts that.
     fn fail<T>(&mut self) -> Result<T, Failed>
         ensures failed { is_err result ≡ true }
-        ensures cause { FailsByFault self.old.faults self.new.faults result }
+        ensures cause { FailsByFaultCount self.old.faults self.new.faults result }
         ensures same_syncs { self.new.sync_failed ≡ self.old.sync_failed }
     {
         self.faults = self.faults.saturating_add(1);

@@ -2,7 +2,7 @@
 
 ghost use Rattle.std.specs.Prelude.{◌≡◌, ◌<◌, ◌≤◌, length, take, None, IfOk};
 ghost use Rattle.std.specs.Io.KnownBytes.{Appends, WriteAppends};
-ghost use Rattle.outside_io.specs.{FailsByFault};
+ghost use Rattle.outside_io.specs.{FailsByFaultCount};
 
 use outside_io::{Failed, Sink};
 use std::io::{ErrorKind, Write};
@@ -32,7 +32,7 @@ impl<W: Write + Drop> Sink for StdSink<W> {
         ensures fits { IfOk result (λ count. count ≤ length bytes.now) }
         ensures takes_some { IfOk result (λ count. 0 < length bytes.now → 0 < count) }
         ensures appended { WriteAppends None None result bytes.now }
-        ensures cause { FailsByFault self.old.faults self.new.faults result }
+        ensures cause { FailsByFaultCount self.old.faults self.new.faults result }
 
         // Where the contents of the stream are known, these bytes are appended to them.
         ensures of_stream { IfOk result (λ count. Appends (W.contents self.old.writer) (W.contents self.new.writer) (take count bytes.now)) }

@@ -5,21 +5,21 @@ use Rattle.std.specs.Prelude.{⊤}
 use Rattle.std.specs.Io.KnownBytes.{Appends, Consumes, IsAtEnd}
 use Rattle.std.proofs.lemmas.Bool.{cases_lt}
 use Rattle.std.proofs.lemmas.List.{length-append}
-use Rattle.outside_io.specs.{AppendsBeginning, Rose}
+use Rattle.outside_io.specs.{AppendsBeginning, FaultCountRose}
 use Rattle.prefix_lattice.specs.{RecordValue}
-use Rattle.report_text.specs.{HasSessionFault, longest_text}
+use Rattle.report_text.specs.{HasSessionFault, longest_session_text}
 use Rattle.report_text.specs.declared.session.Session.{Session}
 use Rattle.report_text.specs.declared.session_fault.SessionFault.{SessionFault}
 use Rattle.report_text.specs.declared.session_fault.SessionFault.TheVariants as session
 use Rattle.report_text.specs.declared.session_fault.TextFault.TheVariants.{BadLine, MissingEnd, TooLong}
 use Rattle.command_words.specs.declared.command.Command.TheVariants.{Audit}
 use Rattle.command_words.specs.declared.settings.Settings.{Settings}
-use Rattle.hhh_engine.specs.Answer.{IsCutShort}
-use Rattle.hhh_engine.specs.Audit.{AreAudited, IsAuditText, IsSoundSession, IsUnsoundSession}
-use Rattle.hhh_engine.specs.Auditing.{AreInputsOf, HasNoAudit, IsAnswerOf, SaysOf}
-use Rattle.hhh_engine.specs.Ending.{AuditFinds, Ends, SourceFaults}
-use Rattle.hhh_engine.specs.Inputs.{InputBytes, IsCapture, OfAudited, WasRead, inputs}
-use Rattle.hhh_engine.specs.Session.{Keeping, Rules}
+use Rattle.hhh_engine.specs.Answer.{IsUnfinishedAnswer}
+use Rattle.hhh_engine.specs.Audit.{AreAudited, IsAuditText, IsSoundAudit, IsUnsoundAudit}
+use Rattle.hhh_engine.specs.Auditing.{AreAuditingInputs, HasNoAudit, IsAuditingAnswer, AuditingSays}
+use Rattle.hhh_engine.specs.Ending.{AuditEndsUnsound, Ends, EndingSourceFaults}
+use Rattle.hhh_engine.specs.Inputs.{InputBytes, IsInputCapture, OfAuditInputs, InputsWereRead, inputs}
+use Rattle.hhh_engine.specs.Session.{SessionKeeping, Rules}
 use Rattle.hhh_engine.specs.Status.{status_of_session}
 use Rattle.hhh_engine.specs.declared.commands.audit.Answer.{Answer}
 use Rattle.hhh_engine.specs.declared.commands.audit.Audited.{Audited}
@@ -27,156 +27,156 @@ use Rattle.hhh_engine.specs.declared.status.Status.{Status}
 use Rattle.hhh_engine.specs.declared.status.Status.TheVariants.{Done, BadWords, BadCapture, ReadFault, WriteFault}
 use Rattle.hhh_engine.specs.declared.status.Status.TheVariants.{DiskFault, NotFormatted, Damaged, OtherSettings}
 use Rattle.hhh_engine.specs.declared.status.Status.TheVariants.{OtherCapture, AuditNo, BadReport, OutOfMemory}
-use Rattle.hhh_engine.proofs.CaptureLemmas.{if_known}
-use Rattle.hhh_engine.proofs.StatusLemmas.{EndsAs, ends_beside}
+use Rattle.hhh_engine.proofs.CaptureReportLemmas.{capture_report_if_known}
+use Rattle.hhh_engine.proofs.StatusLemmas.{EndsWithStatus, status_beside_disk}
 
 -- what follows of the inputs of an audit that may be known
-pub of_audited_more : (read : InputBytes) (P Q : List ℕ → List ℕ → Type 0)
-    → ((file text : List ℕ) → P file text → Q file text) → OfAudited read P → OfAudited read Q
-of_audited_more read P Q follows has =
-    if_known read.capture (λ file. IsCapture file × IfSome read.text (P file))
-    (λ file. IsCapture file × IfSome read.text (Q file))
-    (λ file holds. (holds.0, if_known read.text (P file) (Q file) (follows file) holds.1)) has
+pub audit_end_inputs_imply_more : (read : InputBytes) (P Q : List ℕ → List ℕ → Type 0)
+    → ((file text : List ℕ) → P file text → Q file text) → OfAuditInputs read P → OfAuditInputs read Q
+audit_end_inputs_imply_more read P Q follows has =
+    capture_report_if_known read.capture (λ file. IsInputCapture file × IfSome read.text (P file))
+    (λ file. IsInputCapture file × IfSome read.text (Q file))
+    (λ file holds. (holds.0, capture_report_if_known read.text (P file) (Q file) (follows file) holds.1)) has
 
 -- the fault of the bytes that were read is one of the text itself
-text_has_fault : (text left : Option (List ℕ)) (bytes : List ℕ) (fault : SessionFault) → Consumes text left bytes
-    → (length bytes ≤ longest_text → IsAtEnd left) → HasSessionFault bytes fault
-    → (longest_text < length bytes → fault ≡ session.Text TooLong)
+audit_end_text_is_faulty : (text left : Option (List ℕ)) (bytes : List ℕ) (fault : SessionFault) → Consumes text left bytes
+    → (length bytes ≤ longest_session_text → IsAtEnd left) → HasSessionFault bytes fault
+    → (longest_session_text < length bytes → fault ≡ session.Text TooLong)
     → IfSome text (λ whole. HasSessionFault whole fault)
-text_has_fault None left bytes fault consumed at_end has too_long = tt
-text_has_fault (Some whole) None bytes fault consumed at_end has too_long = absurd consumed
-text_has_fault (Some whole) (Some rest) bytes fault consumed at_end has too_long =
+audit_end_text_is_faulty None left bytes fault consumed at_end has too_long = tt
+audit_end_text_is_faulty (Some whole) None bytes fault consumed at_end has too_long = absurd consumed
+audit_end_text_is_faulty (Some whole) (Some rest) bytes fault consumed at_end has too_long =
     ⊎_elim
-    (λ (long : longest_text < length bytes).
+    (λ (long : longest_session_text < length bytes).
     subst (HasSessionFault whole) (sym (too_long long))
     (omega (arith, long, ap length consumed, length-append bytes rest)))
-    (λ (short : length bytes ≤ longest_text).
+    (λ (short : length bytes ≤ longest_session_text).
     subst (λ t. HasSessionFault t fault)
     (sym (consumed ∙ ap (λ r. bytes ++ r) (at_end short) ∙ append-nil bytes)) has)
-    (cases_lt longest_text (length bytes))
+    (cases_lt longest_session_text (length bytes))
 
 -- why the inputs of an audit were not taken: the text of a session was refused
-pub text_refused : (capture capture_left text text_left store : Option (List ℕ)) (before now : SourceFaults)
-    (bytes : List ℕ) (fault : SessionFault) → IsAtEnd capture_left → IfSome capture IsCapture
-    → Consumes text text_left bytes → length bytes ≤ longest_text + 1
-    → (length bytes ≤ longest_text → IsAtEnd text_left) → HasSessionFault bytes fault
-    → (longest_text < length bytes → fault ≡ session.Text TooLong)
+pub audit_ends_at_refused_text : (capture capture_left text text_left store : Option (List ℕ)) (before now : EndingSourceFaults)
+    (bytes : List ℕ) (fault : SessionFault) → IsAtEnd capture_left → IfSome capture IsInputCapture
+    → Consumes text text_left bytes → length bytes ≤ longest_session_text + 1
+    → (length bytes ≤ longest_session_text → IsAtEnd text_left) → HasSessionFault bytes fault
+    → (longest_session_text < length bytes → fault ≡ session.Text TooLong)
     → HasNoAudit (inputs capture capture_left text text_left store) before now (status_of_session fault)
-text_refused capture capture_left text text_left store before now bytes (session.Text TooLong) read is_capture consumed
+audit_ends_at_refused_text capture capture_left text text_left store before now bytes (session.Text TooLong) read is_capture consumed
     limit at_end has too_long = record {
       read_to_end = read;
       accepted = is_capture;
-      first_fault = text_has_fault text text_left bytes (session.Text TooLong) consumed at_end has too_long;
+      first_fault = audit_end_text_is_faulty text text_left bytes (session.Text TooLong) consumed at_end has too_long;
       read_to_limit = record { front = bytes; consumed = consumed; limit = omega (arith, limit, has) };
     }
-text_refused capture capture_left text text_left store before now bytes (session.Text (BadLine line)) read is_capture
+audit_ends_at_refused_text capture capture_left text text_left store before now bytes (session.Text (BadLine line)) read is_capture
     consumed limit at_end has too_long = record {
       read_to_end = read;
       accepted = is_capture;
-      first_fault = text_has_fault text text_left bytes (session.Text (BadLine line)) consumed at_end has too_long;
+      first_fault = audit_end_text_is_faulty text text_left bytes (session.Text (BadLine line)) consumed at_end has too_long;
       read_to_limit = at_end has.0;
     }
-text_refused capture capture_left text text_left store before now bytes (session.Text (MissingEnd line)) read is_capture
+audit_ends_at_refused_text capture capture_left text text_left store before now bytes (session.Text (MissingEnd line)) read is_capture
     consumed limit at_end has too_long = record {
       read_to_end = read;
       accepted = is_capture;
-      first_fault = text_has_fault text text_left bytes (session.Text (MissingEnd line)) consumed at_end has too_long;
+      first_fault = audit_end_text_is_faulty text text_left bytes (session.Text (MissingEnd line)) consumed at_end has too_long;
       read_to_limit = at_end has.0;
     }
-text_refused capture capture_left text text_left store before now bytes session.OutOfMemory read is_capture consumed
+audit_ends_at_refused_text capture capture_left text text_left store before now bytes session.OutOfMemory read is_capture consumed
     limit at_end has too_long = tt
 
 -- how an audit ended
-abbrev pub EndsAudit : {K : Type 0} → Settings → Rules → InputBytes → (read_before read_now : SourceFaults)
+abbrev pub EndsAudit : {K : Type 0} → Settings → Rules → InputBytes → (read_before read_now : EndingSourceFaults)
     → (sink written : K) → (old new : Option (List ℕ)) → (write_before write_now : ℕ) → Status → Type 0
 EndsAudit settings rules given read_before read_now sink written old new write_before write_now status =
-    Ends (λ answer. OfAudited given (λ file session. IsSoundSession settings rules file session answer))
-    (λ front. OfAudited given (λ file session. IsCutShort (IsAuditText settings rules file session) front))
-    (IsAtEnd given.capture_left × IsAtEnd given.text_left) (IfSome given.capture IsCapture) ⊥ ⊤ ⊤ (λ fault. ⊥)
-    (AuditFinds settings rules given old new) given.capture read_before read_now sink written old new write_before
+    Ends (λ answer. OfAuditInputs given (λ file session. IsSoundAudit settings rules file session answer))
+    (λ front. OfAuditInputs given (λ file session. IsUnfinishedAnswer (IsAuditText settings rules file session) front))
+    (IsAtEnd given.capture_left × IsAtEnd given.text_left) (IfSome given.capture IsInputCapture) ⊥ ⊤ ⊤ (λ fault. ⊥)
+    (AuditEndsUnsound settings rules given old new) given.capture read_before read_now sink written old new write_before
     write_now status
 
 -- an audit whose inputs were not taken
-pub not_taken : {K : Type 0} (settings : Settings) (rules : Rules) (given : InputBytes)
-    (read_before read_now : SourceFaults) (sink : K) (old : Option (List ℕ)) (faults : ℕ) (status : Status)
+pub audit_ends_without_inputs : {K : Type 0} (settings : Settings) (rules : Rules) (given : InputBytes)
+    (read_before read_now : EndingSourceFaults) (sink : K) (old : Option (List ℕ)) (faults : ℕ) (status : Status)
     → HasNoAudit given read_before read_now status → ((status ≡ ReadFault → ⊥) → read_now ≡ read_before)
     → EndsAudit settings rules given read_before read_now sink sink old old faults faults status
-not_taken settings rules given read_before read_now sink old faults Done none told =
+audit_ends_without_inputs settings rules given read_before read_now sink old faults Done none told =
     absurd none
-not_taken settings rules given read_before read_now sink old faults (BadWords kind) none told =
+audit_ends_without_inputs settings rules given read_before read_now sink old faults (BadWords kind) none told =
     absurd none
-not_taken settings rules given read_before read_now sink old faults (BadCapture fault) none told =
+audit_ends_without_inputs settings rules given read_before read_now sink old faults (BadCapture fault) none told =
     (none, refl, tt, told (λ is. cc is), refl)
-not_taken settings rules given read_before read_now sink old faults ReadFault none told =
+audit_ends_without_inputs settings rules given read_before read_now sink old faults ReadFault none told =
     (none, refl, tt, refl)
-not_taken settings rules given read_before read_now sink old faults WriteFault none told =
+audit_ends_without_inputs settings rules given read_before read_now sink old faults WriteFault none told =
     absurd none
-not_taken settings rules given read_before read_now sink old faults DiskFault none told =
+audit_ends_without_inputs settings rules given read_before read_now sink old faults DiskFault none told =
     absurd none
-not_taken settings rules given read_before read_now sink old faults NotFormatted none told =
+audit_ends_without_inputs settings rules given read_before read_now sink old faults NotFormatted none told =
     absurd none
-not_taken settings rules given read_before read_now sink old faults (Damaged slot) none told =
+audit_ends_without_inputs settings rules given read_before read_now sink old faults (Damaged slot) none told =
     absurd none
-not_taken settings rules given read_before read_now sink old faults (OtherSettings stored asked) none told =
+audit_ends_without_inputs settings rules given read_before read_now sink old faults (OtherSettings stored asked) none told =
     absurd none
-not_taken settings rules given read_before read_now sink old faults (OtherCapture stored asked) none told =
+audit_ends_without_inputs settings rules given read_before read_now sink old faults (OtherCapture stored asked) none told =
     absurd none
-not_taken settings rules given read_before read_now sink old faults (AuditNo report verdict) none told =
+audit_ends_without_inputs settings rules given read_before read_now sink old faults (AuditNo report verdict) none told =
     absurd none
-not_taken settings rules given read_before read_now sink old faults (BadReport fault) none told =
+audit_ends_without_inputs settings rules given read_before read_now sink old faults (BadReport fault) none told =
     (none, refl, tt, told (λ is. cc is), refl)
-not_taken settings rules given read_before read_now sink old faults OutOfMemory none told =
+audit_ends_without_inputs settings rules given read_before read_now sink old faults OutOfMemory none told =
     (inl (refl, tt), told (λ is. cc is), refl)
 
 -- what an audit says is its text, whether all reports are sound or not
-audit_text : (settings : Settings) (rules : Rules) (file bytes : List ℕ) (lists : List (List RecordValue))
+audit_end_says_its_text : (settings : Settings) (rules : Rules) (file bytes : List ℕ) (lists : List (List RecordValue))
     (said : Session) (text : List ℕ) (status : Status) → AreAudited settings rules file bytes lists said
-    → SaysOf settings lists said.reports text status → IsAuditText settings rules file bytes text
-audit_text settings rules file bytes lists said text Done audited says =
+    → AuditingSays settings lists said.reports text status → IsAuditText settings rules file bytes text
+audit_end_says_its_text settings rules file bytes lists said text Done audited says =
     inl (record { lists = lists; session = said; audited = audited; sound = says.0; spelled = says.1 })
-audit_text settings rules file bytes lists said text (BadWords kind) audited says =
+audit_end_says_its_text settings rules file bytes lists said text (BadWords kind) audited says =
     absurd says
-audit_text settings rules file bytes lists said text (BadCapture fault) audited says =
+audit_end_says_its_text settings rules file bytes lists said text (BadCapture fault) audited says =
     absurd says
-audit_text settings rules file bytes lists said text ReadFault audited says =
+audit_end_says_its_text settings rules file bytes lists said text ReadFault audited says =
     absurd says
-audit_text settings rules file bytes lists said text WriteFault audited says =
+audit_end_says_its_text settings rules file bytes lists said text WriteFault audited says =
     absurd says
-audit_text settings rules file bytes lists said text DiskFault audited says =
+audit_end_says_its_text settings rules file bytes lists said text DiskFault audited says =
     absurd says
-audit_text settings rules file bytes lists said text NotFormatted audited says =
+audit_end_says_its_text settings rules file bytes lists said text NotFormatted audited says =
     absurd says
-audit_text settings rules file bytes lists said text (Damaged slot) audited says =
+audit_end_says_its_text settings rules file bytes lists said text (Damaged slot) audited says =
     absurd says
-audit_text settings rules file bytes lists said text (OtherSettings stored asked) audited says =
+audit_end_says_its_text settings rules file bytes lists said text (OtherSettings stored asked) audited says =
     absurd says
-audit_text settings rules file bytes lists said text (OtherCapture stored asked) audited says =
+audit_end_says_its_text settings rules file bytes lists said text (OtherCapture stored asked) audited says =
     absurd says
-audit_text settings rules file bytes lists said text (AuditNo report verdict) audited says =
+audit_end_says_its_text settings rules file bytes lists said text (AuditNo report verdict) audited says =
     inr (report, verdict, record { lists = lists; session = said; audited = audited; first = says.0 }, says.1)
-audit_text settings rules file bytes lists said text (BadReport fault) audited says =
+audit_end_says_its_text settings rules file bytes lists said text (BadReport fault) audited says =
     absurd says
-audit_text settings rules file bytes lists said text OutOfMemory audited says =
+audit_end_says_its_text settings rules file bytes lists said text OutOfMemory audited says =
     absurd says
 
 -- an audit whose answer was not written whole
-pub broken_answer : {K : Type 0} (settings : Settings) (rules : Rules) (given : InputBytes)
-    (read_before read_now : SourceFaults) (sink written : K) (old new : Option (List ℕ)) (write_before write_now : ℕ)
-    (audited : Audited) (answer : Answer) → AreInputsOf settings rules given audited
-    → IsAnswerOf settings audited.dealt audited.session.reports answer → IsAtEnd given.capture_left
+pub audit_ends_broken_off : {K : Type 0} (settings : Settings) (rules : Rules) (given : InputBytes)
+    (read_before read_now : EndingSourceFaults) (sink written : K) (old new : Option (List ℕ)) (write_before write_now : ℕ)
+    (audited : Audited) (answer : Answer) → AreAuditingInputs settings rules given audited
+    → IsAuditingAnswer settings audited.dealt audited.session.reports answer → IsAtEnd given.capture_left
     → IsAtEnd given.text_left → read_now ≡ read_before → AppendsBeginning old new answer.text.items
-    → Rose write_before write_now
+    → FaultCountRose write_before write_now
     → EndsAudit settings rules given read_before read_now sink written old new write_before write_now WriteFault
-broken_answer settings rules given read_before read_now sink written old new write_before write_now audited answer are
+audit_ends_broken_off settings rules given read_before read_now sink written old new write_before write_now audited answer are
     says capture_read text_read same begun rose = (
       (capture_read, text_read),
       record {
         text = begun.front;
-        is_text = of_audited_more given (λ file bytes. AreAudited settings rules file bytes audited.dealt audited.session)
-            (λ file bytes. IsCutShort (IsAuditText settings rules file bytes) begun.front)
+        is_text = audit_end_inputs_imply_more given (λ file bytes. AreAudited settings rules file bytes audited.dealt audited.session)
+            (λ file bytes. IsUnfinishedAnswer (IsAuditText settings rules file bytes) begun.front)
             (λ file bytes is. record {
               text = answer.text.items;
-              is_text = audit_text settings rules file bytes audited.dealt audited.session answer.text.items answer.status
+              is_text = audit_end_says_its_text settings rules file bytes audited.dealt audited.session answer.text.items answer.status
                   is says;
               begins = begun.is_beginning;
               cut = begun.cut;
@@ -188,20 +188,20 @@ broken_answer settings rules given read_before read_now sink written old new wri
     )
 
 -- an audit whose answer was written
-written_as : {K : Type 0} (settings : Settings) (rules : Rules) (given : InputBytes)
-    (read_before read_now : SourceFaults) (sink written : K) (old new : Option (List ℕ)) (write_before write_now : ℕ)
+audit_ends_in_written_text : {K : Type 0} (settings : Settings) (rules : Rules) (given : InputBytes)
+    (read_before read_now : EndingSourceFaults) (sink written : K) (old new : Option (List ℕ)) (write_before write_now : ℕ)
     (lists : List (List RecordValue)) (said : Session) (text : List ℕ) (status : Status)
-    → OfAudited given (λ file bytes. AreAudited settings rules file bytes lists said)
-    → SaysOf settings lists said.reports text status → IsAtEnd given.capture_left → IsAtEnd given.text_left
+    → OfAuditInputs given (λ file bytes. AreAudited settings rules file bytes lists said)
+    → AuditingSays settings lists said.reports text status → IsAtEnd given.capture_left → IsAtEnd given.text_left
     → read_now ≡ read_before → Appends old new text → write_now ≡ write_before
     → EndsAudit settings rules given read_before read_now sink written old new write_before write_now status
-written_as settings rules given read_before read_now sink written old new write_before write_now lists said text
+audit_ends_in_written_text settings rules given read_before read_now sink written old new write_before write_now lists said text
     Done are says capture_read text_read same appended same_sink = (
       (capture_read, text_read),
       record {
         text = text;
-        is_text = of_audited_more given (λ file bytes. AreAudited settings rules file bytes lists said)
-            (λ file bytes. IsSoundSession settings rules file bytes text)
+        is_text = audit_end_inputs_imply_more given (λ file bytes. AreAudited settings rules file bytes lists said)
+            (λ file bytes. IsSoundAudit settings rules file bytes text)
             (λ file bytes is. record {
               lists = lists;
               session = said;
@@ -214,74 +214,74 @@ written_as settings rules given read_before read_now sink written old new write_
       same,
       same_sink,
     )
-written_as settings rules given read_before read_now sink written old new write_before write_now lists said text
+audit_ends_in_written_text settings rules given read_before read_now sink written old new write_before write_now lists said text
     (BadWords kind) are says capture_read text_read same appended same_sink =
     absurd says
-written_as settings rules given read_before read_now sink written old new write_before write_now lists said text
+audit_ends_in_written_text settings rules given read_before read_now sink written old new write_before write_now lists said text
     (BadCapture fault) are says capture_read text_read same appended same_sink =
     absurd says
-written_as settings rules given read_before read_now sink written old new write_before write_now lists said text
+audit_ends_in_written_text settings rules given read_before read_now sink written old new write_before write_now lists said text
     ReadFault are says capture_read text_read same appended same_sink =
     absurd says
-written_as settings rules given read_before read_now sink written old new write_before write_now lists said text
+audit_ends_in_written_text settings rules given read_before read_now sink written old new write_before write_now lists said text
     WriteFault are says capture_read text_read same appended same_sink =
     absurd says
-written_as settings rules given read_before read_now sink written old new write_before write_now lists said text
+audit_ends_in_written_text settings rules given read_before read_now sink written old new write_before write_now lists said text
     DiskFault are says capture_read text_read same appended same_sink =
     absurd says
-written_as settings rules given read_before read_now sink written old new write_before write_now lists said text
+audit_ends_in_written_text settings rules given read_before read_now sink written old new write_before write_now lists said text
     NotFormatted are says capture_read text_read same appended same_sink =
     absurd says
-written_as settings rules given read_before read_now sink written old new write_before write_now lists said text
+audit_ends_in_written_text settings rules given read_before read_now sink written old new write_before write_now lists said text
     (Damaged slot) are says capture_read text_read same appended same_sink =
     absurd says
-written_as settings rules given read_before read_now sink written old new write_before write_now lists said text
+audit_ends_in_written_text settings rules given read_before read_now sink written old new write_before write_now lists said text
     (OtherSettings stored asked) are says capture_read text_read same appended same_sink =
     absurd says
-written_as settings rules given read_before read_now sink written old new write_before write_now lists said text
+audit_ends_in_written_text settings rules given read_before read_now sink written old new write_before write_now lists said text
     (OtherCapture stored asked) are says capture_read text_read same appended same_sink =
     absurd says
-written_as settings rules given read_before read_now sink written old new write_before write_now lists said text
+audit_ends_in_written_text settings rules given read_before read_now sink written old new write_before write_now lists said text
     (AuditNo report verdict) are says capture_read text_read same appended same_sink = (
       (capture_read, text_read),
       (
-        of_audited_more given (λ file bytes. AreAudited settings rules file bytes lists said)
-            (λ file bytes. IsUnsoundSession settings rules file bytes report verdict)
+        audit_end_inputs_imply_more given (λ file bytes. AreAudited settings rules file bytes lists said)
+            (λ file bytes. IsUnsoundAudit settings rules file bytes report verdict)
             (λ file bytes is. record { lists = lists; session = said; audited = is; first = says.0 }) are,
         subst (Appends old new) says.1 appended,
       ),
       same,
       same_sink,
     )
-written_as settings rules given read_before read_now sink written old new write_before write_now lists said text
+audit_ends_in_written_text settings rules given read_before read_now sink written old new write_before write_now lists said text
     (BadReport fault) are says capture_read text_read same appended same_sink =
     absurd says
-written_as settings rules given read_before read_now sink written old new write_before write_now lists said text
+audit_ends_in_written_text settings rules given read_before read_now sink written old new write_before write_now lists said text
     OutOfMemory are says capture_read text_read same appended same_sink =
     absurd says
 
-pub written_answer : {K : Type 0} (settings : Settings) (rules : Rules) (given : InputBytes)
-    (read_before read_now : SourceFaults) (sink written : K) (old new : Option (List ℕ)) (write_before write_now : ℕ)
-    (audited : Audited) (answer : Answer) → AreInputsOf settings rules given audited
-    → IsAnswerOf settings audited.dealt audited.session.reports answer → IsAtEnd given.capture_left
+pub audit_ends_as_written : {K : Type 0} (settings : Settings) (rules : Rules) (given : InputBytes)
+    (read_before read_now : EndingSourceFaults) (sink written : K) (old new : Option (List ℕ)) (write_before write_now : ℕ)
+    (audited : Audited) (answer : Answer) → AreAuditingInputs settings rules given audited
+    → IsAuditingAnswer settings audited.dealt audited.session.reports answer → IsAtEnd given.capture_left
     → IsAtEnd given.text_left → read_now ≡ read_before → Appends old new answer.text.items → write_now ≡ write_before
     → EndsAudit settings rules given read_before read_now sink written old new write_before write_now answer.status
-written_answer settings rules given read_before read_now sink written old new write_before write_now audited answer are
+audit_ends_as_written settings rules given read_before read_now sink written old new write_before write_now audited answer are
     says capture_read text_read same appended same_sink =
-    written_as settings rules given read_before read_now sink written old new write_before write_now audited.dealt
+    audit_ends_in_written_text settings rules given read_before read_now sink written old new write_before write_now audited.dealt
     audited.session answer.text.items answer.status are says capture_read text_read same appended same_sink
 
 -- how an audit ended, as a command beside a disk
-pub audit_ends_as : {K : Type 0} (settings : Settings) (rules : Rules) (keeping : Keeping) (given : InputBytes)
-    (AsBefore : Type 0) (DiskSame : Type 0) (read_before read_now : SourceFaults) (sink written : K)
+pub audit_ends_as : {K : Type 0} (settings : Settings) (rules : Rules) (keeping : SessionKeeping) (given : InputBytes)
+    (AsBefore : Type 0) (DiskSame : Type 0) (read_before read_now : EndingSourceFaults) (sink written : K)
     (old new : Option (List ℕ)) (write_before write_now : ℕ) (status : Status) → DiskSame → AsBefore
     → EndsAudit settings rules given read_before read_now sink written old new write_before write_now status
-    → EndsAs rules keeping (Audit settings) given AsBefore (WasRead (Audit settings) given) ⊥ DiskSame read_before
+    → EndsWithStatus rules keeping (Audit settings) given AsBefore (InputsWereRead (Audit settings) given) ⊥ DiskSame read_before
     read_now sink written old new write_before write_now status
 audit_ends_as settings rules keeping given AsBefore DiskSame read_before read_now sink written old new write_before
     write_now status same before ends =
-    ends_beside (λ answer. OfAudited given (λ file session. IsSoundSession settings rules file session answer))
-    (λ front. OfAudited given (λ file session. IsCutShort (IsAuditText settings rules file session) front))
-    (IsAtEnd given.capture_left × IsAtEnd given.text_left) (IfSome given.capture IsCapture) DiskSame AsBefore (λ fault. ⊥)
-    (AuditFinds settings rules given old new) given.capture read_before read_now sink written old new write_before
+    status_beside_disk (λ answer. OfAuditInputs given (λ file session. IsSoundAudit settings rules file session answer))
+    (λ front. OfAuditInputs given (λ file session. IsUnfinishedAnswer (IsAuditText settings rules file session) front))
+    (IsAtEnd given.capture_left × IsAtEnd given.text_left) (IfSome given.capture IsInputCapture) DiskSame AsBefore (λ fault. ⊥)
+    (AuditEndsUnsound settings rules given old new) given.capture read_before read_now sink written old new write_before
     write_now status same before ends

@@ -5,45 +5,46 @@ use Rattle.deal_rules.specs.{IsDealing}
 use Rattle.deal_rules.specs.declared.deal_kind.DealKind.{DealKind}
 use Rattle.shard_state.specs.{ShardValue}
 use Rattle.pcap_frames.specs.{FrameValue}
-use Rattle.frame_records.specs.{AreRecordsOf, HasFrames, records_of}
+use Rattle.frame_records.specs.{AreRecordsOf, HasCaptureFrames, frame_records_of}
 use Rattle.frame_records.specs.declared.records.Records.{Records}
 use Rattle.frame_records.specs.declared.weigh.Weigh.{Weigh}
-use Rattle.hhh_output.specs.{AreSame, IsReportOf}
+use Rattle.hhh_output.specs.{IsSameReport, IsReportOf}
 use Rattle.hhh_output.specs.declared.line.Line.{Line}
 use Rattle.hhh_output.specs.declared.report.Report.{Report}
-use Rattle.gate_workers.specs.{IsReportAt, cut_at}
+use Rattle.gate_workers.specs.{IsReportAtCall, cut_at_call}
 use Rattle.traffic_maker.specs.{made_capture}
 use Rattle.command_words.specs.declared.settings.Settings.{Settings}
 use Rattle.hhh_engine.specs.Demo.{IsDemoText, demo_text}
-use Rattle.hhh_engine.specs.Session.{by_formula, ends_of, new_shards}
-use Rattle.hhh_engine.proofs.LastReportLemmas.{OneReport}
+use Rattle.hhh_engine.specs.Session.{by_formula, session_ends, new_session_shards}
+use Rattle.hhh_engine.proofs.LastReportLemmas.{LastReportIsUnique}
 
 -- a file has one list of frames
-abbrev pub OneFrames : Type 0
-OneFrames = (file : List ℕ) (frames others : List FrameValue) → HasFrames file frames → HasFrames file others → others ≡ frames
+abbrev pub DemoTextFramesAreUnique : Type 0
+DemoTextFramesAreUnique = (file : List ℕ) (frames others : List FrameValue) → HasCaptureFrames file frames → HasCaptureFrames file others
+    → others ≡ frames
 
 -- a rule that is a formula deals records in one way
-abbrev pub OneDealing : Type 0
-OneDealing =
+abbrev pub DemoTextDealingIsUnique : Type 0
+DemoTextDealingIsUnique =
     (kind : DealKind) (formula : ℕ → RecordValue → ℕ → ℕ) (shards : ℕ) (records : List RecordValue)
     (lists others : List (List RecordValue))
     → IsDealing kind (λ place rec shards number. number ≡ formula place rec shards) shards records lists
     → IsDealing kind (λ place rec shards number. number ≡ formula place rec shards) shards records others → lists ≡ others
 
 -- the records of a file, in their order
-one_records : OneFrames → (file : List ℕ) (weigh other : Weigh) (frames other_frames : List FrameValue)
-    (records others : Records) → weigh ≡ other → HasFrames file frames → HasFrames file other_frames
+demo_text_records_agree : DemoTextFramesAreUnique → (file : List ℕ) (weigh other : Weigh) (frames other_frames : List FrameValue)
+    (records others : Records) → weigh ≡ other → HasCaptureFrames file frames → HasCaptureFrames file other_frames
     → AreRecordsOf weigh frames records → AreRecordsOf other other_frames others → records.list ≡ others.list
-one_records one file weigh other frames other_frames records others same has has_other are are_other =
-    are.list ∙ ap₂ records_of same (one file other_frames frames has_other has) ∙ sym are_other.list
+demo_text_records_agree one file weigh other frames other_frames records others same has has_other are are_other =
+    are.list ∙ ap₂ frame_records_of same (one file other_frames frames has_other has) ∙ sym are_other.list
 
 -- the lists to which they are dealt
-one_lists : OneDealing → (formula : DealKind → ℕ → RecordValue → ℕ → ℕ) (kind other : DealKind) (shards other_shards : ℕ)
+demo_text_lists_agree : DemoTextDealingIsUnique → (formula : DealKind → ℕ → RecordValue → ℕ → ℕ) (kind other : DealKind) (shards other_shards : ℕ)
     (records others : List RecordValue) (lists other_lists : List (List RecordValue))
     → kind ≡ other → shards ≡ other_shards → records ≡ others
     → IsDealing kind (by_formula formula kind) shards records lists
     → IsDealing other (by_formula formula other) other_shards others other_lists → lists ≡ other_lists
-one_lists one formula kind other shards other_shards records others lists other_lists same_kind same_shards same_records
+demo_text_lists_agree one formula kind other shards other_shards records others lists other_lists same_kind same_shards same_records
     dealing dealing_other =
     one kind (formula kind) shards records lists other_lists dealing
     (subst (λ k. IsDealing k (by_formula formula k) shards records other_lists) (sym same_kind)
@@ -52,44 +53,44 @@ one_lists one formula kind other shards other_shards records others lists other_
     dealing_other)))
 
 -- the report at the ends of shards
-one_report_at_ends : OneReport → (opening other_opening : List ShardValue) (phi other_phi : ℕ) (report other : Report)
+demo_text_reports_agree : LastReportIsUnique → (opening other_opening : List ShardValue) (phi other_phi : ℕ) (report other : Report)
     → opening ≡ other_opening → phi ≡ other_phi
-    → IsReportAt opening phi report → report.positions ≡ ends_of opening
-    → IsReportAt other_opening other_phi other → other.positions ≡ ends_of other_opening → AreSame report other
-one_report_at_ends one opening other_opening phi other_phi report other same_opening same_phi is at_ends is_other
+    → IsReportAtCall opening phi report → report.positions ≡ session_ends opening
+    → IsReportAtCall other_opening other_phi other → other.positions ≡ session_ends other_opening → IsSameReport report other
+demo_text_reports_agree one opening other_opening phi other_phi report other same_opening same_phi is at_ends is_other
     other_at_ends =
-    let same_cut : cut_at other_opening other.positions ≡ cut_at opening report.positions =
-    ap (cut_at other_opening) other_at_ends ∙ ap (λ o. cut_at o (ends_of o)) (sym same_opening)
-    ∙ ap (cut_at opening) (sym at_ends) in
-    one (cut_at opening report.positions) phi report other report.are_lines other.are_lines is.is
-    (subst (λ n. IsReportOf (cut_at opening report.positions) n other) (sym same_phi)
+    let same_cut : cut_at_call other_opening other.positions ≡ cut_at_call opening report.positions =
+    ap (cut_at_call other_opening) other_at_ends ∙ ap (λ o. cut_at_call o (session_ends o)) (sym same_opening)
+    ∙ ap (cut_at_call opening) (sym at_ends) in
+    one (cut_at_call opening report.positions) phi report other report.are_lines other.are_lines is.is
+    (subst (λ n. IsReportOf (cut_at_call opening report.positions) n other) (sym same_phi)
     (subst (λ cut. IsReportOf cut other_phi other) same_cut is_other.is))
 
 -- so the summary of a report is one
-pub one_demo : OneFrames → OneDealing → OneReport → (formula : DealKind → ℕ → RecordValue → ℕ → ℕ)
+pub demo_text_is_unique : DemoTextFramesAreUnique → DemoTextDealingIsUnique → LastReportIsUnique → (formula : DealKind → ℕ → RecordValue → ℕ → ℕ)
     (settings other : Settings) (seed frames : ℕ) (text other_text : List ℕ)
     → settings.shards ≡ other.shards → settings.capacity ≡ other.capacity → settings.phi ≡ other.phi
     → settings.deal ≡ other.deal → settings.weigh ≡ other.weigh
     → IsDemoText settings (by_formula formula) seed frames text
     → IsDemoText other (by_formula formula) seed frames other_text → text ≡ other_text
-one_demo one_frames one_dealing one_report formula settings other seed frames text other_text shards capacity phi deal
+demo_text_is_unique one_frames one_dealing one_report formula settings other seed frames text other_text shards capacity phi deal
     weigh is is_other =
     let records : is.records.list ≡ is_other.records.list =
-    one_records one_frames (made_capture seed frames) settings.weigh other.weigh is.dealt.frames is_other.dealt.frames
+    demo_text_records_agree one_frames (made_capture seed frames) settings.weigh other.weigh is.dealt.frames is_other.dealt.frames
     is.records is_other.records weigh is.dealt.capture is_other.dealt.capture is.dealt.are_records
     is_other.dealt.are_records in
     let lists : is.lists ≡ is_other.lists =
-    one_lists one_dealing formula settings.deal other.deal settings.shards other.shards is.records.list
+    demo_text_lists_agree one_dealing formula settings.deal other.deal settings.shards other.shards is.records.list
     is_other.records.list is.lists is_other.lists deal shards records is.dealt.dealt is_other.dealt.dealt in
-    let same : AreSame is.report is_other.report =
-    one_report_at_ends one_report (new_shards settings.capacity is.lists) (new_shards other.capacity is_other.lists)
-    settings.phi other.phi is.report is_other.report (ap₂ new_shards capacity lists) phi is.is_report.is_report
+    let same : IsSameReport is.report is_other.report =
+    demo_text_reports_agree one_report (new_session_shards settings.capacity is.lists) (new_session_shards other.capacity is_other.lists)
+    settings.phi other.phi is.report is_other.report (ap₂ new_session_shards capacity lists) phi is.is_report.is_report
     is.is_report.at_ends is_other.is_report.is_report is_other.is_report.at_ends in
     is.spelled ∙ one_text seed frames is.records is_other.records is.report is_other.report records same
     ∙ sym is_other.spelled
   where
     one_text : (seed frames : ℕ) (records others : Records) (report other : Report) → records.list ≡ others.list
-        → AreSame report other
+        → IsSameReport report other
         → demo_text seed frames (length records.list) report ≡ demo_text seed frames (length others.list) other
     one_text seed frames records others report other same_records same =
         let counted : length records.list ≡ length others.list = ap (λ (l : List RecordValue). length l) same_records in

@@ -4,11 +4,11 @@ use Rattle.std.specs.Fmt.{digits}
 use Rattle.prefix_lattice.specs.{RecordValue, PrefixValue}
 use Rattle.shard_state.specs.{ShardValue}
 use Rattle.pcap_frames.specs.declared.file_order.FileOrder.TheVariants.{Little}
-use Rattle.pcap_frames.specs.{number_at, FrameValue, magic_order}
-use Rattle.frame_records.specs.{HasFrames}
+use Rattle.pcap_frames.specs.{number_in_file_order, FrameValue, header_magic_order}
+use Rattle.frame_records.specs.{HasCaptureFrames}
 use Rattle.frame_records.specs.declared.weigh.Weigh.TheVariants.{Bytes, Packets}
-use Rattle.hhh_engine.specs.Session.{by_formula, ends_of, new_shards, start_of}
-use Rattle.hhh_engine.specs.WeightText.{weigh_capacity, weigh_text, text_for, IsWeightText}
+use Rattle.hhh_engine.specs.Session.{by_formula, session_ends, new_session_shards, session_start}
+use Rattle.hhh_engine.specs.WeightText.{weight_text_capacity, weight_text, weight_text_for, IsWeightText}
 use Rattle.deal_rules.specs.declared.deal_kind.DealKind.{DealKind}
 use Rattle.deal_rules.specs.declared.deal_kind.DealKind.TheVariants.{Free}
 
@@ -28,29 +28,29 @@ abbrev pub two_lists : List (List RecordValue)
 two_lists = (packet ∷ []) ∷ [] ∷ []
 
 abbrev pub two_shards : List ShardValue
-two_shards = new_shards 512 two_lists
+two_shards = new_session_shards 512 two_lists
 
-pub start_of_two_shards : start_of two_shards ≡ 0 ∷ 0 ∷ []
+pub start_of_two_shards : session_start two_shards ≡ 0 ∷ 0 ∷ []
 start_of_two_shards = refl
 
-pub ends_of_two_shards : ends_of two_shards ≡ 1 ∷ 0 ∷ []
+pub ends_of_two_shards : session_ends two_shards ≡ 1 ∷ 0 ∷ []
 ends_of_two_shards = refl
 
 pub capacity_of_two_shards : map (λ shard. shard.base.capacity) two_shards ≡ 512 ∷ 512 ∷ []
 capacity_of_two_shards = refl
 
-pub text_of_a_weight : weigh_text 60 100 100 ≡ codes "low 60\nhigh 100\ntotal 100\n"
+pub text_of_a_weight : weight_text 60 100 100 ≡ codes "low 60\nhigh 100\ntotal 100\n"
 unfolding digits
 text_of_a_weight = refl
 
-pub text_of_the_packet : text_for prefix (packet ∷ []) ≡ weigh_text 100 100 100
+pub text_of_the_packet : weight_text_for prefix (packet ∷ []) ≡ weight_text 100 100 100
 text_of_the_packet = refl
 
 -- a table with room left tells that nothing came from other sources
-pub text_of_another_source : text_for other_source (packet ∷ []) ≡ weigh_text 0 0 100
+pub text_of_another_source : weight_text_for other_source (packet ∷ []) ≡ weight_text 0 0 100
 text_of_another_source = refl
 
-pub room_for_other_prefixes : weigh_capacity ≡ 64
+pub room_for_other_prefixes : weight_text_capacity ≡ 64
 room_for_other_prefixes = refl
 
 -- the header of a little-endian capture
@@ -72,8 +72,8 @@ file = header ++ frame_header ++ captured
 abbrev frame : FrameValue
 frame = record { head = captured; captured = 34; original = 100 }
 
-pub file_is_a_capture : HasFrames file (frame ∷ [])
-unfolding number_at magic_order
+pub file_is_a_capture : HasCaptureFrames file (frame ∷ [])
+unfolding number_in_file_order header_magic_order
 file_is_a_capture = (
   Little,
   record {

@@ -4,19 +4,19 @@ use Rattle.std.proofs.Common.{codes, arith, get_or, length, true}
 use Rattle.std.specs.Prelude.{⊤}
 use Rattle.std.proofs.lemmas.List.Elements.{All-nil}
 use Rattle.pcap_frames.specs.declared.fault.FaultKind.TheVariants.{ShortHeader}
-use Rattle.pcap_frames.specs.{header_fault, fault_at}
+use Rattle.pcap_frames.specs.{header_fault, header_fault_at}
 use Rattle.frame_records.specs.declared.weigh.Weigh.TheVariants.{Bytes}
 use Rattle.command_words.specs.{AskFor}
 use Rattle.command_words.specs.declared.command.Command.{Command}
 use Rattle.command_words.specs.declared.command.Command.TheVariants.{Weigh, Report as report_command, Format, Audit, Make, Demo}
 use Rattle.command_words.specs.declared.words_kind.WordsKind.TheVariants.{NoCommand}
-use Rattle.hhh_engine.specs.Answer.{Answers, AnswersInPart, IsAnswer, IsAnswerInPart, IsWeightTextInPart, Writes}
-use Rattle.hhh_engine.specs.Answer.{IsCutShort, formatted_text}
-use Rattle.hhh_engine.specs.Inputs.{AskNotToUse, AskToUse, CanBeAnswered, HasKnownCapture, ReadsCapture, ReadsSession}
-use Rattle.hhh_engine.specs.Inputs.{UsesStore, WasAccepted, WasRead, inputs}
-use Rattle.hhh_engine.specs.Ending.{Ends, FailedDisk, FailedToRead, FailedToWrite, FormatEnds, RefusedCapture, SourceFailed}
-use Rattle.hhh_engine.specs.Ending.{OfDisk, OneRose, RefusedWords, RefusesFor, RefusesStore, WasAnswered, WroteInPart}
-use Rattle.hhh_engine.specs.Ending.{UnlessFormat, source_faults}
+use Rattle.hhh_engine.specs.Answer.{Answers, AnswersInPart, IsAnswer, IsAnswerInPart, IsWeighAnswerInPart, Writes}
+use Rattle.hhh_engine.specs.Answer.{IsUnfinishedAnswer, formatted_answer}
+use Rattle.hhh_engine.specs.Inputs.{AskNotToUseInput, AskToUseInput, InputsCanBeAnswered, HasKnownInputCapture, UsesInputCapture, UsesInputSession}
+use Rattle.hhh_engine.specs.Inputs.{UsesInputStore, InputsWereAccepted, InputsWereRead, inputs}
+use Rattle.hhh_engine.specs.Ending.{Ends, EndsWithFailedDisk, EndsFailingToRead, EndsFailingToWrite, FormatEnds, EndsRefusingCapture, EndsAtFailedSource}
+use Rattle.hhh_engine.specs.Ending.{OfDiskAtEnding, OneSourceRoseAtEnding, EndsRefusingWords, RefusesAtEnding, RefusesStoreAtEnding, EndsAnswered, EndsWritingInPart}
+use Rattle.hhh_engine.specs.Ending.{EndsAsBeforeUnlessFormat, ending_source_faults}
 use Rattle.recovery.specs.declared.fault.OpenFault.{OpenFault}
 use Rattle.recovery.specs.declared.fault.OpenFault.TheVariants as opening
 use Rattle.hhh_engine.specs.Saves.{store_settings}
@@ -69,7 +69,7 @@ asks_for_a_report = record {
   wide = omega arith;
 }
 
-pub report_asks_to_read : AskToUse ReadsCapture words
+pub report_asks_to_read : AskToUseInput UsesInputCapture words
 report_asks_to_read = record { command = report_command settings; asked = asks_for_a_report; uses = tt }
 
 no_words_ask : (command : Command) → AskFor [] command → ⊥
@@ -80,57 +80,57 @@ no_words_ask (Audit settings) asked = let begun = asked.are_words.begun in cc
 no_words_ask (Make seed frames) asked = let begun = asked.are_words.begun in cc
 no_words_ask (Demo seed frames settings) asked = let begun = asked.are_words.begun in cc
 
-pub no_words_ask_to_read : AskToUse ReadsCapture [] → ⊥
+pub no_words_ask_to_read : AskToUseInput UsesInputCapture [] → ⊥
 no_words_ask_to_read asks = no_words_ask asks.command asks.asked
 
-pub report_reads_a_capture : ReadsCapture (report_command settings)
+pub report_reads_a_capture : UsesInputCapture (report_command settings)
 report_reads_a_capture = tt
 
-pub format_reads_no_capture : ReadsCapture (Format settings) → ⊥
+pub format_reads_no_capture : UsesInputCapture (Format settings) → ⊥
 format_reads_no_capture reads = reads
 
 -- an audit reads two inputs, and a report one
-pub audit_reads_a_session : ReadsSession (Audit settings)
+pub audit_reads_a_session : UsesInputSession (Audit settings)
 audit_reads_a_session = tt
 
-pub report_reads_no_session : ReadsSession (report_command settings) → ⊥
+pub report_reads_no_session : UsesInputSession (report_command settings) → ⊥
 report_reads_no_session reads = reads
 
 -- the settings ask for no store
-pub report_without_a_store : UsesStore (report_command settings) → ⊥
+pub report_without_a_store : UsesInputStore (report_command settings) → ⊥
 report_without_a_store uses = cc uses
 
-pub report_with_a_store : UsesStore (report_command (record settings { store = true }))
+pub report_with_a_store : UsesInputStore (report_command (record settings { store = true }))
 report_with_a_store = refl
 
-pub report_asks_for_no_store : AskNotToUse UsesStore words
+pub report_asks_for_no_store : AskNotToUseInput UsesInputStore words
 report_asks_for_no_store = record {
   command = report_command settings;
   asked = asks_for_a_report;
   unused = report_without_a_store;
 }
 
-pub source_of_a_header : HasKnownCapture (Some header)
+pub source_of_a_header : HasKnownInputCapture (Some header)
 source_of_a_header = record { file = header; told = refl; frames = []; capture = header_is_a_capture }
 
-pub silent_source_tells_no_capture : HasKnownCapture None → ⊥
+pub silent_source_tells_no_capture : HasKnownInputCapture None → ⊥
 silent_source_tells_no_capture tells = let told = tells.told in cc
 
 -- of the disk nothing needs to be known
 pub report_over_a_header_can_be_answered :
-    CanBeAnswered in_turn (report_command settings) (inputs (Some header) (Some []) None None None)
+    InputsCanBeAnswered in_turn (report_command settings) (inputs (Some header) (Some []) None None None)
 report_over_a_header_can_be_answered = (source_of_a_header, λ used. absurd (cc used))
 
 -- but it does with a store
 pub report_over_an_unknown_store :
-    CanBeAnswered in_turn (report_command (record settings { store = true })) (inputs (Some header) (Some []) None None None) → ⊥
+    InputsCanBeAnswered in_turn (report_command (record settings { store = true })) (inputs (Some header) (Some []) None None None) → ⊥
 report_over_an_unknown_store can = let store = can.1 refl in cc store.told
 
-pub header_was_accepted : WasAccepted (report_command settings) (inputs (Some header) (Some []) None None None)
+pub header_was_accepted : InputsWereAccepted (report_command settings) (inputs (Some header) (Some []) None None None)
 header_was_accepted = ([], header_is_a_capture)
 
 -- a source with a byte left was not read to its end
-pub one_byte_left : WasRead (report_command settings) (inputs (Some header) (Some (1 ∷ [])) None None None) → ⊥
+pub one_byte_left : InputsWereRead (report_command settings) (inputs (Some header) (Some (1 ∷ [])) None None None) → ⊥
 one_byte_left read = cc read
 
 -- the text stands behind what the sink held
@@ -162,7 +162,7 @@ pub nothing_is_not_written : Writes (λ text. text ≡ codes "no") (Some []) (So
 nothing_is_not_written writes = cc (writes.written, writes.is_text)
 
 -- a sink with room for 6 bytes took the least weight, but not the end of its line
-pub weight_in_part : IsWeightTextInPart prefix Bytes file (codes "low 10")
+pub weight_in_part : IsWeighAnswerInPart prefix Bytes file (codes "low 10")
 weight_in_part = record {
   text = codes "low 100\nhigh 100\ntotal 100\n";
   is_text = weight_of_the_file;
@@ -175,7 +175,7 @@ pub weight_in_part_is_an_answer_in_part :
 weight_in_part_is_an_answer_in_part = weight_in_part
 
 -- `format` writes one line, whatever its inputs are
-pub text_of_format : formatted_text ≡ codes "formatted\n"
+pub text_of_format : formatted_answer ≡ codes "formatted\n"
 text_of_format = refl
 
 pub format_answers_in_a_line :
@@ -185,19 +185,19 @@ format_answers_in_a_line = refl
 pub format_is_cut_short :
     IsAnswerInPart in_turn keeps_nothing (Format settings) (inputs None None None None None) (codes "format")
 format_is_cut_short = record {
-  text = formatted_text;
+  text = formatted_answer;
   is_text = refl;
   begins = (codes "ted\n", refl);
   cut = omega arith;
 }
 
 -- a whole text isn't cut short
-pub whole_text_is_not_cut_short : IsCutShort (λ text. text ≡ codes "yes") (codes "yes") → ⊥
+pub whole_text_is_not_cut_short : IsUnfinishedAnswer (λ text. text ≡ codes "yes") (codes "yes") → ⊥
 whole_text_is_not_cut_short short =
     let same : length short.text ≡ 3 = ap length short.is_text in omega (arith, same, short.cut)
 
 -- no text comes of an empty file, nor where the source failed
-pub empty_file_has_no_text : HasNoText (Some []) 0 0 (BadCapture (fault_at ShortHeader 0))
+pub empty_file_has_no_text : HasNoText (Some []) 0 0 (BadCapture (header_fault_at ShortHeader 0))
 unfolding header_fault
 empty_file_has_no_text =
     ([], inr (inl (record { none_shown = refl; short = omega arith; none_before = refl; is_fault = refl })))
@@ -218,13 +218,13 @@ success_has_a_text no_text = no_text
 
 -- the first byte was read before the missing command was seen
 pub no_command_before_a_read :
-    RefusedWords {S = List ℕ} {T = List ℕ} {K = List ℕ} {D = List ℕ} [] NoCommand (1 ∷ 2 ∷ []) (2 ∷ []) [] [] [] []
+    EndsRefusingWords {S = List ℕ} {T = List ℕ} {K = List ℕ} {D = List ℕ} [] NoCommand (1 ∷ 2 ∷ []) (2 ∷ []) [] [] [] []
     [] [] → ⊥
 no_command_before_a_read refused =
     let same : 2 ≡ 1 = ap (λ bytes. get_or bytes 0 0) refused.nothing.unread in omega (arith, same)
 
 pub no_command :
-    RefusedWords {S = List ℕ} {T = List ℕ} {K = List ℕ} {D = List ℕ} [] NoCommand (1 ∷ 2 ∷ []) (1 ∷ 2 ∷ []) (3 ∷ [])
+    EndsRefusingWords {S = List ℕ} {T = List ℕ} {K = List ℕ} {D = List ℕ} [] NoCommand (1 ∷ 2 ∷ []) (1 ∷ 2 ∷ []) (3 ∷ [])
     (3 ∷ []) [] [] (7 ∷ []) (7 ∷ [])
 no_command = record {
   first_fault = refl;
@@ -232,7 +232,7 @@ no_command = record {
 }
 
 pub empty_file_is_refused :
-    RefusedCapture {T = List ℕ} {K = List ℕ} {D = List ℕ} words (Some []) (fault_at ShortHeader 0) (3 ∷ []) (3 ∷ []) [] []
+    EndsRefusingCapture {T = List ℕ} {K = List ℕ} {D = List ℕ} words (Some []) (header_fault_at ShortHeader 0) (3 ∷ []) (3 ∷ []) [] []
     (7 ∷ []) (7 ∷ [])
 empty_file_is_refused = record {
   asked = report_asks_to_read;
@@ -244,21 +244,21 @@ empty_file_is_refused = record {
 
 -- a disk that changed isn't untouched
 pub capture_refused_after_a_save :
-    RefusedCapture {T = List ℕ} {K = List ℕ} {D = List ℕ} words (Some []) (fault_at ShortHeader 0) [] [] [] [] (7 ∷ [])
+    EndsRefusingCapture {T = List ℕ} {K = List ℕ} {D = List ℕ} words (Some []) (header_fault_at ShortHeader 0) [] [] [] [] (7 ∷ [])
     (8 ∷ []) → ⊥
 capture_refused_after_a_save refused =
     let same : 8 ≡ 7 = ap (λ bytes. get_or bytes 0 0) refused.untouched in omega (arith, same)
 
 -- nor is a text of which a byte was read before the capture was refused
 pub capture_refused_after_the_text_was_read :
-    RefusedCapture {T = List ℕ} {K = List ℕ} {D = List ℕ} words (Some []) (fault_at ShortHeader 0) (3 ∷ 4 ∷ []) (4 ∷ []) [] []
+    EndsRefusingCapture {T = List ℕ} {K = List ℕ} {D = List ℕ} words (Some []) (header_fault_at ShortHeader 0) (3 ∷ 4 ∷ []) (4 ∷ []) [] []
     [] [] → ⊥
 capture_refused_after_the_text_was_read refused =
     let same : 4 ≡ 3 = ap (λ bytes. get_or bytes 0 0) refused.text_unread in omega (arith, same)
 
 pub source_failed :
-    FailedToRead {T = List ℕ} {K = List ℕ} {D = List ℕ} words (inputs (Some header) (Some []) None None None)
-    (source_faults 3 0) (source_faults 4 0) [] [] [] [] (7 ∷ []) (7 ∷ [])
+    EndsFailingToRead {T = List ℕ} {K = List ℕ} {D = List ℕ} words (inputs (Some header) (Some []) None None None)
+    (ending_source_faults 3 0) (ending_source_faults 4 0) [] [] [] [] (7 ∷ []) (7 ∷ [])
 source_failed = record {
   failed = inl (record { reads = report_asks_to_read; rose = omega arith; text_unread = refl });
   unwritten = refl;
@@ -267,40 +267,40 @@ source_failed = record {
 
 -- the source of a text fails only once the capture was read to its end
 pub text_failed_too_early :
-    SourceFailed {T = List ℕ} ⊤ ⊤ (inputs (Some header) (Some (1 ∷ [])) None None None) (source_faults 3 0)
-    (source_faults 3 1) (3 ∷ []) [] → ⊥
+    EndsAtFailedSource {T = List ℕ} ⊤ ⊤ (inputs (Some header) (Some (1 ∷ [])) None None None) (ending_source_faults 3 0)
+    (ending_source_faults 3 1) (3 ∷ []) [] → ⊥
 text_failed_too_early failed =
     ⊎_elim
     (λ capture. omega (arith, capture.rose))
     (λ text. let none : 1 ≡ 0 = ap (λ (bytes : List ℕ). length bytes) text.read_to_end in omega (arith, none)) failed
 
 -- the text of a session may fail instead, and its count alone tells
-pub text_failed : OneRose (source_faults 3 0) (source_faults 3 1)
+pub text_failed : OneSourceRoseAtEnding (ending_source_faults 3 0) (ending_source_faults 3 1)
 text_failed = inr (omega arith)
 
-pub no_source_failed : OneRose (source_faults 3 0) (source_faults 3 0) → ⊥
+pub no_source_failed : OneSourceRoseAtEnding (ending_source_faults 3 0) (ending_source_faults 3 0) → ⊥
 no_source_failed rose = ⊎_elim (λ capture. omega (arith, capture)) (λ text. omega (arith, text)) rose
 
 pub sink_failed_in_the_session :
-    FailedToWrite in_turn keeps_nothing words (inputs (Some header) (Some []) None None None) (Some [])
+    EndsFailingToWrite in_turn keeps_nothing words (inputs (Some header) (Some []) None None None) (Some [])
     (Some (codes "opened 0 0 0")) 3 4
 sink_failed_in_the_session = record { rose = omega arith; in_part = session_was_written_in_part }
 
 -- a disk fails before anything is written, or after a part
 pub nothing_was_written_in_part :
-    WroteInPart {K = List ℕ} in_turn keeps_nothing [] (inputs None None None None None) ⊤ [] [] (Some []) (Some [])
+    EndsWritingInPart {K = List ℕ} in_turn keeps_nothing [] (inputs None None None None None) ⊤ [] [] (Some []) (Some [])
 nothing_was_written_in_part = inl (refl, tt)
 
 -- then the disk is as before
 pub disk_changed_before_the_first_byte :
-    WroteInPart {K = List ℕ} in_turn keeps_nothing [] (inputs None None None None None) ⊥ [] (codes "o") (Some [])
+    EndsWritingInPart {K = List ℕ} in_turn keeps_nothing [] (inputs None None None None None) ⊥ [] (codes "o") (Some [])
     (Some (codes "o")) → AnswersInPart in_turn keeps_nothing [] (inputs None None None None None) (Some [])
     (Some (codes "o"))
 disk_changed_before_the_first_byte (inl nothing) = absurd nothing.1
 disk_changed_before_the_first_byte (inr part) = part
 
 pub disk_failed_in_the_session :
-    FailedDisk {K = List ℕ} in_turn keeps_nothing words (inputs (Some header) (Some []) None None None) ⊥ []
+    EndsWithFailedDisk {K = List ℕ} in_turn keeps_nothing words (inputs (Some header) (Some []) None None None) ⊥ []
     (codes "opened 0 0 0") (Some []) (Some (codes "opened 0 0 0")) 3 4
 disk_failed_in_the_session = record {
   command = report_command settings;
@@ -312,11 +312,11 @@ disk_failed_in_the_session = record {
 
 -- where no store is asked for, none is refused
 pub no_store_is_refused : (fault : OpenFault)
-    → RefusesStore settings in_turn (Some header) None ⊤ fault → ⊥
+    → RefusesStoreAtEnding settings in_turn (Some header) None ⊤ fault → ⊥
 no_store_is_refused fault refuses = cc refuses.0
 
 pub format_refuses_no_store : (fault : OpenFault)
-    → RefusesFor (Format settings) in_turn (inputs None None None None None) ⊤ fault → ⊥
+    → RefusesAtEnding (Format settings) in_turn (inputs None None None None None) ⊤ fault → ⊥
 format_refuses_no_store fault refuses = refuses
 
 -- where the disk fails, `format` writes nothing; where memory runs out, the disk is as before too
@@ -332,7 +332,7 @@ format_without_memory ended =
 -- `format` reads no capture that could be refused
 pub format_refuses_no_capture :
     FormatEnds {K = List ℕ} {D = List ℕ} (store_settings settings) None (λ image. ⊤) [] [] [] []
-    (BadCapture (fault_at ShortHeader 0)) → ⊥
+    (BadCapture (header_fault_at ShortHeader 0)) → ⊥
 format_refuses_no_capture ended = ended
 
 -- ---- how a command ended, whose text is "yes", whose sink held nothing, and whose disk failed but didn't change
@@ -360,8 +360,8 @@ audited status = status ≡ AuditNo 2 BadTotal
 -- how it ended with these counts of faults of its capture and its sink, and these bytes in the sink
 abbrev ends_with : (read_before read_now : ℕ) → List ℕ → (write_before write_now : ℕ) → Status → Type 0
 ends_with read_before read_now written write_before write_now status =
-    Ends {K = List ℕ} yes part ⊤ ⊤ ⊤ ⊤ ⊤ unformatted audited (Some []) (source_faults read_before 0)
-    (source_faults read_now 0) [] written (Some []) (Some written) write_before write_now status
+    Ends {K = List ℕ} yes part ⊤ ⊤ ⊤ ⊤ ⊤ unformatted audited (Some []) (ending_source_faults read_before 0)
+    (ending_source_faults read_now 0) [] written (Some []) (Some written) write_before write_now status
 
 pub command_that_wrote_its_text :
     ends_with 0 0 (codes "yes") 0 0 Done
@@ -416,22 +416,22 @@ pub command_whose_text_is_refused : ends_with 0 0 [] 0 0 (BadReport TooLong) →
 command_whose_text_is_refused ended = cc ended.0
 
 -- a command that found a report that isn't sound was answered if it is an audit
-pub audit_that_found_a_report : WasAnswered (Audit settings) (AuditNo 2 BadTotal)
+pub audit_that_found_a_report : EndsAnswered (Audit settings) (AuditNo 2 BadTotal)
 audit_that_found_a_report = inr (2, BadTotal, refl)
 
-pub report_that_found_a_report : WasAnswered (report_command settings) (AuditNo 2 BadTotal) → ⊥
+pub report_that_found_a_report : EndsAnswered (report_command settings) (AuditNo 2 BadTotal) → ⊥
 report_that_found_a_report answered = cc answered
 
 -- of the commands, only those with a store tell of its disk
-pub audit_uses_no_disk : OfDisk (Audit settings) ⊤ → ⊥
+pub audit_uses_no_disk : OfDiskAtEnding (Audit settings) ⊤ → ⊥
 audit_uses_no_disk happened = happened
 
-pub report_may_use_a_disk : OfDisk (report_command settings) ⊤
+pub report_may_use_a_disk : OfDiskAtEnding (report_command settings) ⊤
 report_may_use_a_disk = tt
 
 -- where no byte was written, a store that was to be opened is as before, and one that `format` began to make need not be
-pub report_leaves_a_disk_as_before : UnlessFormat (report_command settings) ⊥ → ⊥
+pub report_leaves_a_disk_as_before : EndsAsBeforeUnlessFormat (report_command settings) ⊥ → ⊥
 report_leaves_a_disk_as_before as_before = as_before
 
-pub format_may_have_begun_a_store : UnlessFormat (Format settings) ⊥
+pub format_may_have_begun_a_store : EndsAsBeforeUnlessFormat (Format settings) ⊥
 format_may_have_begun_a_store = tt

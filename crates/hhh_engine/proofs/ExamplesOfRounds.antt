@@ -9,20 +9,20 @@ use Rattle.shard_state.specs.{CutValue, ShardValue}
 use Rattle.hhh_output.specs.{IsSound}
 use Rattle.hhh_output.specs.declared.reports.Reported.{Reported}
 use Rattle.pass_tokens.specs.{IsOdd, SeatValue, ShardRead, WordsValue, after_reads, first_view}
-use Rattle.gate_workers.specs.{Calls, HasSeenEnds, IsReportAt, ReadsOnce, View, cut_at}
+use Rattle.gate_workers.specs.{Calls, HasFeedSeenEnds, IsReportAtCall, CallReadsOnce, View, cut_at_call}
 use Rattle.gate_workers.specs.declared.gathered.Gathered.{Gathered}
-use Rattle.report_text.specs.{tail_text}
-use Rattle.hhh_engine.specs.Session.{AreReportsOf, BreaksOffInRounds, Saving, part_text, parts_text}
-use Rattle.hhh_engine.specs.Rounds.{BreakOff, BreaksRound, DiskFailed, EndRounds, Faults, ReadsInVain, ReportsOnce}
-use Rattle.hhh_engine.specs.Rounds.{SinkFailed, WritesLineInPart, WritesReportInPart, WritesRounds, WritesUnsaved}
-use Rattle.hhh_engine.specs.Feed.{IsDealtCapture, IsFault, IsFed, IsGathered, IsOpened, IsSaveFault, StartsBeforeEnds}
-use Rattle.hhh_engine.specs.Feed.{WritesRoundsInPart, reports_of}
+use Rattle.report_text.specs.{report_tail_text}
+use Rattle.hhh_engine.specs.Session.{AreSessionReportsOfCaller, SessionBreaksOffInRounds, SessionSaving, session_part_text, session_parts_text}
+use Rattle.hhh_engine.specs.Rounds.{RoundsBreakOff, BreaksRound, DiskFailedInRound, EndRounds, RoundFaults, IsRoundInVain, RoundReportsOnce}
+use Rattle.hhh_engine.specs.Rounds.{SinkFailedInRound, RoundBreaksInLine, RoundBreaksInReport, WritesRounds, WritesUnsavedRound}
+use Rattle.hhh_engine.specs.DealtFeed.{IsDealtFeedCapture, IsDealtFeedFault, IsDealtFeedResult, IsDealtFeedGathered, IsDealtFeedOpening, IsDealtFeedSaveFault, DealtFeedStartsBeforeEnds}
+use Rattle.hhh_engine.specs.DealtFeed.{DealtFeedBreaksOffInRounds, dealt_feed_other_reports}
 use Rattle.hhh_engine.specs.declared.commands.session.Opened.{Opened}
 use Rattle.hhh_engine.specs.declared.commands.feed.Fed.{Fed}
 use Rattle.hhh_engine.specs.declared.status.Status.TheVariants.{Done, BadWords, ReadFault, WriteFault}
 use Rattle.hhh_engine.specs.declared.status.Status.TheVariants.{DiskFault, OutOfMemory}
 use Rattle.command_words.specs.declared.words_kind.WordsKind.TheVariants.{NoCommand}
-use Rattle.hhh_engine.proofs.OpeningLemmas.{new_start_before_ends}
+use Rattle.hhh_engine.proofs.OpeningShardLemmas.{new_opening_shards_before_ends}
 use Rattle.hhh_engine.proofs.Examples.{header, two_lists, two_shards}
 use Rattle.hhh_engine.proofs.ExamplesOfSessions.{dealt_from_the_header, in_turn, last, lists, nothing_is_sound}
 use Rattle.hhh_engine.proofs.ExamplesOfSessions.{no_reports, once_more, one_number, one_report_with, opening, records}
@@ -33,22 +33,22 @@ abbrev first : View
 first = first_view opening
 
 -- counts of faults: as before, and where the sink or the disk failed since
-abbrev pub calm : Faults
+abbrev pub calm : RoundFaults
 calm = record { sink = 3; disk = 3 }
 
-abbrev pub sink_rose : Faults
+abbrev pub sink_rose : RoundFaults
 sink_rose = record { sink = 4; disk = 3 }
 
-abbrev pub disk_rose : Faults
+abbrev pub disk_rose : RoundFaults
 disk_rose = record { sink = 3; disk = 4 }
 
-pub sink_failed : SinkFailed calm sink_rose
+pub sink_failed : SinkFailedInRound calm sink_rose
 sink_failed = record { rose = omega arith; disk = refl }
 
-pub disk_failed : DiskFailed calm disk_rose
+pub disk_failed : DiskFailedInRound calm disk_rose
 disk_failed = record { rose = omega arith; sink = refl }
 
-pub disk_did_not_fail : DiskFailed calm sink_rose → ⊥
+pub disk_did_not_fail : DiskFailedInRound calm sink_rose → ⊥
 disk_did_not_fail failed = omega (arith, failed.rose)
 
 -- no cut was saved
@@ -56,7 +56,7 @@ abbrev none_saved : List CutValue → Type 0
 none_saved cuts = cuts ≡ []
 
 -- and no save is unfinished
-abbrev none_unfinished : Saving
+abbrev none_unfinished : SessionSaving
 none_unfinished saved unfinished = (saved ≡ []) × (unfinished ≡ [])
 
 -- no round was made
@@ -97,7 +97,7 @@ no_round_of_none = (no_round_writes_nothing, refl)
 -- a fault would have ended them
 pub fault_without_a_stop :
     EndRounds opening 10000 0 first first false none_saved none_unfinished (Some []) (Some []) calm sink_rose None → ⊥
-fault_without_a_stop ended = let same : 4 ≡ 3 = ap (λ (faults : Faults). faults.sink) ended.1 in omega (arith, same)
+fault_without_a_stop ended = let same : 4 ≡ 3 = ap (λ (faults : RoundFaults). faults.sink) ended.1 in omega (arith, same)
 
 -- ---- a round
 
@@ -125,7 +125,7 @@ one_call = record {
   positions = refl;
   never_fall = λ place inside. once_more _ [] (one_number _);
   each =
-      All-cons (λ (reported : Reported). IsReportAt opening 10000 reported.report) last [] report_at_the_ends
+      All-cons (λ (reported : Reported). IsReportAtCall opening 10000 reported.report) last [] report_at_the_ends
       (All-nil _);
   unsaved = All-cons (λ (reported : Reported). reported.saved ≡ None) last [] refl (All-nil _);
 }
@@ -135,7 +135,7 @@ last_is_sound =
     All-cons (λ (reported : Reported). IsSound reported.report lists 512 10000) last [] nothing_is_sound (All-nil _)
 
 pub one_round_is_written :
-    WritesRounds opening 10000 1 first after_one false none_saved (Some []) (Some (part_text false last))
+    WritesRounds opening 10000 1 first after_one false none_saved (Some []) (Some (session_part_text false last))
 unfolding digits
 one_round_is_written = record {
   reports = last ∷ [];
@@ -146,15 +146,15 @@ one_round_is_written = record {
 }
 
 pub one_round_of_one : EndRounds opening 10000 1 first after_one false none_saved none_unfinished (Some [])
-    (Some (part_text false last)) calm calm None
+    (Some (session_part_text false last)) calm calm None
 one_round_of_one = (one_round_is_written, refl)
 
 -- with a store the cut at the positions of the report is saved, and they are written
 abbrev one_saved : List CutValue → Type 0
-one_saved cuts = cuts ≡ cut_at opening (0 ∷ 0 ∷ 0 ∷ 0 ∷ []) ∷ []
+one_saved cuts = cuts ≡ cut_at_call opening (0 ∷ 0 ∷ 0 ∷ 0 ∷ []) ∷ []
 
 pub one_round_is_saved :
-    WritesRounds opening 10000 1 first after_one true one_saved (Some []) (Some (part_text true last))
+    WritesRounds opening 10000 1 first after_one true one_saved (Some []) (Some (session_part_text true last))
 unfolding digits
 one_round_is_saved = record {
   reports = last ∷ [];
@@ -166,11 +166,11 @@ one_round_is_saved = record {
 
 -- ---- a round that broke off
 
-pub report_of_one_round : ReportsOnce opening 10000 first after_one report
+pub report_of_one_round : RoundReportsOnce opening 10000 first after_one report
 report_of_one_round = record { calls = one_call; sound = λ bases. nothing_is_sound }
 
 -- a sink with room for 7 bytes took the first line of the report
-pub report_in_part : WritesReportInPart opening 10000 first after_one none_unfinished (Some []) (Some (codes "report\n"))
+pub report_in_part : RoundBreaksInReport opening 10000 first after_one none_unfinished (Some []) (Some (codes "report\n"))
 unfolding digits
 report_in_part = record {
   report = report;
@@ -185,16 +185,16 @@ report_in_part = record {
 }
 
 -- of the line of the saved positions none may be written, though the cut was saved
-abbrev saved_the_one : Saving
+abbrev saved_the_one : SessionSaving
 saved_the_one saved unfinished = one_saved saved × (unfinished ≡ [])
 
 pub line_in_part :
-    WritesLineInPart opening 10000 first after_one true saved_the_one (Some []) (Some (part_text false last))
+    RoundBreaksInLine opening 10000 first after_one true saved_the_one (Some []) (Some (session_part_text false last))
 unfolding digits
 line_in_part = record {
   report = report;
   reports = report_of_one_round;
-  between = Some (part_text false last);
+  between = Some (session_part_text false last);
   whole = refl;
   written = record {
     front = [];
@@ -206,30 +206,30 @@ line_in_part = record {
 }
 
 -- and where the disk fails, the save is unfinished
-abbrev unfinished_the_one : Saving
+abbrev unfinished_the_one : SessionSaving
 unfinished_the_one saved unfinished = (saved ≡ []) × one_saved unfinished
 
-pub unsaved_round : WritesUnsaved opening 10000 first after_one true unfinished_the_one (Some []) (Some (part_text false last))
+pub unsaved_round : WritesUnsavedRound opening 10000 first after_one true unfinished_the_one (Some []) (Some (session_part_text false last))
 unfolding digits
 unsaved_round = record { report = report; reports = report_of_one_round; written = refl; kept = (refl, refl) }
 
 -- a save that was made is none that is unfinished
 pub saved_round_is_not_unsaved :
-    WritesUnsaved opening 10000 first after_one true saved_the_one (Some []) (Some (part_text false last)) → ⊥
+    WritesUnsavedRound opening 10000 first after_one true saved_the_one (Some []) (Some (session_part_text false last)) → ⊥
 saved_round_is_not_unsaved unsaved = cc unsaved.kept.1
 
 -- where memory ran out, it was not begun
-pub round_not_saved : WritesUnsaved opening 10000 first after_one false none_unfinished (Some []) (Some (part_text false last))
+pub round_not_saved : WritesUnsavedRound opening 10000 first after_one false none_unfinished (Some []) (Some (session_part_text false last))
 unfolding digits
 round_not_saved = record { report = report; reports = report_of_one_round; written = refl; kept = (refl, refl) }
 
-pub each_shard_was_read_once : ReadsOnce opening first after_one
+pub each_shard_was_read_once : CallReadsOnce opening first after_one
 each_shard_was_read_once = record { reads = reads; as_many = refl; odd = no_losses; view = refl }
 
-pub round_in_vain : ReadsInVain opening first after_one none_unfinished (Some []) (Some [])
+pub round_in_vain : IsRoundInVain opening first after_one none_unfinished (Some []) (Some [])
 round_in_vain = record { reads = each_shard_was_read_once; unwritten = refl; kept = (refl, refl) }
 
-pub round_in_vain_writes_nothing : ReadsInVain opening first after_one none_unfinished (Some []) (Some (codes "report\n")) → ⊥
+pub round_in_vain_writes_nothing : IsRoundInVain opening first after_one none_unfinished (Some []) (Some (codes "report\n")) → ⊥
 round_in_vain_writes_nothing vain = cc vain.unwritten
 
 pub sink_breaks_a_round :
@@ -238,7 +238,7 @@ pub sink_breaks_a_round :
 sink_breaks_a_round = (inl report_in_part, sink_failed)
 
 pub sink_breaks_the_line :
-    BreaksRound opening 10000 first after_one true saved_the_one (Some []) (Some (part_text false last)) calm sink_rose
+    BreaksRound opening 10000 first after_one true saved_the_one (Some []) (Some (session_part_text false last)) calm sink_rose
     WriteFault
 sink_breaks_the_line = (inr line_in_part, sink_failed)
 
@@ -248,13 +248,13 @@ pub sink_that_did_not_fail :
 sink_that_did_not_fail breaks = omega (arith, breaks.1.rose)
 
 pub disk_breaks_a_round :
-    BreaksRound opening 10000 first after_one true unfinished_the_one (Some []) (Some (part_text false last)) calm disk_rose
+    BreaksRound opening 10000 first after_one true unfinished_the_one (Some []) (Some (session_part_text false last)) calm disk_rose
     DiskFault
 disk_breaks_a_round = (refl, unsaved_round, disk_failed)
 
 -- without a store no disk is written to
 pub disk_breaks_no_round_without_a_store :
-    BreaksRound opening 10000 first after_one false unfinished_the_one (Some []) (Some (part_text false last)) calm disk_rose
+    BreaksRound opening 10000 first after_one false unfinished_the_one (Some []) (Some (session_part_text false last)) calm disk_rose
     DiskFault → ⊥
 disk_breaks_no_round_without_a_store breaks = cc breaks.0
 
@@ -264,13 +264,13 @@ memory_breaks_a_round = (inl round_in_vain, refl)
 
 -- memory may also run out in a save
 pub memory_breaks_a_save :
-    BreaksRound opening 10000 first after_one true none_unfinished (Some []) (Some (part_text false last)) calm calm
+    BreaksRound opening 10000 first after_one true none_unfinished (Some []) (Some (session_part_text false last)) calm calm
     OutOfMemory
 memory_breaks_a_save = (inr (refl, round_not_saved), refl)
 
 -- then no save was made, or begun
 pub memory_ran_out_after_a_save :
-    BreaksRound opening 10000 first after_one true saved_the_one (Some []) (Some (part_text false last)) calm calm
+    BreaksRound opening 10000 first after_one true saved_the_one (Some []) (Some (session_part_text false last)) calm calm
     OutOfMemory → ⊥
 memory_ran_out_after_a_save (inl vain, same) = cc vain.kept.0
 memory_ran_out_after_a_save (inr unsaved, same) = cc unsaved.1.kept.0
@@ -285,7 +285,7 @@ source_breaks_no_round breaks = breaks
 
 -- the first of two rounds broke off
 pub first_round_broke_off :
-    BreakOff opening 10000 2 first after_one false none_unfinished (Some []) (Some (codes "report\n")) calm sink_rose WriteFault
+    RoundsBreakOff opening 10000 2 first after_one false none_unfinished (Some []) (Some (codes "report\n")) calm sink_rose WriteFault
 first_round_broke_off = record {
   whole = 0;
   few = omega arith;
@@ -296,7 +296,7 @@ first_round_broke_off = record {
 }
 
 pub no_round_breaks_off :
-    BreakOff opening 10000 0 first after_one false none_unfinished (Some []) (Some (codes "report\n")) calm sink_rose WriteFault
+    RoundsBreakOff opening 10000 0 first after_one false none_unfinished (Some []) (Some (codes "report\n")) calm sink_rose WriteFault
     → ⊥
 no_round_breaks_off breaks = omega (arith, breaks.few)
 
@@ -307,55 +307,55 @@ two_rounds_ended_in_the_first = first_round_broke_off
 
 -- ---- the feed
 
-pub dealt_capture : IsDealtCapture settings in_turn header lists (tail_text records)
+pub dealt_capture : IsDealtFeedCapture settings in_turn header lists (report_tail_text records)
 dealt_capture = record { records = records; dealt = dealt_from_the_header; is_tail = refl }
 
-pub two_shards_start_before_their_ends : StartsBeforeEnds two_shards
-two_shards_start_before_their_ends = new_start_before_ends 512 two_lists
+pub two_shards_start_before_their_ends : DealtFeedStartsBeforeEnds two_shards
+two_shards_start_before_their_ends = new_opening_shards_before_ends 512 two_lists
 
 -- a shard of no record can't have counted one
-pub shard_past_its_end : StartsBeforeEnds (record shard { position = 1 } ∷ []) → ⊥
+pub shard_past_its_end : DealtFeedStartsBeforeEnds (record shard { position = 1 } ∷ []) → ⊥
 shard_past_its_end starts = let start : 1 ≤ 0 = starts 0 in omega (arith, start)
 
-pub fault_of_the_sink : IsFault calm sink_rose WriteFault
+pub fault_of_the_sink : IsDealtFeedFault calm sink_rose WriteFault
 fault_of_the_sink = sink_failed
 
-pub fault_without_a_count : IsFault calm calm WriteFault → ⊥
+pub fault_without_a_count : IsDealtFeedFault calm calm WriteFault → ⊥
 fault_without_a_count failed = omega (arith, failed.rose)
 
-pub fault_of_the_disk : IsFault calm disk_rose DiskFault
+pub fault_of_the_disk : IsDealtFeedFault calm disk_rose DiskFault
 fault_of_the_disk = disk_failed
 
 -- a fault of the disk isn't told as one of the sink
-pub fault_of_the_other : IsFault calm disk_rose WriteFault → ⊥
+pub fault_of_the_other : IsDealtFeedFault calm disk_rose WriteFault → ⊥
 fault_of_the_other failed = omega (arith, failed.rose)
 
-pub want_of_memory : IsFault calm calm OutOfMemory
+pub want_of_memory : IsDealtFeedFault calm calm OutOfMemory
 want_of_memory = refl
 
-pub want_of_memory_counts_no_fault : IsFault calm sink_rose OutOfMemory → ⊥
+pub want_of_memory_counts_no_fault : IsDealtFeedFault calm sink_rose OutOfMemory → ⊥
 want_of_memory_counts_no_fault is =
-    let same : 4 ≡ 3 = ap (λ (faults : Faults). faults.sink) is in omega (arith, same)
+    let same : 4 ≡ 3 = ap (λ (faults : RoundFaults). faults.sink) is in omega (arith, same)
 
-pub success_is_no_fault : IsFault calm calm Done → ⊥
+pub success_is_no_fault : IsDealtFeedFault calm calm Done → ⊥
 success_is_no_fault fault = fault
 
 -- saves fail with the disk, or for want of memory
-pub disk_fails_a_save : IsSaveFault 3 4 DiskFault
+pub disk_fails_a_save : IsDealtFeedSaveFault 3 4 DiskFault
 disk_fails_a_save = omega arith
 
-pub memory_fails_a_save : IsSaveFault 3 3 OutOfMemory
+pub memory_fails_a_save : IsDealtFeedSaveFault 3 3 OutOfMemory
 memory_fails_a_save = refl
 
-pub sink_fails_no_save : IsSaveFault 3 4 WriteFault → ⊥
+pub sink_fails_no_save : IsDealtFeedSaveFault 3 4 WriteFault → ⊥
 sink_fails_no_save fault = fault
 
-pub bad_words_are_no_fault_of_a_session : IsFault calm calm (BadWords NoCommand) → ⊥
+pub bad_words_are_no_fault_of_a_session : IsDealtFeedFault calm calm (BadWords NoCommand) → ⊥
 bad_words_are_no_fault_of_a_session fault = fault
 
 -- what two callers bring back with any passes
 pub reports_of_two_callers : (one other : SeatValue)
-    → reports_of (record { pass = one; reports = last ∷ [] } ∷ record { pass = other; reports = [] } ∷ [])
+    → dealt_feed_other_reports (record { pass = one; reports = last ∷ [] } ∷ record { pass = other; reports = [] } ∷ [])
     ≡ (last ∷ []) ∷ [] ∷ []
 reports_of_two_callers one other = refl
 
@@ -367,9 +367,9 @@ abbrev pass_of : SeatValue → SeatValue
 pass_of seat = record seat { me = (first, []) }
 
 abbrev opened : SeatValue → Opened
-opened seat = record { board = board_of seat; pass = pass_of seat; cut = cut_at opening (0 ∷ 0 ∷ 0 ∷ 0 ∷ []) }
+opened seat = record { board = board_of seat; pass = pass_of seat; cut = cut_at_call opening (0 ∷ 0 ∷ 0 ∷ 0 ∷ []) }
 
-pub opened_shards : (seat : SeatValue) → IsOpened opening (opened seat)
+pub opened_shards : (seat : SeatValue) → IsDealtFeedOpening opening (opened seat)
 opened_shards seat = record {
   opening = refl;
   pass = record { seat = record { id = refl; opening = refl; trails = refl; live = refl; slot = refl }; free = refl };
@@ -379,11 +379,11 @@ opened_shards seat = record {
 
 -- a cut of no shard isn't one of four
 pub opened_with_another_cut : (seat : SeatValue)
-    → IsOpened opening (record (opened seat) { cut = cut_at [] [] }) → ⊥
+    → IsDealtFeedOpening opening (record (opened seat) { cut = cut_at_call [] [] }) → ⊥
 opened_with_another_cut seat is = cc is.shape.as_many
 
 -- lists without records are at their ends
-ends_were_seen : HasSeenEnds opening first
+ends_were_seen : HasFeedSeenEnds opening first
 ends_were_seen zero state is = subst (λ (s : ShardValue). length s.list ≤ 0) (same_Some shard state is) (omega arith)
 ends_were_seen (suc zero) state is =
     subst (λ (s : ShardValue). length s.list ≤ 0) (same_Some shard state is) (omega arith)
@@ -395,7 +395,7 @@ ends_were_seen (suc (suc (suc (suc place)))) state is = cc is
 
 -- nothing was reported, as the settings ask
 pub gathered_without_a_round : (seat : SeatValue) (gathered : Gathered) → gathered.called.items ≡ []
-    → IsGathered (board_of seat) settings none_saved (Some []) (Some []) (record gathered { pass = pass_of seat })
+    → IsDealtFeedGathered (board_of seat) settings none_saved (Some []) (Some []) (record gathered { pass = pass_of seat })
 gathered_without_a_round seat gathered nobody = record {
   pass = (opened_shards seat).pass;
   ends = ends_were_seen;
@@ -404,16 +404,16 @@ gathered_without_a_round seat gathered nobody = record {
   written = refl;
   kept = refl;
   as_many = ap length nobody;
-  callers = subst (λ called. All (AreReportsOf opening settings 0) (reports_of called)) (sym nobody) (All-nil _);
+  callers = subst (λ called. All (AreSessionReportsOfCaller opening settings 0) (dealt_feed_other_reports called)) (sym nobody) (All-nil _);
 }
 
 -- another caller was asked for
 pub gathered_without_a_caller : (seat : SeatValue) (gathered : Gathered) → gathered.called.items ≡ []
-    → IsGathered (board_of seat) running none_saved (Some []) (Some []) gathered → ⊥
+    → IsDealtFeedGathered (board_of seat) running none_saved (Some []) (Some []) gathered → ⊥
 gathered_without_a_caller seat gathered nobody is = omega (arith, is.as_many, ap length nobody)
 
 pub fed_without_a_round : (seat : SeatValue) (fed : Fed) → fed.gathered.called.items ≡ []
-    → IsFed (board_of seat) settings none_saved (Some []) (Some [])
+    → IsDealtFeedResult (board_of seat) settings none_saved (Some []) (Some [])
     (record { gathered = record fed.gathered { pass = pass_of seat }; cut = (opened seat).cut })
 fed_without_a_round seat fed nobody = record {
   gathered = gathered_without_a_round seat fed.gathered nobody;
@@ -421,11 +421,11 @@ fed_without_a_round seat fed nobody = record {
 }
 
 pub fed_with_another_cut : (seat : SeatValue) (fed : Fed)
-    → IsFed (board_of seat) settings none_saved (Some []) (Some []) (record fed { cut = cut_at [] [] }) → ⊥
+    → IsDealtFeedResult (board_of seat) settings none_saved (Some []) (Some []) (record fed { cut = cut_at_call [] [] }) → ⊥
 fed_with_another_cut seat fed is = cc is.shape.as_many
 
 -- a sink with room for 7 bytes took the first line of the only round's report
-pub rounds_in_part : WritesRoundsInPart opening running none_unfinished (Some []) (Some (codes "report\n"))
+pub rounds_in_part : DealtFeedBreaksOffInRounds opening running none_unfinished (Some []) (Some (codes "report\n"))
 unfolding digits
 rounds_in_part = record {
   front = codes "report\n";
@@ -442,13 +442,13 @@ rounds_in_part = record {
 }
 
 -- without rounds nothing of them is written
-pub no_rounds_in_part : WritesRoundsInPart opening settings none_unfinished (Some []) (Some (codes "report\n")) → ⊥
+pub no_rounds_in_part : DealtFeedBreaksOffInRounds opening settings none_unfinished (Some []) (Some (codes "report\n")) → ⊥
 no_rounds_in_part in_part = none in_part.front in_part.breaks_off in_part.written
   where
-    whole : (rounds : List Reported) → length rounds ≤ 0 → codes "report\n" ≡ parts_text false rounds → ⊥
+    whole : (rounds : List Reported) → length rounds ≤ 0 → codes "report\n" ≡ session_parts_text false rounds → ⊥
     whole [] few written = cc written
     whole (one ∷ rounds) few written = omega (arith, few)
 
-    none : (text : List ℕ) → BreaksOffInRounds opening settings none_unfinished text → codes "report\n" ≡ text → ⊥
+    none : (text : List ℕ) → SessionBreaksOffInRounds opening settings none_unfinished text → codes "report\n" ≡ text → ⊥
     none text (inl between) written = whole between.rounds between.few (written ∙ between.written)
     none text (inr within) written = omega (arith, within.few)

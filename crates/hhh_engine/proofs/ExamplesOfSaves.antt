@@ -5,28 +5,28 @@ use Rattle.std.specs.Fmt.{digits}
 use Rattle.std.proofs.lemmas.List.Elements.{All-nil, All-cons}
 use Rattle.prefix_lattice.specs.{RecordValue}
 use Rattle.deal_rules.specs.declared.deal_kind.DealKind.TheVariants.{RoundRobin}
-use Rattle.shard_state.specs.{CutValue, ShardValue, SnapshotValue, empty_snapshot, no_entries}
-use Rattle.hhh_output.specs.{AreLines}
+use Rattle.shard_state.specs.{CutValue, ShardValue, SnapshotValue, empty_snapshot, no_snapshot_entries}
+use Rattle.hhh_output.specs.{AreReportLines}
 use Rattle.hhh_output.specs.declared.line.Line.{Line}
 use Rattle.hhh_output.specs.declared.report.Report.{Report}
 use Rattle.hhh_output.specs.declared.reports.Reported.{Reported}
 use Rattle.pass_tokens.specs.{first_view}
-use Rattle.gate_workers.specs.{cut_at}
+use Rattle.gate_workers.specs.{cut_at_call}
 use Rattle.recovery.specs.declared.fault.OpenFault.TheVariants as opening
 use Rattle.frame_records.specs.declared.records.Records.{Records}
 use Rattle.frame_records.specs.declared.weigh.Weigh.TheVariants.{Bytes}
-use Rattle.report_text.specs.{tail_text}
+use Rattle.report_text.specs.{report_tail_text}
 use Rattle.slot_disk.specs.{Leaves-none, slots_of}
-use Rattle.checkpoint.specs.{Belongs, Opens, SavedValue, SaverState, StoreHolds, digest_of_lists, header_bytes, saver_of}
+use Rattle.checkpoint.specs.{StoreBelongs, StoreOpensTo, SavedValue, SaverState, StoreHolds, digest_of_lists, header_of_settings, saver_of}
 use Rattle.checkpoint.specs.declared.settings.StoreSettings.{StoreSettings}
 use Rattle.command_words.specs.declared.settings.Settings.{Settings}
-use Rattle.hhh_engine.specs.Ending.{HoldsEmptyStore}
-use Rattle.hhh_engine.specs.Feed.{GoesOn, HasNoBase, IsSaverFor}
-use Rattle.hhh_engine.specs.Inputs.{IsStoreOf}
-use Rattle.hhh_engine.specs.Saves.{BelongsThroughout, FitsBoard, IsAsBefore, IsNoEarlier, KeepsSaves, OpensAmong, Reopens, Saves}
-use Rattle.hhh_engine.specs.Saves.{SavesInPart, after_saves, kept_in, last_saved, reopened_in, saved_after, store_settings}
-use Rattle.hhh_engine.specs.Session.{GoesOnFrom, SessionReports, calling_reports, ends_of, last_positions, new_shards}
-use Rattle.hhh_engine.specs.Session.{opening_of, part_text, resumed_shards, saved_cuts, session_saves, session_text, start_of}
+use Rattle.hhh_engine.specs.Ending.{EndsWithEmptyStore}
+use Rattle.hhh_engine.specs.DealtFeed.{DealtFeedGoesOn, HasNoDealtFeedBase, IsDealtFeedSaver}
+use Rattle.hhh_engine.specs.Inputs.{IsInputStore}
+use Rattle.hhh_engine.specs.Saves.{SavesBelongThroughout, SavesFitBoard, IsAsBeforeSaves, IsNoEarlierSave, KeepsSaves, OpensAmongSaves, ReopensSave, Saves}
+use Rattle.hhh_engine.specs.Saves.{SavesInPart, after_saves, saves_kept_in, last_saved, saves_reopened_in, saved_after, store_settings}
+use Rattle.hhh_engine.specs.Session.{SessionGoesOnFrom, SessionReports, session_calling_reports, session_ends, last_session_positions, new_session_shards}
+use Rattle.hhh_engine.specs.Session.{session_opening, session_part_text, resumed_session_shards, session_saved_cuts, session_saves, session_text, session_start}
 use Rattle.hhh_engine.specs.declared.status.Status.TheVariants.{NotFormatted}
 use Rattle.hhh_engine.proofs.Examples.{packet}
 use Rattle.hhh_engine.proofs.ExamplesOfSessions.{last, opening as four_shards, settings}
@@ -54,7 +54,7 @@ abbrev none_counted : CutValue
 none_counted = record { capacity = 2; shards = empty_snapshot 2 ∷ [] }
 
 abbrev snapshot : SnapshotValue
-snapshot = record { capacity = 2; position = 1; tables = no_entries }
+snapshot = record { capacity = 2; position = 1; tables = no_snapshot_entries }
 
 abbrev one_counted : CutValue
 one_counted = record { capacity = 2; shards = snapshot ∷ [] }
@@ -77,39 +77,39 @@ pub last_of_no_saves : last_saved (Some (saved 4 none_counted)) [] ≡ Some (sav
 last_of_no_saves = refl
 
 -- with a store the cut at the positions of each report is saved, and without one none
-pub cut_of_one_report : saved_cuts true four_shards (last ∷ []) ≡ cut_at four_shards (0 ∷ 0 ∷ 0 ∷ 0 ∷ []) ∷ []
+pub cut_of_one_report : session_saved_cuts true four_shards (last ∷ []) ≡ cut_at_call four_shards (0 ∷ 0 ∷ 0 ∷ 0 ∷ []) ∷ []
 cut_of_one_report = refl
 
-pub no_cuts_without_a_store : saved_cuts false four_shards (last ∷ last ∷ []) ≡ []
+pub no_cuts_without_a_store : session_saved_cuts false four_shards (last ∷ last ∷ []) ≡ []
 no_cuts_without_a_store = refl
 
 -- ---- what a stop leaves, of stores whose digest no test here looks into
 
 -- a store whose gates are closed
 abbrev formatted : List ℕ
-formatted = 0 ∷ 0 ∷ header_bytes one
+formatted = 0 ∷ 0 ∷ header_of_settings one
 
 formatted_holds_nothing : StoreHolds one formatted None None
 formatted_holds_nothing = record { long = omega arith; header = refl; first_slot = refl; second_slot = refl }
 
-pub formatted_opens_to_nothing : Opens one formatted None
+pub formatted_opens_to_nothing : StoreOpensTo one formatted None
 formatted_opens_to_nothing = (None, None, formatted_holds_nothing, refl)
 
 -- a crash in the first save may leave the store as it was
-pub first_save_was_lost : OpensAmong one None (saved_after 0 (9 ∷ []) (none_counted ∷ [])) formatted
+pub first_save_was_lost : OpensAmongSaves one None (saved_after 0 (9 ∷ []) (none_counted ∷ [])) formatted
 first_save_was_lost = inl formatted_opens_to_nothing
 
 -- and one in the second save a store that opens to the first
-pub second_save_was_lost : (image : List ℕ) → Opens one image (Some (saved 1 none_counted))
-    → OpensAmong one None (saved_after 0 (9 ∷ []) (none_counted ∷ one_counted ∷ [])) image
+pub second_save_was_lost : (image : List ℕ) → StoreOpensTo one image (Some (saved 1 none_counted))
+    → OpensAmongSaves one None (saved_after 0 (9 ∷ []) (none_counted ∷ one_counted ∷ [])) image
 second_save_was_lost image opens = inr (inl opens)
 
-pub second_save_was_made : (image : List ℕ) → Opens one image (Some (saved 2 one_counted))
-    → OpensAmong one None (saved_after 0 (9 ∷ []) (none_counted ∷ one_counted ∷ [])) image
+pub second_save_was_made : (image : List ℕ) → StoreOpensTo one image (Some (saved 2 one_counted))
+    → OpensAmongSaves one None (saved_after 0 (9 ∷ []) (none_counted ∷ one_counted ∷ [])) image
 second_save_was_made image opens = inr (inr opens)
 
 -- but none an empty disk
-pub disk_was_emptied : OpensAmong one None (saved_after 0 (9 ∷ []) (none_counted ∷ [])) [] → ⊥
+pub disk_was_emptied : OpensAmongSaves one None (saved_after 0 (9 ∷ []) (none_counted ∷ [])) [] → ⊥
 disk_was_emptied (inl opens) = omega (arith, opens.2.long)
 disk_was_emptied (inr opens) = omega (arith, opens.2.long)
 
@@ -123,9 +123,9 @@ pub no_saves_keep_the_store :
 no_saves_keep_the_store = record {
   opened = None;
   opens = formatted_opens_to_nothing;
-  any_moment = Leaves-none (λ disk. disk) image_since 7 (λ image. ⊥ ⊎ OpensAmong one None [] image)
-      (λ image is. inr (subst (λ bytes. Opens one bytes None) (sym is) formatted_opens_to_nothing));
-  afterwards = λ image is. subst (λ bytes. Opens one bytes None) (sym is) formatted_opens_to_nothing;
+  any_moment = Leaves-none (λ disk. disk) image_since 7 (λ image. ⊥ ⊎ OpensAmongSaves one None [] image)
+      (λ image is. inr (subst (λ bytes. StoreOpensTo one bytes None) (sym is) formatted_opens_to_nothing));
+  afterwards = λ image is. subst (λ bytes. StoreOpensTo one bytes None) (sym is) formatted_opens_to_nothing;
 }
 
 -- an unfinished save may have left the store as it was
@@ -136,23 +136,23 @@ unfinished_save_left_nothing = record {
   opened = None;
   opens = formatted_opens_to_nothing;
   any_moment = Leaves-none (λ disk. disk) image_since 7
-      (λ image. ⊥ ⊎ OpensAmong one None (saved_after 0 (9 ∷ []) (none_counted ∷ [])) image)
-      (λ image is. inr (inl (subst (λ bytes. Opens one bytes None) (sym is) formatted_opens_to_nothing)));
-  afterwards = λ image is. inl (subst (λ bytes. Opens one bytes None) (sym is) formatted_opens_to_nothing);
+      (λ image. ⊥ ⊎ OpensAmongSaves one None (saved_after 0 (9 ∷ []) (none_counted ∷ [])) image)
+      (λ image is. inr (inl (subst (λ bytes. StoreOpensTo one bytes None) (sym is) formatted_opens_to_nothing)));
+  afterwards = λ image is. inl (subst (λ bytes. StoreOpensTo one bytes None) (sym is) formatted_opens_to_nothing);
 }
 
 -- a later save is no earlier one, in its sequence and in its positions
-pub later_cut_is_no_earlier : IsNoEarlier one (Some (saved 1 none_counted)) (Some (saved 2 one_counted))
+pub later_cut_is_no_earlier : IsNoEarlierSave one (Some (saved 1 none_counted)) (Some (saved 2 one_counted))
 later_cut_is_no_earlier = record { sequence = omega arith; positions = (omega arith, tt) }
 
-pub cut_of_fewer_records_is_earlier : IsNoEarlier one (Some (saved 1 one_counted)) (Some (saved 2 none_counted)) → ⊥
+pub cut_of_fewer_records_is_earlier : IsNoEarlierSave one (Some (saved 1 one_counted)) (Some (saved 2 none_counted)) → ⊥
 cut_of_fewer_records_is_earlier is = let past : 1 ≤ 0 = is.positions.0 in omega (arith, past)
 
-pub sequence_before_is_earlier : IsNoEarlier one (Some (saved 2 none_counted)) (Some (saved 1 one_counted)) → ⊥
+pub sequence_before_is_earlier : IsNoEarlierSave one (Some (saved 2 none_counted)) (Some (saved 1 one_counted)) → ⊥
 sequence_before_is_earlier is = let later : 2 ≤ 1 = is.sequence in omega (arith, later)
 
 -- the formatted store opens again as nothing was saved, also where the first save is unfinished
-pub formatted_reopens : (unfinished : List CutValue) → Reopens one None unfinished formatted
+pub formatted_reopens : (unfinished : List CutValue) → ReopensSave one None unfinished formatted
 formatted_reopens unfinished = record {
   found = None;
   opens = formatted_opens_to_nothing;
@@ -161,39 +161,39 @@ formatted_reopens unfinished = record {
 }
 
 -- an empty disk doesn't
-pub empty_disk_reopens : Reopens one None [] [] → ⊥
+pub empty_disk_reopens : ReopensSave one None [] [] → ⊥
 empty_disk_reopens reopens = omega (arith, reopens.opens.2.long)
 
-pub first_save_may_be_unfinished : reopened_in {D = ℕ} (λ disk. Some formatted) (λ disk image. image ≡ formatted) 7 7 one [] []
+pub first_save_may_be_unfinished : saves_reopened_in {D = ℕ} (λ disk. Some formatted) (λ disk image. image ≡ formatted) 7 7 one [] []
     (none_counted ∷ [])
 first_save_may_be_unfinished store known = record {
   opened = None;
-  opens = subst (λ bytes. Opens one bytes None) (cc known) formatted_opens_to_nothing;
-  again = λ image is. subst (Reopens one None (none_counted ∷ [])) (sym is) (formatted_reopens (none_counted ∷ []));
+  opens = subst (λ bytes. StoreOpensTo one bytes None) (cc known) formatted_opens_to_nothing;
+  again = λ image is. subst (ReopensSave one None (none_counted ∷ [])) (sym is) (formatted_reopens (none_counted ∷ []));
 }
 
 -- where nothing is known of a disk, nothing is said of how it opens again
-pub unknown_disk_reopens : reopened_in {D = ℕ} (λ disk. None) (λ disk image. ⊤) 7 8 one [] (none_counted ∷ []) []
+pub unknown_disk_reopens : saves_reopened_in {D = ℕ} (λ disk. None) (λ disk image. ⊤) 7 8 one [] (none_counted ∷ []) []
 unknown_disk_reopens store told = absurd (cc told)
 
 -- a formatted store belongs to any lists, and does so throughout a session that saves nothing; an empty disk is no store
-pub formatted_store_belongs_throughout : BelongsThroughout {D = ℕ} (λ disk image. image ≡ formatted) (λ disk. disk)
+pub formatted_store_belongs_throughout : SavesBelongThroughout {D = ℕ} (λ disk image. image ≡ formatted) (λ disk. disk)
     image_since one lists None 7 7
 formatted_store_belongs_throughout =
-    let belongs : (image : List ℕ) → image ≡ formatted → Belongs one lists image = λ image is.
-    subst (Belongs one lists) (sym is) (None, formatted_opens_to_nothing, tt) in
+    let belongs : (image : List ℕ) → image ≡ formatted → StoreBelongs one lists image = λ image is.
+    subst (StoreBelongs one lists) (sym is) (None, formatted_opens_to_nothing, tt) in
     record {
       base_represents = tt;
-      any_moment = Leaves-none (λ disk. disk) image_since 7 (Belongs one lists) belongs;
+      any_moment = Leaves-none (λ disk. disk) image_since 7 (StoreBelongs one lists) belongs;
       afterwards = belongs;
     }
 
-pub empty_disk_belongs_to_no_lists : BelongsThroughout {D = ℕ} (λ disk image. image ≡ []) (λ disk. disk) image_since one lists
+pub empty_disk_belongs_to_no_lists : SavesBelongThroughout {D = ℕ} (λ disk image. image ≡ []) (λ disk. disk) image_since one lists
     None 7 7 → ⊥
 empty_disk_belongs_to_no_lists belongs = omega (arith, (belongs.afterwards [] refl).1.2.long)
 
 -- without a save a crash leaves what it could have left before
-pub disk_is_as_before : IsAsBefore {D = ℕ} (λ disk. Some formatted) (λ disk image. image ≡ formatted) (λ disk. disk)
+pub disk_is_as_before : IsAsBeforeSaves {D = ℕ} (λ disk. Some formatted) (λ disk image. image ≡ formatted) (λ disk. disk)
     image_since 7 7
 disk_is_as_before = record {
   same_reads = refl;
@@ -221,63 +221,63 @@ nothing_is_begun_without_a_saver part = let same = part.unused refl in omega (ar
 
 -- where nothing is known of a disk, nothing is said of what it keeps
 pub unknown_disk_keeps_anything :
-    kept_in {D = ℕ} (λ disk. None) (λ disk image. ⊤) (λ disk. disk) image_since 7 8 one [] (none_counted ∷ []) []
+    saves_kept_in {D = ℕ} (λ disk. None) (λ disk image. ⊤) (λ disk. disk) image_since 7 8 one [] (none_counted ∷ []) []
 unknown_disk_keeps_anything bytes told = absurd (cc told)
 
 -- what `format` leaves
-pub formatted_store_is_empty : HoldsEmptyStore (Some formatted) (λ image. image ≡ formatted) one
+pub formatted_store_is_empty : EndsWithEmptyStore (Some formatted) (λ image. image ≡ formatted) one
 formatted_store_is_empty bytes told image is =
-    subst (λ bytes. Opens one bytes None) (sym is) formatted_opens_to_nothing
+    subst (λ bytes. StoreOpensTo one bytes None) (sym is) formatted_opens_to_nothing
 
 -- ---- what a run goes on from
 
 abbrev resumed : ShardValue
 resumed = record { list = packet ∷ []; base = snapshot; position = 1 }
 
-pub one_resumed_shard : resumed_shards lists (snapshot ∷ []) ≡ resumed ∷ []
+pub one_resumed_shard : resumed_session_shards lists (snapshot ∷ []) ≡ resumed ∷ []
 one_resumed_shard = refl
 
-pub run_goes_on_from_a_cut : opening_of 2 lists (Some one_counted) ≡ resumed ∷ []
+pub run_goes_on_from_a_cut : session_opening 2 lists (Some one_counted) ≡ resumed ∷ []
 run_goes_on_from_a_cut = refl
 
-pub resumed_shard_starts_at_its_cut : start_of (resumed ∷ []) ≡ 1 ∷ []
+pub resumed_shard_starts_at_its_cut : session_start (resumed ∷ []) ≡ 1 ∷ []
 resumed_shard_starts_at_its_cut = refl
 
-pub resumed_shard_ends_with_its_list : ends_of (resumed ∷ []) ≡ 1 ∷ []
+pub resumed_shard_ends_with_its_list : session_ends (resumed ∷ []) ≡ 1 ∷ []
 resumed_shard_ends_with_its_list = refl
 
 -- a formatted store is one of any lists, and a run goes on from nothing
-pub formatted_store_is_of_any_lists : (lists : List (List RecordValue)) → IsStoreOf one lists formatted
+pub formatted_store_is_of_any_lists : (lists : List (List RecordValue)) → IsInputStore one lists formatted
 formatted_store_is_of_any_lists lists = (None, formatted_opens_to_nothing, tt, omega arith)
 
-pub formatted_store_has_no_base : GoesOnFrom one_shard lists (Some formatted) None
+pub formatted_store_has_no_base : SessionGoesOnFrom one_shard lists (Some formatted) None
 formatted_store_has_no_base = record {
   unused = λ unused. refl;
   fits = tt;
   opens = λ used bytes told.
       let same : formatted ≡ bytes = cc told in
-      (None, subst (λ bytes. Opens one bytes None) same formatted_opens_to_nothing, tt, refl);
+      (None, subst (λ bytes. StoreOpensTo one bytes None) same formatted_opens_to_nothing, tt, refl);
 }
 
 -- without a store no saved cut is gone on from
-pub no_base_without_a_store : GoesOnFrom settings lists None (Some one_counted) → ⊥
+pub no_base_without_a_store : SessionGoesOnFrom settings lists None (Some one_counted) → ⊥
 no_base_without_a_store goes_on = let none = goes_on.unused refl in cc none
 
 -- the cut of no record may be gone on from, in tables of its capacity alone
-pub cut_to_go_on_from : GoesOn 2 lists none_counted
-unfolding no_entries
+pub cut_to_go_on_from : DealtFeedGoesOn 2 lists none_counted
+unfolding no_snapshot_entries
 cut_to_go_on_from = record { alike = refl; continues = (record { within = omega arith; counted = refl }, tt) }
 
-pub cut_of_another_capacity : GoesOn 4 lists none_counted → ⊥
+pub cut_of_another_capacity : DealtFeedGoesOn 4 lists none_counted → ⊥
 cut_of_another_capacity goes_on = omega (arith, goes_on.alike)
 
 -- a saver for the packet, from the start on
-pub saver_for_the_packet : IsSaverFor one_shard lists (0 ∷ [])
+pub saver_for_the_packet : IsDealtFeedSaver one_shard lists (0 ∷ [])
     (saver_of (slots_of formatted) one (digest_of_lists one lists) None)
 saver_for_the_packet = record { settings_are = refl; digest_is = refl; early = omega arith; positions_are = refl }
 
 -- it may save what any pass reads of new shards
-pub saver_fits_new_shards : FitsBoard (new_shards 2 lists) (first_view (new_shards 2 lists)) saver
+pub saver_fits_new_shards : SavesFitBoard (new_session_shards 2 lists) (first_view (new_session_shards 2 lists)) saver
 saver_fits_new_shards = record {
   settings = record { some = omega arith; few = omega arith; least = omega arith; most = omega arith };
   shards = refl;
@@ -286,7 +286,7 @@ saver_fits_new_shards = record {
 }
 
 -- a store that isn't formatted gives no base, and its disk didn't fail
-pub no_base_on_an_unknown_disk : HasNoBase one_shard lists None 3 3 NotFormatted
+pub no_base_on_an_unknown_disk : HasNoDealtFeedBase one_shard lists None 3 3 NotFormatted
 no_base_on_an_unknown_disk = record {
   fault = opening.NotFormatted;
   status_is = refl;
@@ -301,7 +301,7 @@ no_base_on_an_unknown_disk = record {
 abbrev line : Line
 line = record { prefix = record { source = 10 ∷ 1 ∷ 2 ∷ 3 ∷ []; dest = 20 ∷ 1 ∷ 2 ∷ 3 ∷ [] }; lo = 100; hi = 100 }
 
-pub one_line : AreLines (line ∷ [])
+pub one_line : AreReportLines (line ∷ [])
 one_line = record {
   few = omega arith;
   ordered = All-cons (λ (line : Line). line.lo ≤ line.hi) line [] (omega arith) (All-nil _);
@@ -321,36 +321,36 @@ abbrev records : Records
 records = record { list = packet ∷ []; frames = 1; not_ipv4 = 0; short = 0; bad_header = 0 }
 
 -- its positions are those of the last save, and before it those at the start
-pub positions_of_the_last_report : last_positions (0 ∷ []) (of_the_packet ∷ []) ≡ 1 ∷ []
+pub positions_of_the_last_report : last_session_positions (0 ∷ []) (of_the_packet ∷ []) ≡ 1 ∷ []
 positions_of_the_last_report = refl
 
-pub positions_before_a_report : last_positions (0 ∷ []) [] ≡ 0 ∷ []
+pub positions_before_a_report : last_session_positions (0 ∷ []) [] ≡ 0 ∷ []
 positions_before_a_report = refl
 
 -- its only cut is saved under the sequence after that of the store
-pub saves_of_a_session : session_saves one_shard (resumed ∷ []) (Some (saved 4 one_counted)) (calling_reports reports)
-    ≡ record { sequence = 5; digest = digest_of_lists one lists; cut = cut_at (resumed ∷ []) (1 ∷ []) } ∷ []
+pub saves_of_a_session : session_saves one_shard (resumed ∷ []) (Some (saved 4 one_counted)) (session_calling_reports reports)
+    ≡ record { sequence = 5; digest = digest_of_lists one lists; cut = cut_at_call (resumed ∷ []) (1 ∷ []) } ∷ []
 saves_of_a_session = refl
 
-pub report_with_a_store : part_text true of_the_packet
+pub report_with_a_store : session_part_text true of_the_packet
     ≡ codes "report\nat 1\ntotal 100\nthreshold 1\nline 10.1.2.3/32 20.1.2.3/32 100 100\ndone\nsaved 1\n"
 unfolding digits
 report_with_a_store = refl
 
-pub session_with_a_store : session_text true (0 ∷ []) reports (tail_text records)
+pub session_with_a_store : session_text true (0 ∷ []) reports (report_tail_text records)
     ≡ codes "opened 0\nreport\nat 1\ntotal 100\nthreshold 1\nline 10.1.2.3/32 20.1.2.3/32 100 100\ndone\nsaved 1\n"
     ++ codes "frames 1\nskipped 0 0 0\nend\n"
 unfolding digits
 session_with_a_store = refl
 
 -- a second run over the same capture goes on at its end
-pub resumed_session : session_text true (start_of (resumed ∷ [])) reports (tail_text records)
+pub resumed_session : session_text true (session_start (resumed ∷ [])) reports (report_tail_text records)
     ≡ codes "opened 1\nreport\nat 1\ntotal 100\nthreshold 1\nline 10.1.2.3/32 20.1.2.3/32 100 100\ndone\nsaved 1\n"
     ++ codes "frames 1\nskipped 0 0 0\nend\n"
 unfolding digits
 resumed_session = refl
 
-pub session_without_a_store : session_text false (0 ∷ []) reports (tail_text records)
+pub session_without_a_store : session_text false (0 ∷ []) reports (report_tail_text records)
     ≡ codes "opened 0\nreport\nat 1\ntotal 100\nthreshold 1\nline 10.1.2.3/32 20.1.2.3/32 100 100\ndone\n"
     ++ codes "frames 1\nskipped 0 0 0\nend\n"
 unfolding digits

@@ -7,31 +7,31 @@ use Rattle.std.proofs.lemmas.List.{get_or-replicate}
 use Rattle.std.specs.List.Sorted.{IsNonDecreasing}
 use Rattle.std.proofs.lemmas.List.Sorted.{IsNonDecreasingBy-short}
 use Rattle.std.proofs.lemmas.List.Elements.{All-nil, All-cons, All-replicate}
-use Rattle.prefix_lattice.specs.{RecordValue, NodeValue, IsKeyOf, IsNode, index_of, node_of, key_of}
+use Rattle.prefix_lattice.specs.{RecordValue, NodeValue, IsPrefixKey, IsNode, node_index, node_of_prefix, prefix_key}
 use Rattle.deal_rules.specs.declared.deal_kind.DealKind.TheVariants.{RoundRobin}
 use Rattle.deal_rules.specs.{IsDealing}
-use Rattle.shard_state.specs.{CutValue, IsShard, IsSnapshot, ShardValue, empty_snapshot, entries_at, no_entries}
-use Rattle.shard_state.specs.{BasesRepresent, SnapshotRepresents, table_at}
+use Rattle.shard_state.specs.{CutValue, IsShard, IsSnapshot, ShardValue, empty_snapshot, snapshot_entries_at, no_snapshot_entries}
+use Rattle.shard_state.specs.{CoreBasesRepresent, SnapshotRepresents, snapshot_table_at}
 use Rattle.space_saving.specs.declared.entry.Entry.{Entry}
-use Rattle.space_saving.specs.{AreEntries, interval_in, total_count}
-use Rattle.hhh_output.specs.{AreLines, IsLineOf, IsReportOf, IsSound, IsThreshold}
+use Rattle.space_saving.specs.{AreTableEntries, interval_in_table, table_total}
+use Rattle.hhh_output.specs.{AreReportLines, IsLineOfReport, IsReportOf, IsSound, IsThreshold}
 use Rattle.hhh_output.specs.declared.line.Line.{Line}
 use Rattle.hhh_output.specs.declared.report.Report.{Report}
 use Rattle.hhh_output.specs.declared.reports.Reported.{Reported}
-use Rattle.gate_workers.specs.{IsReportAt, cut_at}
+use Rattle.gate_workers.specs.{IsReportAtCall, cut_at_call}
 use Rattle.pcap_frames.specs.declared.file_order.FileOrder.TheVariants.{Little}
-use Rattle.pcap_frames.specs.{number_at, magic_order}
-use Rattle.frame_records.specs.{HasFrames}
+use Rattle.pcap_frames.specs.{number_in_file_order, header_magic_order}
+use Rattle.frame_records.specs.{HasCaptureFrames}
 use Rattle.frame_records.specs.declared.records.Records.{Records}
 use Rattle.frame_records.specs.declared.weigh.Weigh.TheVariants.{Bytes}
-use Rattle.report_text.specs.{tail_text}
+use Rattle.report_text.specs.{report_tail_text}
 use Rattle.command_words.specs.declared.settings.Settings.{Settings}
-use Rattle.hhh_engine.specs.Session.{AreDealtFrom, AreReportsOf, AreSessionReports, BeginsSession, BreaksOffInRounds}
-use Rattle.hhh_engine.specs.Session.{BreaksOffAround, BreaksOffLater, GoesOnFrom, IsSession, IsSessionInPart, IsShown}
-use Rattle.hhh_engine.specs.Session.{IsStrictBeginning, Keeping, after_saves_of, saved_cuts}
-use Rattle.hhh_engine.specs.Session.{NeverFall, RepresentsWhere, Rules, Saving, SessionReports, SpellsSession, calling_reports}
-use Rattle.hhh_engine.specs.Session.{callers_text, new_shards, opening_of, part_text, parts_text, rest_text}
-use Rattle.hhh_engine.specs.Session.{saved_text, session_text, start_of}
+use Rattle.hhh_engine.specs.Session.{AreDealtInSession, AreSessionReportsOfCaller, AreSessionReports, BeginsSession, SessionBreaksOffInRounds}
+use Rattle.hhh_engine.specs.Session.{SessionBreaksOffAround, SessionBreaksOffLater, SessionGoesOnFrom, IsSession, IsSessionInPart, IsShownInSession}
+use Rattle.hhh_engine.specs.Session.{IsStrictSessionBeginning, SessionKeeping, session_after_saves, session_saved_cuts}
+use Rattle.hhh_engine.specs.Session.{NeverFallInSession, SessionBaseRepresents, Rules, SessionSaving, SessionReports, SpellsSession, session_calling_reports}
+use Rattle.hhh_engine.specs.Session.{session_callers_text, new_session_shards, session_opening, session_part_text, session_parts_text, session_rest_text}
+use Rattle.hhh_engine.specs.Session.{session_save_text, session_text, session_start}
 use Rattle.hhh_engine.proofs.Examples.{header, two_shards}
 
 -- `report`, with all that it doesn't say
@@ -54,11 +54,11 @@ abbrev pub in_turn : Rules
 in_turn kind place rec shards number = number ≡ place % shards
 
 -- a disk of which nothing holds, whatever was saved: it is asked of no run without a store
-abbrev pub keeps_nothing : Keeping
+abbrev pub keeps_nothing : SessionKeeping
 keeps_nothing asked dealt saved unfinished = ⊥
 
-pub header_is_a_capture : HasFrames header []
-unfolding number_at magic_order
+pub header_is_a_capture : HasCaptureFrames header []
+unfolding number_in_file_order header_magic_order
 header_is_a_capture = (
   Little,
   record {
@@ -73,18 +73,18 @@ abbrev pub lists : List (List RecordValue)
 lists = [] ∷ [] ∷ [] ∷ [] ∷ []
 
 abbrev pub opening : List ShardValue
-opening = new_shards 512 lists
+opening = new_session_shards 512 lists
 
 abbrev pub shard : ShardValue
 shard = record { list = []; base = empty_snapshot 512; position = 0 }
 
 -- no table has an entry
-nothing_counted : (node : NodeValue) → IsNode node → entries_at node (empty_snapshot 512) ≡ []
-unfolding no_entries
-nothing_counted node is_node = get_or-replicate 25 (index_of node) [] [] (omega (arith, is_node.source, is_node.dest))
+nothing_counted : (node : NodeValue) → IsNode node → snapshot_entries_at node (empty_snapshot 512) ≡ []
+unfolding no_snapshot_entries
+nothing_counted node is_node = get_or-replicate 25 (node_index node) [] [] (omega (arith, is_node.source, is_node.dest))
 
 empty_tables : IsSnapshot (empty_snapshot 512)
-unfolding no_entries
+unfolding no_snapshot_entries
 empty_tables = record {
   least = omega arith;
   most = omega arith;
@@ -92,18 +92,18 @@ empty_tables = record {
   shape = refl;
   tables = λ node is_node. record {
     are_entries =
-        subst (AreEntries 512) (sym (nothing_counted node is_node)) (record {
+        subst (AreTableEntries 512) (sym (nothing_counted node is_node)) (record {
           is_table = record { fits = omega arith; ascending = tt; distinct = tt; small_errors = All-nil _ };
           bounded = lit< tt;
         });
-    counted = ap total_count (nothing_counted node is_node);
+    counted = ap table_total (nothing_counted node is_node);
     keyed =
-        subst (All (λ (entry : Entry). IsKeyOf node entry.key)) (sym (nothing_counted node is_node)) (All-nil _);
+        subst (All (λ (entry : Entry). IsPrefixKey node entry.key)) (sym (nothing_counted node is_node)) (All-nil _);
   };
 }
 
 empty_shard : IsShard shard
-unfolding no_entries
+unfolding no_snapshot_entries
 empty_shard = record {
   few = omega arith;
   begun = omega arith;
@@ -116,10 +116,10 @@ empty_shard = record {
 
 -- the cut at their ends
 abbrev cut : CutValue
-cut = cut_at opening (0 ∷ 0 ∷ 0 ∷ 0 ∷ [])
+cut = cut_at_call opening (0 ∷ 0 ∷ 0 ∷ 0 ∷ [])
 
 -- its report has no line
-pub no_lines : AreLines []
+pub no_lines : AreReportLines []
 no_lines = record {
   few = omega arith;
   ordered = All-nil _;
@@ -139,23 +139,23 @@ least_threshold = record {
 }
 
 high_of_nothing : (node : NodeValue) (key : ℕ) → IsNode node
-    → (interval_in (table_at node (empty_snapshot 512)) key).high ≡ 0
+    → (interval_in_table (snapshot_table_at node (empty_snapshot 512)) key).high ≡ 0
 high_of_nothing node key is_node =
-    ap (λ entries. (interval_in (record { capacity = 512; entries = entries }) key).high)
+    ap (λ entries. (interval_in_table (record { capacity = 512; entries = entries }) key).high)
     (nothing_counted node is_node)
 
-nothing_is_heavy : (line : Line) → IsLineOf cut 1 [] line → ⊥
-unfolding no_entries
+nothing_is_heavy : (line : Line) → IsLineOfReport cut 1 [] line → ⊥
+unfolding no_snapshot_entries
 nothing_is_heavy line is_line =
-    let is_node : IsNode (node_of line.prefix) = record {
+    let is_node : IsNode (node_of_prefix line.prefix) = record {
       source = is_line.is_prefix.source.few;
       dest = is_line.is_prefix.dest.few;
     } in
-    let nothing = high_of_nothing (node_of line.prefix) (key_of line.prefix) is_node in
+    let nothing = high_of_nothing (node_of_prefix line.prefix) (prefix_key line.prefix) is_node in
     omega (arith, is_line.high, is_line.heavy, nothing)
 
 report_of_nothing : IsReportOf cut 10000 report
-unfolding no_entries
+unfolding no_snapshot_entries
 report_of_nothing = record {
   positions = refl;
   total = refl;
@@ -175,20 +175,20 @@ nothing_is_sound = record {
   complete = λ prefix is_prefix no_line. omega arith;
 }
 
-pub report_at_the_ends : IsReportAt opening 10000 report
+pub report_at_the_ends : IsReportAtCall opening 10000 report
 report_at_the_ends = record { as_many = refl; kept = All-replicate IsShard 4 shard empty_shard; is = report_of_nothing }
 
 -- with so many rounds and other callers
 abbrev with_rounds : ℕ → ℕ → Settings
 with_rounds rounds callers = record settings { rounds = rounds; callers = callers }
 
-shown_with : (rounds callers : ℕ) → IsShown opening (with_rounds rounds callers) last
+shown_with : (rounds callers : ℕ) → IsShownInSession opening (with_rounds rounds callers) last
 shown_with rounds callers = record {
   is_report = report_at_the_ends;
   is_sound = λ bases. nothing_is_sound;
 }
 
-pub report_is_shown : IsShown opening settings last
+pub report_is_shown : IsShownInSession opening settings last
 report_is_shown = shown_with 0 0
 
 -- ---- the text
@@ -197,38 +197,38 @@ report_is_shown = shown_with 0 0
 abbrev later : Reported
 later = record { report = record report { positions = 1 ∷ 0 ∷ 0 ∷ 0 ∷ [] }; saved = None }
 
-pub nothing_is_saved_without_a_store : saved_text false (1 ∷ []) ≡ []
+pub nothing_is_saved_without_a_store : session_save_text false (1 ∷ []) ≡ []
 nothing_is_saved_without_a_store = refl
 
-pub one_position_was_saved : saved_text true (1 ∷ []) ≡ codes "saved 1\n"
+pub one_position_was_saved : session_save_text true (1 ∷ []) ≡ codes "saved 1\n"
 unfolding digits
 one_position_was_saved = refl
 
-pub text_of_a_report : part_text false last ≡ codes "report\nat 0 0 0 0\ntotal 0\nthreshold 1\ndone\n"
+pub text_of_a_report : session_part_text false last ≡ codes "report\nat 0 0 0 0\ntotal 0\nthreshold 1\ndone\n"
 unfolding digits
 text_of_a_report = refl
 
 -- the positions of the cut that was saved are those of the report
 pub text_of_a_saved_report :
-    part_text true later ≡ codes "report\nat 1 0 0 0\ntotal 0\nthreshold 1\ndone\nsaved 1 0 0 0\n"
+    session_part_text true later ≡ codes "report\nat 1 0 0 0\ntotal 0\nthreshold 1\ndone\nsaved 1 0 0 0\n"
 unfolding digits
 text_of_a_saved_report = refl
 
-pub no_report_no_text : parts_text true [] ≡ []
+pub no_report_no_text : session_parts_text true [] ≡ []
 no_report_no_text = refl
 
-pub text_of_two_reports : parts_text true (last ∷ later ∷ []) ≡ part_text true last ++ part_text true later
+pub text_of_two_reports : session_parts_text true (last ∷ later ∷ []) ≡ session_part_text true last ++ session_part_text true later
 unfolding digits
 text_of_two_reports = refl
 
 -- nothing is saved after the reports of the other callers
-pub text_of_two_callers : callers_text ((later ∷ []) ∷ (last ∷ []) ∷ []) ≡ part_text false later ++ part_text false last
+pub text_of_two_callers : session_callers_text ((later ∷ []) ∷ (last ∷ []) ∷ []) ≡ session_part_text false later ++ session_part_text false last
 unfolding digits
 text_of_two_callers = refl
 
 -- the reports of two callers stand before the last one
-pub text_behind_the_rounds : rest_text true ((later ∷ []) ∷ (last ∷ []) ∷ []) last (codes "end\n")
-    ≡ part_text false later ++ part_text false last ++ part_text true last ++ codes "end\n"
+pub text_behind_the_rounds : session_rest_text true ((later ∷ []) ∷ (last ∷ []) ∷ []) last (codes "end\n")
+    ≡ session_part_text false later ++ session_part_text false last ++ session_part_text true last ++ codes "end\n"
 unfolding digits
 text_behind_the_rounds = refl
 
@@ -244,41 +244,41 @@ once_more x xs up (suc i) (suc j) d le inside = up i j d (omega (arith, le)) (om
 pub one_number : (x : ℕ) → IsNonDecreasing (x ∷ [])
 one_number x = IsNonDecreasingBy-short (λ x. x) (x ∷ []) (omega arith)
 
-pub one_report_does_not_fall : NeverFall (start_of opening) (last ∷ [])
+pub one_report_does_not_fall : NeverFallInSession (session_start opening) (last ∷ [])
 one_report_does_not_fall place inside = once_more _ [] (one_number _)
 
-two_reports_do_not_fall : NeverFall (start_of opening) (last ∷ last ∷ [])
+two_reports_do_not_fall : NeverFallInSession (session_start opening) (last ∷ last ∷ [])
 two_reports_do_not_fall place inside =
-    let position = slice_index (start_of opening) place in
+    let position = slice_index (session_start opening) place in
     once_more position (position ∷ []) (once_more position [] (one_number position))
 
 -- the first shard began at 1
-pub report_before_the_start : NeverFall (1 ∷ 0 ∷ 0 ∷ 0 ∷ []) (last ∷ []) → ⊥
+pub report_before_the_start : NeverFallInSession (1 ∷ 0 ∷ 0 ∷ 0 ∷ []) (last ∷ []) → ⊥
 report_before_the_start never =
     let later : 1 ≤ 0 = never 0 (omega arith) 0 1 0 (omega arith) (omega arith) in omega (arith, later)
 
-pub one_report_with : (rounds callers : ℕ) → AreReportsOf opening (with_rounds rounds callers) 1 (last ∷ [])
+pub one_report_with : (rounds callers : ℕ) → AreSessionReportsOfCaller opening (with_rounds rounds callers) 1 (last ∷ [])
 one_report_with rounds callers = record {
   as_many = refl;
   shown =
-      All-cons (IsShown opening (with_rounds rounds callers)) last [] (shown_with rounds callers) (All-nil _);
+      All-cons (IsShownInSession opening (with_rounds rounds callers)) last [] (shown_with rounds callers) (All-nil _);
   never_fall = one_report_does_not_fall;
 }
 
-pub one_report : AreReportsOf opening settings 1 (last ∷ [])
+pub one_report : AreSessionReportsOfCaller opening settings 1 (last ∷ [])
 one_report = one_report_with 0 0
 
-pub no_reports : AreReportsOf opening settings 0 []
+pub no_reports : AreSessionReportsOfCaller opening settings 0 []
 no_reports = record { as_many = refl; shown = All-nil _; never_fall = λ place inside. one_number _ }
 
-pub no_report_is_not_one : AreReportsOf opening settings 1 [] → ⊥
+pub no_report_is_not_one : AreSessionReportsOfCaller opening settings 1 [] → ⊥
 no_report_is_not_one are = cc are.as_many
 
 -- no rounds, and no other callers
 abbrev pub reports : SessionReports
 reports = record { rounds = []; callers = []; last = last }
 
-pub calling_thread_makes_the_last_report : calling_reports reports ≡ last ∷ []
+pub calling_thread_makes_the_last_report : session_calling_reports reports ≡ last ∷ []
 calling_thread_makes_the_last_report = refl
 
 pub reports_of_the_session : AreSessionReports opening settings reports
@@ -300,13 +300,13 @@ reports_of_a_running_session = record {
   calling = record {
     as_many = refl;
     shown =
-        All-cons (IsShown opening running) last (last ∷ []) (shown_with 1 1)
-        (All-cons (IsShown opening running) last [] (shown_with 1 1) (All-nil _));
+        All-cons (IsShownInSession opening running) last (last ∷ []) (shown_with 1 1)
+        (All-cons (IsShownInSession opening running) last [] (shown_with 1 1) (All-nil _));
     never_fall = two_reports_do_not_fall;
   };
   at_ends = refl;
   as_many = refl;
-  callers = All-cons (AreReportsOf opening running 1) (last ∷ []) [] (one_report_with 1 1) (All-nil _);
+  callers = All-cons (AreSessionReportsOfCaller opening running 1) (last ∷ []) [] (one_report_with 1 1) (All-nil _);
 }
 
 -- the other caller is missing
@@ -321,25 +321,25 @@ records = record { list = []; frames = 0; not_ipv4 = 0; short = 0; bad_header = 
 abbrev pub text : List ℕ
 text = codes "opened 0 0 0 0\nreport\nat 0 0 0 0\ntotal 0\nthreshold 1\ndone\nframes 0\nskipped 0 0 0\nend\n"
 
-pub text_of_the_session : session_text false (start_of opening) reports (tail_text records) ≡ text
+pub text_of_the_session : session_text false (session_start opening) reports (report_tail_text records) ≡ text
 unfolding digits
 text_of_the_session = refl
 
-pub text_of_a_running_session : session_text false (start_of opening) running_reports (codes "end\n")
-    ≡ codes "opened 0 0 0 0\n" ++ part_text false last ++ part_text false last ++ part_text false last
+pub text_of_a_running_session : session_text false (session_start opening) running_reports (codes "end\n")
+    ≡ codes "opened 0 0 0 0\n" ++ session_part_text false last ++ session_part_text false last ++ session_part_text false last
     ++ codes "end\n"
 unfolding digits
 text_of_a_running_session = refl
 
 -- with a store, the cuts of the calling thread are saved, and not that of the other caller
-pub text_of_a_saving_session : session_text true (start_of opening) running_reports (codes "end\n")
-    ≡ codes "opened 0 0 0 0\n" ++ part_text true last ++ part_text false last ++ part_text true last
+pub text_of_a_saving_session : session_text true (session_start opening) running_reports (codes "end\n")
+    ≡ codes "opened 0 0 0 0\n" ++ session_part_text true last ++ session_part_text false last ++ session_part_text true last
     ++ codes "end\n"
 unfolding digits
 text_of_a_saving_session = refl
 
 -- no cut was saved
-spelled_where : (Kept : List CutValue → Type 0) → Kept [] → SpellsSession opening settings Kept (tail_text records) text
+spelled_where : (Kept : List CutValue → Type 0) → Kept [] → SpellsSession opening settings Kept (report_tail_text records) text
 spelled_where Kept kept = record {
   reports = reports;
   are_reports = reports_of_the_session;
@@ -347,7 +347,7 @@ spelled_where Kept kept = record {
   kept = kept;
 }
 
-pub session_is_spelled : SpellsSession opening settings (λ cuts. ⊤) (tail_text records) text
+pub session_is_spelled : SpellsSession opening settings (λ cuts. ⊤) (report_tail_text records) text
 session_is_spelled = spelled_where (λ cuts. ⊤) tt
 
 dealt_in_turn : IsDealing RoundRobin (in_turn RoundRobin) 4 [] lists
@@ -357,7 +357,7 @@ dealt_in_turn = record {
   ruled = λ place number rec at numbered. let wrong : ⊥ = cc in absurd wrong;
 }
 
-pub dealt_from_the_header : AreDealtFrom settings in_turn header records lists
+pub dealt_from_the_header : AreDealtInSession settings in_turn header records lists
 dealt_from_the_header = record {
   frames = [];
   capture = header_is_a_capture;
@@ -366,21 +366,21 @@ dealt_from_the_header = record {
 }
 
 -- without a store a run goes on from nothing, whatever its disk holds
-pub begins_anew : (store : Option (List ℕ)) → GoesOnFrom settings lists store None
+pub begins_anew : (store : Option (List ℕ)) → SessionGoesOnFrom settings lists store None
 begins_anew store = record { unused = λ unused. refl; fits = tt; opens = λ used. absurd (cc used) }
 
 nothing_represents : SnapshotRepresents (empty_snapshot 512) []
-unfolding no_entries
+unfolding no_snapshot_entries
 nothing_represents = record {
   within = omega arith;
   shape = refl;
   tables = λ node is_node. nothing_counted node is_node;
 }
 
-pub tables_of_no_records : BasesRepresent opening
+pub tables_of_no_records : CoreBasesRepresent opening
 tables_of_no_records = All-replicate (λ shard. SnapshotRepresents shard.base shard.list) 4 shard nothing_represents
 
-pub new_shards_represent : RepresentsWhere lists None (opening_of 512 lists None)
+pub new_shards_represent : SessionBaseRepresents lists None (session_opening 512 lists None)
 new_shards_represent none = tables_of_no_records
 
 pub session_over_the_header : IsSession settings in_turn keeps_nothing None header text
@@ -397,21 +397,21 @@ session_over_the_header = record {
 -- ---- a session that broke off
 
 -- without a store nothing is saved
-abbrev pub saves_nothing : Saving
+abbrev pub saves_nothing : SessionSaving
 saves_nothing saved unfinished = (saved ≡ []) × (unfinished ≡ [])
 
 -- a sink with room for 12 bytes took a part of the first line
 pub first_bytes_of_the_session :
-    BeginsSession opening settings saves_nothing (tail_text records) (codes "opened 0 0 0")
+    BeginsSession opening settings saves_nothing (report_tail_text records) (codes "opened 0 0 0")
 unfolding digits
 first_bytes_of_the_session = inl (((codes " 0\n", refl), omega arith), (refl, refl))
 
 -- a whole text doesn't begin itself strictly
-pub whole_text_begins_nothing_more : IsStrictBeginning (codes "end\n") (codes "end\n") → ⊥
+pub whole_text_begins_nothing_more : IsStrictSessionBeginning (codes "end\n") (codes "end\n") → ⊥
 whole_text_begins_nothing_more begins = omega (arith, begins.1)
 
 -- memory may run out after the first line, before any round
-pub broken_off_before_the_rounds : BeginsSession opening settings saves_nothing (tail_text records)
+pub broken_off_before_the_rounds : BeginsSession opening settings saves_nothing (report_tail_text records)
     (codes "opened 0 0 0 0\n")
 unfolding digits
 broken_off_before_the_rounds = inr (inl (
@@ -421,7 +421,7 @@ broken_off_before_the_rounds = inr (inl (
 ))
 
 -- and one with room for 22 bytes a part of the report of the first round
-pub broken_off_in_a_round : BreaksOffInRounds opening running saves_nothing (codes "report\n")
+pub broken_off_in_a_round : SessionBreaksOffInRounds opening running saves_nothing (codes "report\n")
 unfolding digits
 broken_off_in_a_round = inr (record {
   rounds = [];
@@ -433,41 +433,41 @@ broken_off_in_a_round = inr (record {
   written = refl;
 })
 
-pub bytes_of_a_round : BeginsSession opening running saves_nothing (tail_text records) (codes "opened 0 0 0 0\nreport\n")
+pub bytes_of_a_round : BeginsSession opening running saves_nothing (report_tail_text records) (codes "opened 0 0 0 0\nreport\n")
 unfolding digits
 bytes_of_a_round = inr (inl (codes "report\n", broken_off_in_a_round, refl))
 
 -- ---- a text, the save of a cut, and the line after it
 
 abbrev one_cut : List CutValue
-one_cut = saved_cuts true opening (last ∷ [])
+one_cut = session_saved_cuts true opening (last ∷ [])
 
 -- in the line the cut was saved, though none of its bytes may be written
 pub broken_off_in_the_line :
-    BreaksOffAround (codes "done\n") (codes "saved 0\n") one_cut (λ saved unfinished. (saved ≡ one_cut) × (unfinished ≡ []))
+    SessionBreaksOffAround (codes "done\n") (codes "saved 0\n") one_cut (λ saved unfinished. (saved ≡ one_cut) × (unfinished ≡ []))
     (codes "done\n")
 broken_off_in_the_line = inr (inr ([], ((codes "saved 0\n", refl), omega arith), refl, (refl, refl)))
 
 -- in the save it may be, or not
 pub broken_off_in_the_save :
-    BreaksOffAround (codes "done\n") (codes "saved 0\n") one_cut (λ saved unfinished. (saved ≡ []) × (unfinished ≡ one_cut))
+    SessionBreaksOffAround (codes "done\n") (codes "saved 0\n") one_cut (λ saved unfinished. (saved ≡ []) × (unfinished ≡ one_cut))
     (codes "done\n")
 broken_off_in_the_save = inr (inl (refl, (refl, refl)))
 
 -- and before it, it isn't
 pub broken_off_before_the_save :
-    BreaksOffAround (codes "done\n") (codes "saved 0\n") one_cut (λ saved unfinished. (saved ≡ []) × (unfinished ≡ []))
+    SessionBreaksOffAround (codes "done\n") (codes "saved 0\n") one_cut (λ saved unfinished. (saved ≡ []) × (unfinished ≡ []))
     (codes "do")
 broken_off_before_the_save = inl ((codes "ne\n", refl), (refl, refl))
 
 -- the cuts of the rounds before come first
 pub cuts_of_a_round_before :
-    after_saves_of true opening (last ∷ []) (λ saved unfinished. (saved ≡ one_cut) × (unfinished ≡ [])) [] []
+    session_after_saves true opening (last ∷ []) (λ saved unfinished. (saved ≡ one_cut) × (unfinished ≡ [])) [] []
 cuts_of_a_round_before = (refl, refl)
 
 -- no session begins with a report
 pub session_without_a_first_line :
-    BeginsSession opening settings saves_nothing (tail_text records) (codes "report\n") → ⊥
+    BeginsSession opening settings saves_nothing (report_tail_text records) (codes "report\n") → ⊥
 unfolding digits
 session_without_a_first_line (inl (first, kept)) =
     let same : 111 ≡ 114 = ap (λ bytes. get_or bytes 0 0) first.0.1 in omega (arith, same)
@@ -477,7 +477,7 @@ session_without_a_first_line (inr (inr later)) =
     let same : 114 ≡ 111 = ap (λ bytes. get_or bytes 0 0) later.written in omega (arith, same)
 
 -- the last lines broke off
-pub broken_off_in_the_last_lines : BreaksOffLater opening settings saves_nothing (tail_text records)
+pub broken_off_in_the_last_lines : SessionBreaksOffLater opening settings saves_nothing (report_tail_text records)
     (codes "opened 0 0 0 0\nreport\nat 0 0 0 0\ntotal 0\nthreshold 1\ndone\nframes")
 unfolding digits
 broken_off_in_the_last_lines = record {
@@ -488,7 +488,7 @@ broken_off_in_the_last_lines = record {
   written = refl;
 }
 
-pub most_bytes_of_the_session : BeginsSession opening settings saves_nothing (tail_text records)
+pub most_bytes_of_the_session : BeginsSession opening settings saves_nothing (report_tail_text records)
     (codes "opened 0 0 0 0\nreport\nat 0 0 0 0\ntotal 0\nthreshold 1\ndone\nframes")
 most_bytes_of_the_session = inr (inr broken_off_in_the_last_lines)
 

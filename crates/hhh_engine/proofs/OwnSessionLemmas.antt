@@ -10,60 +10,60 @@ use Rattle.prefix_lattice.specs.{RecordValue, most_records}
 use Rattle.deal_rules.specs.{IsDealing}
 use Rattle.deal_rules.specs.declared.deal_kind.DealKind.{DealKind}
 use Rattle.shard_state.specs.{CutRepresents, ShardValue}
-use Rattle.pcap_frames.specs.{FrameValue, most_frames}
+use Rattle.pcap_frames.specs.{FrameValue, most_frames_in_file}
 use Rattle.frame_records.specs.{AreRecordsOf}
 use Rattle.frame_records.specs.declared.records.Records.{Records}
 use Rattle.frame_records.specs.declared.weigh.Weigh.{Weigh}
 use Rattle.hhh_output.specs.{IsSound}
 use Rattle.hhh_output.specs.declared.reports.Reported.{Reported}
-use Rattle.report_text.specs.{ArePositions, IsSession as IsShowableSession, IsSessionText, longest_text, printed_text}
+use Rattle.report_text.specs.{ReportTextShowsPositions, IsSession as IsShowableSession, IsSessionText, longest_session_text, printed_session_text}
 use Rattle.report_text.specs.{session_text}
 use Rattle.report_text.specs.declared.session.Session.{Session}
-use Rattle.command_words.specs.{AreLimited}
+use Rattle.command_words.specs.{AreLimitedSettings}
 use Rattle.command_words.specs.declared.settings.Settings.{Settings}
-use Rattle.hhh_engine.specs.Audit.{IsSoundOver, IsSoundSession, sound_text}
-use Rattle.hhh_engine.specs.Session.{AreDealtFrom, IsSession, IsShown, Keeping, Rules}
-use Rattle.hhh_engine.specs.Session.{SessionReports, ends_of, opening_of, reports_in, start_of}
+use Rattle.hhh_engine.specs.Audit.{IsAuditedAsSound, IsSoundAudit, sound_audit_text}
+use Rattle.hhh_engine.specs.Session.{AreDealtInSession, IsSession, IsShownInSession, SessionKeeping, Rules}
+use Rattle.hhh_engine.specs.Session.{SessionReports, session_ends, session_opening, session_reports_in, session_start}
 use Rattle.hhh_engine.proofs.BaseLemmas.{base_goes_on}
-use Rattle.hhh_engine.proofs.LastReportLemmas.{all_of_last}
-use Rattle.hhh_engine.proofs.OpeningLemmas.{opening_many, opening_starts_before_ends}
-use Rattle.hhh_engine.proofs.OwnReportLemmas.{lists_of_opening, own_are_shown, own_are_sound}
-use Rattle.hhh_engine.proofs.OwnTextLemmas.{session-shown, shown_are_of_reports, shown_as, shown_have, shown_many}
-use Rattle.hhh_engine.proofs.OwnTextLemmas.{shown_reports, shown_session}
-use Rattle.hhh_engine.proofs.ReportBoundLemmas.{FitsText, IsSmall, kept_are_small, sound_fits}
+use Rattle.hhh_engine.proofs.LastReportLemmas.{last_report_is_among_all}
+use Rattle.hhh_engine.proofs.OpeningShardLemmas.{opening_shards_count, opening_shards_before_ends}
+use Rattle.hhh_engine.proofs.OwnReportLemmas.{own_report_lists_of_opening, own_reports_are_shown, own_reports_are_sound}
+use Rattle.hhh_engine.proofs.ShownSessionLemmas.{shown_session_prints_the_same, shown_session_reports_are_shown, shown_session_report, shown_session_keeps_property, shown_session_report_count}
+use Rattle.hhh_engine.proofs.ShownSessionLemmas.{shown_session_reports, shown_session}
+use Rattle.hhh_engine.proofs.BoundedReportLemmas.{IsBoundedReport, IsBoundedReportList, bounded_report_lists_if_kept, bounded_report_if_sound}
 
 -- a session is printed as its text
-abbrev pub PrintsText : Type 0
-PrintsText = (session : Session) → printed_text session ≡ session_text session
+abbrev pub PrintsOwnSession : Type 0
+PrintsOwnSession = (session : Session) → printed_session_text session ≡ session_text session
 
 -- a count of some frames is a number of 64 bits
-few_counted : (counts : FrameValue → Bool) (frames : List FrameValue) (count : ℕ) → length frames ≤ most_frames
+own_session_count_is_bounded : (counts : FrameValue → Bool) (frames : List FrameValue) (count : ℕ) → length frames ≤ most_frames_in_file
     → count ≡ count_by counts frames → count < 2 ^ 64
-few_counted counts frames count few is = omega (arith, few, is, count_by-le-length counts frames)
+own_session_count_is_bounded counts frames count few is = omega (arith, few, is, count_by-le-length counts frames)
 
-some_shown : (store : Bool) (reports : SessionReports) → 1 ≤ length (shown_reports store reports)
-some_shown store reports =
-    let others = map (shown_as false) (flat_map (λ made. made) reports.callers) in
+own_session_shows_something : (store : Bool) (reports : SessionReports) → 1 ≤ length (shown_session_reports store reports)
+own_session_shows_something store reports =
+    let others = map (shown_session_report false) (flat_map (λ made. made) reports.callers) in
     omega (
       arith,
-      length-append (map (shown_as store) reports.rounds) (others ++ shown_as store reports.last ∷ []),
-      length-append others (shown_as store reports.last ∷ []),
+      length-append (map (shown_session_report store) reports.rounds) (others ++ shown_session_report store reports.last ∷ []),
+      length-append others (shown_session_report store reports.last ∷ []),
     )
 
 -- what the text of a session says is a session that a text can show
-own_is_showable : (settings : Settings) (opened : List ℕ) (reports : SessionReports) (records : Records)
-    (frames : List FrameValue) → ArePositions opened → length opened ≡ settings.shards
-    → length frames ≤ most_frames → AreRecordsOf settings.weigh frames records
-    → All (λ reported. FitsText settings.shards reported.report) (reports_in reports)
+own_session_is_showable : (settings : Settings) (opened : List ℕ) (reports : SessionReports) (records : Records)
+    (frames : List FrameValue) → ReportTextShowsPositions opened → length opened ≡ settings.shards
+    → length frames ≤ most_frames_in_file → AreRecordsOf settings.weigh frames records
+    → All (λ reported. IsBoundedReport settings.shards reported.report) (session_reports_in reports)
     → IsShowableSession (shown_session settings.store opened reports records)
-own_is_showable settings opened reports records frames positions many few are fit =
-    let fits = shown_have (λ (reported : Reported). FitsText settings.shards reported.report) settings.store reports
+own_session_is_showable settings opened reports records frames positions many few are fit =
+    let fits = shown_session_keeps_property (λ (reported : Reported). IsBoundedReport settings.shards reported.report) settings.store reports
     (λ store reported has. has) fit in
     record {
       opened = positions;
-      some = some_shown settings.store reports;
+      some = own_session_shows_something settings.store reports;
       reports = λ k d lt.
-          let here : FitsText settings.shards (get_or (shown_reports settings.store reports) k d).report =
+          let here : IsBoundedReport settings.shards (get_or (shown_session_reports settings.store reports) k d).report =
           fits k d lt in
           record {
             positions = record { are_positions = here.positions; as_many = here.as_many ∙ sym many };
@@ -75,82 +75,82 @@ own_is_showable settings opened reports records frames positions many few are fi
               low = (here.lines j e inside).1;
               high = (here.lines j e inside).2;
             };
-            saved = elim (shown_are_of_reports settings.store reports k d lt) [
+            saved = elim (shown_session_reports_are_shown settings.store reports k d lt) [
               | inl none ↦ rw none tt
               | inr some ↦ rw some (record { are_positions = here.positions; as_many = here.as_many ∙ sym many })
             ];
           };
       frames = omega (arith, few, are.frames);
-      not_ipv4 = few_counted _ frames records.not_ipv4 few are.not_ipv4;
-      short = few_counted _ frames records.short few are.short;
-      bad_header = few_counted _ frames records.bad_header few are.bad_header;
+      not_ipv4 = own_session_count_is_bounded _ frames records.not_ipv4 few are.not_ipv4;
+      short = own_session_count_is_bounded _ frames records.short few are.short;
+      bad_header = own_session_count_is_bounded _ frames records.bad_header few are.bad_header;
     }
 
 -- as many lists as shards
-pub dealt_many : (kind : DealKind) (may_answer : ℕ → RecordValue → ℕ → ℕ → Type 0) (shards : ℕ)
+pub own_session_lists_match_shards : (kind : DealKind) (may_answer : ℕ → RecordValue → ℕ → ℕ → Type 0) (shards : ℕ)
     (records : List RecordValue) (lists : List (List RecordValue)) → IsDealing kind may_answer shards records lists
     → length lists ≡ shards
-dealt_many kind may_answer shards records lists dealing =
+own_session_lists_match_shards kind may_answer shards records lists dealing =
     ap length dealing.dealt.parted ∙ length-map _ _ ∙ length-range_with_len 0 shards
 
 -- the positions at which shards start, where their lists are small
-starts_are_positions : (opening : List ShardValue) (settings : Settings) → AreLimited settings
+own_session_starts_are_positions : (opening : List ShardValue) (settings : Settings) → AreLimitedSettings settings
     → length opening ≡ settings.shards
-    → ((shard : ℕ) → get_or (start_of opening) shard 0 ≤ get_or (ends_of opening) shard 0)
-    → All (λ shard. IsSmall shard.list) opening → ArePositions (start_of opening)
-starts_are_positions opening settings limited many before small =
-    let as_many : length (start_of opening) ≡ settings.shards = length-map opening _ ∙ many in
-    let ends : All (λ position. position ≤ most_records) (ends_of opening) =
+    → ((shard : ℕ) → get_or (session_start opening) shard 0 ≤ get_or (session_ends opening) shard 0)
+    → All (λ shard. IsBoundedReportList shard.list) opening → ReportTextShowsPositions (session_start opening)
+own_session_starts_are_positions opening settings limited many before small =
+    let as_many : length (session_start opening) ≡ settings.shards = length-map opening _ ∙ many in
+    let ends : All (λ position. position ≤ most_records) (session_ends opening) =
     All-map (λ position. position ≤ most_records) (λ (shard : ShardValue). length shard.list) opening
     (λ k d lt. (small k d lt).few) in
     record {
       some = subst (λ n. 1 ≤ n) (sym as_many) limited.some_shards;
       few = subst (λ n. n ≤ 16) (sym as_many) limited.few_shards;
-      within = All-from_get_or (λ position. position ≤ most_records) (start_of opening) 0 (λ shard lt.
-          let end = All-get_or (λ position. position ≤ most_records) (ends_of opening) shard 0
+      within = All-from_get_or (λ position. position ≤ most_records) (session_start opening) 0 (λ shard lt.
+          let end = All-get_or (λ position. position ≤ most_records) (session_ends opening) shard 0
           (omega (arith, lt, as_many, many, length-map opening (λ (shard : ShardValue). length shard.list))) ends in
           omega (arith, before shard, end));
     }
 
 -- the session that `report` writes is one, if the saved cut that it went on from represents the lists
-pub own_text : PrintsText → (settings : Settings) (rules : Rules) (keeping : Keeping) (store : Option (List ℕ))
-    (file text : List ℕ) (is : IsSession settings rules keeping store file text) → AreLimited settings
+pub own_session_is_valid : PrintsOwnSession → (settings : Settings) (rules : Rules) (keeping : SessionKeeping) (store : Option (List ℕ))
+    (file text : List ℕ) (is : IsSession settings rules keeping store file text) → AreLimitedSettings settings
     → IfSome is.base (λ cut. CutRepresents cut is.lists)
-    → IsSessionText text (shown_session settings.store (start_of (opening_of settings.capacity is.lists is.base))
+    → IsSessionText text (shown_session settings.store (session_start (session_opening settings.capacity is.lists is.base))
     is.spelled.reports is.records)
-own_text prints settings rules keeping store file text is limited represents =
-    let opening = opening_of settings.capacity is.lists is.base in
+own_session_is_valid prints settings rules keeping store file text is limited represents =
+    let opening = session_opening settings.capacity is.lists is.base in
     let reports = is.spelled.reports in
-    let known = shown_session settings.store (start_of opening) reports is.records in
+    let known = shown_session settings.store (session_start opening) reports is.records in
     let goes_on = base_goes_on settings is.lists is.base is.begins.fits in
-    let many_lists = dealt_many settings.deal (rules settings.deal) settings.shards is.records.list is.lists
+    let many_lists = own_session_lists_match_shards settings.deal (rules settings.deal) settings.shards is.records.list is.lists
     is.dealt.dealt in
     let many : length opening ≡ settings.shards =
-    opening_many settings.capacity is.lists is.base goes_on ∙ many_lists in
-    let last : IsShown opening settings reports.last =
-    all_of_last (IsShown opening settings) reports.rounds reports.last is.spelled.are_reports.calling.shown in
-    let small = kept_are_small opening reports.last.report.positions last.is_report.as_many last.is_report.kept in
-    let small_lists : All IsSmall is.lists =
-    subst (λ lists. All IsSmall lists) (lists_of_opening settings is.lists store is.base is.begins)
-    (All-map IsSmall (λ (shard : ShardValue). shard.list) opening small) in
-    let shown = own_are_shown settings rules keeping store file text is in
-    let sound = own_are_sound settings rules keeping store file text is represents in
-    let starts = starts_are_positions opening settings limited many
-    (opening_starts_before_ends settings.capacity is.lists is.base goes_on) small in
+    opening_shards_count settings.capacity is.lists is.base goes_on ∙ many_lists in
+    let last : IsShownInSession opening settings reports.last =
+    last_report_is_among_all (IsShownInSession opening settings) reports.rounds reports.last is.spelled.are_reports.calling.shown in
+    let small = bounded_report_lists_if_kept opening reports.last.report.positions last.is_report.as_many last.is_report.kept in
+    let small_lists : All IsBoundedReportList is.lists =
+    subst (λ lists. All IsBoundedReportList lists) (own_report_lists_of_opening settings is.lists store is.base is.begins)
+    (All-map IsBoundedReportList (λ (shard : ShardValue). shard.list) opening small) in
+    let shown = own_reports_are_shown settings rules keeping store file text is in
+    let sound = own_reports_are_sound settings rules keeping store file text is represents in
+    let starts = own_session_starts_are_positions opening settings limited many
+    (opening_shards_before_ends settings.capacity is.lists is.base goes_on) small in
     record {
-      is_session = own_is_showable settings (start_of opening) reports is.records is.dealt.frames starts
+      is_session = own_session_is_showable settings (session_start opening) reports is.records is.dealt.frames starts
           (length-map opening _ ∙ many) is.dealt.capture.1.limit is.dealt.are_records
-          (λ k d lt. sound_fits opening settings is.lists (get_or (reports_in reports) k d) limited many many_lists
+          (λ k d lt. bounded_report_if_sound opening settings is.lists (get_or (session_reports_in reports) k d) limited many many_lists
           small_lists (shown k d lt) (sound k d lt));
-      spelled = is.spelled.spelled ∙ session-shown settings.store (start_of opening) reports is.records ∙ prints known;
+      spelled = is.spelled.spelled ∙ shown_session_prints_the_same settings.store (session_start opening) reports is.records ∙ prints known;
     }
 
 -- records that are dealt for some settings are dealt for all that agree on this
-dealt_alike : (settings other : Settings) (rules : Rules) (file : List ℕ) (records : Records)
+own_session_is_dealt_alike : (settings other : Settings) (rules : Rules) (file : List ℕ) (records : Records)
     (lists : List (List RecordValue)) → settings.shards ≡ other.shards → settings.deal ≡ other.deal
-    → settings.weigh ≡ other.weigh → AreDealtFrom settings rules file records lists
-    → AreDealtFrom other rules file records lists
-dealt_alike settings other rules file records lists shards deal weigh dealt = record {
+    → settings.weigh ≡ other.weigh → AreDealtInSession settings rules file records lists
+    → AreDealtInSession other rules file records lists
+own_session_is_dealt_alike settings other rules file records lists shards deal weigh dealt = record {
   frames = dealt.frames;
   capture = dealt.capture;
   are_records = subst (λ (w : Weigh). AreRecordsOf w dealt.frames records) weigh dealt.are_records;
@@ -159,29 +159,29 @@ dealt_alike settings other rules file records lists shards deal weigh dealt = re
 }
 
 -- an audit of it finds all its reports sound: as many as each caller made rounds, with the calling thread, and the last
-pub own_is_sound : PrintsText → (settings other : Settings) (rules : Rules) (keeping : Keeping)
+pub own_session_passes_audit : PrintsOwnSession → (settings other : Settings) (rules : Rules) (keeping : SessionKeeping)
     (store : Option (List ℕ)) (file text : List ℕ) (is : IsSession settings rules keeping store file text)
-    → AreLimited settings → settings.shards ≡ other.shards → settings.capacity ≡ other.capacity
+    → AreLimitedSettings settings → settings.shards ≡ other.shards → settings.capacity ≡ other.capacity
     → settings.phi ≡ other.phi → settings.deal ≡ other.deal → settings.weigh ≡ other.weigh
-    → length text ≤ longest_text → IfSome is.base (λ cut. CutRepresents cut is.lists)
-    → IsSoundSession other rules file text (sound_text ((settings.callers + 1) * settings.rounds + 1))
-own_is_sound prints settings other rules keeping store file text is limited shards capacity phi deal weigh short
+    → length text ≤ longest_session_text → IfSome is.base (λ cut. CutRepresents cut is.lists)
+    → IsSoundAudit other rules file text (sound_audit_text ((settings.callers + 1) * settings.rounds + 1))
+own_session_passes_audit prints settings other rules keeping store file text is limited shards capacity phi deal weigh short
     represents =
-    let opening = opening_of settings.capacity is.lists is.base in
+    let opening = session_opening settings.capacity is.lists is.base in
     let reports = is.spelled.reports in
     record {
       lists = is.lists;
-      session = shown_session settings.store (start_of opening) reports is.records;
+      session = shown_session settings.store (session_start opening) reports is.records;
       audited = record {
         records = is.records;
-        dealt = dealt_alike settings other rules file is.records is.lists shards deal weigh is.dealt;
-        is_session = own_text prints settings rules keeping store file text is limited represents;
+        dealt = own_session_is_dealt_alike settings other rules file is.records is.lists shards deal weigh is.dealt;
+        is_session = own_session_is_valid prints settings rules keeping store file text is limited represents;
         not_long = short;
       };
-      sound = shown_have (IsSoundOver other is.lists) settings.store reports (λ store reported sound. sound)
+      sound = shown_session_keeps_property (IsAuditedAsSound other is.lists) settings.store reports (λ store reported sound. sound)
           (λ k d lt.
-          subst (λ n. IsSound (get_or (reports_in reports) k d).report is.lists n other.phi) capacity
-          (subst (λ n. IsSound (get_or (reports_in reports) k d).report is.lists settings.capacity n) phi
-          (own_are_sound settings rules keeping store file text is represents k d lt)));
-      spelled = ap sound_text (sym (shown_many opening settings settings.store reports is.spelled.are_reports));
+          subst (λ n. IsSound (get_or (session_reports_in reports) k d).report is.lists n other.phi) capacity
+          (subst (λ n. IsSound (get_or (session_reports_in reports) k d).report is.lists settings.capacity n) phi
+          (own_reports_are_sound settings rules keeping store file text is represents k d lt)));
+      spelled = ap sound_audit_text (sym (shown_session_report_count opening settings settings.store reports is.spelled.are_reports));
     }

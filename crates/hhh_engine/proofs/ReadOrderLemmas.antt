@@ -2,7 +2,7 @@
 use Rattle.std.proofs.Common.{◌≡◌, ℕ, List, Option, IfSome, inl, inr, refl, sym, subst, arith, ⊎_elim}
 use Rattle.std.specs.Prelude.{⊤}
 use Rattle.std.specs.Io.KnownBytes.{IsAtEnd}
-use Rattle.outside_io.specs.{Rose}
+use Rattle.outside_io.specs.{FaultCountRose}
 use Rattle.prefix_lattice.specs.{RecordValue}
 use Rattle.pcap_frames.specs.declared.fault.CaptureFault.{CaptureFault}
 use Rattle.recovery.specs.declared.fault.OpenFault.{OpenFault}
@@ -13,73 +13,73 @@ use Rattle.command_words.specs.{AskFor}
 use Rattle.command_words.specs.declared.command.Command.{Command}
 use Rattle.command_words.specs.declared.command.Command.TheVariants.{Weigh, Report, Format, Audit, Make, Demo}
 use Rattle.command_words.specs.declared.settings.Settings.{Settings}
-use Rattle.hhh_engine.specs.Auditing.{HasNoBytes, SaysOf}
-use Rattle.hhh_engine.specs.Ending.{Ends, FailedDisk, FailedToRead, OfDisk, RefusedCapture, SourceFailed, SourceFaults}
-use Rattle.hhh_engine.specs.Ending.{StopsInOrder, UnlessFormat, source_faults}
-use Rattle.hhh_engine.specs.Inputs.{AskToUse, InputBytes, IsCapture, MayUseStore, ReadsCapture, ReadsSession, WasRead}
-use Rattle.hhh_engine.specs.Session.{Keeping, Rules}
+use Rattle.hhh_engine.specs.Auditing.{AuditingHasNoBytes, AuditingSays}
+use Rattle.hhh_engine.specs.Ending.{Ends, EndsWithFailedDisk, EndsFailingToRead, OfDiskAtEnding, EndsRefusingCapture, EndsAtFailedSource, EndingSourceFaults}
+use Rattle.hhh_engine.specs.Ending.{EndsInOrder, EndsAsBeforeUnlessFormat, ending_source_faults}
+use Rattle.hhh_engine.specs.Inputs.{AskToUseInput, InputBytes, IsInputCapture, MayUseInputStore, UsesInputCapture, UsesInputSession, InputsWereRead}
+use Rattle.hhh_engine.specs.Session.{SessionKeeping, Rules}
 use Rattle.hhh_engine.specs.Status.{status_of_session}
 use Rattle.hhh_engine.specs.declared.status.Status.{Status}
 use Rattle.hhh_engine.specs.declared.status.Status.TheVariants.{Done, BadWords, BadCapture, ReadFault, WriteFault}
 use Rattle.hhh_engine.specs.declared.status.Status.TheVariants.{DiskFault, NotFormatted, Damaged, OtherSettings}
 use Rattle.hhh_engine.specs.declared.status.Status.TheVariants.{OtherCapture, AuditNo, BadReport, OutOfMemory}
-use Rattle.hhh_engine.proofs.StatusLemmas.{EndsAs}
+use Rattle.hhh_engine.proofs.StatusLemmas.{EndsWithStatus}
 
 -- ---- the steps of an audit
 
 -- its text was not read
-pub no_bytes : {T : Type 0} (read : InputBytes) (before now : SourceFaults) (text text_read : T) (status : Status)
-    → IsAtEnd read.capture_left → IfSome read.capture IsCapture → now.capture ≡ before.capture
-    → HasNoBytes before.text now.text status → StopsInOrder ⊤ ⊤ read before now text text_read status
-no_bytes read before now text text_read Done at_end is_capture same none = absurd none
-no_bytes read before now text text_read (BadWords kind) at_end is_capture same none = absurd none
-no_bytes read before now text text_read (BadCapture fault) at_end is_capture same none = absurd none
-no_bytes read before now text text_read ReadFault at_end is_capture same none =
+pub read_order_without_text : {T : Type 0} (read : InputBytes) (before now : EndingSourceFaults) (text text_read : T) (status : Status)
+    → IsAtEnd read.capture_left → IfSome read.capture IsInputCapture → now.capture ≡ before.capture
+    → AuditingHasNoBytes before.text now.text status → EndsInOrder ⊤ ⊤ read before now text text_read status
+read_order_without_text read before now text text_read Done at_end is_capture same none = absurd none
+read_order_without_text read before now text text_read (BadWords kind) at_end is_capture same none = absurd none
+read_order_without_text read before now text text_read (BadCapture fault) at_end is_capture same none = absurd none
+read_order_without_text read before now text text_read ReadFault at_end is_capture same none =
     inr (record { reads = tt; rose = none; capture_kept = same; read_to_end = at_end; accepted = is_capture })
-no_bytes read before now text text_read WriteFault at_end is_capture same none = absurd none
-no_bytes read before now text text_read DiskFault at_end is_capture same none = absurd none
-no_bytes read before now text text_read NotFormatted at_end is_capture same none = absurd none
-no_bytes read before now text text_read (Damaged slot) at_end is_capture same none = absurd none
-no_bytes read before now text text_read (OtherSettings stored asked) at_end is_capture same none = absurd none
-no_bytes read before now text text_read (OtherCapture stored asked) at_end is_capture same none = absurd none
-no_bytes read before now text text_read (AuditNo report verdict) at_end is_capture same none = absurd none
-no_bytes read before now text text_read (BadReport fault) at_end is_capture same none = absurd none
-no_bytes read before now text text_read OutOfMemory at_end is_capture same none = tt
+read_order_without_text read before now text text_read WriteFault at_end is_capture same none = absurd none
+read_order_without_text read before now text text_read DiskFault at_end is_capture same none = absurd none
+read_order_without_text read before now text text_read NotFormatted at_end is_capture same none = absurd none
+read_order_without_text read before now text text_read (Damaged slot) at_end is_capture same none = absurd none
+read_order_without_text read before now text text_read (OtherSettings stored asked) at_end is_capture same none = absurd none
+read_order_without_text read before now text text_read (OtherCapture stored asked) at_end is_capture same none = absurd none
+read_order_without_text read before now text text_read (AuditNo report verdict) at_end is_capture same none = absurd none
+read_order_without_text read before now text text_read (BadReport fault) at_end is_capture same none = absurd none
+read_order_without_text read before now text text_read OutOfMemory at_end is_capture same none = tt
 
 -- its text is not that of a session
-pub no_session : {T : Type 0} (read : InputBytes) (before now : SourceFaults) (text text_read : T) (fault : SessionFault)
-    → StopsInOrder ⊤ ⊤ read before now text text_read (status_of_session fault)
-no_session read before now text text_read (session.Text fault) = tt
-no_session read before now text text_read session.OutOfMemory = tt
+pub read_order_at_bad_text : {T : Type 0} (read : InputBytes) (before now : EndingSourceFaults) (text text_read : T) (fault : SessionFault)
+    → EndsInOrder ⊤ ⊤ read before now text text_read (status_of_session fault)
+read_order_at_bad_text read before now text text_read (session.Text fault) = tt
+read_order_at_bad_text read before now text text_read session.OutOfMemory = tt
 
 -- the audit was made
-pub audit_was_made : {T : Type 0} (read : InputBytes) (before now : SourceFaults) (text text_read : T)
+pub read_order_of_made_audit : {T : Type 0} (read : InputBytes) (before now : EndingSourceFaults) (text text_read : T)
     (settings : Settings) (lists : List (List RecordValue)) (reports : List Reported) (written : List ℕ) (status : Status)
-    → SaysOf settings lists reports written status → StopsInOrder ⊤ ⊤ read before now text text_read status
-audit_was_made read before now text text_read settings lists reports written Done says = tt
-audit_was_made read before now text text_read settings lists reports written (BadWords kind) says = absurd says
-audit_was_made read before now text text_read settings lists reports written (BadCapture fault) says = absurd says
-audit_was_made read before now text text_read settings lists reports written ReadFault says = absurd says
-audit_was_made read before now text text_read settings lists reports written WriteFault says = absurd says
-audit_was_made read before now text text_read settings lists reports written DiskFault says = absurd says
-audit_was_made read before now text text_read settings lists reports written NotFormatted says = absurd says
-audit_was_made read before now text text_read settings lists reports written (Damaged slot) says = absurd says
-audit_was_made read before now text text_read settings lists reports written (OtherSettings stored asked) says =
+    → AuditingSays settings lists reports written status → EndsInOrder ⊤ ⊤ read before now text text_read status
+read_order_of_made_audit read before now text text_read settings lists reports written Done says = tt
+read_order_of_made_audit read before now text text_read settings lists reports written (BadWords kind) says = absurd says
+read_order_of_made_audit read before now text text_read settings lists reports written (BadCapture fault) says = absurd says
+read_order_of_made_audit read before now text text_read settings lists reports written ReadFault says = absurd says
+read_order_of_made_audit read before now text text_read settings lists reports written WriteFault says = absurd says
+read_order_of_made_audit read before now text text_read settings lists reports written DiskFault says = absurd says
+read_order_of_made_audit read before now text text_read settings lists reports written NotFormatted says = absurd says
+read_order_of_made_audit read before now text text_read settings lists reports written (Damaged slot) says = absurd says
+read_order_of_made_audit read before now text text_read settings lists reports written (OtherSettings stored asked) says =
     absurd says
-audit_was_made read before now text text_read settings lists reports written (OtherCapture stored asked) says =
+read_order_of_made_audit read before now text text_read settings lists reports written (OtherCapture stored asked) says =
     absurd says
-audit_was_made read before now text text_read settings lists reports written (AuditNo report verdict) says = tt
-audit_was_made read before now text text_read settings lists reports written (BadReport fault) says = absurd says
-audit_was_made read before now text text_read settings lists reports written OutOfMemory says = absurd says
+read_order_of_made_audit read before now text text_read settings lists reports written (AuditNo report verdict) says = tt
+read_order_of_made_audit read before now text text_read settings lists reports written (BadReport fault) says = absurd says
+read_order_of_made_audit read before now text text_read settings lists reports written OutOfMemory says = absurd says
 
 -- ---- the commands
 
 -- what a command reads may be said in other words
-source_failed_of : {T : Type 0} (Reads ReadsText Other OtherText : Type 0) (read : InputBytes)
-    (before now : SourceFaults) (text text_read : T) → (Reads → Other) → (ReadsText → OtherText)
-    → SourceFailed Reads ReadsText read before now text text_read
-    → SourceFailed Other OtherText read before now text text_read
-source_failed_of Reads ReadsText Other OtherText read before now text text_read reads reads_text failed =
+read_order_in_other_terms : {T : Type 0} (Reads ReadsText Other OtherText : Type 0) (read : InputBytes)
+    (before now : EndingSourceFaults) (text text_read : T) → (Reads → Other) → (ReadsText → OtherText)
+    → EndsAtFailedSource Reads ReadsText read before now text text_read
+    → EndsAtFailedSource Other OtherText read before now text text_read
+read_order_in_other_terms Reads ReadsText Other OtherText read before now text text_read reads reads_text failed =
     ⊎_elim
     (λ is. inl (record { reads = reads is.reads; rose = is.rose; text_unread = is.text_unread }))
     (λ is. inr (record {
@@ -91,93 +91,93 @@ source_failed_of Reads ReadsText Other OtherText read before now text text_read 
     })) failed
 
 -- how a command ended that reads a capture and no text: whatever the faults of a text's source are, its own rose
-pub capture_alone : {K T : Type 0} (IsText IsPart : List ℕ → Type 0) (ReadToEnd Accepted DiskRose DiskSame AsBefore : Type 0)
+pub read_order_of_capture_alone : {K T : Type 0} (IsText IsPart : List ℕ → Type 0) (ReadToEnd Accepted DiskRose DiskSame AsBefore : Type 0)
     (Refused : OpenFault → Type 0) (Audited : Status → Type 0) (capture : Option (List ℕ)) (before now other : ℕ)
     (sink written : K) (old new : Option (List ℕ)) (write_before write_now : ℕ) (status : Status) (Reads ReadsText : Type 0)
     (read : InputBytes) (text : T) → Reads
-    → Ends IsText IsPart ReadToEnd Accepted DiskRose DiskSame AsBefore Refused Audited capture (source_faults before 0)
-    (source_faults now 0) sink written old new write_before write_now status
-    → StopsInOrder Reads ReadsText read (source_faults before other) (source_faults now other) text text status
-capture_alone IsText IsPart ReadToEnd Accepted DiskRose DiskSame AsBefore Refused Audited capture before now other sink written old
+    → Ends IsText IsPart ReadToEnd Accepted DiskRose DiskSame AsBefore Refused Audited capture (ending_source_faults before 0)
+    (ending_source_faults now 0) sink written old new write_before write_now status
+    → EndsInOrder Reads ReadsText read (ending_source_faults before other) (ending_source_faults now other) text text status
+read_order_of_capture_alone IsText IsPart ReadToEnd Accepted DiskRose DiskSame AsBefore Refused Audited capture before now other sink written old
     new write_before write_now Done Reads ReadsText read text reads ends = tt
-capture_alone IsText IsPart ReadToEnd Accepted DiskRose DiskSame AsBefore Refused Audited capture before now other sink written old
+read_order_of_capture_alone IsText IsPart ReadToEnd Accepted DiskRose DiskSame AsBefore Refused Audited capture before now other sink written old
     new write_before write_now (BadWords kind) Reads ReadsText read text reads ends = tt
-capture_alone IsText IsPart ReadToEnd Accepted DiskRose DiskSame AsBefore Refused Audited capture before now other sink written old
+read_order_of_capture_alone IsText IsPart ReadToEnd Accepted DiskRose DiskSame AsBefore Refused Audited capture before now other sink written old
     new write_before write_now (BadCapture fault) Reads ReadsText read text reads ends = (reads, refl)
-capture_alone IsText IsPart ReadToEnd Accepted DiskRose DiskSame AsBefore Refused Audited capture before now other sink written old
+read_order_of_capture_alone IsText IsPart ReadToEnd Accepted DiskRose DiskSame AsBefore Refused Audited capture before now other sink written old
     new write_before write_now ReadFault Reads ReadsText read text reads ends =
     ⊎_elim
-    (λ (rose : Rose before now). inl (record { reads = reads; rose = rose; text_unread = refl }))
-    (λ (rose : Rose 0 0). absurd (omega (arith, rose))) ends.0
-capture_alone IsText IsPart ReadToEnd Accepted DiskRose DiskSame AsBefore Refused Audited capture before now other sink written old
+    (λ (rose : FaultCountRose before now). inl (record { reads = reads; rose = rose; text_unread = refl }))
+    (λ (rose : FaultCountRose 0 0). absurd (omega (arith, rose))) ends.0
+read_order_of_capture_alone IsText IsPart ReadToEnd Accepted DiskRose DiskSame AsBefore Refused Audited capture before now other sink written old
     new write_before write_now WriteFault Reads ReadsText read text reads ends = tt
-capture_alone IsText IsPart ReadToEnd Accepted DiskRose DiskSame AsBefore Refused Audited capture before now other sink written old
+read_order_of_capture_alone IsText IsPart ReadToEnd Accepted DiskRose DiskSame AsBefore Refused Audited capture before now other sink written old
     new write_before write_now DiskFault Reads ReadsText read text reads ends = tt
-capture_alone IsText IsPart ReadToEnd Accepted DiskRose DiskSame AsBefore Refused Audited capture before now other sink written old
+read_order_of_capture_alone IsText IsPart ReadToEnd Accepted DiskRose DiskSame AsBefore Refused Audited capture before now other sink written old
     new write_before write_now NotFormatted Reads ReadsText read text reads ends = tt
-capture_alone IsText IsPart ReadToEnd Accepted DiskRose DiskSame AsBefore Refused Audited capture before now other sink written old
+read_order_of_capture_alone IsText IsPart ReadToEnd Accepted DiskRose DiskSame AsBefore Refused Audited capture before now other sink written old
     new write_before write_now (Damaged slot) Reads ReadsText read text reads ends = tt
-capture_alone IsText IsPart ReadToEnd Accepted DiskRose DiskSame AsBefore Refused Audited capture before now other sink written old
+read_order_of_capture_alone IsText IsPart ReadToEnd Accepted DiskRose DiskSame AsBefore Refused Audited capture before now other sink written old
     new write_before write_now (OtherSettings stored asked) Reads ReadsText read text reads ends = tt
-capture_alone IsText IsPart ReadToEnd Accepted DiskRose DiskSame AsBefore Refused Audited capture before now other sink written old
+read_order_of_capture_alone IsText IsPart ReadToEnd Accepted DiskRose DiskSame AsBefore Refused Audited capture before now other sink written old
     new write_before write_now (OtherCapture stored asked) Reads ReadsText read text reads ends = tt
-capture_alone IsText IsPart ReadToEnd Accepted DiskRose DiskSame AsBefore Refused Audited capture before now other sink written old
+read_order_of_capture_alone IsText IsPart ReadToEnd Accepted DiskRose DiskSame AsBefore Refused Audited capture before now other sink written old
     new write_before write_now (AuditNo report verdict) Reads ReadsText read text reads ends = tt
-capture_alone IsText IsPart ReadToEnd Accepted DiskRose DiskSame AsBefore Refused Audited capture before now other sink written old
+read_order_of_capture_alone IsText IsPart ReadToEnd Accepted DiskRose DiskSame AsBefore Refused Audited capture before now other sink written old
     new write_before write_now (BadReport fault) Reads ReadsText read text reads ends = tt
-capture_alone IsText IsPart ReadToEnd Accepted DiskRose DiskSame AsBefore Refused Audited capture before now other sink written old
+read_order_of_capture_alone IsText IsPart ReadToEnd Accepted DiskRose DiskSame AsBefore Refused Audited capture before now other sink written old
     new write_before write_now OutOfMemory Reads ReadsText read text reads ends = tt
 
 -- and one that reads neither: it ends at no fault of them
-pub neither_read : {T : Type 0} (Reads ReadsText : Type 0) (read : InputBytes) (before now : SourceFaults) (text : T)
+pub read_order_of_neither : {T : Type 0} (Reads ReadsText : Type 0) (read : InputBytes) (before now : EndingSourceFaults) (text : T)
     (status : Status) → ((fault : CaptureFault) → status ≡ BadCapture fault → ⊥) → (status ≡ ReadFault → ⊥)
-    → StopsInOrder Reads ReadsText read before now text text status
-neither_read Reads ReadsText read before now text Done no_capture no_read = tt
-neither_read Reads ReadsText read before now text (BadWords kind) no_capture no_read = tt
-neither_read Reads ReadsText read before now text (BadCapture fault) no_capture no_read = absurd (no_capture fault refl)
-neither_read Reads ReadsText read before now text ReadFault no_capture no_read = absurd (no_read refl)
-neither_read Reads ReadsText read before now text WriteFault no_capture no_read = tt
-neither_read Reads ReadsText read before now text DiskFault no_capture no_read = tt
-neither_read Reads ReadsText read before now text NotFormatted no_capture no_read = tt
-neither_read Reads ReadsText read before now text (Damaged slot) no_capture no_read = tt
-neither_read Reads ReadsText read before now text (OtherSettings stored asked) no_capture no_read = tt
-neither_read Reads ReadsText read before now text (OtherCapture stored asked) no_capture no_read = tt
-neither_read Reads ReadsText read before now text (AuditNo report verdict) no_capture no_read = tt
-neither_read Reads ReadsText read before now text (BadReport fault) no_capture no_read = tt
-neither_read Reads ReadsText read before now text OutOfMemory no_capture no_read = tt
+    → EndsInOrder Reads ReadsText read before now text text status
+read_order_of_neither Reads ReadsText read before now text Done no_capture no_read = tt
+read_order_of_neither Reads ReadsText read before now text (BadWords kind) no_capture no_read = tt
+read_order_of_neither Reads ReadsText read before now text (BadCapture fault) no_capture no_read = absurd (no_capture fault refl)
+read_order_of_neither Reads ReadsText read before now text ReadFault no_capture no_read = absurd (no_read refl)
+read_order_of_neither Reads ReadsText read before now text WriteFault no_capture no_read = tt
+read_order_of_neither Reads ReadsText read before now text DiskFault no_capture no_read = tt
+read_order_of_neither Reads ReadsText read before now text NotFormatted no_capture no_read = tt
+read_order_of_neither Reads ReadsText read before now text (Damaged slot) no_capture no_read = tt
+read_order_of_neither Reads ReadsText read before now text (OtherSettings stored asked) no_capture no_read = tt
+read_order_of_neither Reads ReadsText read before now text (OtherCapture stored asked) no_capture no_read = tt
+read_order_of_neither Reads ReadsText read before now text (AuditNo report verdict) no_capture no_read = tt
+read_order_of_neither Reads ReadsText read before now text (BadReport fault) no_capture no_read = tt
+read_order_of_neither Reads ReadsText read before now text OutOfMemory no_capture no_read = tt
 
 -- the command that a variant is reads what the variant reads
-pub order_as : {T : Type 0} (command other : Command) (read : InputBytes) (before now : SourceFaults)
+pub read_order_of_variant : {T : Type 0} (command other : Command) (read : InputBytes) (before now : EndingSourceFaults)
     (text text_read : T) (status : Status) → command ≡ other
-    → StopsInOrder (ReadsCapture other) (ReadsSession other) read before now text text_read status
-    → StopsInOrder (ReadsCapture command) (ReadsSession command) read before now text text_read status
-order_as command other read before now text text_read status is stops =
-    subst (λ c. StopsInOrder (ReadsCapture c) (ReadsSession c) read before now text text_read status) (sym is) stops
+    → EndsInOrder (UsesInputCapture other) (UsesInputSession other) read before now text text_read status
+    → EndsInOrder (UsesInputCapture command) (UsesInputSession command) read before now text text_read status
+read_order_of_variant command other read before now text text_read status is stops =
+    subst (λ c. EndsInOrder (UsesInputCapture c) (UsesInputSession c) read before now text text_read status) (sym is) stops
 
 -- ---- the top call
 
 -- the arguments ask for what their command uses
-asked_to_use : (Uses : Command → Type 0) (words : List (List ℕ)) (command : Command) → AskFor words command
-    → Uses command → AskToUse Uses words
-asked_to_use Uses words command asked uses = record { command = command; asked = asked; uses = uses }
+read_order_as_asked : (Uses : Command → Type 0) (words : List (List ℕ)) (command : Command) → AskFor words command
+    → Uses command → AskToUseInput Uses words
+read_order_as_asked Uses words command asked uses = record { command = command; asked = asked; uses = uses }
 
 -- the capture was refused
-pub refused_capture_as : {T K D : Type 0} (rules : Rules) (keeping : Keeping) (words : List (List ℕ))
+pub read_order_at_refused_capture : {T K D : Type 0} (rules : Rules) (keeping : SessionKeeping) (words : List (List ℕ))
     (command : Command) (given : InputBytes) (AsBefore : Type 0) (ReadToEnd DiskRose : Type 0)
-    (before now : SourceFaults) (text text_read : T) (sink written : K) (disk stands : D) (old new : Option (List ℕ))
+    (before now : EndingSourceFaults) (text text_read : T) (sink written : K) (disk stands : D) (old new : Option (List ℕ))
     (write_before write_now : ℕ) (status : Status) (fault : CaptureFault) → AskFor words command
     → status ≡ BadCapture fault
-    → StopsInOrder (ReadsCapture command) (ReadsSession command) given before now text text_read status
-    → EndsAs rules keeping command given AsBefore ReadToEnd DiskRose (stands ≡ disk) before now sink written old new
+    → EndsInOrder (UsesInputCapture command) (UsesInputSession command) given before now text text_read status
+    → EndsWithStatus rules keeping command given AsBefore ReadToEnd DiskRose (stands ≡ disk) before now sink written old new
     write_before write_now status
-    → RefusedCapture words given.capture fault text text_read sink written disk stands
-refused_capture_as rules keeping words command given AsBefore ReadToEnd DiskRose before now text text_read sink written
+    → EndsRefusingCapture words given.capture fault text text_read sink written disk stands
+read_order_at_refused_capture rules keeping words command given AsBefore ReadToEnd DiskRose before now text text_read sink written
     disk stands old new write_before write_now status fault asked is stops ends =
-    let order = subst (StopsInOrder (ReadsCapture command) (ReadsSession command) given before now text text_read) is stops in
-    let ended = subst (EndsAs rules keeping command given AsBefore ReadToEnd DiskRose (stands ≡ disk) before now sink
+    let order = subst (EndsInOrder (UsesInputCapture command) (UsesInputSession command) given before now text text_read) is stops in
+    let ended = subst (EndsWithStatus rules keeping command given AsBefore ReadToEnd DiskRose (stands ≡ disk) before now sink
     written old new write_before write_now) is ends in
     record {
-      asked = asked_to_use ReadsCapture words command asked order.0;
+      asked = read_order_as_asked UsesInputCapture words command asked order.0;
       first_fault = ended.0;
       text_unread = order.1;
       unwritten = ended.1;
@@ -185,55 +185,55 @@ refused_capture_as rules keeping words command given AsBefore ReadToEnd DiskRose
     }
 
 -- a source failed
-pub failed_to_read_as : {T K D : Type 0} (rules : Rules) (keeping : Keeping) (words : List (List ℕ))
+pub read_order_at_read_failure : {T K D : Type 0} (rules : Rules) (keeping : SessionKeeping) (words : List (List ℕ))
     (command : Command) (given : InputBytes) (AsBefore : Type 0) (ReadToEnd DiskRose : Type 0)
-    (before now : SourceFaults) (text text_read : T) (sink written : K) (disk stands : D) (old new : Option (List ℕ))
+    (before now : EndingSourceFaults) (text text_read : T) (sink written : K) (disk stands : D) (old new : Option (List ℕ))
     (write_before write_now : ℕ) (status : Status) → AskFor words command → status ≡ ReadFault
-    → StopsInOrder (ReadsCapture command) (ReadsSession command) given before now text text_read status
-    → EndsAs rules keeping command given AsBefore ReadToEnd DiskRose (stands ≡ disk) before now sink written old new
+    → EndsInOrder (UsesInputCapture command) (UsesInputSession command) given before now text text_read status
+    → EndsWithStatus rules keeping command given AsBefore ReadToEnd DiskRose (stands ≡ disk) before now sink written old new
     write_before write_now status
-    → FailedToRead words given before now text text_read sink written disk stands
-failed_to_read_as rules keeping words command given AsBefore ReadToEnd DiskRose before now text text_read sink written
+    → EndsFailingToRead words given before now text text_read sink written disk stands
+read_order_at_read_failure rules keeping words command given AsBefore ReadToEnd DiskRose before now text text_read sink written
     disk stands old new write_before write_now status asked is stops ends =
-    let order = subst (StopsInOrder (ReadsCapture command) (ReadsSession command) given before now text text_read) is stops in
-    let ended = subst (EndsAs rules keeping command given AsBefore ReadToEnd DiskRose (stands ≡ disk) before now sink
+    let order = subst (EndsInOrder (UsesInputCapture command) (UsesInputSession command) given before now text text_read) is stops in
+    let ended = subst (EndsWithStatus rules keeping command given AsBefore ReadToEnd DiskRose (stands ≡ disk) before now sink
     written old new write_before write_now) is ends in
     record {
-      failed = source_failed_of (ReadsCapture command) (ReadsSession command) (AskToUse ReadsCapture words)
-          (AskToUse ReadsSession words) given before now text text_read
-          (asked_to_use ReadsCapture words command asked) (asked_to_use ReadsSession words command asked) order;
+      failed = read_order_in_other_terms (UsesInputCapture command) (UsesInputSession command) (AskToUseInput UsesInputCapture words)
+          (AskToUseInput UsesInputSession words) given before now text text_read
+          (read_order_as_asked UsesInputCapture words command asked) (read_order_as_asked UsesInputSession words command asked) order;
       unwritten = ended.1;
       untouched = ended.2;
     }
 
 -- only a command that may use a store has a disk that fails
-may_use_store : (command : Command) (Happened : Type 0) → OfDisk command Happened → MayUseStore command × Happened
-may_use_store (Weigh prefix settings) Happened happened = absurd happened
-may_use_store (Report settings) Happened happened = (tt, happened)
-may_use_store (Format settings) Happened happened = (tt, happened)
-may_use_store (Audit settings) Happened happened = absurd happened
-may_use_store (Make seed frames) Happened happened = absurd happened
-may_use_store (Demo seed frames settings) Happened happened = absurd happened
+read_order_lets_use_store : (command : Command) (Happened : Type 0) → OfDiskAtEnding command Happened → MayUseInputStore command × Happened
+read_order_lets_use_store (Weigh prefix settings) Happened happened = absurd happened
+read_order_lets_use_store (Report settings) Happened happened = (tt, happened)
+read_order_lets_use_store (Format settings) Happened happened = (tt, happened)
+read_order_lets_use_store (Audit settings) Happened happened = absurd happened
+read_order_lets_use_store (Make seed frames) Happened happened = absurd happened
+read_order_lets_use_store (Demo seed frames settings) Happened happened = absurd happened
 
 -- the disk failed
-pub failed_disk_as : {K : Type 0} (rules : Rules) (keeping : Keeping) (words : List (List ℕ)) (command : Command)
+pub read_order_at_failed_disk : {K : Type 0} (rules : Rules) (keeping : SessionKeeping) (words : List (List ℕ)) (command : Command)
     (given : InputBytes) (AsBefore : Type 0) (DiskSame : Type 0) (disk_before disk_now : ℕ)
-    (before now : SourceFaults) (sink written : K) (old new : Option (List ℕ)) (write_before write_now : ℕ)
+    (before now : EndingSourceFaults) (sink written : K) (old new : Option (List ℕ)) (write_before write_now : ℕ)
     (status : Status) → AskFor words command → status ≡ DiskFault
-    → EndsAs rules keeping command given AsBefore (WasRead command given)
-    (OfDisk command (Rose disk_before disk_now)) DiskSame before now sink written old new write_before write_now status
-    → FailedDisk rules keeping words given AsBefore sink written old new disk_before disk_now
-failed_disk_as rules keeping words command given AsBefore DiskSame disk_before disk_now before now sink written old new
+    → EndsWithStatus rules keeping command given AsBefore (InputsWereRead command given)
+    (OfDiskAtEnding command (FaultCountRose disk_before disk_now)) DiskSame before now sink written old new write_before write_now status
+    → EndsWithFailedDisk rules keeping words given AsBefore sink written old new disk_before disk_now
+read_order_at_failed_disk rules keeping words command given AsBefore DiskSame disk_before disk_now before now sink written old new
     write_before write_now status asked is ends =
-    let ended = subst (EndsAs rules keeping command given AsBefore (WasRead command given)
-    (OfDisk command (Rose disk_before disk_now)) DiskSame before now sink written old new write_before write_now) is ends in
-    let used = may_use_store command (Rose disk_before disk_now) ended.3 in
+    let ended = subst (EndsWithStatus rules keeping command given AsBefore (InputsWereRead command given)
+    (OfDiskAtEnding command (FaultCountRose disk_before disk_now)) DiskSame before now sink written old new write_before write_now) is ends in
+    let used = read_order_lets_use_store command (FaultCountRose disk_before disk_now) ended.3 in
     record {
       command = command;
       asked = asked;
       may_use = used.0;
       rose = used.1;
       in_part = ⊎_elim
-          (λ (nothing : (written ≡ sink) × UnlessFormat command AsBefore). inl nothing)
+          (λ (nothing : (written ≡ sink) × EndsAsBeforeUnlessFormat command AsBefore). inl nothing)
           (λ part. inr (record { command = command; asked = asked; read_to_end = ended.0; answer = part })) ended.2;
     }

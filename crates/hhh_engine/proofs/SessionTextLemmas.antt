@@ -12,91 +12,91 @@ use Rattle.std.proofs.lemmas.List.Elements.{All-append, All-cons, All-head, All-
 use Rattle.std.proofs.lemmas.List.Sorted.{IsNonDecreasingBy-push}
 use Rattle.outside_io.specs.{AppendsBeginning, IsBeginning}
 use Rattle.std.proofs.Common.{Bool}
-use Rattle.shard_state.specs.{CutValue, IsShard, ShardValue, state_at}
+use Rattle.shard_state.specs.{CutValue, IsShard, ShardValue, shard_state_at}
 use Rattle.hhh_output.specs.declared.reports.Reported.{Reported}
-use Rattle.gate_workers.specs.{states_at}
+use Rattle.gate_workers.specs.{states_at_call}
 use Rattle.pass_tokens.specs.{WordsValue}
 use Rattle.command_words.specs.declared.settings.Settings.{Settings}
-use Rattle.report_text.specs.{mark_text, report_text}
+use Rattle.report_text.specs.{report_mark_text, report_text}
 use Rattle.report_text.specs.declared.mark.Mark.TheVariants.{Opened}
 use Rattle.hhh_engine.specs.Answer.{Writes}
-use Rattle.hhh_engine.specs.Feed.{IsFed, IsRest, StartsBeforeEnds, WritesRoundsInPart, reports_of}
-use Rattle.hhh_engine.specs.Session.{AreReportsOf, AreSessionReports, BeginsSession, BreaksOffAround, BreaksOffInRounds}
-use Rattle.hhh_engine.specs.Session.{IsShown, IsStrictBeginning, Saving, SpellsSession, after_saves_of, calling_reports}
-use Rattle.hhh_engine.specs.Session.{callers_text, ends_of, parts_text, saved_cuts, saved_text, start_of}
+use Rattle.hhh_engine.specs.DealtFeed.{IsDealtFeedResult, IsDealtFeedRest, DealtFeedStartsBeforeEnds, DealtFeedBreaksOffInRounds, dealt_feed_other_reports}
+use Rattle.hhh_engine.specs.Session.{AreSessionReportsOfCaller, AreSessionReports, BeginsSession, SessionBreaksOffAround, SessionBreaksOffInRounds}
+use Rattle.hhh_engine.specs.Session.{IsShownInSession, IsStrictSessionBeginning, SessionSaving, SpellsSession, session_after_saves, session_calling_reports}
+use Rattle.hhh_engine.specs.Session.{session_callers_text, session_ends, session_parts_text, session_saved_cuts, session_save_text, session_start}
 use Rattle.hhh_engine.specs.declared.commands.feed.Fed.{Fed}
 use Rattle.hhh_engine.specs.declared.commands.session.Rest.{Rest}
 
 -- the first line was written in part
-pub line_in_part : (opening : List ShardValue) (settings : Settings) (Kept : Saving) (tail line : List ℕ)
-    (old new : Option (List ℕ)) → line ≡ mark_text Opened (start_of opening) → AppendsBeginning old new line → Kept [] []
+pub session_text_breaks_in_line : (opening : List ShardValue) (settings : Settings) (Kept : SessionSaving) (tail line : List ℕ)
+    (old new : Option (List ℕ)) → line ≡ report_mark_text Opened (session_start opening) → AppendsBeginning old new line → Kept [] []
     → Writes (BeginsSession opening settings Kept tail) old new
-line_in_part opening settings Kept tail line old new is written kept = record {
+session_text_breaks_in_line opening settings Kept tail line old new is written kept = record {
   text = written.front;
-  is_text = inl (subst (IsStrictBeginning written.front) is (written.is_beginning, written.cut), kept);
+  is_text = inl (subst (IsStrictSessionBeginning written.front) is (written.is_beginning, written.cut), kept);
   written = written.appended;
 }
 
 -- the first line, and rounds in part
-pub rounds_in_part : (opening : List ShardValue) (settings : Settings) (Kept : Saving) (tail line : List ℕ)
-    (old between new : Option (List ℕ)) → line ≡ mark_text Opened (start_of opening) → Appends old between line
-    → WritesRoundsInPart opening settings Kept between new → Writes (BeginsSession opening settings Kept tail) old new
-rounds_in_part opening settings Kept tail line old between new is first part = record {
+pub session_text_breaks_in_rounds : (opening : List ShardValue) (settings : Settings) (Kept : SessionSaving) (tail line : List ℕ)
+    (old between new : Option (List ℕ)) → line ≡ report_mark_text Opened (session_start opening) → Appends old between line
+    → DealtFeedBreaksOffInRounds opening settings Kept between new → Writes (BeginsSession opening settings Kept tail) old new
+session_text_breaks_in_rounds opening settings Kept tail line old between new is first part = record {
   text = line ++ part.front;
   is_text = inr (inl (part.front, part.breaks_off, ap (λ first. first ++ part.front) is));
   written = Appends-trans old between new line part.front first part.written;
 }
 
 -- rounds that were made whole, as rounds in part
-pub fed_in_part : (board : WordsValue) (settings : Settings) (Kept : List CutValue → Type 0) (KeptInPart : Saving)
+pub session_text_of_fed_rounds : (board : WordsValue) (settings : Settings) (Kept : List CutValue → Type 0) (KeptInPart : SessionSaving)
     (old new : Option (List ℕ)) (fed : Fed) → ((cuts : List CutValue) → Kept cuts → KeptInPart cuts [])
-    → IsFed board settings Kept old new fed → WritesRoundsInPart board.opening settings KeptInPart old new
-fed_in_part board settings Kept KeptInPart old new fed part is =
+    → IsDealtFeedResult board settings Kept old new fed → DealtFeedBreaksOffInRounds board.opening settings KeptInPart old new
+session_text_of_fed_rounds board settings Kept KeptInPart old new fed part is =
     let gathered = is.gathered in
     let many : length gathered.rounds ≡ settings.rounds = gathered.are_rounds.as_many in
     record {
-      front = parts_text settings.store gathered.rounds;
+      front = session_parts_text settings.store gathered.rounds;
       breaks_off = inl (record {
         rounds = gathered.rounds;
         few = omega (arith, many);
-        are_reports = subst (λ n. AreReportsOf board.opening settings n gathered.rounds) (sym many) gathered.are_rounds;
+        are_reports = subst (λ n. AreSessionReportsOfCaller board.opening settings n gathered.rounds) (sym many) gathered.are_rounds;
         written = refl;
-        kept = part (saved_cuts settings.store board.opening gathered.rounds) gathered.kept;
+        kept = part (session_saved_cuts settings.store board.opening gathered.rounds) gathered.kept;
       });
       written = gathered.written;
     }
 
 -- a report's positions are within the lists
-pub within_ends : (opening : List ShardValue) (positions : List ℕ) (shard : ℕ) → length positions ≡ length opening
-    → All IsShard (states_at opening positions) → slice_index positions shard ≤ slice_index (ends_of opening) shard
-within_ends [] [] shard many kept = omega arith
-within_ends [] (position ∷ positions) shard many kept = absurd (omega (arith, many))
-within_ends (first ∷ rest) [] shard many kept = absurd (omega (arith, many))
-within_ends (first ∷ rest) (position ∷ positions) zero many kept =
-    (All-head IsShard (state_at position first) (states_at rest positions) kept).within
-within_ends (first ∷ rest) (position ∷ positions) (suc shard) many kept =
-    within_ends rest positions shard (omega (arith, many))
-    (All-tail IsShard (state_at position first) (states_at rest positions) kept)
+pub session_text_within_ends : (opening : List ShardValue) (positions : List ℕ) (shard : ℕ) → length positions ≡ length opening
+    → All IsShard (states_at_call opening positions) → slice_index positions shard ≤ slice_index (session_ends opening) shard
+session_text_within_ends [] [] shard many kept = omega arith
+session_text_within_ends [] (position ∷ positions) shard many kept = absurd (omega (arith, many))
+session_text_within_ends (first ∷ rest) [] shard many kept = absurd (omega (arith, many))
+session_text_within_ends (first ∷ rest) (position ∷ positions) zero many kept =
+    (All-head IsShard (shard_state_at position first) (states_at_call rest positions) kept).within
+session_text_within_ends (first ∷ rest) (position ∷ positions) (suc shard) many kept =
+    session_text_within_ends rest positions shard (omega (arith, many))
+    (All-tail IsShard (shard_state_at position first) (states_at_call rest positions) kept)
 
 -- numbers that never fall, and one more that is at least each of them
-one_more : (numbers : List ℕ) (last : ℕ) → IsNonDecreasing numbers → All (λ number. number ≤ last) numbers
+session_text_numbers_never_fall : (numbers : List ℕ) (last : ℕ) → IsNonDecreasing numbers → All (λ number. number ≤ last) numbers
     → IsNonDecreasing (numbers ++ last ∷ [])
-one_more numbers last up below =
+session_text_numbers_never_fall numbers last up below =
     IsNonDecreasingBy-push (λ x. x) numbers last up (λ d some. below (length numbers - 1) d (omega (arith, some)))
 
 -- the rounds of the calling thread, and the last report
-with_last : (opening : List ShardValue) (settings : Settings) (count : ℕ) (reports : List Reported) (last : Reported)
-    → StartsBeforeEnds opening → AreReportsOf opening settings count reports → IsShown opening settings last
-    → last.report.positions ≡ ends_of opening → AreReportsOf opening settings (count + 1) (reports ++ last ∷ [])
-with_last opening settings count reports last starts are shown ends = record {
+session_text_with_last : (opening : List ShardValue) (settings : Settings) (count : ℕ) (reports : List Reported) (last : Reported)
+    → DealtFeedStartsBeforeEnds opening → AreSessionReportsOfCaller opening settings count reports → IsShownInSession opening settings last
+    → last.report.positions ≡ session_ends opening → AreSessionReportsOfCaller opening settings (count + 1) (reports ++ last ∷ [])
+session_text_with_last opening settings count reports last starts are shown ends = record {
   as_many = omega (arith, length-append reports (last ∷ []), are.as_many);
   shown =
-      All-append (IsShown opening settings) reports (last ∷ []) are.shown
-      (All-cons (IsShown opening settings) last [] shown (All-nil (IsShown opening settings)));
+      All-append (IsShownInSession opening settings) reports (last ∷ []) are.shown
+      (All-cons (IsShownInSession opening settings) last [] shown (All-nil (IsShownInSession opening settings)));
   never_fall = λ shard inside.
       let position : Reported → ℕ = λ reported. slice_index reported.report.positions shard in
-      let first : ℕ = slice_index (start_of opening) shard in
-      let end : ℕ = slice_index (ends_of opening) shard in
+      let first : ℕ = slice_index (session_start opening) shard in
+      let end : ℕ = slice_index (session_ends opening) shard in
       let is_end : position last ≡ end = ap (λ positions. slice_index positions shard) ends in
       let below : All (λ number. number ≤ position last) (first ∷ map position reports) =
       All-cons (λ number. number ≤ position last) first (map position reports)
@@ -104,31 +104,31 @@ with_last opening settings count reports last starts are shown ends = record {
       (All-map (λ number. number ≤ position last) position reports
       (λ k d lt.
       let at = (are.shown k d lt).is_report in
-      let within = within_ends opening (get_or reports k d).report.positions shard at.as_many at.kept in
+      let within = session_text_within_ends opening (get_or reports k d).report.positions shard at.as_many at.kept in
       omega (arith, within, is_end))) in
       subst (λ positions. IsNonDecreasing (first ∷ positions)) (sym (map-append position reports (last ∷ [])))
-      (one_more (first ∷ map position reports) (position last) (are.never_fall shard inside) below);
+      (session_text_numbers_never_fall (first ∷ map position reports) (position last) (are.never_fall shard inside) below);
 }
 
 -- a session of which less is said
-pub spells_weaker : (opening : List ShardValue) (settings : Settings) (Kept Less : List CutValue → Type 0)
+pub spelled_session_text_says_less : (opening : List ShardValue) (settings : Settings) (Kept Less : List CutValue → Type 0)
     (tail text : List ℕ) → ((cuts : List CutValue) → Kept cuts → Less cuts)
     → SpellsSession opening settings Kept tail text → SpellsSession opening settings Less tail text
-spells_weaker opening settings Kept Less tail text less session = record {
+spelled_session_text_says_less opening settings Kept Less tail text less session = record {
   reports = session.reports;
   are_reports = session.are_reports;
   spelled = session.spelled;
-  kept = less (saved_cuts settings.store opening (calling_reports session.reports)) session.kept;
+  kept = less (session_saved_cuts settings.store opening (session_calling_reports session.reports)) session.kept;
 }
 
 -- the reports of a whole session
-reports_of_session : (board : WordsValue) (settings : Settings) (Fed_kept : List CutValue → Type 0) (tail : List ℕ)
-    (old new : Option (List ℕ)) (fed : Fed) (rest : Rest) → StartsBeforeEnds board.opening
-    → (is : IsFed board settings Fed_kept old new fed) → (end : IsRest board settings fed.gathered.called.items tail rest)
+session_text_of_all_reports : (board : WordsValue) (settings : Settings) (Fed_kept : List CutValue → Type 0) (tail : List ℕ)
+    (old new : Option (List ℕ)) (fed : Fed) (rest : Rest) → DealtFeedStartsBeforeEnds board.opening
+    → (is : IsDealtFeedResult board settings Fed_kept old new fed) → (end : IsDealtFeedRest board settings fed.gathered.called.items tail rest)
     → AreSessionReports board.opening settings
-    (record { rounds = is.gathered.rounds; callers = reports_of fed.gathered.called.items; last = end.last })
-reports_of_session board settings Fed_kept tail old new fed rest starts is end = record {
-  calling = with_last board.opening settings settings.rounds is.gathered.rounds end.last starts is.gathered.are_rounds
+    (record { rounds = is.gathered.rounds; callers = dealt_feed_other_reports fed.gathered.called.items; last = end.last })
+session_text_of_all_reports board settings Fed_kept tail old new fed rest starts is end = record {
+  calling = session_text_with_last board.opening settings settings.rounds is.gathered.rounds end.last starts is.gathered.are_rounds
       end.shown end.at_ends;
   at_ends = end.at_ends;
   as_many = length-map fed.gathered.called.items _ ∙ is.gathered.as_many;
@@ -136,39 +136,39 @@ reports_of_session board settings Fed_kept tail old new fed rest starts is end =
 }
 
 -- a whole session
-pub spells_session : (board : WordsValue) (settings : Settings) (Fed_kept Kept : List CutValue → Type 0)
+pub session_text_is_spelled : (board : WordsValue) (settings : Settings) (Fed_kept Kept : List CutValue → Type 0)
     (tail line : List ℕ) (old new : Option (List ℕ)) (fed : Fed) (rest : Rest)
-    → StartsBeforeEnds board.opening → line ≡ mark_text Opened (start_of board.opening)
-    → (is : IsFed board settings Fed_kept old new fed) → (end : IsRest board settings fed.gathered.called.items tail rest)
-    → Kept (saved_cuts settings.store board.opening (is.gathered.rounds ++ end.last ∷ []))
+    → DealtFeedStartsBeforeEnds board.opening → line ≡ report_mark_text Opened (session_start board.opening)
+    → (is : IsDealtFeedResult board settings Fed_kept old new fed) → (end : IsDealtFeedRest board settings fed.gathered.called.items tail rest)
+    → Kept (session_saved_cuts settings.store board.opening (is.gathered.rounds ++ end.last ∷ []))
     → SpellsSession board.opening settings Kept tail
-    (line ++ (parts_text settings.store is.gathered.rounds ++ (rest.front.items ++ rest.back.items)))
-spells_session board settings Fed_kept Kept tail line old new fed rest starts is_line is end kept =
+    (line ++ (session_parts_text settings.store is.gathered.rounds ++ (rest.front.items ++ rest.back.items)))
+session_text_is_spelled board settings Fed_kept Kept tail line old new fed rest starts is_line is end kept =
     let store : Bool = settings.store in
-    let callers : List ℕ = callers_text (reports_of fed.gathered.called.items) in
+    let callers : List ℕ = session_callers_text (dealt_feed_other_reports fed.gathered.called.items) in
     let report : List ℕ = report_text end.last.report in
-    let saved : List ℕ = saved_text store end.last.report.positions in
+    let saved : List ℕ = session_save_text store end.last.report.positions in
     let texts : rest.front.items ++ rest.back.items ≡ callers ++ ((report ++ saved) ++ tail) =
     ap₂ (λ a b. a ++ b) end.front_is end.back_is ∙ append_assoc callers report (saved ++ tail)
     ∙ ap (λ t. callers ++ t) (sym (append_assoc report saved tail)) in
     record {
       reports = record {
         rounds = is.gathered.rounds;
-        callers = reports_of fed.gathered.called.items;
+        callers = dealt_feed_other_reports fed.gathered.called.items;
         last = end.last;
       };
-      are_reports = reports_of_session board settings Fed_kept tail old new fed rest starts is end;
-      spelled = ap₂ (λ a b. a ++ (parts_text store is.gathered.rounds ++ b)) is_line texts;
+      are_reports = session_text_of_all_reports board settings Fed_kept tail old new fed rest starts is end;
+      spelled = ap₂ (λ a b. a ++ (session_parts_text store is.gathered.rounds ++ b)) is_line texts;
       kept = kept;
     }
 
 -- the whole session was written
-pub session_whole : (opening : List ShardValue) (settings : Settings) (Kept : List CutValue → Type 0)
+pub session_text_is_written : (opening : List ShardValue) (settings : Settings) (Kept : List CutValue → Type 0)
     (tail line rounds rest : List ℕ) (old first second new : Option (List ℕ))
     → SpellsSession opening settings Kept tail (line ++ (rounds ++ rest))
     → Appends old first line → Appends first second rounds → Appends second new rest
     → Writes (SpellsSession opening settings Kept tail) old new
-session_whole opening settings Kept tail line rounds rest old first second new spelled one two three = record {
+session_text_is_written opening settings Kept tail line rounds rest old first second new spelled one two three = record {
   text = line ++ (rounds ++ rest);
   is_text = spelled;
   written =
@@ -176,52 +176,52 @@ session_whole opening settings Kept tail line rounds rest old first second new s
 }
 
 -- two texts with a save between them that broke off, as the texts and the cut are known otherwise, of which less is said
-pub around_as : (before after other_before other_after : List ℕ) (cut other_cut : List CutValue) (Kept Less : Saving)
+pub session_text_around_save : (before after other_before other_after : List ℕ) (cut other_cut : List CutValue) (Kept Less : SessionSaving)
     (front : List ℕ) → before ≡ other_before → after ≡ other_after → (Kept [] [] → Less [] [])
     → (Kept [] cut → Less [] other_cut) → (Kept cut [] → Less other_cut [])
-    → BreaksOffAround before after cut Kept front → BreaksOffAround other_before other_after other_cut Less front
-around_as before after other_before other_after cut other_cut Kept Less front same_before same_after none unfinished saved
+    → SessionBreaksOffAround before after cut Kept front → SessionBreaksOffAround other_before other_after other_cut Less front
+session_text_around_save before after other_before other_after cut other_cut Kept Less front same_before same_after none unfinished saved
     (inl (begins, kept)) = inl (subst (IsBeginning front) same_before begins, none kept)
-around_as before after other_before other_after cut other_cut Kept Less front same_before same_after none unfinished saved
+session_text_around_save before after other_before other_after cut other_cut Kept Less front same_before same_after none unfinished saved
     (inr (inl (whole, kept))) = inr (inl (whole ∙ same_before, unfinished kept))
-around_as before after other_before other_after cut other_cut Kept Less front same_before same_after none unfinished saved
+session_text_around_save before after other_before other_after cut other_cut Kept Less front same_before same_after none unfinished saved
     (inr (inr (more, short, parted, kept))) =
-    inr (inr (more, subst (IsStrictBeginning more) same_after short, parted ∙ ap (λ text. text ++ more) same_before, saved kept))
+    inr (inr (more, subst (IsStrictSessionBeginning more) same_after short, parted ∙ ap (λ text. text ++ more) same_before, saved kept))
 
 -- what became of the last cut of a session (Rest) is what became of all its cuts (Kept), after those of its rounds
-abbrev pub FollowsSaves : Bool → List ShardValue → List Reported → Reported → CutValue → (Rest Kept : Saving) → Type 0
-FollowsSaves store opening rounds last cut Rest Kept =
-    (Rest [] [] → after_saves_of store opening rounds Kept [] [])
-    × (Rest [] (cut ∷ []) → after_saves_of store opening rounds Kept [] (saved_cuts store opening (last ∷ [])))
-    × (Rest (cut ∷ []) [] → after_saves_of store opening rounds Kept (saved_cuts store opening (last ∷ [])) [])
+abbrev pub SessionTextFollowsSaves : Bool → List ShardValue → List Reported → Reported → CutValue → (Rest Kept : SessionSaving) → Type 0
+SessionTextFollowsSaves store opening rounds last cut Rest Kept =
+    (Rest [] [] → session_after_saves store opening rounds Kept [] [])
+    × (Rest [] (cut ∷ []) → session_after_saves store opening rounds Kept [] (session_saved_cuts store opening (last ∷ [])))
+    × (Rest (cut ∷ []) [] → session_after_saves store opening rounds Kept (session_saved_cuts store opening (last ∷ [])) [])
 
 -- the session was written but for a part of its rest
-pub session_in_part : (board : WordsValue) (settings : Settings) (Fed_kept : List CutValue → Type 0)
-    (KeptInRest KeptInPart : Saving) (tail line : List ℕ) (old first second new : Option (List ℕ)) (fed : Fed)
-    (rest : Rest) → StartsBeforeEnds board.opening → line ≡ mark_text Opened (start_of board.opening)
-    → (is : IsFed board settings Fed_kept first second fed)
-    → (end : IsRest board settings fed.gathered.called.items tail rest) → Appends old first line
-    → FollowsSaves settings.store board.opening is.gathered.rounds end.last rest.cut KeptInRest KeptInPart
-    → Writes (BreaksOffAround rest.front.items rest.back.items (rest.cut ∷ []) KeptInRest) second new
+pub session_text_breaks_in_rest : (board : WordsValue) (settings : Settings) (Fed_kept : List CutValue → Type 0)
+    (KeptInRest KeptInPart : SessionSaving) (tail line : List ℕ) (old first second new : Option (List ℕ)) (fed : Fed)
+    (rest : Rest) → DealtFeedStartsBeforeEnds board.opening → line ≡ report_mark_text Opened (session_start board.opening)
+    → (is : IsDealtFeedResult board settings Fed_kept first second fed)
+    → (end : IsDealtFeedRest board settings fed.gathered.called.items tail rest) → Appends old first line
+    → SessionTextFollowsSaves settings.store board.opening is.gathered.rounds end.last rest.cut KeptInRest KeptInPart
+    → Writes (SessionBreaksOffAround rest.front.items rest.back.items (rest.cut ∷ []) KeptInRest) second new
     → Writes (BeginsSession board.opening settings KeptInPart tail) old new
-session_in_part board settings Fed_kept KeptInRest KeptInPart tail line old first second new fed rest starts is_line is
+session_text_breaks_in_rest board settings Fed_kept KeptInRest KeptInPart tail line old first second new fed rest starts is_line is
     end one kept part =
-    let rounds : List ℕ = parts_text settings.store is.gathered.rounds in
+    let rounds : List ℕ = session_parts_text settings.store is.gathered.rounds in
     record {
       text = line ++ (rounds ++ part.text);
       is_text = inr (inr (record {
         reports = record {
           rounds = is.gathered.rounds;
-          callers = reports_of fed.gathered.called.items;
+          callers = dealt_feed_other_reports fed.gathered.called.items;
           last = end.last;
         };
-        are_reports = reports_of_session board settings Fed_kept tail first second fed rest starts is end;
+        are_reports = session_text_of_all_reports board settings Fed_kept tail first second fed rest starts is end;
         more = part.text;
-        breaks_off = around_as rest.front.items rest.back.items
-            (callers_text (reports_of fed.gathered.called.items) ++ report_text end.last.report)
-            (saved_text settings.store end.last.report.positions ++ tail) (rest.cut ∷ [])
-            (saved_cuts settings.store board.opening (end.last ∷ [])) KeptInRest
-            (after_saves_of settings.store board.opening is.gathered.rounds KeptInPart) part.text end.front_is end.back_is
+        breaks_off = session_text_around_save rest.front.items rest.back.items
+            (session_callers_text (dealt_feed_other_reports fed.gathered.called.items) ++ report_text end.last.report)
+            (session_save_text settings.store end.last.report.positions ++ tail) (rest.cut ∷ [])
+            (session_saved_cuts settings.store board.opening (end.last ∷ [])) KeptInRest
+            (session_after_saves settings.store board.opening is.gathered.rounds KeptInPart) part.text end.front_is end.back_is
             kept.0 kept.1 kept.2 part.is_text;
         written = ap (λ text. text ++ (rounds ++ part.text)) is_line;
       }));
@@ -232,101 +232,101 @@ session_in_part board settings Fed_kept KeptInRest KeptInPart tail line old firs
 
 -- of what became of the cuts of a session (Kept) less is said (Less): where no cut was saved, where those of some rounds
 -- were, and before, in and after the save of a report that follows some rounds
-pub record SaysLess (opening : List ShardValue) (settings : Settings) (Kept Less : Saving) : Type 0 where
+pub record SessionTextSaysLess (opening : List ShardValue) (settings : Settings) (Kept Less : SessionSaving) : Type 0 where
   pub none : Kept [] [] → Less [] []
-  pub between : (rounds : List Reported) → AreReportsOf opening settings (length rounds) rounds
-      → Kept (saved_cuts settings.store opening rounds) [] → Less (saved_cuts settings.store opening rounds) []
+  pub between : (rounds : List Reported) → AreSessionReportsOfCaller opening settings (length rounds) rounds
+      → Kept (session_saved_cuts settings.store opening rounds) [] → Less (session_saved_cuts settings.store opening rounds) []
   pub before : (count : ℕ) (rounds : List Reported) (next : Reported)
-      → AreReportsOf opening settings count (rounds ++ next ∷ [])
-      → after_saves_of settings.store opening rounds Kept [] [] → after_saves_of settings.store opening rounds Less [] []
+      → AreSessionReportsOfCaller opening settings count (rounds ++ next ∷ [])
+      → session_after_saves settings.store opening rounds Kept [] [] → session_after_saves settings.store opening rounds Less [] []
   pub unfinished : (count : ℕ) (rounds : List Reported) (next : Reported)
-      → AreReportsOf opening settings count (rounds ++ next ∷ [])
-      → after_saves_of settings.store opening rounds Kept [] (saved_cuts settings.store opening (next ∷ []))
-      → after_saves_of settings.store opening rounds Less [] (saved_cuts settings.store opening (next ∷ []))
+      → AreSessionReportsOfCaller opening settings count (rounds ++ next ∷ [])
+      → session_after_saves settings.store opening rounds Kept [] (session_saved_cuts settings.store opening (next ∷ []))
+      → session_after_saves settings.store opening rounds Less [] (session_saved_cuts settings.store opening (next ∷ []))
   pub saved : (count : ℕ) (rounds : List Reported) (next : Reported)
-      → AreReportsOf opening settings count (rounds ++ next ∷ [])
-      → after_saves_of settings.store opening rounds Kept (saved_cuts settings.store opening (next ∷ [])) []
-      → after_saves_of settings.store opening rounds Less (saved_cuts settings.store opening (next ∷ [])) []
+      → AreSessionReportsOfCaller opening settings count (rounds ++ next ∷ [])
+      → session_after_saves settings.store opening rounds Kept (session_saved_cuts settings.store opening (next ∷ [])) []
+      → session_after_saves settings.store opening rounds Less (session_saved_cuts settings.store opening (next ∷ [])) []
 
 -- a session that broke off, of which less is said
-around_less : (opening : List ShardValue) (settings : Settings) (Kept Less : Saving) (count : ℕ) (rounds : List Reported)
-    (next : Reported) (before after front : List ℕ) → SaysLess opening settings Kept Less
-    → AreReportsOf opening settings count (rounds ++ next ∷ [])
-    → BreaksOffAround before after (saved_cuts settings.store opening (next ∷ []))
-    (after_saves_of settings.store opening rounds Kept) front
-    → BreaksOffAround before after (saved_cuts settings.store opening (next ∷ []))
-    (after_saves_of settings.store opening rounds Less) front
-around_less opening settings Kept Less count rounds next before after front less are breaks =
-    let cut : List CutValue = saved_cuts settings.store opening (next ∷ []) in
-    around_as before after before after cut cut (after_saves_of settings.store opening rounds Kept)
-    (after_saves_of settings.store opening rounds Less) front refl refl (less.before count rounds next are)
+session_text_around_says_less : (opening : List ShardValue) (settings : Settings) (Kept Less : SessionSaving) (count : ℕ) (rounds : List Reported)
+    (next : Reported) (before after front : List ℕ) → SessionTextSaysLess opening settings Kept Less
+    → AreSessionReportsOfCaller opening settings count (rounds ++ next ∷ [])
+    → SessionBreaksOffAround before after (session_saved_cuts settings.store opening (next ∷ []))
+    (session_after_saves settings.store opening rounds Kept) front
+    → SessionBreaksOffAround before after (session_saved_cuts settings.store opening (next ∷ []))
+    (session_after_saves settings.store opening rounds Less) front
+session_text_around_says_less opening settings Kept Less count rounds next before after front less are breaks =
+    let cut : List CutValue = session_saved_cuts settings.store opening (next ∷ []) in
+    session_text_around_save before after before after cut cut (session_after_saves settings.store opening rounds Kept)
+    (session_after_saves settings.store opening rounds Less) front refl refl (less.before count rounds next are)
     (less.unfinished count rounds next are) (less.saved count rounds next are) breaks
 
-rounds_less : (opening : List ShardValue) (settings : Settings) (Kept Less : Saving) (front : List ℕ)
-    → SaysLess opening settings Kept Less → BreaksOffInRounds opening settings Kept front
-    → BreaksOffInRounds opening settings Less front
-rounds_less opening settings Kept Less front less (inl between) = inl (record {
+session_text_rounds_say_less : (opening : List ShardValue) (settings : Settings) (Kept Less : SessionSaving) (front : List ℕ)
+    → SessionTextSaysLess opening settings Kept Less → SessionBreaksOffInRounds opening settings Kept front
+    → SessionBreaksOffInRounds opening settings Less front
+session_text_rounds_say_less opening settings Kept Less front less (inl between) = inl (record {
   rounds = between.rounds;
   few = between.few;
   are_reports = between.are_reports;
   written = between.written;
   kept = less.between between.rounds between.are_reports between.kept;
 })
-rounds_less opening settings Kept Less front less (inr within) = inr (record {
+session_text_rounds_say_less opening settings Kept Less front less (inr within) = inr (record {
   rounds = within.rounds;
   next = within.next;
   few = within.few;
   are_reports = within.are_reports;
   more = within.more;
-  breaks_off = around_less opening settings Kept Less (length within.rounds + 1) within.rounds within.next
-      (report_text within.next.report) (saved_text settings.store within.next.report.positions) within.more less
+  breaks_off = session_text_around_says_less opening settings Kept Less (length within.rounds + 1) within.rounds within.next
+      (report_text within.next.report) (session_save_text settings.store within.next.report.positions) within.more less
       within.are_reports within.breaks_off;
   written = within.written;
 })
 
-pub begins_less : (opening : List ShardValue) (settings : Settings) (Kept Less : Saving) (tail front : List ℕ)
-    → SaysLess opening settings Kept Less → BeginsSession opening settings Kept tail front
+pub session_text_begins_saying_less : (opening : List ShardValue) (settings : Settings) (Kept Less : SessionSaving) (tail front : List ℕ)
+    → SessionTextSaysLess opening settings Kept Less → BeginsSession opening settings Kept tail front
     → BeginsSession opening settings Less tail front
-begins_less opening settings Kept Less tail front less (inl (short, kept)) = inl (short, less.none kept)
-begins_less opening settings Kept Less tail front less (inr (inl (more, rounds, parted))) =
-    inr (inl (more, rounds_less opening settings Kept Less more less rounds, parted))
-begins_less opening settings Kept Less tail front less (inr (inr later)) = inr (inr (record {
+session_text_begins_saying_less opening settings Kept Less tail front less (inl (short, kept)) = inl (short, less.none kept)
+session_text_begins_saying_less opening settings Kept Less tail front less (inr (inl (more, rounds, parted))) =
+    inr (inl (more, session_text_rounds_say_less opening settings Kept Less more less rounds, parted))
+session_text_begins_saying_less opening settings Kept Less tail front less (inr (inr later)) = inr (inr (record {
   reports = later.reports;
   are_reports = later.are_reports;
   more = later.more;
-  breaks_off = around_less opening settings Kept Less (settings.rounds + 1) later.reports.rounds later.reports.last
-      (callers_text later.reports.callers ++ report_text later.reports.last.report)
-      (saved_text settings.store later.reports.last.report.positions ++ tail) later.more less
+  breaks_off = session_text_around_says_less opening settings Kept Less (settings.rounds + 1) later.reports.rounds later.reports.last
+      (session_callers_text later.reports.callers ++ report_text later.reports.last.report)
+      (session_save_text settings.store later.reports.last.report.positions ++ tail) later.more less
       later.are_reports.calling later.breaks_off;
   written = later.written;
 }))
 
 -- what is said whatever cuts were saved
-around_kept : (before after : List ℕ) (cut : List CutValue) (Said : Type 0) (front : List ℕ)
-    → BreaksOffAround before after cut (λ saved unfinished. Said) front → Said
-around_kept before after cut Said front (inl (begins, said)) = said
-around_kept before after cut Said front (inr (inl (whole, said))) = said
-around_kept before after cut Said front (inr (inr (more, short, parted, said))) = said
+session_text_around_any_saves : (before after : List ℕ) (cut : List CutValue) (Said : Type 0) (front : List ℕ)
+    → SessionBreaksOffAround before after cut (λ saved unfinished. Said) front → Said
+session_text_around_any_saves before after cut Said front (inl (begins, said)) = said
+session_text_around_any_saves before after cut Said front (inr (inl (whole, said))) = said
+session_text_around_any_saves before after cut Said front (inr (inr (more, short, parted, said))) = said
 
-pub begins_kept : (opening : List ShardValue) (settings : Settings) (Said : Type 0) (tail front : List ℕ)
+pub session_text_whatever_was_saved : (opening : List ShardValue) (settings : Settings) (Said : Type 0) (tail front : List ℕ)
     → BeginsSession opening settings (λ saved unfinished. Said) tail front → Said
-begins_kept opening settings Said tail front (inl (short, said)) = said
-begins_kept opening settings Said tail front (inr (inl (more, inl between, parted))) = between.kept
-begins_kept opening settings Said tail front (inr (inl (more, inr within, parted))) =
-    around_kept (report_text within.next.report) (saved_text settings.store within.next.report.positions)
-    (saved_cuts settings.store opening (within.next ∷ [])) Said within.more within.breaks_off
-begins_kept opening settings Said tail front (inr (inr later)) =
-    around_kept (callers_text later.reports.callers ++ report_text later.reports.last.report)
-    (saved_text settings.store later.reports.last.report.positions ++ tail)
-    (saved_cuts settings.store opening (later.reports.last ∷ [])) Said later.more later.breaks_off
+session_text_whatever_was_saved opening settings Said tail front (inl (short, said)) = said
+session_text_whatever_was_saved opening settings Said tail front (inr (inl (more, inl between, parted))) = between.kept
+session_text_whatever_was_saved opening settings Said tail front (inr (inl (more, inr within, parted))) =
+    session_text_around_any_saves (report_text within.next.report) (session_save_text settings.store within.next.report.positions)
+    (session_saved_cuts settings.store opening (within.next ∷ [])) Said within.more within.breaks_off
+session_text_whatever_was_saved opening settings Said tail front (inr (inr later)) =
+    session_text_around_any_saves (session_callers_text later.reports.callers ++ report_text later.reports.last.report)
+    (session_save_text settings.store later.reports.last.report.positions ++ tail)
+    (session_saved_cuts settings.store opening (later.reports.last ∷ [])) Said later.more later.breaks_off
 
 -- where less is said of any cuts
-pub begins_weaker : (opening : List ShardValue) (settings : Settings) (Kept Less : Saving) (tail front : List ℕ)
+pub session_text_begins_weaker : (opening : List ShardValue) (settings : Settings) (Kept Less : SessionSaving) (tail front : List ℕ)
     → ((saved unfinished : List CutValue) → Kept saved unfinished → Less saved unfinished)
     → BeginsSession opening settings Kept tail front → BeginsSession opening settings Less tail front
-begins_weaker opening settings Kept Less tail front less =
-    let cuts : List Reported → List CutValue = saved_cuts settings.store opening in
-    begins_less opening settings Kept Less tail front
+session_text_begins_weaker opening settings Kept Less tail front less =
+    let cuts : List Reported → List CutValue = session_saved_cuts settings.store opening in
+    session_text_begins_saying_less opening settings Kept Less tail front
     (record {
       none = less [] [];
       between = λ rounds are. less (cuts rounds) [];
@@ -336,15 +336,15 @@ begins_weaker opening settings Kept Less tail front less =
     })
 
 -- the first line of a session isn't empty
-first_line_is_some : (positions : List ℕ) → 0 < length (mark_text Opened positions)
-first_line_is_some positions =
+session_text_line_is_some : (positions : List ℕ) → 0 < length (report_mark_text Opened positions)
+session_text_line_is_some positions =
     omega (arith, length-append (join_with_byte space (codes "opened" ∷ map decimal positions)) (codes "\n"))
 
 -- no byte was written
-pub nothing_in_part : (opening : List ShardValue) (settings : Settings) (Kept : Saving) (tail : List ℕ)
+pub session_text_without_a_byte : (opening : List ShardValue) (settings : Settings) (Kept : SessionSaving) (tail : List ℕ)
     (old new : Option (List ℕ)) → new ≡ old → Kept [] [] → Writes (BeginsSession opening settings Kept tail) old new
-nothing_in_part opening settings Kept tail old new same kept = record {
+session_text_without_a_byte opening settings Kept tail old new same kept = record {
   text = [];
-  is_text = inl (((mark_text Opened (start_of opening), refl), first_line_is_some (start_of opening)), kept);
+  is_text = inl (((report_mark_text Opened (session_start opening), refl), session_text_line_is_some (session_start opening)), kept);
   written = subst (λ o. Appends old o []) (sym same) (Appends-nil old);
 }

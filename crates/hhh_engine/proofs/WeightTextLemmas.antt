@@ -1,22 +1,22 @@
 -- A text that is made part by part.
 use Rattle.std.proofs.Common.{◌≡◌, ℕ, List, [], ◌++◌, codes, decimal, ap, ◌∙◌, append_assoc}
-use Rattle.hhh_engine.specs.WeightText.{weigh_text}
+use Rattle.hhh_engine.specs.WeightText.{weight_text}
 
 -- parts that follow one another, as one text
-grouped : (low-name low high-name high total-name total end : List ℕ)
+weight_text_is_grouped : (low-name low high-name high total-name total end : List ℕ)
     → ((([] ++ low-name ++ low) ++ high-name ++ high) ++ total-name ++ total) ++ end
     ≡ low-name ++ low ++ high-name ++ high ++ total-name ++ total ++ end
-grouped low-name low high-name high total-name total end = simp append_assoc
+weight_text_is_grouped low-name low high-name high total-name total end = simp append_assoc
 
 -- the three lines that tell a weight
-pub weigh-parts : (start first second third all : List ℕ) (low high total : ℕ) → start ≡ []
+pub weight_text_of_three_lines : (start first second third all : List ℕ) (low high total : ℕ) → start ≡ []
     → first ≡ start ++ codes "low " ++ decimal low → second ≡ first ++ codes "\nhigh " ++ decimal high
-    → third ≡ second ++ codes "\ntotal " ++ decimal total → all ≡ third ++ codes "\n" → all ≡ weigh_text low high total
-weigh-parts start first second third all low high total is_start is_first is_second is_third is_all =
+    → third ≡ second ++ codes "\ntotal " ++ decimal total → all ≡ third ++ codes "\n" → all ≡ weight_text low high total
+weight_text_of_three_lines start first second third all low high total is_start is_first is_second is_third is_all =
     is_all
     ∙ ap (λ text. text ++ codes "\n") (is_third
     ∙ ap (λ text. text ++ codes "\ntotal " ++ decimal total) (is_second
     ∙ ap (λ text. text ++ codes "\nhigh " ++ decimal high) (is_first
     ∙ ap (λ text. text ++ codes "low " ++ decimal low) is_start)))
-    ∙ grouped (codes "low ") (decimal low) (codes "\nhigh ") (decimal high) (codes "\ntotal ") (decimal total)
+    ∙ weight_text_is_grouped (codes "low ") (decimal low) (codes "\nhigh ") (decimal high) (codes "\ntotal ") (decimal total)
     (codes "\n")

@@ -1,15 +1,15 @@
 -- What each status says of the arguments, of the source, of the sink and of the disk.
 use Rattle.std.specs.Prelude.{⊤, ℕ, ◌≡◌, ◌⊎◌, true, List, Option, None, IfSome}
 use Rattle.std.specs.Io.KnownBytes.{Appends, IsAtEnd}
-use Rattle.outside_io.specs.{Rose}
+use Rattle.outside_io.specs.{FaultCountRose}
 use Rattle.prefix_lattice.specs.{RecordValue}
-use Rattle.frame_records.specs.{IsRefusedFor}
+use Rattle.frame_records.specs.{IsRefusedCapture}
 use Rattle.frame_records.specs.declared.records.Records.{Records}
 use Rattle.pcap_frames.specs.declared.fault.CaptureFault.{CaptureFault}
-use Rattle.slot_disk.specs.{IfKnown}
-use Rattle.checkpoint.specs.{Opens}
+use Rattle.slot_disk.specs.{IfImageKnown}
+use Rattle.checkpoint.specs.{StoreOpensTo}
 use Rattle.checkpoint.specs.declared.settings.StoreSettings.{StoreSettings}
-use Rattle.recovery.specs.{IsRefused}
+use Rattle.recovery.specs.{IsRefusedAtOpening}
 use Rattle.recovery.specs.declared.fault.OpenFault.{OpenFault}
 use Rattle.recovery.specs.declared.fault.OpenFault.TheVariants as opening
 use Rattle.report_text.specs.{HasTextFault}
@@ -21,17 +21,17 @@ use Rattle.command_words.specs.declared.command.Command.TheVariants as command
 use Rattle.command_words.specs.declared.settings.Settings.{Settings}
 use Rattle.command_words.specs.declared.words_kind.WordsKind.{WordsKind}
 use Rattle.hhh_engine.specs.Answer.{AnswersInPart, Writes}
-use Rattle.hhh_engine.specs.Audit.{IsUnsoundSession, WasReadFor, unsound_text}
-use Rattle.hhh_engine.specs.Inputs.{AskToUse, InputBytes, IsCapture, MayUseStore, OfAudited, ReadsCapture, ReadsSession, WasRead}
+use Rattle.hhh_engine.specs.Audit.{IsUnsoundAudit, WasReadForAuditFault, unsound_audit_text}
+use Rattle.hhh_engine.specs.Inputs.{AskToUseInput, InputBytes, IsInputCapture, MayUseInputStore, OfAuditInputs, UsesInputCapture, UsesInputSession, InputsWereRead}
 use Rattle.hhh_engine.specs.Saves.{store_settings}
-use Rattle.hhh_engine.specs.Session.{AreDealtFrom, Keeping, Rules}
+use Rattle.hhh_engine.specs.Session.{AreDealtInSession, SessionKeeping, Rules}
 use Rattle.hhh_engine.specs.declared.status.Status.{Status}
 use Rattle.hhh_engine.specs.declared.status.Status.TheVariants.{Done, BadWords, BadCapture, ReadFault, WriteFault}
 use Rattle.hhh_engine.specs.declared.status.Status.TheVariants.{DiskFault, NotFormatted, Damaged, OtherSettings}
 use Rattle.hhh_engine.specs.declared.status.Status.TheVariants.{OtherCapture, AuditNo, BadReport, OutOfMemory}
 
 -- nothing was read or written: the sources, the sink and the disk are as before
-pub record IsUntouched {S T K D : Type 0} (capture read : S) (text text_read : T) (sink written : K) (disk left : D)
+pub record EndsUntouched {S T K D : Type 0} (capture read : S) (text text_read : T) (sink written : K) (disk left : D)
     : Type 0 where
   pub unread : read ≡ capture
   pub text_unread : text_read ≡ text
@@ -39,213 +39,213 @@ pub record IsUntouched {S T K D : Type 0} (capture read : S) (text text_read : T
   pub untouched : left ≡ disk
 
 -- BadWords: this is the first fault of the arguments, and nothing was read or written
-pub record RefusedWords {S T K D : Type 0} (words : List (List ℕ)) (kind : WordsKind) (capture read : S)
+pub record EndsRefusingWords {S T K D : Type 0} (words : List (List ℕ)) (kind : WordsKind) (capture read : S)
     (text text_read : T) (sink written : K) (disk left : D) : Type 0 where
   pub first_fault : HasWordsFault words kind
-  pub nothing : IsUntouched capture read text text_read sink written disk left
+  pub nothing : EndsUntouched capture read text text_read sink written disk left
 
 -- BadCapture: the command reads a capture; this is the first fault of the file, where its bytes are known; no text of a
 -- session was read before, and nothing was written
-pub record RefusedCapture {T K D : Type 0} (words : List (List ℕ)) (left : Option (List ℕ)) (fault : CaptureFault)
+pub record EndsRefusingCapture {T K D : Type 0} (words : List (List ℕ)) (left : Option (List ℕ)) (fault : CaptureFault)
     (text text_read : T) (sink written : K) (disk stands : D) : Type 0 where
-  pub asked : AskToUse ReadsCapture words
-  pub first_fault : IfSome left (λ file. IsRefusedFor file fault)
+  pub asked : AskToUseInput UsesInputCapture words
+  pub first_fault : IfSome left (λ file. IsRefusedCapture file fault)
   pub text_unread : text_read ≡ text
   pub unwritten : written ≡ sink
   pub untouched : stands ≡ disk
 
 -- the counts of faults of the two sources: that of the capture, and that of the text of a session
-pub record SourceFaults : Type 0 where
+pub record EndingSourceFaults : Type 0 where
   pub capture : ℕ
   pub text : ℕ
 
 -- the sources with these counts of faults
-abbrev pub source_faults : ℕ → ℕ → SourceFaults
-source_faults capture text = record { capture = capture; text = text }
+abbrev pub ending_source_faults : ℕ → ℕ → EndingSourceFaults
+ending_source_faults capture text = record { capture = capture; text = text }
 
 -- the count of faults of one of the sources rose
-abbrev pub OneRose : SourceFaults → SourceFaults → Type 0
-OneRose before now = Rose before.capture now.capture ⊎ Rose before.text now.text
+abbrev pub OneSourceRoseAtEnding : EndingSourceFaults → EndingSourceFaults → Type 0
+OneSourceRoseAtEnding before now = FaultCountRose before.capture now.capture ⊎ FaultCountRose before.text now.text
 
 -- the source of a capture, which the command reads, failed before any text of a session was read
-pub record CaptureFailed {T : Type 0} (Reads : Type 0) (before now : SourceFaults) (text text_read : T) : Type 0 where
+pub record EndsAtFailedCapture {T : Type 0} (Reads : Type 0) (before now : EndingSourceFaults) (text text_read : T) : Type 0 where
   pub reads : Reads
-  pub rose : Rose before.capture now.capture
+  pub rose : FaultCountRose before.capture now.capture
   pub text_unread : text_read ≡ text
 
 -- the source of the text of a session, which the command reads, failed after the capture was read to its end without a
 -- fault, and is one, where its bytes are known
-pub record TextFailed (ReadsText : Type 0) (read : InputBytes) (before now : SourceFaults) : Type 0 where
+pub record EndsAtFailedText (ReadsText : Type 0) (read : InputBytes) (before now : EndingSourceFaults) : Type 0 where
   pub reads : ReadsText
-  pub rose : Rose before.text now.text
+  pub rose : FaultCountRose before.text now.text
   pub capture_kept : now.capture ≡ before.capture
   pub read_to_end : IsAtEnd read.capture_left
-  pub accepted : IfSome read.capture IsCapture
+  pub accepted : IfSome read.capture IsInputCapture
 
 -- one of the sources failed, the capture's first
-abbrev pub SourceFailed : {T : Type 0} → (Reads ReadsText : Type 0) → InputBytes → (before now : SourceFaults)
+abbrev pub EndsAtFailedSource : {T : Type 0} → (Reads ReadsText : Type 0) → InputBytes → (before now : EndingSourceFaults)
     → (text text_read : T) → Type 0
-SourceFailed Reads ReadsText read before now text text_read =
-    CaptureFailed Reads before now text text_read ⊎ TextFailed ReadsText read before now
+EndsAtFailedSource Reads ReadsText read before now text text_read =
+    EndsAtFailedCapture Reads before now text text_read ⊎ EndsAtFailedText ReadsText read before now
 
 -- ReadFault: the count of faults of a source rose, and nothing was written
-pub record FailedToRead {T K D : Type 0} (words : List (List ℕ)) (read : InputBytes) (before now : SourceFaults)
+pub record EndsFailingToRead {T K D : Type 0} (words : List (List ℕ)) (read : InputBytes) (before now : EndingSourceFaults)
     (text text_read : T) (sink written : K) (disk stands : D) : Type 0 where
-  pub failed : SourceFailed (AskToUse ReadsCapture words) (AskToUse ReadsSession words) read before now text text_read
+  pub failed : EndsAtFailedSource (AskToUseInput UsesInputCapture words) (AskToUseInput UsesInputSession words) read before now text text_read
   pub unwritten : written ≡ sink
   pub untouched : stands ≡ disk
 
 -- WriteFault: the sink's count of faults rose, and bytes with which the text of the command begins were written
-pub record FailedToWrite (rules : Rules) (keeping : Keeping) (words : List (List ℕ)) (read : InputBytes)
+pub record EndsFailingToWrite (rules : Rules) (keeping : SessionKeeping) (words : List (List ℕ)) (read : InputBytes)
     (old new : Option (List ℕ)) (before now : ℕ) : Type 0 where
-  pub rose : Rose before now
+  pub rose : FaultCountRose before now
   pub in_part : AnswersInPart rules keeping words read old new
 
 -- bytes with which the text of the command begins were written; or none were, and the disk is as before
-abbrev pub WroteInPart : {K : Type 0} → Rules → Keeping → List (List ℕ) → InputBytes → (AsBefore : Type 0)
+abbrev pub EndsWritingInPart : {K : Type 0} → Rules → SessionKeeping → List (List ℕ) → InputBytes → (AsBefore : Type 0)
     → (sink written : K) → (old new : Option (List ℕ)) → Type 0
-WroteInPart rules keeping words read AsBefore sink written old new =
+EndsWritingInPart rules keeping words read AsBefore sink written old new =
     ((written ≡ sink) × AsBefore) ⊎ AnswersInPart rules keeping words read old new
 
 -- where no byte was written: the disk is as before, unless the command is `format`, which may have begun a store
-abbrev pub UnlessFormat : Command → (AsBefore : Type 0) → Type 0
-UnlessFormat (command.Weigh prefix settings) AsBefore = AsBefore
-UnlessFormat (command.Report settings) AsBefore = AsBefore
-UnlessFormat (command.Format settings) AsBefore = ⊤
-UnlessFormat (command.Audit settings) AsBefore = AsBefore
-UnlessFormat (command.Make seed frames) AsBefore = AsBefore
-UnlessFormat (command.Demo seed frames settings) AsBefore = AsBefore
+abbrev pub EndsAsBeforeUnlessFormat : Command → (AsBefore : Type 0) → Type 0
+EndsAsBeforeUnlessFormat (command.Weigh prefix settings) AsBefore = AsBefore
+EndsAsBeforeUnlessFormat (command.Report settings) AsBefore = AsBefore
+EndsAsBeforeUnlessFormat (command.Format settings) AsBefore = ⊤
+EndsAsBeforeUnlessFormat (command.Audit settings) AsBefore = AsBefore
+EndsAsBeforeUnlessFormat (command.Make seed frames) AsBefore = AsBefore
+EndsAsBeforeUnlessFormat (command.Demo seed frames settings) AsBefore = AsBefore
 
 -- DiskFault: the command may use a store; the disk's count of faults rose, and bytes with which the text begins were
 -- written; or none were, and a store that was to be opened is as before
-pub record FailedDisk {K : Type 0} (rules : Rules) (keeping : Keeping) (words : List (List ℕ)) (read : InputBytes)
+pub record EndsWithFailedDisk {K : Type 0} (rules : Rules) (keeping : SessionKeeping) (words : List (List ℕ)) (read : InputBytes)
     (AsBefore : Type 0) (sink written : K) (old new : Option (List ℕ)) (before now : ℕ) : Type 0 where
   pub command : Command
   pub asked : AskFor words command
-  pub may_use : MayUseStore command
-  pub rose : Rose before now
-  pub in_part : WroteInPart rules keeping words read (UnlessFormat command AsBefore) sink written old new
+  pub may_use : MayUseInputStore command
+  pub rose : FaultCountRose before now
+  pub in_part : EndsWritingInPart rules keeping words read (EndsAsBeforeUnlessFormat command AsBefore) sink written old new
 
 -- over a capture, whose records are dealt, the store is refused for this fault, where the bytes of the disk are known
-pub record IsRefusedStore (settings : Settings) (rules : Rules) (store : Option (List ℕ)) (file : List ℕ)
+pub record IsRefusedStoreAtEnding (settings : Settings) (rules : Rules) (store : Option (List ℕ)) (file : List ℕ)
     (fault : OpenFault) : Type 0 where
   pub records : Records
   pub lists : List (List RecordValue)
-  pub dealt : AreDealtFrom settings rules file records lists
-  pub refused : IfKnown store (λ image. IsRefused (store_settings settings) lists image fault)
+  pub dealt : AreDealtInSession settings rules file records lists
+  pub refused : IfImageKnown store (λ image. IsRefusedAtOpening (store_settings settings) lists image fault)
 
 -- NotFormatted, Damaged, OtherSettings, OtherCapture: a report with a store was asked for; the capture was read to its
 -- end, the store was refused for this fault, nothing was written, and the disk is as before
-pub record RefusedStore {K : Type 0} (rules : Rules) (words : List (List ℕ)) (read : InputBytes) (fault : OpenFault)
+pub record EndsRefusingStore {K : Type 0} (rules : Rules) (words : List (List ℕ)) (read : InputBytes) (fault : OpenFault)
     (sink written : K) (AsBefore : Type 0) : Type 0 where
   pub settings : Settings
   pub asked : AskFor words (command.Report settings)
   pub used : settings.store ≡ true
   pub read_to_end : IsAtEnd read.capture_left
-  pub refused : IfSome read.capture (λ file. IsRefusedStore settings rules read.store file fault)
+  pub refused : IfSome read.capture (λ file. IsRefusedStoreAtEnding settings rules read.store file fault)
   pub unwritten : written ≡ sink
   pub as_before : AsBefore
 
 -- AuditNo: an audit was asked for, and the inputs were read to their ends; this report is the first of the session that
 -- is not sound, by this verdict, and the line that says so was written in full
-pub record FoundUnsound (rules : Rules) (words : List (List ℕ)) (read : InputBytes) (report : ℕ) (verdict : Verdict)
+pub record EndsFindingUnsound (rules : Rules) (words : List (List ℕ)) (read : InputBytes) (report : ℕ) (verdict : Verdict)
     (old new : Option (List ℕ)) : Type 0 where
   pub settings : Settings
   pub asked : AskFor words (command.Audit settings)
-  pub read_to_end : WasRead (command.Audit settings) read
-  pub found : OfAudited read (λ file text. IsUnsoundSession settings rules file text report verdict)
-  pub written : Appends old new (unsound_text report verdict)
+  pub read_to_end : InputsWereRead (command.Audit settings) read
+  pub found : OfAuditInputs read (λ file text. IsUnsoundAudit settings rules file text report verdict)
+  pub written : Appends old new (unsound_audit_text report verdict)
 
 -- the text of a session was refused: the capture is one and was read to its end; this is the first fault of the text, where
 -- its bytes are known, which was read to its end, or to one byte past the longest one
-pub record TextRefusal (read : InputBytes) (fault : TextFault) : Type 0 where
+pub record TextRefusedAtEnding (read : InputBytes) (fault : TextFault) : Type 0 where
   pub read_to_end : IsAtEnd read.capture_left
-  pub accepted : IfSome read.capture IsCapture
+  pub accepted : IfSome read.capture IsInputCapture
   pub first_fault : IfSome read.text (λ text. HasTextFault text fault)
-  pub read_to_limit : WasReadFor fault read.text read.text_left
+  pub read_to_limit : WasReadForAuditFault fault read.text read.text_left
 
 -- BadReport: an audit was asked for, and the text was refused for this fault; nothing was written
-pub record RefusedText {K D : Type 0} (words : List (List ℕ)) (read : InputBytes) (fault : TextFault)
+pub record EndsRefusingText {K D : Type 0} (words : List (List ℕ)) (read : InputBytes) (fault : TextFault)
     (sink written : K) (disk stands : D) : Type 0 where
   pub settings : Settings
   pub asked : AskFor words (command.Audit settings)
-  pub refusal : TextRefusal read fault
+  pub refusal : TextRefusedAtEnding read fault
   pub unwritten : written ≡ sink
   pub untouched : stands ≡ disk
 
 -- the command was answered: its text was written, or an audit found a report that is not sound
-abbrev pub WasAnswered : Command → Status → Type 0
-WasAnswered (command.Audit settings) status =
+abbrev pub EndsAnswered : Command → Status → Type 0
+EndsAnswered (command.Audit settings) status =
     (status ≡ Done) ⊎ ((report : ℕ) × (verdict : Verdict) × (status ≡ AuditNo report verdict))
-WasAnswered (command.Weigh prefix settings) status = status ≡ Done
-WasAnswered (command.Report settings) status = status ≡ Done
-WasAnswered (command.Format settings) status = status ≡ Done
-WasAnswered (command.Make seed frames) status = status ≡ Done
-WasAnswered (command.Demo seed frames settings) status = status ≡ Done
+EndsAnswered (command.Weigh prefix settings) status = status ≡ Done
+EndsAnswered (command.Report settings) status = status ≡ Done
+EndsAnswered (command.Format settings) status = status ≡ Done
+EndsAnswered (command.Make seed frames) status = status ≡ Done
+EndsAnswered (command.Demo seed frames settings) status = status ≡ Done
 
 -- the disk holds a store with no gate open, whatever a crash now leaves, where its bytes are known
-abbrev pub HoldsEmptyStore : Option (List ℕ) → (List ℕ → Type 0) → StoreSettings → Type 0
-HoldsEmptyStore reads possible settings =
-    IfKnown reads (λ bytes. (image : List ℕ) → possible image → Opens settings image None)
+abbrev pub EndsWithEmptyStore : Option (List ℕ) → (List ℕ → Type 0) → StoreSettings → Type 0
+EndsWithEmptyStore reads possible settings =
+    IfImageKnown reads (λ bytes. (image : List ℕ) → possible image → StoreOpensTo settings image None)
 
 -- how `format` ends: the store is formatted once its text is written, or the sink failed; nothing was written where the
 -- disk failed; the disk is as before where memory ran out
 abbrev pub FormatEnds : {K D : Type 0} → StoreSettings → Option (List ℕ) → (List ℕ → Type 0) → (sink written : K)
     → (disk stands : D) → Status → Type 0
-FormatEnds settings reads possible sink written disk stands Done = HoldsEmptyStore reads possible settings
-FormatEnds settings reads possible sink written disk stands WriteFault = HoldsEmptyStore reads possible settings
+FormatEnds settings reads possible sink written disk stands Done = EndsWithEmptyStore reads possible settings
+FormatEnds settings reads possible sink written disk stands WriteFault = EndsWithEmptyStore reads possible settings
 FormatEnds settings reads possible sink written disk stands DiskFault = written ≡ sink
 FormatEnds settings reads possible sink written disk stands OutOfMemory = (written ≡ sink) × (stands ≡ disk)
 FormatEnds settings reads possible sink written disk stands _ = ⊥
 
 -- within the crate: a report with a store was asked for, the store is refused for this fault, and the disk is as before
-abbrev pub RefusesStore : Settings → Rules → (capture store : Option (List ℕ)) → (AsBefore : Type 0) → OpenFault → Type 0
-RefusesStore settings rules capture store AsBefore fault =
-    (settings.store ≡ true) × AsBefore × IfSome capture (λ file. IsRefusedStore settings rules store file fault)
+abbrev pub RefusesStoreAtEnding : Settings → Rules → (capture store : Option (List ℕ)) → (AsBefore : Type 0) → OpenFault → Type 0
+RefusesStoreAtEnding settings rules capture store AsBefore fault =
+    (settings.store ≡ true) × AsBefore × IfSome capture (λ file. IsRefusedStoreAtEnding settings rules store file fault)
 
 -- within the crate: the same of any command: only a report opens a store
-abbrev pub RefusesFor : Command → Rules → InputBytes → (AsBefore : Type 0) → OpenFault → Type 0
-RefusesFor (command.Weigh prefix settings) rules read AsBefore fault = ⊥
-RefusesFor (command.Report settings) rules read AsBefore fault =
-    RefusesStore settings rules read.capture read.store AsBefore fault
-RefusesFor (command.Format settings) rules read AsBefore fault = ⊥
-RefusesFor (command.Audit settings) rules read AsBefore fault = ⊥
-RefusesFor (command.Make seed frames) rules read AsBefore fault = ⊥
-RefusesFor (command.Demo seed frames settings) rules read AsBefore fault = ⊥
+abbrev pub RefusesAtEnding : Command → Rules → InputBytes → (AsBefore : Type 0) → OpenFault → Type 0
+RefusesAtEnding (command.Weigh prefix settings) rules read AsBefore fault = ⊥
+RefusesAtEnding (command.Report settings) rules read AsBefore fault =
+    RefusesStoreAtEnding settings rules read.capture read.store AsBefore fault
+RefusesAtEnding (command.Format settings) rules read AsBefore fault = ⊥
+RefusesAtEnding (command.Audit settings) rules read AsBefore fault = ⊥
+RefusesAtEnding (command.Make seed frames) rules read AsBefore fault = ⊥
+RefusesAtEnding (command.Demo seed frames settings) rules read AsBefore fault = ⊥
 
 -- within the crate: this happened to the disk, which the command may use
-abbrev pub OfDisk : Command → Type 0 → Type 0
-OfDisk (command.Weigh prefix settings) happened = ⊥
-OfDisk (command.Report settings) happened = happened
-OfDisk (command.Format settings) happened = happened
-OfDisk (command.Audit settings) happened = ⊥
-OfDisk (command.Make seed frames) happened = ⊥
-OfDisk (command.Demo seed frames settings) happened = ⊥
+abbrev pub OfDiskAtEnding : Command → Type 0 → Type 0
+OfDiskAtEnding (command.Weigh prefix settings) happened = ⊥
+OfDiskAtEnding (command.Report settings) happened = happened
+OfDiskAtEnding (command.Format settings) happened = happened
+OfDiskAtEnding (command.Audit settings) happened = ⊥
+OfDiskAtEnding (command.Make seed frames) happened = ⊥
+OfDiskAtEnding (command.Demo seed frames settings) happened = ⊥
 
 -- within the crate: how far a command read its inputs that ended at a fault of the capture, or of a source
-abbrev pub StopsInOrder : {T : Type 0} → (Reads ReadsText : Type 0) → InputBytes → (before now : SourceFaults)
+abbrev pub EndsInOrder : {T : Type 0} → (Reads ReadsText : Type 0) → InputBytes → (before now : EndingSourceFaults)
     → (text text_read : T) → Status → Type 0
-StopsInOrder Reads ReadsText read before now text text_read (BadCapture fault) = Reads × (text_read ≡ text)
-StopsInOrder Reads ReadsText read before now text text_read ReadFault =
-    SourceFailed Reads ReadsText read before now text text_read
-StopsInOrder Reads ReadsText read before now text text_read _ = ⊤
+EndsInOrder Reads ReadsText read before now text text_read (BadCapture fault) = Reads × (text_read ≡ text)
+EndsInOrder Reads ReadsText read before now text text_read ReadFault =
+    EndsAtFailedSource Reads ReadsText read before now text text_read
+EndsInOrder Reads ReadsText read before now text text_read _ = ⊤
 
 -- within the crate: what an audit found that ended so, and what it wrote of it
-abbrev pub AuditFinds : Settings → Rules → InputBytes → (old new : Option (List ℕ)) → Status → Type 0
-AuditFinds settings rules read old new (AuditNo report verdict) =
-    OfAudited read (λ file text. IsUnsoundSession settings rules file text report verdict)
-    × Appends old new (unsound_text report verdict)
-AuditFinds settings rules read old new (BadReport fault) = TextRefusal read fault
-AuditFinds settings rules read old new _ = ⊥
+abbrev pub AuditEndsUnsound : Settings → Rules → InputBytes → (old new : Option (List ℕ)) → Status → Type 0
+AuditEndsUnsound settings rules read old new (AuditNo report verdict) =
+    OfAuditInputs read (λ file text. IsUnsoundAudit settings rules file text report verdict)
+    × Appends old new (unsound_audit_text report verdict)
+AuditEndsUnsound settings rules read old new (BadReport fault) = TextRefusedAtEnding read fault
+AuditEndsUnsound settings rules read old new _ = ⊥
 
 -- within the crate: the same of any command: only `audit` audits
-abbrev pub FindsFor : Command → Rules → InputBytes → (old new : Option (List ℕ)) → Status → Type 0
-FindsFor (command.Weigh prefix settings) rules read old new status = ⊥
-FindsFor (command.Report settings) rules read old new status = ⊥
-FindsFor (command.Format settings) rules read old new status = ⊥
-FindsFor (command.Make seed frames) rules read old new status = ⊥
-FindsFor (command.Demo seed frames settings) rules read old new status = ⊥
-FindsFor (command.Audit settings) rules read old new status = AuditFinds settings rules read old new status
+abbrev pub FindsAtEnding : Command → Rules → InputBytes → (old new : Option (List ℕ)) → Status → Type 0
+FindsAtEnding (command.Weigh prefix settings) rules read old new status = ⊥
+FindsAtEnding (command.Report settings) rules read old new status = ⊥
+FindsAtEnding (command.Format settings) rules read old new status = ⊥
+FindsAtEnding (command.Make seed frames) rules read old new status = ⊥
+FindsAtEnding (command.Demo seed frames settings) rules read old new status = ⊥
+FindsAtEnding (command.Audit settings) rules read old new status = AuditEndsUnsound settings rules read old new status
 
 -- within the crate: how a command ended. IsText says what is its text, IsPart which bytes begin it, ReadToEnd that its
 -- inputs were read to their ends, Accepted that they are in their formats, DiskRose that the disk's count of faults rose,
@@ -253,7 +253,7 @@ FindsFor (command.Audit settings) rules read old new status = AuditFinds setting
 -- Audited what an audit found
 abbrev pub Ends : {K : Type 0} → (IsText IsPart : List ℕ → Type 0)
     → (ReadToEnd Accepted DiskRose DiskSame AsBefore : Type 0) → (Refused : OpenFault → Type 0) → (Audited : Status → Type 0) → (capture : Option (List ℕ))
-    → (read_before read_now : SourceFaults) → (sink written : K) → (old new : Option (List ℕ))
+    → (read_before read_now : EndingSourceFaults) → (sink written : K) → (old new : Option (List ℕ))
     → (write_before write_now : ℕ) → Status → Type 0
 Ends IsText IsPart ReadToEnd Accepted DiskRose DiskSame AsBefore Refused Audited capture read_before read_now sink written old new write_before write_now
     Done =
@@ -262,14 +262,14 @@ Ends IsText IsPart ReadToEnd Accepted DiskRose DiskSame AsBefore Refused Audited
     (BadWords kind) = ⊥
 Ends IsText IsPart ReadToEnd Accepted DiskRose DiskSame AsBefore Refused Audited capture read_before read_now sink written old new write_before write_now
     (BadCapture fault) =
-    IfSome capture (λ file. IsRefusedFor file fault) × (written ≡ sink) × DiskSame × (read_now ≡ read_before)
+    IfSome capture (λ file. IsRefusedCapture file fault) × (written ≡ sink) × DiskSame × (read_now ≡ read_before)
     × (write_now ≡ write_before)
 Ends IsText IsPart ReadToEnd Accepted DiskRose DiskSame AsBefore Refused Audited capture read_before read_now sink written old new write_before write_now
     ReadFault =
-    OneRose read_before read_now × (written ≡ sink) × DiskSame × (write_now ≡ write_before)
+    OneSourceRoseAtEnding read_before read_now × (written ≡ sink) × DiskSame × (write_now ≡ write_before)
 Ends IsText IsPart ReadToEnd Accepted DiskRose DiskSame AsBefore Refused Audited capture read_before read_now sink written old new write_before write_now
     WriteFault =
-    ReadToEnd × Writes IsPart old new × Rose write_before write_now × (read_now ≡ read_before)
+    ReadToEnd × Writes IsPart old new × FaultCountRose write_before write_now × (read_now ≡ read_before)
 Ends IsText IsPart ReadToEnd Accepted DiskRose DiskSame AsBefore Refused Audited capture read_before read_now sink written old new write_before write_now
     DiskFault =
     ReadToEnd × Accepted × (((written ≡ sink) × AsBefore) ⊎ Writes IsPart old new) × DiskRose × (read_now ≡ read_before)

@@ -3,19 +3,19 @@ use Rattle.std.specs.Prelude.{⊤, ℕ, ◌≡◌, ◌≤◌, true, List, length
 use Rattle.std.specs.Io.KnownBytes.{IsAtEnd}
 use Rattle.prefix_lattice.specs.{RecordValue}
 use Rattle.pcap_frames.specs.{FrameValue}
-use Rattle.frame_records.specs.{HasFrames}
+use Rattle.frame_records.specs.{HasCaptureFrames}
 use Rattle.frame_records.specs.declared.records.Records.{Records}
-use Rattle.checkpoint.specs.{IsOfLists, Opens, SavedValue, opened_sequence}
+use Rattle.checkpoint.specs.{IsStoreOfLists, StoreOpensTo, SavedValue, opened_store_sequence}
 use Rattle.checkpoint.specs.declared.settings.StoreSettings.{StoreSettings}
 use Rattle.recovery.specs.{last_opened_sequence}
-use Rattle.report_text.specs.{IsSessionText, longest_text}
+use Rattle.report_text.specs.{IsSessionText, longest_session_text}
 use Rattle.report_text.specs.declared.session.Session.{Session}
 use Rattle.command_words.specs.{AskFor}
 use Rattle.command_words.specs.declared.command.Command.{Command}
 use Rattle.command_words.specs.declared.command.Command.TheVariants.{Weigh, Report, Format, Audit, Make, Demo}
 use Rattle.command_words.specs.declared.settings.Settings.{Settings}
 use Rattle.hhh_engine.specs.Saves.{store_settings}
-use Rattle.hhh_engine.specs.Session.{AreDealtFrom, Rules}
+use Rattle.hhh_engine.specs.Session.{AreDealtInSession, Rules}
 
 -- the bytes of the inputs as a command began, and what is left of them, where they are known: the capture, the text of
 -- a session, and the disk of the store
@@ -38,113 +38,113 @@ inputs capture capture_left text text_left store = record {
 }
 
 -- this command reads a capture
-abbrev pub ReadsCapture : Command → Type 0
-ReadsCapture (Weigh prefix settings) = ⊤
-ReadsCapture (Report settings) = ⊤
-ReadsCapture (Format settings) = ⊥
-ReadsCapture (Audit settings) = ⊤
-ReadsCapture (Make seed frames) = ⊥
-ReadsCapture (Demo seed frames settings) = ⊥
+abbrev pub UsesInputCapture : Command → Type 0
+UsesInputCapture (Weigh prefix settings) = ⊤
+UsesInputCapture (Report settings) = ⊤
+UsesInputCapture (Format settings) = ⊥
+UsesInputCapture (Audit settings) = ⊤
+UsesInputCapture (Make seed frames) = ⊥
+UsesInputCapture (Demo seed frames settings) = ⊥
 
 -- this command reads the text of a session
-abbrev pub ReadsSession : Command → Type 0
-ReadsSession (Weigh prefix settings) = ⊥
-ReadsSession (Report settings) = ⊥
-ReadsSession (Format settings) = ⊥
-ReadsSession (Audit settings) = ⊤
-ReadsSession (Make seed frames) = ⊥
-ReadsSession (Demo seed frames settings) = ⊥
+abbrev pub UsesInputSession : Command → Type 0
+UsesInputSession (Weigh prefix settings) = ⊥
+UsesInputSession (Report settings) = ⊥
+UsesInputSession (Format settings) = ⊥
+UsesInputSession (Audit settings) = ⊤
+UsesInputSession (Make seed frames) = ⊥
+UsesInputSession (Demo seed frames settings) = ⊥
 
 -- this command uses the disk of a store
-abbrev pub UsesStore : Command → Type 0
-UsesStore (Weigh prefix settings) = ⊥
-UsesStore (Report settings) = settings.store ≡ true
-UsesStore (Format settings) = ⊤
-UsesStore (Audit settings) = ⊥
-UsesStore (Make seed frames) = ⊥
-UsesStore (Demo seed frames settings) = ⊥
+abbrev pub UsesInputStore : Command → Type 0
+UsesInputStore (Weigh prefix settings) = ⊥
+UsesInputStore (Report settings) = settings.store ≡ true
+UsesInputStore (Format settings) = ⊤
+UsesInputStore (Audit settings) = ⊥
+UsesInputStore (Make seed frames) = ⊥
+UsesInputStore (Demo seed frames settings) = ⊥
 
 -- this command uses the disk of a store if its settings name one
-abbrev pub MayUseStore : Command → Type 0
-MayUseStore (Weigh prefix settings) = ⊥
-MayUseStore (Report settings) = ⊤
-MayUseStore (Format settings) = ⊤
-MayUseStore (Audit settings) = ⊥
-MayUseStore (Make seed frames) = ⊥
-MayUseStore (Demo seed frames settings) = ⊥
+abbrev pub MayUseInputStore : Command → Type 0
+MayUseInputStore (Weigh prefix settings) = ⊥
+MayUseInputStore (Report settings) = ⊤
+MayUseInputStore (Format settings) = ⊤
+MayUseInputStore (Audit settings) = ⊥
+MayUseInputStore (Make seed frames) = ⊥
+MayUseInputStore (Demo seed frames settings) = ⊥
 
 -- what a command reads was read to its end
-abbrev pub WasRead : Command → InputBytes → Type 0
-WasRead (Weigh prefix settings) read = IsAtEnd read.capture_left
-WasRead (Report settings) read = IsAtEnd read.capture_left
-WasRead (Format settings) read = ⊤
-WasRead (Audit settings) read = IsAtEnd read.capture_left × IsAtEnd read.text_left
-WasRead (Make seed frames) read = ⊤
-WasRead (Demo seed frames settings) read = ⊤
+abbrev pub InputsWereRead : Command → InputBytes → Type 0
+InputsWereRead (Weigh prefix settings) read = IsAtEnd read.capture_left
+InputsWereRead (Report settings) read = IsAtEnd read.capture_left
+InputsWereRead (Format settings) read = ⊤
+InputsWereRead (Audit settings) read = IsAtEnd read.capture_left × IsAtEnd read.text_left
+InputsWereRead (Make seed frames) read = ⊤
+InputsWereRead (Demo seed frames settings) read = ⊤
 
 -- the file is a capture of some frames
-abbrev pub IsCapture : List ℕ → Type 0
-IsCapture file = (frames : List FrameValue) × HasFrames file frames
+abbrev pub IsInputCapture : List ℕ → Type 0
+IsInputCapture file = (frames : List FrameValue) × HasCaptureFrames file frames
 
 -- what holds of the capture and the text of an audit, where their bytes are known; the capture is one in any case
-abbrev pub OfAudited : InputBytes → (List ℕ → List ℕ → Type 0) → Type 0
-OfAudited read Holds = IfSome read.capture (λ file. IsCapture file × IfSome read.text (Holds file))
+abbrev pub OfAuditInputs : InputBytes → (List ℕ → List ℕ → Type 0) → Type 0
+OfAuditInputs read Holds = IfSome read.capture (λ file. IsInputCapture file × IfSome read.text (Holds file))
 
 -- what a command reads was accepted: its capture is one, where its bytes are known
-abbrev pub WasAccepted : Command → InputBytes → Type 0
-WasAccepted (Weigh prefix settings) read = IfSome read.capture IsCapture
-WasAccepted (Report settings) read = IfSome read.capture IsCapture
-WasAccepted (Format settings) read = ⊤
-WasAccepted (Audit settings) read = IfSome read.capture IsCapture
-WasAccepted (Make seed frames) read = ⊤
-WasAccepted (Demo seed frames settings) read = ⊤
+abbrev pub InputsWereAccepted : Command → InputBytes → Type 0
+InputsWereAccepted (Weigh prefix settings) read = IfSome read.capture IsInputCapture
+InputsWereAccepted (Report settings) read = IfSome read.capture IsInputCapture
+InputsWereAccepted (Format settings) read = ⊤
+InputsWereAccepted (Audit settings) read = IfSome read.capture IsInputCapture
+InputsWereAccepted (Make seed frames) read = ⊤
+InputsWereAccepted (Demo seed frames settings) read = ⊤
 
 -- the bytes of a source are known, and they are a capture of some frames
-pub record HasKnownCapture (bytes : Option (List ℕ)) : Type 0 where
+pub record HasKnownInputCapture (bytes : Option (List ℕ)) : Type 0 where
   pub file : List ℕ
   pub told : bytes ≡ Some file
   pub frames : List FrameValue
-  pub capture : HasFrames file frames
+  pub capture : HasCaptureFrames file frames
 
 -- the bytes of a text are known, and they are those of a session, and not too many
-pub record HasKnownSession (bytes : Option (List ℕ)) : Type 0 where
+pub record HasKnownInputSession (bytes : Option (List ℕ)) : Type 0 where
   pub text : List ℕ
   pub told : bytes ≡ Some text
   pub session : Session
   pub is_session : IsSessionText text session
-  pub not_long : length text ≤ longest_text
+  pub not_long : length text ≤ longest_session_text
 
 -- the bytes are a sound store that belongs to these dealt lists, and its sequence leaves room for the saves of a run
-abbrev pub IsStoreOf : StoreSettings → List (List RecordValue) → List ℕ → Type 0
-IsStoreOf settings lists image =
-    (opened : Option SavedValue) × Opens settings image opened × IsOfLists settings lists opened
-    × (opened_sequence opened ≤ last_opened_sequence)
+abbrev pub IsInputStore : StoreSettings → List (List RecordValue) → List ℕ → Type 0
+IsInputStore settings lists image =
+    (opened : Option SavedValue) × StoreOpensTo settings image opened × IsStoreOfLists settings lists opened
+    × (opened_store_sequence opened ≤ last_opened_sequence)
 
 -- the bytes of the disk are known, and they are a store of the records of the capture, however these may be dealt
-pub record HasKnownStore (settings : Settings) (rules : Rules) (read : InputBytes) : Type 0 where
+pub record HasKnownInputStore (settings : Settings) (rules : Rules) (read : InputBytes) : Type 0 where
   pub image : List ℕ
   pub told : read.store ≡ Some image
   pub belongs : (file : List ℕ) (records : Records) (lists : List (List RecordValue)) → read.capture ≡ Some file
-      → AreDealtFrom settings rules file records lists → IsStoreOf (store_settings settings) lists image
+      → AreDealtInSession settings rules file records lists → IsInputStore (store_settings settings) lists image
 
 -- what a command reads is known, and each input is in its format
-abbrev pub CanBeAnswered : Rules → Command → InputBytes → Type 0
-CanBeAnswered rules (Weigh prefix settings) read = HasKnownCapture read.capture
-CanBeAnswered rules (Report settings) read =
-    HasKnownCapture read.capture × (settings.store ≡ true → HasKnownStore settings rules read)
-CanBeAnswered rules (Format settings) read = ⊤
-CanBeAnswered rules (Audit settings) read = HasKnownCapture read.capture × HasKnownSession read.text
-CanBeAnswered rules (Make seed frames) read = ⊤
-CanBeAnswered rules (Demo seed frames settings) read = ⊤
+abbrev pub InputsCanBeAnswered : Rules → Command → InputBytes → Type 0
+InputsCanBeAnswered rules (Weigh prefix settings) read = HasKnownInputCapture read.capture
+InputsCanBeAnswered rules (Report settings) read =
+    HasKnownInputCapture read.capture × (settings.store ≡ true → HasKnownInputStore settings rules read)
+InputsCanBeAnswered rules (Format settings) read = ⊤
+InputsCanBeAnswered rules (Audit settings) read = HasKnownInputCapture read.capture × HasKnownInputSession read.text
+InputsCanBeAnswered rules (Make seed frames) read = ⊤
+InputsCanBeAnswered rules (Demo seed frames settings) read = ⊤
 
 -- the arguments ask for a command that uses something
-pub record AskToUse (Uses : Command → Type 0) (words : List (List ℕ)) : Type 0 where
+pub record AskToUseInput (Uses : Command → Type 0) (words : List (List ℕ)) : Type 0 where
   pub command : Command
   pub asked : AskFor words command
   pub uses : Uses command
 
 -- the arguments ask for a command that doesn't use something
-pub record AskNotToUse (Uses : Command → Type 0) (words : List (List ℕ)) : Type 0 where
+pub record AskNotToUseInput (Uses : Command → Type 0) (words : List (List ℕ)) : Type 0 where
   pub command : Command
   pub asked : AskFor words command
   pub unused : Uses command → ⊥

@@ -2,11 +2,11 @@
 use Rattle.std.specs.Prelude.{ℕ, suc, ◌≡◌, ◌+◌, ◌≤◌, ◌⊎◌, List, [], ◌∷◌, ◌++◌, fold, length, map, slice_get}
 use Rattle.std.specs.Prelude.{Option, None, Some, IfSome, option_map, is_some, refl}
 use Rattle.std.proofs.Common.{arith}
-use Rattle.shard_state.specs.{AreNotPast, CutRepresents, CutValue, ShardValue, capacity_of}
+use Rattle.shard_state.specs.{AreCutPositionsNotPast, CutRepresents, CutValue, ShardValue, core_capacity}
 use Rattle.gate_workers.specs.{IsLaterView, View}
-use Rattle.slot_disk.specs.{IfKnown, Leaves}
-use Rattle.checkpoint.specs.{AreSettings, Belongs, Opens, SavedValue, SaverState, StandsFor, after_save, digest_of_lists}
-use Rattle.checkpoint.specs.{last_sequence, opened_positions, opened_sequence}
+use Rattle.slot_disk.specs.{IfImageKnown, Leaves}
+use Rattle.checkpoint.specs.{AreHeaderSettings, StoreBelongs, StoreOpensTo, SavedValue, SaverState, StandsForSaver, saver_after_save, digest_of_lists}
+use Rattle.checkpoint.specs.{last_body_sequence, opened_store_positions, opened_store_sequence}
 use Rattle.prefix_lattice.specs.{RecordValue}
 use Rattle.checkpoint.specs.declared.settings.StoreSettings.{StoreSettings}
 use Rattle.command_words.specs.declared.settings.Settings.{Settings}
@@ -32,10 +32,10 @@ last_saved opened [] = opened
 last_saved opened (saved ∷ later) = last_saved (Some saved) later
 
 -- the image is a sound store that opens to what the store opened to before these saves, or to one of them
-abbrev pub OpensAmong : StoreSettings → Option SavedValue → List SavedValue → List ℕ → Type 0
-OpensAmong settings opened [] image = Opens settings image opened
-OpensAmong settings opened (saved ∷ later) image =
-    Opens settings image opened ⊎ OpensAmong settings (Some saved) later image
+abbrev pub OpensAmongSaves : StoreSettings → Option SavedValue → List SavedValue → List ℕ → Type 0
+OpensAmongSaves settings opened [] image = StoreOpensTo settings image opened
+OpensAmongSaves settings opened (saved ∷ later) image =
+    StoreOpensTo settings image opened ⊎ OpensAmongSaves settings (Some saved) later image
 
 -- saves of the cuts `saved`, and an unfinished one, if any: a crash at any moment leaves what was possible before (Earlier),
 -- or a sound store that opens as before or to one of them; afterwards, to the last saved one, as before without any, or to
@@ -44,77 +44,77 @@ pub record KeepsSaves {D : Type 0} (image_now : D → List ℕ → Type 0) (mome
     (image_since : D → ℕ → List ℕ → Type 0) (settings : StoreSettings) (digest : List ℕ) (Earlier : List ℕ → Type 0)
     (saved unfinished : List CutValue) (old new : D) (store : List ℕ) : Type 0 where
   pub opened : Option SavedValue
-  pub opens : Opens settings store opened
+  pub opens : StoreOpensTo settings store opened
   pub any_moment : Leaves moment image_since old new (λ image. Earlier image
-      ⊎ OpensAmong settings opened (saved_after (opened_sequence opened) digest (saved ++ unfinished)) image)
+      ⊎ OpensAmongSaves settings opened (saved_after (opened_store_sequence opened) digest (saved ++ unfinished)) image)
   pub afterwards : (image : List ℕ) → image_now new image
-      → OpensAmong settings (last_saved opened (saved_after (opened_sequence opened) digest saved))
-      (saved_after (opened_sequence opened + length saved) digest unfinished) image
+      → OpensAmongSaves settings (last_saved opened (saved_after (opened_store_sequence opened) digest saved))
+      (saved_after (opened_store_sequence opened + length saved) digest unfinished) image
 
 -- what a run keeps of the store on its disk, where its bytes are known, for the store's settings, the dealt lists, the cuts
 -- that were saved of them, and one whose save is unfinished, if any
-abbrev pub kept_in : {D : Type 0} → (D → Option (List ℕ)) → (D → List ℕ → Type 0) → (D → ℕ)
+abbrev pub saves_kept_in : {D : Type 0} → (D → Option (List ℕ)) → (D → List ℕ → Type 0) → (D → ℕ)
     → (D → ℕ → List ℕ → Type 0) → (old new : D) → StoreSettings → List (List RecordValue)
     → (saved unfinished : List CutValue) → Type 0
-kept_in reads image_now moment image_since old new settings lists saved unfinished =
-    IfKnown (reads old)
+saves_kept_in reads image_now moment image_since old new settings lists saved unfinished =
+    IfImageKnown (reads old)
     (KeepsSaves image_now moment image_since settings (digest_of_lists settings lists) (image_now old) saved unfinished old new)
 
 -- of what a store opens to, `found` is no earlier than `opened`: neither its sequence nor the position of any shard is
 -- smaller
-pub record IsNoEarlier (settings : StoreSettings) (opened found : Option SavedValue) : Type 0 where
-  pub sequence : opened_sequence opened ≤ opened_sequence found
-  pub positions : AreNotPast (opened_positions settings opened) (opened_positions settings found)
+pub record IsNoEarlierSave (settings : StoreSettings) (opened found : Option SavedValue) : Type 0 where
+  pub sequence : opened_store_sequence opened ≤ opened_store_sequence found
+  pub positions : AreCutPositionsNotPast (opened_store_positions settings opened) (opened_store_positions settings found)
 
 -- the image is a sound store that opens to nothing earlier than `last`, and to just that where no save is unfinished
-pub record Reopens (settings : StoreSettings) (last : Option SavedValue) (unfinished : List CutValue) (image : List ℕ)
+pub record ReopensSave (settings : StoreSettings) (last : Option SavedValue) (unfinished : List CutValue) (image : List ℕ)
     : Type 0 where
   pub found : Option SavedValue
-  pub opens : Opens settings image found
-  pub no_earlier : IsNoEarlier settings last found
+  pub opens : StoreOpensTo settings image found
+  pub no_earlier : IsNoEarlierSave settings last found
   pub exact : unfinished ≡ [] → found ≡ last
 
 -- a store that had the bytes `store` before the cuts `saved` were saved, and before an unfinished save, if any: whatever a
 -- crash now leaves of it (Possible) opens to nothing earlier than the last saved cut, or as before where none was saved
-pub record StoreReopens (Possible : List ℕ → Type 0) (settings : StoreSettings) (digest : List ℕ)
+pub record SavedStoreReopens (Possible : List ℕ → Type 0) (settings : StoreSettings) (digest : List ℕ)
     (saved unfinished : List CutValue) (store : List ℕ) : Type 0 where
   pub opened : Option SavedValue
-  pub opens : Opens settings store opened
+  pub opens : StoreOpensTo settings store opened
   pub again : (image : List ℕ) → Possible image
-      → Reopens settings (last_saved opened (saved_after (opened_sequence opened) digest saved)) unfinished image
+      → ReopensSave settings (last_saved opened (saved_after (opened_store_sequence opened) digest saved)) unfinished image
 
 -- the store on a disk opens again after a run, where its bytes were known as the run began, for the store's settings, the
 -- dealt lists, the cuts that were saved of them, and one whose save is unfinished, if any
-abbrev pub reopened_in : {D : Type 0} → (D → Option (List ℕ)) → (D → List ℕ → Type 0) → (old new : D)
+abbrev pub saves_reopened_in : {D : Type 0} → (D → Option (List ℕ)) → (D → List ℕ → Type 0) → (old new : D)
     → StoreSettings → List (List RecordValue) → (saved unfinished : List CutValue) → Type 0
-reopened_in reads image_now old new settings lists saved unfinished =
-    IfKnown (reads old) (StoreReopens (image_now new) settings (digest_of_lists settings lists) saved unfinished)
+saves_reopened_in reads image_now old new settings lists saved unfinished =
+    IfImageKnown (reads old) (SavedStoreReopens (image_now new) settings (digest_of_lists settings lists) saved unfinished)
 
 -- the saved cut that a session went on from, if any, represents these lists, and whatever a crash leaves of the store at any
 -- moment of the session, and after it, is a sound store that belongs to them
-pub record BelongsThroughout {D : Type 0} (image_now : D → List ℕ → Type 0) (moment : D → ℕ)
+pub record SavesBelongThroughout {D : Type 0} (image_now : D → List ℕ → Type 0) (moment : D → ℕ)
     (image_since : D → ℕ → List ℕ → Type 0) (settings : StoreSettings) (lists : List (List RecordValue))
     (base : Option CutValue) (old new : D) : Type 0 where
   pub base_represents : IfSome base (λ cut. CutRepresents cut lists)
-  pub any_moment : Leaves moment image_since old new (Belongs settings lists)
-  pub afterwards : (image : List ℕ) → image_now new image → Belongs settings lists image
+  pub any_moment : Leaves moment image_since old new (StoreBelongs settings lists)
+  pub afterwards : (image : List ℕ) → image_now new image → StoreBelongs settings lists image
 
 -- the disk reads as before, and a crash at any moment leaves what it could have left before
-pub record IsAsBefore {D : Type 0} (reads : D → Option (List ℕ)) (image_now : D → List ℕ → Type 0) (moment : D → ℕ)
+pub record IsAsBeforeSaves {D : Type 0} (reads : D → Option (List ℕ)) (image_now : D → List ℕ → Type 0) (moment : D → ℕ)
     (image_since : D → ℕ → List ℕ → Type 0) (old new : D) : Type 0 where
   pub same_reads : reads new ≡ reads old
   pub any_moment : Leaves moment image_since old new (image_now old)
 
 -- a saver after saves of these cuts
 abbrev pub after_saves : SaverState → List CutValue → SaverState
-after_saves saver cuts = fold after_save saver cuts
+after_saves saver cuts = fold saver_after_save saver cuts
 
 -- a saver saved these cuts, one after the other, and the disk stands as the saver then knows it
 pub record SavesCuts {D : Type 0} (reads : D → Option (List ℕ)) (image_now : D → List ℕ → Type 0) (moment : D → ℕ)
     (image_since : D → ℕ → List ℕ → Type 0) (saver : SaverState) (cuts : List CutValue) (old new : D) : Type 0 where
   pub known : is_some (reads new) ≡ is_some (reads old)
-  pub stands : StandsFor (reads new) (image_now new) (after_saves saver cuts)
-  pub kept : IfKnown (reads old)
+  pub stands : StandsForSaver (reads new) (image_now new) (after_saves saver cuts)
+  pub kept : IfImageKnown (reads old)
       (KeepsSaves image_now moment image_since saver.settings saver.digest (λ image. ⊥) cuts [] old new)
 
 -- what a run with or without a saver did to the disk: the saver saved these cuts, or nothing was done
@@ -130,7 +130,7 @@ pub record SavesInPart {D : Type 0} (reads : D → Option (List ℕ)) (image_now
     (image_since : D → ℕ → List ℕ → Type 0) (saver : Option SaverState) (old new : D) (saved unfinished : List CutValue)
     : Type 0 where
   pub unused : saver ≡ None → new ≡ old
-  pub kept : IfSome saver (λ saver. IfKnown (reads old)
+  pub kept : IfSome saver (λ saver. IfImageKnown (reads old)
       (KeepsSaves image_now moment image_since saver.settings saver.digest (λ image. ⊥) saved unfinished old new))
 
 -- such saves, and this is the saver after them
@@ -142,24 +142,24 @@ pub record SavesInTurn {D : Type 0} (reads : D → Option (List ℕ)) (image_now
 
 -- a saver for a board that may save what a pass with this view reads: no position that it saved is past what the view
 -- has seen
-pub record FitsBoard (opening : List ShardValue) (view : View) (saver : SaverState) : Type 0 where
-  pub settings : AreSettings saver.settings
+pub record SavesFitBoard (opening : List ShardValue) (view : View) (saver : SaverState) : Type 0 where
+  pub settings : AreHeaderSettings saver.settings
   pub shards : saver.settings.shards ≡ length opening
-  pub capacity : saver.settings.capacity ≡ capacity_of opening
-  pub seen : AreNotPast saver.positions (map (λ trail. trail.seen) view.trails)
+  pub capacity : saver.settings.capacity ≡ core_capacity opening
+  pub seen : AreCutPositionsNotPast saver.positions (map (λ trail. trail.seen) view.trails)
 
 -- a saver that may make this many saves of such reads, into the disk as it stands
 pub record CanSave (reads : Option (List ℕ)) (possible : List ℕ → Type 0) (opening : List ShardValue) (view : View)
     (count : ℕ) (saver : SaverState) : Type 0 where
-  pub fits : FitsBoard opening view saver
-  pub stands : StandsFor reads possible saver
-  pub early : saver.sequence + count ≤ last_sequence
+  pub fits : SavesFitBoard opening view saver
+  pub stands : StandsForSaver reads possible saver
+  pub early : saver.sequence + count ≤ last_body_sequence
 
 -- positions that aren't past what some trails have seen aren't past what later ones have
 not_past_later : {T : Type 0} (seen : T → ℕ) (positions : List ℕ) (before now : List T) → length now ≡ length before
     → ((shard : ℕ) (trail later : T) → slice_get before shard ≡ Some trail → slice_get now shard ≡ Some later
     → seen trail ≤ seen later)
-    → AreNotPast positions (map seen before) → AreNotPast positions (map seen now)
+    → AreCutPositionsNotPast positions (map seen before) → AreCutPositionsNotPast positions (map seen now)
 not_past_later seen [] [] [] many later past = past
 not_past_later seen [] [] (trail ∷ rest) many later past = absurd (omega (arith, many))
 not_past_later seen [] (trail ∷ rest) now many later past = absurd past

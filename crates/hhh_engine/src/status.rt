@@ -3,7 +3,7 @@
 mod line;
 
 ghost use Rattle.std.specs.Prelude.{◌≡◌};
-ghost use Rattle.hhh_engine.specs.Status.{status_of, status_of_opening, status_of_session, status_of_words, number_of};
+ghost use Rattle.hhh_engine.specs.Status.{status_of, status_of_opening, status_of_session, status_of_words, status_number};
 
 use checkpoint::StoreSettings;
 use command_words::{WordsKind, WordsRefusal};
@@ -63,7 +63,7 @@ pub enum Status {
 impl Status {
     /// The exit status of the program: 0 for `Done`.
     pub fn number(&self) -> u8
-        ensures { result ≡ number_of self.now }
+        ensures { result ≡ status_number self.now }
     {
         match self {
             Status::Done => 0,

@@ -1,30 +1,30 @@
 //! The top call: from arguments, a capture and the disk of a store to an output text and a status.
 
 ghost use Rattle.std.specs.Prelude.{◌≡◌, ◌⊎◌, ◌≤◌, ℕ, List, length, All, Some, true};
-ghost use Rattle.outside_io.specs.{Rose};
+ghost use Rattle.outside_io.specs.{FaultCountRose};
 ghost use Rattle.prefix_lattice.specs.{RecordValue};
 ghost use Rattle.pcap_frames.specs.{FrameValue};
-ghost use Rattle.frame_records.specs.{HasFrames, IsRefusedFor};
+ghost use Rattle.frame_records.specs.{HasCaptureFrames, IsRefusedCapture};
 ghost use Rattle.frame_records.specs.declared.records.Records.{Records};
 ghost use Rattle.pcap_frames.specs.declared.fault.CaptureFault.{CaptureFault};
 ghost use Rattle.deal_rules.specs.{dealer_of};
-ghost use Rattle.recovery.specs.{IsRefused, IsShown};
+ghost use Rattle.recovery.specs.{IsRefusedAtOpening, IsShownByOpening};
 ghost use Rattle.recovery.specs.declared.fault.OpenFault.{OpenFault};
-ghost use Rattle.report_text.specs.{HasTextFault, IsSessionText, longest_text};
+ghost use Rattle.report_text.specs.{HasTextFault, IsSessionText, longest_session_text};
 ghost use Rattle.report_text.specs.declared.session.Session.{Session};
 ghost use Rattle.report_text.specs.declared.session_fault.TextFault.{TextFault};
 ghost use Rattle.exact_audit.specs.declared.verdict.Verdict.{Verdict};
-ghost use Rattle.command_words.specs.{texts, AskFor, HasWordsFault, IsLimited};
+ghost use Rattle.command_words.specs.{texts, AskFor, HasWordsFault, AreLimitedWords};
 ghost use Rattle.command_words.specs.declared.command.Command.{Command};
 ghost use Rattle.command_words.specs.declared.command.Command.TheVariants.{Report, Format, Audit};
 ghost use Rattle.command_words.specs.declared.settings.Settings.{Settings};
 ghost use Rattle.command_words.specs.declared.words_kind.WordsKind.{WordsKind};
 ghost use Rattle.hhh_engine.specs.Answer.{Answers, AnswersInPart, IsAnswer, IsAnswerInPart};
-ghost use Rattle.hhh_engine.specs.Ending.{Ends, FailedDisk, FailedToRead, FailedToWrite, FindsFor, FormatEnds, FoundUnsound, IsUntouched, OfDisk, OneRose, RefusedCapture, RefusedStore, RefusedText, RefusedWords, RefusesFor, StopsInOrder, UnlessFormat, WasAnswered, WroteInPart, source_faults};
-ghost use Rattle.hhh_engine.specs.Audit.{AreAudited, IsFirstUnsound, IsSoundOver};
-ghost use Rattle.hhh_engine.specs.Inputs.{AskNotToUse, AskToUse, CanBeAnswered, ReadsCapture, ReadsSession, UsesStore, WasAccepted, WasRead, inputs};
-ghost use Rattle.hhh_engine.specs.Saves.{IsAsBefore, kept_in, store_settings};
-ghost use Rattle.hhh_engine.specs.Session.{AreDealtFrom};
+ghost use Rattle.hhh_engine.specs.Ending.{Ends, EndsWithFailedDisk, EndsFailingToRead, EndsFailingToWrite, FindsAtEnding, FormatEnds, EndsFindingUnsound, EndsUntouched, OfDiskAtEnding, OneSourceRoseAtEnding, EndsRefusingCapture, EndsRefusingStore, EndsRefusingText, EndsRefusingWords, RefusesAtEnding, EndsInOrder, EndsAsBeforeUnlessFormat, EndsAnswered, EndsWritingInPart, ending_source_faults};
+ghost use Rattle.hhh_engine.specs.Audit.{AreAudited, IsAuditedAsFirstUnsound, IsAuditedAsSound};
+ghost use Rattle.hhh_engine.specs.Inputs.{AskNotToUseInput, AskToUseInput, InputsCanBeAnswered, UsesInputCapture, UsesInputSession, UsesInputStore, InputsWereAccepted, InputsWereRead, inputs};
+ghost use Rattle.hhh_engine.specs.Saves.{IsAsBeforeSaves, saves_kept_in, store_settings};
+ghost use Rattle.hhh_engine.specs.Session.{AreDealtInSession};
 ghost use Rattle.hhh_engine.specs.Status.{status_of_opening};
 ghost use Rattle.hhh_engine.specs.declared.status.Status.TheVariants.{Done, BadWords, BadCapture, ReadFault, WriteFault, DiskFault, AuditNo, BadReport, OutOfMemory};
 
@@ -86,80 +86,80 @@ pub fn run<R: Threads + Wait + Sync, S: Source, T: Source, K: Sink, D: Disk, G: 
     // The text of the command was written for its inputs, which were read to their ends. What the text says of weights
     // holds for the records themselves. Whatever a crash leaves of its store opens to the last cut that a report saved.
     ensures done { result ≡ Done → Answers (λ kind. ⟦<Dealer as Deals>⟧.may_answer (dealer_of kind dealers.now))
-        (kept_in D.reads D.image_now D.moment D.image_since disk.old disk.new) (texts words.now)
+        (saves_kept_in D.reads D.image_now D.moment D.image_since disk.old disk.new) (texts words.now)
         (inputs (S.left capture.old) (S.left capture.new) (T.left text.old) (T.left text.new) (D.reads disk.old)) (K.taken sink.old) (K.taken sink.new) }
 
     // The arguments are checked first, before anything is read.
-    ensures bad_words { (kind : WordsKind) → result ≡ BadWords kind → RefusedWords (texts words.now) kind capture.old capture.new text.old text.new sink.old sink.new
+    ensures bad_words { (kind : WordsKind) → result ≡ BadWords kind → EndsRefusingWords (texts words.now) kind capture.old capture.new text.old text.new sink.old sink.new
         disk.old disk.new }
     ensures refuses_words { (kind : WordsKind) → HasWordsFault (texts words.now) kind → (result ≡ BadWords kind) ⊎ ((result ≡ OutOfMemory)
-        × IsUntouched capture.old capture.new text.old text.new sink.old sink.new disk.old disk.new) }
+        × EndsUntouched capture.old capture.new text.old text.new sink.old sink.new disk.old disk.new) }
 
     // A capture with a fault is refused for it, unless the source fails or memory runs out first.
-    ensures bad_capture { (fault : CaptureFault) → result ≡ BadCapture fault → RefusedCapture (texts words.now) (S.left capture.old) fault
+    ensures bad_capture { (fault : CaptureFault) → result ≡ BadCapture fault → EndsRefusingCapture (texts words.now) (S.left capture.old) fault
         text.old text.new sink.old sink.new disk.old disk.new }
-    ensures refuses { (file : List ℕ) (fault : CaptureFault) → AskToUse ReadsCapture (texts words.now) → S.left capture.old ≡ Some file → IsRefusedFor file fault
+    ensures refuses { (file : List ℕ) (fault : CaptureFault) → AskToUseInput UsesInputCapture (texts words.now) → S.left capture.old ≡ Some file → IsRefusedCapture file fault
         → (result ≡ BadCapture fault) ⊎ ((result ≡ ReadFault) ⊎ (result ≡ OutOfMemory)) }
 
     // A store that is refused over the dealt records is refused for its first fault, unless the source or the disk fails or
     // memory runs out first.
-    ensures refused_store { (fault : OpenFault) → IsShown fault → result ≡ status_of_opening fault
-        → RefusedStore (λ kind. ⟦<Dealer as Deals>⟧.may_answer (dealer_of kind dealers.now)) (texts words.now) (inputs (S.left capture.old) (S.left capture.new) (T.left text.old) (T.left text.new) (D.reads disk.old))
-        fault sink.old sink.new (IsAsBefore D.reads D.image_now D.moment D.image_since disk.old disk.new) }
+    ensures refused_store { (fault : OpenFault) → IsShownByOpening fault → result ≡ status_of_opening fault
+        → EndsRefusingStore (λ kind. ⟦<Dealer as Deals>⟧.may_answer (dealer_of kind dealers.now)) (texts words.now) (inputs (S.left capture.old) (S.left capture.new) (T.left text.old) (T.left text.new) (D.reads disk.old))
+        fault sink.old sink.new (IsAsBeforeSaves D.reads D.image_now D.moment D.image_since disk.old disk.new) }
     ensures refuses_store { (settings : Settings) (file image : List ℕ) (frames : List FrameValue) (fault : OpenFault)
-        → AskFor (texts words.now) (Report settings) → settings.store ≡ true → S.left capture.old ≡ Some file → HasFrames file frames
-        → D.reads disk.old ≡ Some image → IsShown fault
+        → AskFor (texts words.now) (Report settings) → settings.store ≡ true → S.left capture.old ≡ Some file → HasCaptureFrames file frames
+        → D.reads disk.old ≡ Some image → IsShownByOpening fault
         → ((records : Records) (lists : List (List RecordValue))
-        → AreDealtFrom settings (λ kind. ⟦<Dealer as Deals>⟧.may_answer (dealer_of kind dealers.now)) file records lists
-        → IsRefused (store_settings settings) lists image fault)
+        → AreDealtInSession settings (λ kind. ⟦<Dealer as Deals>⟧.may_answer (dealer_of kind dealers.now)) file records lists
+        → IsRefusedAtOpening (store_settings settings) lists image fault)
         → (result ≡ status_of_opening fault) ⊎ ((result ≡ ReadFault) ⊎ ((result ≡ DiskFault) ⊎ (result ≡ OutOfMemory))) }
 
     // A text that is not that of a session is refused for its first fault, after the capture was read, and before anything is
     // audited, unless a source fails or memory runs out first.
-    ensures bad_report { (fault : TextFault) → result ≡ BadReport fault → RefusedText (texts words.now)
+    ensures bad_report { (fault : TextFault) → result ≡ BadReport fault → EndsRefusingText (texts words.now)
         (inputs (S.left capture.old) (S.left capture.new) (T.left text.old) (T.left text.new) (D.reads disk.old)) fault sink.old sink.new disk.old disk.new }
     ensures refuses_report { (settings : Settings) (file bytes : List ℕ) (frames : List FrameValue) (fault : TextFault)
-        → AskFor (texts words.now) (Audit settings) → S.left capture.old ≡ Some file → HasFrames file frames → T.left text.old ≡ Some bytes
+        → AskFor (texts words.now) (Audit settings) → S.left capture.old ≡ Some file → HasCaptureFrames file frames → T.left text.old ≡ Some bytes
         → HasTextFault bytes fault → (result ≡ BadReport fault) ⊎ ((result ≡ ReadFault) ⊎ (result ≡ OutOfMemory)) }
 
     // A session with a report that is not sound is found so at the first one, unless a source or the sink fails or memory
     // runs out first.
     ensures audit_no { (report : ℕ) (verdict : Verdict) → result ≡ AuditNo report verdict
-        → FoundUnsound (λ kind. ⟦<Dealer as Deals>⟧.may_answer (dealer_of kind dealers.now)) (texts words.now)
+        → EndsFindingUnsound (λ kind. ⟦<Dealer as Deals>⟧.may_answer (dealer_of kind dealers.now)) (texts words.now)
         (inputs (S.left capture.old) (S.left capture.new) (T.left text.old) (T.left text.new) (D.reads disk.old)) report verdict (K.taken sink.old) (K.taken sink.new) }
     ensures finds_unsound { (settings : Settings) (file bytes : List ℕ) (frames : List FrameValue) (known : Session) (report : ℕ) (verdict : Verdict)
-        → AskFor (texts words.now) (Audit settings) → S.left capture.old ≡ Some file → HasFrames file frames → T.left text.old ≡ Some bytes
-        → IsSessionText bytes known → length bytes ≤ longest_text
+        → AskFor (texts words.now) (Audit settings) → S.left capture.old ≡ Some file → HasCaptureFrames file frames → T.left text.old ≡ Some bytes
+        → IsSessionText bytes known → length bytes ≤ longest_session_text
         → ((lists : List (List RecordValue)) (session : Session)
         → AreAudited settings (λ kind. ⟦<Dealer as Deals>⟧.may_answer (dealer_of kind dealers.now)) file bytes lists session
-        → IsFirstUnsound settings lists session.reports report verdict)
+        → IsAuditedAsFirstUnsound settings lists session.reports report verdict)
         → (result ≡ AuditNo report verdict) ⊎ ((result ≡ ReadFault) ⊎ ((result ≡ WriteFault) ⊎ (result ≡ OutOfMemory))) }
 
     // A session whose reports are all sound is found so, unless a source or the sink fails or memory runs out.
     ensures finds_sound { (settings : Settings) (file bytes : List ℕ) (frames : List FrameValue) (known : Session)
-        → AskFor (texts words.now) (Audit settings) → S.left capture.old ≡ Some file → HasFrames file frames → T.left text.old ≡ Some bytes
-        → IsSessionText bytes known → length bytes ≤ longest_text
+        → AskFor (texts words.now) (Audit settings) → S.left capture.old ≡ Some file → HasCaptureFrames file frames → T.left text.old ≡ Some bytes
+        → IsSessionText bytes known → length bytes ≤ longest_session_text
         → ((lists : List (List RecordValue)) (session : Session)
         → AreAudited settings (λ kind. ⟦<Dealer as Deals>⟧.may_answer (dealer_of kind dealers.now)) file bytes lists session
-        → All (IsSoundOver settings lists) session.reports)
+        → All (IsAuditedAsSound settings lists) session.reports)
         → (result ≡ Done) ⊎ ((result ≡ ReadFault) ⊎ ((result ≡ WriteFault) ⊎ (result ≡ OutOfMemory))) }
 
     // A fault of a source, the sink or the disk is reported only where it had one in this call. It is never ignored, nor
     // reported as anything else. Where the capture's source failed, the text of a session is untouched; where the text's
     // did, the capture was read to its end and accepted. What was written of a session says which of its cuts a crash may
     // leave in the store.
-    ensures read_fault { result ≡ ReadFault → FailedToRead (texts words.now)
-        (inputs (S.left capture.old) (S.left capture.new) (T.left text.old) (T.left text.new) (D.reads disk.old)) (source_faults (S.faults capture.old) (T.faults text.old))
-        (source_faults (S.faults capture.new) (T.faults text.new)) text.old text.new sink.old sink.new disk.old disk.new }
-    ensures read_fault_told { (result ≡ ReadFault → ⊥) → source_faults (S.faults capture.new) (T.faults text.new) ≡ source_faults (S.faults capture.old) (T.faults text.old) }
-    ensures write_fault { result ≡ WriteFault → FailedToWrite (λ kind. ⟦<Dealer as Deals>⟧.may_answer (dealer_of kind dealers.now))
-        (kept_in D.reads D.image_now D.moment D.image_since disk.old disk.new) (texts words.now)
+    ensures read_fault { result ≡ ReadFault → EndsFailingToRead (texts words.now)
+        (inputs (S.left capture.old) (S.left capture.new) (T.left text.old) (T.left text.new) (D.reads disk.old)) (ending_source_faults (S.faults capture.old) (T.faults text.old))
+        (ending_source_faults (S.faults capture.new) (T.faults text.new)) text.old text.new sink.old sink.new disk.old disk.new }
+    ensures read_fault_told { (result ≡ ReadFault → ⊥) → ending_source_faults (S.faults capture.new) (T.faults text.new) ≡ ending_source_faults (S.faults capture.old) (T.faults text.old) }
+    ensures write_fault { result ≡ WriteFault → EndsFailingToWrite (λ kind. ⟦<Dealer as Deals>⟧.may_answer (dealer_of kind dealers.now))
+        (saves_kept_in D.reads D.image_now D.moment D.image_since disk.old disk.new) (texts words.now)
         (inputs (S.left capture.old) (S.left capture.new) (T.left text.old) (T.left text.new) (D.reads disk.old)) (K.taken sink.old) (K.taken sink.new) (K.faults sink.old) (K.faults sink.new) }
     ensures write_fault_told { (result ≡ WriteFault → ⊥) → K.faults sink.new ≡ K.faults sink.old }
-    ensures disk_fault { result ≡ DiskFault → FailedDisk (λ kind. ⟦<Dealer as Deals>⟧.may_answer (dealer_of kind dealers.now))
-        (kept_in D.reads D.image_now D.moment D.image_since disk.old disk.new) (texts words.now)
+    ensures disk_fault { result ≡ DiskFault → EndsWithFailedDisk (λ kind. ⟦<Dealer as Deals>⟧.may_answer (dealer_of kind dealers.now))
+        (saves_kept_in D.reads D.image_now D.moment D.image_since disk.old disk.new) (texts words.now)
         (inputs (S.left capture.old) (S.left capture.new) (T.left text.old) (T.left text.new) (D.reads disk.old))
-        (IsAsBefore D.reads D.image_now D.moment D.image_since disk.old disk.new) sink.old sink.new (K.taken sink.old) (K.taken sink.new)
+        (IsAsBeforeSaves D.reads D.image_now D.moment D.image_since disk.old disk.new) sink.old sink.new (K.taken sink.old) (K.taken sink.new)
         (D.faults disk.old) (D.faults disk.new) }
     ensures disk_fault_told { (result ≡ DiskFault → ⊥) → D.faults disk.new ≡ D.faults disk.old }
 
@@ -167,24 +167,24 @@ pub fn run<R: Threads + Wait + Sync, S: Source, T: Source, K: Sink, D: Disk, G: 
     // untouched.
     ensures formats { (settings : Settings) → AskFor (texts words.now) (Format settings) → FormatEnds (store_settings settings)
         (D.reads disk.new) (D.image_now disk.new) sink.old sink.new disk.old disk.new result }
-    ensures unused_disk { AskNotToUse UsesStore (texts words.now) → disk.new ≡ disk.old }
-    ensures unused_capture { AskNotToUse ReadsCapture (texts words.now) → capture.new ≡ capture.old }
-    ensures unused_text { AskNotToUse ReadsSession (texts words.now) → text.new ≡ text.old }
+    ensures unused_disk { AskNotToUseInput UsesInputStore (texts words.now) → disk.new ≡ disk.old }
+    ensures unused_capture { AskNotToUseInput UsesInputCapture (texts words.now) → capture.new ≡ capture.old }
+    ensures unused_text { AskNotToUseInput UsesInputSession (texts words.now) → text.new ≡ text.old }
 
     // Memory may run out at any time. Then a part of the text was written, which may be empty; or nothing was, and the disk is
     // as before.
-    ensures out_of_memory { result ≡ OutOfMemory → WroteInPart (λ kind. ⟦<Dealer as Deals>⟧.may_answer (dealer_of kind dealers.now))
-        (kept_in D.reads D.image_now D.moment D.image_since disk.old disk.new) (texts words.now)
+    ensures out_of_memory { result ≡ OutOfMemory → EndsWritingInPart (λ kind. ⟦<Dealer as Deals>⟧.may_answer (dealer_of kind dealers.now))
+        (saves_kept_in D.reads D.image_now D.moment D.image_since disk.old disk.new) (texts words.now)
         (inputs (S.left capture.old) (S.left capture.new) (T.left text.old) (T.left text.new) (D.reads disk.old))
-        (IsAsBefore D.reads D.image_now D.moment D.image_since disk.old disk.new) sink.old sink.new (K.taken sink.old) (K.taken sink.new) }
+        (IsAsBeforeSaves D.reads D.image_now D.moment D.image_since disk.old disk.new) sink.old sink.new (K.taken sink.old) (K.taken sink.new) }
 
     // With arguments that ask for a command, inputs in their formats and no fault of source, sink or disk, the command is
     // answered unless memory runs out.
     ensures complete { (command : Command) → AskFor (texts words.now) command
-        → CanBeAnswered (λ kind. ⟦<Dealer as Deals>⟧.may_answer (dealer_of kind dealers.now)) command (inputs (S.left capture.old) (S.left capture.new) (T.left text.old) (T.left text.new) (D.reads disk.old))
-        → (OneRose (source_faults (S.faults capture.old) (T.faults text.old)) (source_faults (S.faults capture.new) (T.faults text.new)) → ⊥)
-        → (Rose (K.faults sink.old) (K.faults sink.new) → ⊥) → (Rose (D.faults disk.old) (D.faults disk.new) → ⊥)
-        → WasAnswered command result ⊎ (result ≡ OutOfMemory) }
+        → InputsCanBeAnswered (λ kind. ⟦<Dealer as Deals>⟧.may_answer (dealer_of kind dealers.now)) command (inputs (S.left capture.old) (S.left capture.new) (T.left text.old) (T.left text.new) (D.reads disk.old))
+        → (OneSourceRoseAtEnding (ending_source_faults (S.faults capture.old) (T.faults text.old)) (ending_source_faults (S.faults capture.new) (T.faults text.new)) → ⊥)
+        → (FaultCountRose (K.faults sink.old) (K.faults sink.new) → ⊥) → (FaultCountRose (D.faults disk.old) (D.faults disk.new) → ⊥)
+        → EndsAnswered command result ⊎ (result ≡ OutOfMemory) }
 {
     files_are_read_or_refused();
     openings_are_decided();
@@ -212,29 +212,29 @@ fn answer<R: Threads + Wait + Sync, S: Source, T: Source, K: Sink, D: Disk, G: G
     gate: &G,
     dealers: &Dealers,
 ) -> Status
-    requires { IsLimited command.now }
-    ensures ends { Ends (IsAnswer (λ kind. ⟦<Dealer as Deals>⟧.may_answer (dealer_of kind dealers.now)) (kept_in D.reads D.image_now D.moment D.image_since disk.old disk.new)
+    requires { AreLimitedWords command.now }
+    ensures ends { Ends (IsAnswer (λ kind. ⟦<Dealer as Deals>⟧.may_answer (dealer_of kind dealers.now)) (saves_kept_in D.reads D.image_now D.moment D.image_since disk.old disk.new)
         command.now (inputs (S.left capture.old) (S.left capture.new) (T.left text.old) (T.left text.new) (D.reads disk.old)))
-        (IsAnswerInPart (λ kind. ⟦<Dealer as Deals>⟧.may_answer (dealer_of kind dealers.now)) (kept_in D.reads D.image_now D.moment D.image_since disk.old disk.new)
+        (IsAnswerInPart (λ kind. ⟦<Dealer as Deals>⟧.may_answer (dealer_of kind dealers.now)) (saves_kept_in D.reads D.image_now D.moment D.image_since disk.old disk.new)
         command.now (inputs (S.left capture.old) (S.left capture.new) (T.left text.old) (T.left text.new) (D.reads disk.old)))
-        (WasRead command.now (inputs (S.left capture.old) (S.left capture.new) (T.left text.old) (T.left text.new) (D.reads disk.old)))
-        (WasAccepted command.now (inputs (S.left capture.old) (S.left capture.new) (T.left text.old) (T.left text.new) (D.reads disk.old)))
-        (OfDisk command.now (Rose (D.faults disk.old) (D.faults disk.new))) (disk.new ≡ disk.old)
-        (UnlessFormat command.now (IsAsBefore D.reads D.image_now D.moment D.image_since disk.old disk.new))
-        (RefusesFor command.now (λ kind. ⟦<Dealer as Deals>⟧.may_answer (dealer_of kind dealers.now)) (inputs (S.left capture.old) (S.left capture.new) (T.left text.old) (T.left text.new) (D.reads disk.old))
-        (IsAsBefore D.reads D.image_now D.moment D.image_since disk.old disk.new))
-        (FindsFor command.now (λ kind. ⟦<Dealer as Deals>⟧.may_answer (dealer_of kind dealers.now))
+        (InputsWereRead command.now (inputs (S.left capture.old) (S.left capture.new) (T.left text.old) (T.left text.new) (D.reads disk.old)))
+        (InputsWereAccepted command.now (inputs (S.left capture.old) (S.left capture.new) (T.left text.old) (T.left text.new) (D.reads disk.old)))
+        (OfDiskAtEnding command.now (FaultCountRose (D.faults disk.old) (D.faults disk.new))) (disk.new ≡ disk.old)
+        (EndsAsBeforeUnlessFormat command.now (IsAsBeforeSaves D.reads D.image_now D.moment D.image_since disk.old disk.new))
+        (RefusesAtEnding command.now (λ kind. ⟦<Dealer as Deals>⟧.may_answer (dealer_of kind dealers.now)) (inputs (S.left capture.old) (S.left capture.new) (T.left text.old) (T.left text.new) (D.reads disk.old))
+        (IsAsBeforeSaves D.reads D.image_now D.moment D.image_since disk.old disk.new))
+        (FindsAtEnding command.now (λ kind. ⟦<Dealer as Deals>⟧.may_answer (dealer_of kind dealers.now))
         (inputs (S.left capture.old) (S.left capture.new) (T.left text.old) (T.left text.new) (D.reads disk.old)) (K.taken sink.old) (K.taken sink.new))
-        (S.left capture.old) (source_faults (S.faults capture.old) (T.faults text.old)) (source_faults (S.faults capture.new) (T.faults text.new))
+        (S.left capture.old) (ending_source_faults (S.faults capture.old) (T.faults text.old)) (ending_source_faults (S.faults capture.new) (T.faults text.new))
         sink.old sink.new (K.taken sink.old) (K.taken sink.new) (K.faults sink.old) (K.faults sink.new) result }
-    ensures order { StopsInOrder (ReadsCapture command.now) (ReadsSession command.now)
+    ensures order { EndsInOrder (UsesInputCapture command.now) (UsesInputSession command.now)
         (inputs (S.left capture.old) (S.left capture.new) (T.left text.old) (T.left text.new) (D.reads disk.old))
-        (source_faults (S.faults capture.old) (T.faults text.old)) (source_faults (S.faults capture.new) (T.faults text.new)) text.old text.new result }
+        (ending_source_faults (S.faults capture.old) (T.faults text.old)) (ending_source_faults (S.faults capture.new) (T.faults text.new)) text.old text.new result }
     ensures told { (result ≡ DiskFault → ⊥) → D.faults disk.new ≡ D.faults disk.old }
-    ensures unused { (UsesStore command.now → ⊥) → disk.new ≡ disk.old }
-    ensures reads { (fault : CaptureFault) → result ≡ BadCapture fault → ReadsCapture command.now }
-    ensures unread { (ReadsCapture command.now → ⊥) → capture.new ≡ capture.old }
-    ensures text_unread { (ReadsSession command.now → ⊥) → text.new ≡ text.old }
+    ensures unused { (UsesInputStore command.now → ⊥) → disk.new ≡ disk.old }
+    ensures reads { (fault : CaptureFault) → result ≡ BadCapture fault → UsesInputCapture command.now }
+    ensures unread { (UsesInputCapture command.now → ⊥) → capture.new ≡ capture.old }
+    ensures text_unread { (UsesInputSession command.now → ⊥) → text.new ≡ text.old }
     ensures formats { (settings : Settings) → command.now ≡ Format settings → FormatEnds (store_settings settings)
         (D.reads disk.new) (D.image_now disk.new) sink.old sink.new disk.old disk.new result }
 {

@@ -9,14 +9,14 @@ use Rattle.std.proofs.lemmas.List.Kept.{AllPairs-cons}
 use Rattle.std.specs.Prelude.{slice_index_or, slice_index}
 use Rattle.std.specs.declared.cmp.Ordering.{Ordering}
 use Rattle.std.specs.declared.cmp.Ordering.TheVariants.{Less, Equal, Greater}
-use Rattle.prefix_lattice.specs.{RecordValue, index_of, begins_with, PrefixValue, IsPrefix, covers, weight_of}
-use Rattle.prefix_lattice.specs.{node_of, key_of, under, report_order, conditioned_weight}
-use Rattle.shard_state.specs.{fold_from, no_entries, empty_snapshot, CutValue}
+use Rattle.prefix_lattice.specs.{RecordValue, node_index, begins_with, PrefixValue, IsPrefix, covers, prefix_weight}
+use Rattle.prefix_lattice.specs.{node_of_prefix, prefix_key, under, report_order, conditioned_weight}
+use Rattle.shard_state.specs.{fold_snapshot_from, no_snapshot_entries, empty_snapshot, CutValue}
 use Rattle.cut_merge.specs.{monitored_keys}
-use Rattle.hhh_output.specs.Lines.{prefixes_of, AreLines}
-use Rattle.hhh_output.specs.Report.{IsMonitored, low_in, high_in, IsUnexplained, IsLineOf, IsReportOf, AreSame}
-use Rattle.hhh_output.specs.SoundReport.{HoldsWeight, IsNarrowLine, IsJustified, IsSound}
-use Rattle.hhh_output.specs.Threshold.{IsHeavy, IsThreshold, million, IsWideShare}
+use Rattle.hhh_output.specs.ReportLines.{prefixes_of_lines, AreReportLines}
+use Rattle.hhh_output.specs.Report.{IsMonitoredInReport, report_low_in, report_high_in, IsUnexplainedInReport, IsLineOfReport, IsReportOf, IsSameReport}
+use Rattle.hhh_output.specs.SoundReport.{HoldsWeightInSoundReport, IsNarrowInSoundReport, IsJustifiedInSoundReport, IsSound}
+use Rattle.hhh_output.specs.Threshold.{IsHeavy, IsThreshold, threshold_million, IsWideShare}
 use Rattle.hhh_output.specs.declared.line.Line.{Line}
 use Rattle.hhh_output.specs.declared.report.Report.{Report}
 
@@ -41,7 +41,7 @@ threshold_of_nothing = record {
 }
 
 -- the whole, in parts per million
-pub whole_in_parts : IsHeavy million 7 7
+pub whole_in_parts : IsHeavy threshold_million 7 7
 whole_in_parts = record { some = omega arith; share = omega arith }
 
 -- tables of 512 entries can't hide a hundredth, those of 199 can
@@ -69,16 +69,16 @@ prefix = record { source = 10 ∷ []; dest = 20 ∷ [] }
 abbrev line : Line
 line = record { prefix = prefix; lo = 100; hi = 100 }
 
-pub prefixes_of_a_line : prefixes_of (line ∷ []) ≡ prefix ∷ []
+pub prefixes_of_a_line : prefixes_of_lines (line ∷ []) ≡ prefix ∷ []
 prefixes_of_a_line = refl
 
 -- the line holds what its prefix weighs, and is as narrow as can be
-pub weight_that_is_held : HoldsWeight (packet ∷ []) line
+pub weight_that_is_held : HoldsWeightInSoundReport (packet ∷ []) line
 weight_that_is_held =
-    let weight : weight_of prefix (packet ∷ []) ≡ 100 = refl in
+    let weight : prefix_weight prefix (packet ∷ []) ≡ 100 = refl in
     record { low = omega (arith, weight); high = omega (arith, weight) }
 
-pub narrow_line : IsNarrowLine 512 100 line
+pub narrow_line : IsNarrowInSoundReport 512 100 line
 narrow_line = omega arith
 
 -- what the line explains is no longer told of its ancestors
@@ -89,15 +89,15 @@ explained_weight = refl
 abbrev cut : CutValue
 cut = record {
   capacity = 4;
-  shards = record { capacity = 4; position = 1; tables = fold_from 0 4 no_entries (packet ∷ []) } ∷ [];
+  shards = record { capacity = 4; position = 1; tables = fold_snapshot_from 0 4 no_snapshot_entries (packet ∷ []) } ∷ [];
 }
 
-pub low_of_the_prefix : low_in cut prefix ≡ 100
-unfolding no_entries
+pub low_of_the_prefix : report_low_in cut prefix ≡ 100
+unfolding no_snapshot_entries
 low_of_the_prefix = refl
 
-pub high_of_the_prefix : high_in cut prefix ≡ 100
-unfolding no_entries
+pub high_of_the_prefix : report_high_in cut prefix ≡ 100
+unfolding no_snapshot_entries
 high_of_the_prefix = refl
 
 -- 0.0.0.0/0 0.0.0.0/0
@@ -139,21 +139,21 @@ of_all = record { prefix = root; lo = 100; hi = 100 }
 abbrev Precedes : Line → Line → Type 0
 Precedes line later = report_order line.prefix later.prefix ≡ Less
 
-pub no_lines : AreLines []
+pub no_lines : AreReportLines []
 no_lines = record {
   few = omega arith;
   ordered = λ place other within. absurd (omega arith);
   rising = λ place later other before within. absurd (omega arith);
 }
 
-pub own_alone : AreLines (own ∷ [])
+pub own_alone : AreReportLines (own ∷ [])
 own_alone = record {
   few = omega arith;
   ordered = All-cons (λ (line : Line). line.lo ≤ line.hi) own [] (omega arith) no_lines.ordered;
   rising = AllPairs-cons Precedes own [] (All-nil (Precedes own)) no_lines.rising;
 }
 
-pub lines_of_greater_level_come_first : AreLines (own ∷ of_all ∷ [])
+pub lines_of_greater_level_come_first : AreReportLines (own ∷ of_all ∷ [])
 lines_of_greater_level_come_first = record {
   few = omega arith;
   ordered =
@@ -169,15 +169,15 @@ is_less Less = true
 is_less Equal = false
 is_less Greater = false
 
-pub lines_of_lower_level_do_not : ¬ AreLines (of_all ∷ own ∷ [])
+pub lines_of_lower_level_do_not : ¬ AreReportLines (of_all ∷ own ∷ [])
 lines_of_lower_level_do_not lines = false≢true (ap is_less (lines.rising 0 1 own (omega arith) (omega arith)))
 
-pub no_prefix_has_two_lines : ¬ AreLines (own ∷ own ∷ [])
+pub no_prefix_has_two_lines : ¬ AreReportLines (own ∷ own ∷ [])
 no_prefix_has_two_lines lines = false≢true (ap is_less (lines.rising 0 1 own (omega arith) (omega arith)))
 
 -- the packet's own prefix is a line, whether or not it stands among the lines already
-pub own_line_of_the_cut : IsLineOf cut 1 [] own
-unfolding no_entries
+pub own_line_of_the_cut : IsLineOfReport cut 1 [] own
+unfolding no_snapshot_entries
 own_line_of_the_cut =
     let unexplained : pos 1 ≤ℤ pos 100 = omega (arith, ints) in
     record {
@@ -189,34 +189,34 @@ own_line_of_the_cut =
       unexplained = unexplained;
     }
 
-pub no_line_above_all_weight : ¬ IsLineOf cut 101 [] own
+pub no_line_above_all_weight : ¬ IsLineOfReport cut 101 [] own
 no_line_above_all_weight line = omega (arith, line.heavy)
 
-pub root_is_monitored : IsMonitored cut root
-unfolding no_entries
+pub root_is_monitored : IsMonitoredInReport cut root
+unfolding no_snapshot_entries
 root_is_monitored = (0, omega arith, refl)
 
 -- 11.0.0.0/8 0.0.0.0/0
 abbrev elsewhere : PrefixValue
 elsewhere = record { source = 11 ∷ []; dest = [] }
 
-pub another_network_is_not : ¬ IsMonitored cut elsewhere
-unfolding no_entries
+pub another_network_is_not : ¬ IsMonitoredInReport cut elsewhere
+unfolding no_snapshot_entries
 another_network_is_not monitored = other monitored.0 monitored.1 monitored.2
   where
     other : (place : ℕ) → place < 1
-        → slice_index_or (key_of (record { source = 10 ∷ []; dest = [] }) ∷ []) place (key_of elsewhere)
-        ≡ key_of elsewhere → ⊥
+        → slice_index_or (prefix_key (record { source = 10 ∷ []; dest = [] }) ∷ []) place (prefix_key elsewhere)
+        ≡ prefix_key elsewhere → ⊥
     other zero within is = omega (arith, is)
     other (suc place) within is = omega arith
 
 -- 100, of which the line below takes 100
-pub root_is_explained_by_the_line : ¬ IsUnexplained cut 1 (whole ∷ []) root
-unfolding no_entries
+pub root_is_explained_by_the_line : ¬ IsUnexplainedInReport cut 1 (whole ∷ []) root
+unfolding no_snapshot_entries
 root_is_explained_by_the_line unexplained = let most : pos 1 ≤ℤ pos 0 = unexplained in omega (arith, ints, most)
 
-pub and_unexplained_without_it : IsUnexplained cut 1 [] root
-unfolding no_entries
+pub and_unexplained_without_it : IsUnexplainedInReport cut 1 [] root
+unfolding no_snapshot_entries
 and_unexplained_without_it = let most : pos 1 ≤ℤ pos 100 = omega (arith, ints) in most
 
 -- the report of the cut, and one that shows nothing
@@ -226,10 +226,10 @@ told = record { positions = 1 ∷ []; total = 100; threshold = 1; lines = own �
 abbrev silent : Report
 silent = record { positions = 1 ∷ []; total = 100; threshold = 1; lines = []; are_lines = no_lines }
 
-pub reports_that_show_the_same : AreSame told told
+pub reports_that_show_the_same : IsSameReport told told
 reports_that_show_the_same = record { positions = refl; total = refl; threshold = refl; lines = refl }
 
-pub reports_with_other_lines : ¬ AreSame told silent
+pub reports_with_other_lines : ¬ IsSameReport told silent
 reports_with_other_lines same = let count : 1 ≡ 0 = ap length same.lines in omega (arith, count)
 
 pub silence_is_no_report_of_the_cut : ¬ IsReportOf cut 10000 silent
@@ -250,7 +250,7 @@ alike x (suc length) zero = refl
 alike x (suc length) (suc place) = alike x length place
 
 pub nothing_is_told_of_nothing : IsReportOf nothing_counted 500000 nothing_told
-unfolding no_entries
+unfolding no_snapshot_entries
 nothing_is_told_of_nothing = record {
   positions = refl;
   total = refl;
@@ -258,9 +258,9 @@ nothing_is_told_of_nothing = record {
   lines = λ line. (
     (λ inside. absurd (omega (arith, inside.1))),
     (λ asked.
-        let none = subst (λ keys. Contains keys (key_of line.prefix))
+        let none = subst (λ keys. Contains keys (prefix_key line.prefix))
         (ap (λ entries. monitored_keys (record { capacity = 4; entries = entries } ∷ []))
-        (alike [] 25 (index_of (node_of line.prefix)))) asked.monitored in
+        (alike [] 25 (node_index (node_of_prefix line.prefix)))) asked.monitored in
         absurd (omega (arith, none.1))),
   );
 }
@@ -295,11 +295,11 @@ explained prefix missing = by_cover (covers prefix packet) refl (under prefix wh
         (both_begin whole.dest prefix.dest above.1 below.1) in
         absurd (missing (0, omega arith, same))
 
-pub justified_by_its_weight : IsJustified 4 1 (whole ∷ []) (packet ∷ []) own
+pub justified_by_its_weight : IsJustifiedInSoundReport 4 1 (whole ∷ []) (packet ∷ []) own
 justified_by_its_weight = let enough : 4 ≤ 500 = omega arith in enough
 
 -- nothing is left to the root, and two intervals of at most 100 don't make up for a threshold of 1, 512 times
-pub not_justified_beside_the_line : ¬ IsJustified 512 1 (whole ∷ root ∷ []) (packet ∷ []) of_all
+pub not_justified_beside_the_line : ¬ IsJustifiedInSoundReport 512 1 (whole ∷ root ∷ []) (packet ∷ []) of_all
 not_justified_beside_the_line justified = let most : 512 ≤ 200 = justified in omega (arith, most)
 
 pub told_is_sound : IsSound told ((packet ∷ []) ∷ []) 4 10000
@@ -308,15 +308,15 @@ told_is_sound = record {
   total = refl;
   threshold = record { heavy = record { some = omega arith; share = omega arith }; least = λ weight heavy. heavy.some };
   interval =
-      let weight : weight_of whole (packet ∷ []) ≡ 100 = refl in
-      All-cons (HoldsWeight (packet ∷ [])) own []
+      let weight : prefix_weight whole (packet ∷ []) ≡ 100 = refl in
+      All-cons (HoldsWeightInSoundReport (packet ∷ [])) own []
       (record { low = omega (arith, weight); high = omega (arith, weight) })
-      (All-nil (HoldsWeight (packet ∷ [])));
-  width = All-cons (IsNarrowLine 4 100) own [] (omega arith) (All-nil (IsNarrowLine 4 100));
+      (All-nil (HoldsWeightInSoundReport (packet ∷ [])));
+  width = All-cons (IsNarrowInSoundReport 4 100) own [] (omega arith) (All-nil (IsNarrowInSoundReport 4 100));
   heavy = All-cons (λ (line : Line). 1 ≤ line.hi) own [] (omega arith) (All-nil (λ (line : Line). 1 ≤ line.hi));
   justified =
-      All-cons (IsJustified 4 1 (whole ∷ []) (packet ∷ [])) own [] justified_by_its_weight
-      (All-nil (IsJustified 4 1 (whole ∷ []) (packet ∷ [])));
+      All-cons (IsJustifiedInSoundReport 4 1 (whole ∷ []) (packet ∷ [])) own [] justified_by_its_weight
+      (All-nil (IsJustifiedInSoundReport 4 1 (whole ∷ []) (packet ∷ [])));
   complete = λ prefix is_prefix missing. explained prefix missing;
 }
 

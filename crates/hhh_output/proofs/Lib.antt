@@ -3,9 +3,9 @@ pub mod NearLineLemmas
 pub mod OneReportLemmas
 pub mod SoundReportLemmas
 pub mod NodeLineLemmas
-pub mod LevelLemmas
-pub mod LevelsLemmas
-pub mod AppendLemmas
+pub mod LevelSearchLemmas
+pub mod LevelDescentLemmas
+pub mod AppendedLineLemmas
 pub mod SelectionLemmas
 pub mod WeightsRiseLemmas
 pub mod Examples

@@ -4,87 +4,88 @@ use Rattle.std.proofs.Common.{All, pos, ◌-ℤ◌, ◌≤ℤ◌, ◌+◌, refl,
 use Rattle.std.proofs.lemmas.Bool.{lt-ltb, false≢true}
 use Rattle.std.proofs.lemmas.List.{append-nil}
 use Rattle.std.proofs.lemmas.List.Elements.{filter-append, All-head, All-tail}
-use Rattle.prefix_lattice.specs.{level_of, PrefixValue, node_of, strictly_under, lines_under, greatest, closest}
+use Rattle.prefix_lattice.specs.{node_level, PrefixValue, node_of_prefix, strictly_under, lines_under, greatest_lines, closest}
 use Rattle.prefix_lattice.specs.{kept_pairs}
 use Rattle.shard_state.specs.{CutValue}
 use Rattle.hhh_output.specs.declared.line.Line.{Line}
-use Rattle.hhh_output.specs.Lines.{prefixes_of}
-use Rattle.hhh_output.specs.Report.{low_in, high_in, IsLineOf}
+use Rattle.hhh_output.specs.ReportLines.{prefixes_of_lines}
+use Rattle.hhh_output.specs.Report.{report_low_in, report_high_in, IsLineOfReport}
 
 -- the level of a prefix
-abbrev pub level : PrefixValue → ℕ
-level prefix = level_of (node_of prefix)
+abbrev pub near_line_level : PrefixValue → ℕ
+near_line_level prefix = node_level (node_of_prefix prefix)
 
 -- the law that levels fall going up
-pub record LevelsFall : Type 0 where
-  pub falls : (lower upper : PrefixValue) → strictly_under lower upper ≡ true → level upper < level lower
+pub record NearLineLevelsFall : Type 0 where
+  pub falls : (lower upper : PrefixValue) → strictly_under lower upper ≡ true → near_line_level upper < near_line_level lower
 
 -- a prefix of no greater level isn't strictly under another
-not_under : (lower upper : PrefixValue) → LevelsFall → level lower ≤ level upper → strictly_under lower upper ≡ false
-not_under lower upper law low = by (strictly_under lower upper) refl
+near_line_needs_greater_level : (lower upper : PrefixValue) → NearLineLevelsFall → near_line_level lower ≤ near_line_level upper
+    → strictly_under lower upper ≡ false
+near_line_needs_greater_level lower upper law low = by (strictly_under lower upper) refl
   where
     by : (b : Bool) → strictly_under lower upper ≡ b → strictly_under lower upper ≡ false
-    by true is = let falls : level upper < level lower = law.falls lower upper is in absurd (omega arith)
+    by true is = let falls : near_line_level upper < near_line_level lower = law.falls lower upper is in absurd (omega arith)
     by false is = is
 
-none_under : (prefix : PrefixValue) (lines : List PrefixValue) → LevelsFall
-    → All (λ line. level line ≤ level prefix) lines → lines_under prefix lines ≡ []
-none_under prefix [] law low = refl
-none_under prefix (line ∷ lines) law low =
+near_lines_are_none : (prefix : PrefixValue) (lines : List PrefixValue) → NearLineLevelsFall
+    → All (λ line. near_line_level line ≤ near_line_level prefix) lines → lines_under prefix lines ≡ []
+near_lines_are_none prefix [] law low = refl
+near_lines_are_none prefix (line ∷ lines) law low =
     ap (λ b. cond b (line ∷ lines_under prefix lines) (lines_under prefix lines))
-    (not_under line prefix law (All-head (λ l. level l ≤ level prefix) line lines low))
-    ∙ none_under prefix lines law (All-tail (λ l. level l ≤ level prefix) line lines low)
+    (near_line_needs_greater_level line prefix law (All-head (λ l. near_line_level l ≤ near_line_level prefix) line lines low))
+    ∙ near_lines_are_none prefix lines law (All-tail (λ l. near_line_level l ≤ near_line_level prefix) line lines low)
 
 -- lines of no greater level than a prefix don't change which lines are closest to it
-pub closest-append : (prefix : PrefixValue) (lines more : List PrefixValue) → LevelsFall
-    → All (λ line. level line ≤ level prefix) more
+pub near_lines-append : (prefix : PrefixValue) (lines more : List PrefixValue) → NearLineLevelsFall
+    → All (λ line. near_line_level line ≤ near_line_level prefix) more
     → closest prefix (lines ++ more) ≡ closest prefix lines
-closest-append prefix lines more law low =
-    ap greatest (filter-append (λ line. strictly_under line prefix) lines more
-    ∙ ap (λ rest. lines_under prefix lines ++ rest) (none_under prefix more law low)
+near_lines-append prefix lines more law low =
+    ap greatest_lines (filter-append (λ line. strictly_under line prefix) lines more
+    ∙ ap (λ rest. lines_under prefix lines ++ rest) (near_lines_are_none prefix more law low)
     ∙ append-nil (lines_under prefix lines))
 
 -- the lines of a greater level than this
-abbrev pub lines_above : ℕ → List Line → List Line
-lines_above least lines = filter (λ line. ltb least (level line.prefix)) lines
+abbrev pub near_lines_above : ℕ → List Line → List Line
+near_lines_above least lines = filter (λ line. ltb least (near_line_level line.prefix)) lines
 
 -- they alone can be closest to a prefix of that level
-under_above : (prefix : PrefixValue) (lines : List Line) → LevelsFall
-    → lines_under prefix (prefixes_of (lines_above (level prefix) lines)) ≡ lines_under prefix (prefixes_of lines)
-under_above prefix [] law = refl
-under_above prefix (line ∷ lines) law =
-    by (strictly_under line.prefix prefix) refl (ltb (level prefix) (level line.prefix)) refl
-    (under_above prefix lines law)
+near_lines_above-under : (prefix : PrefixValue) (lines : List Line) → NearLineLevelsFall
+    → lines_under prefix (prefixes_of_lines (near_lines_above (near_line_level prefix) lines)) ≡ lines_under prefix (prefixes_of_lines lines)
+near_lines_above-under prefix [] law = refl
+near_lines_above-under prefix (line ∷ lines) law =
+    by (strictly_under line.prefix prefix) refl (ltb (near_line_level prefix) (near_line_level line.prefix)) refl
+    (near_lines_above-under prefix lines law)
   where
-    by : (b : Bool) → strictly_under line.prefix prefix ≡ b → (c : Bool) → ltb (level prefix) (level line.prefix) ≡ c
-        → lines_under prefix (prefixes_of (lines_above (level prefix) lines)) ≡ lines_under prefix (prefixes_of lines)
+    by : (b : Bool) → strictly_under line.prefix prefix ≡ b → (c : Bool) → ltb (near_line_level prefix) (near_line_level line.prefix) ≡ c
+        → lines_under prefix (prefixes_of_lines (near_lines_above (near_line_level prefix) lines)) ≡ lines_under prefix (prefixes_of_lines lines)
         → lines_under prefix
-        (prefixes_of (cond c (line ∷ lines_above (level prefix) lines) (lines_above (level prefix) lines)))
-        ≡ cond b (line.prefix ∷ lines_under prefix (prefixes_of lines)) (lines_under prefix (prefixes_of lines))
+        (prefixes_of_lines (cond c (line ∷ near_lines_above (near_line_level prefix) lines) (near_lines_above (near_line_level prefix) lines)))
+        ≡ cond b (line.prefix ∷ lines_under prefix (prefixes_of_lines lines)) (lines_under prefix (prefixes_of_lines lines))
     by true is true above rest =
         ap (λ b.
-        cond b (line.prefix ∷ lines_under prefix (prefixes_of (lines_above (level prefix) lines)))
-        (lines_under prefix (prefixes_of (lines_above (level prefix) lines)))) is
+        cond b (line.prefix ∷ lines_under prefix (prefixes_of_lines (near_lines_above (near_line_level prefix) lines)))
+        (lines_under prefix (prefixes_of_lines (near_lines_above (near_line_level prefix) lines)))) is
         ∙ ap (λ l. line.prefix ∷ l) rest
     by true is false above rest =
         absurd
-        (false≢true (sym above ∙ lt-ltb (level prefix) (level line.prefix) (law.falls line.prefix prefix is)))
+        (false≢true (sym above ∙ lt-ltb (near_line_level prefix) (near_line_level line.prefix) (law.falls line.prefix prefix is)))
     by false is true above rest =
         ap (λ b.
-        cond b (line.prefix ∷ lines_under prefix (prefixes_of (lines_above (level prefix) lines)))
-        (lines_under prefix (prefixes_of (lines_above (level prefix) lines)))) is
+        cond b (line.prefix ∷ lines_under prefix (prefixes_of_lines (near_lines_above (near_line_level prefix) lines)))
+        (lines_under prefix (prefixes_of_lines (near_lines_above (near_line_level prefix) lines)))) is
         ∙ rest
     by false is false above rest = rest
 
-pub closest-above : (prefix : PrefixValue) (lines : List Line) → LevelsFall
-    → closest prefix (prefixes_of (lines_above (level prefix) lines)) ≡ closest prefix (prefixes_of lines)
-closest-above prefix lines law = ap greatest (under_above prefix lines law)
+pub near_lines_above_suffice : (prefix : PrefixValue) (lines : List Line) → NearLineLevelsFall
+    → closest prefix (prefixes_of_lines (near_lines_above (near_line_level prefix) lines)) ≡ closest prefix (prefixes_of_lines lines)
+near_lines_above_suffice prefix lines law = ap greatest_lines (near_lines_above-under prefix lines law)
 
 -- whether a prefix has a line depends on its closest lines alone
-pub line_over : (cut : CutValue) (threshold : ℕ) (lines other : List PrefixValue) (line : Line)
+pub near_lines_decide_line : (cut : CutValue) (threshold : ℕ) (lines other : List PrefixValue) (line : Line)
     → closest line.prefix lines ≡ closest line.prefix other
-    → IsLineOf cut threshold lines line → IsLineOf cut threshold other line
-line_over cut threshold lines other line same is = record {
+    → IsLineOfReport cut threshold lines line → IsLineOfReport cut threshold other line
+near_lines_decide_line cut threshold lines other line same is = record {
   is_prefix = is.is_prefix;
   low = is.low;
   high = is.high;
@@ -93,6 +94,6 @@ line_over cut threshold lines other line same is = record {
   unexplained =
       subst (λ near.
       pos threshold
-      ≤ℤ (pos (high_in cut line.prefix + sum_by (high_in cut) (kept_pairs near))
-      -ℤ pos (sum_by (low_in cut) near))) same is.unexplained;
+      ≤ℤ (pos (report_high_in cut line.prefix + sum_by (report_high_in cut) (kept_pairs near))
+      -ℤ pos (sum_by (report_low_in cut) near))) same is.unexplained;
 }

@@ -6,36 +6,36 @@ use Rattle.std.specs.Option.{option_to_list}
 use Rattle.std.proofs.lemmas.List.Elements.{Contains-push, Contains-push_cases, Contains-append_left, All-contains}
 use Rattle.std.proofs.lemmas.List.Elements.{Contains-get_or}
 use Rattle.std.proofs.lemmas.List.Quantifiers.{all_pairs_push}
-use Rattle.prefix_lattice.specs.{NodeValue, PrefixValue, node_of, key_of, HasKey}
-use Rattle.cut_merge.specs.{MergedValue, candidates_at}
+use Rattle.prefix_lattice.specs.{NodeValue, PrefixValue, node_of_prefix, prefix_key, HasPrefixKey}
+use Rattle.cut_merge.specs.{MergedValue, merged_candidates_at}
 use Rattle.hhh_output.specs.declared.line.Line.{Line}
-use Rattle.hhh_output.specs.Selecting.{IsMergedLine, IsSelected, AreDistinct}
+use Rattle.hhh_output.specs.Selecting.{CanSelectLine, IsSelected, SelectedAreDistinct}
 
 -- the line of a prefix of this node that has one of these keys, if merged tables ask for it
-pub record IsAmong (merged : MergedValue) (threshold : ℕ) (reported : List PrefixValue) (node : NodeValue)
+pub record IsNodeLineAmong (merged : MergedValue) (threshold : ℕ) (reported : List PrefixValue) (node : NodeValue)
     (keys : List ℕ) (line : Line) : Type 0 where
-  pub has_key : HasKey node (key_of line.prefix) line.prefix
-  pub key : Contains keys (key_of line.prefix)
-  pub asked : IsMergedLine merged threshold reported line
+  pub has_key : HasPrefixKey node (prefix_key line.prefix) line.prefix
+  pub key : Contains keys (prefix_key line.prefix)
+  pub asked : CanSelectLine merged threshold reported line
 
 -- the candidates before a place are judged
-pub record Judged (merged : MergedValue) (threshold : ℕ) (reported : List PrefixValue) (node : NodeValue)
+pub record HasJudgedNodeLines (merged : MergedValue) (threshold : ℕ) (reported : List PrefixValue) (node : NodeValue)
     (keys : List ℕ) (old now : List Line) (place : ℕ) : Type 0 where
   pub members : (line : Line)
-      → Contains now line ↔ (Contains old line ⊎ IsAmong merged threshold reported node (take place keys) line)
-  pub distinct : AreDistinct now
+      → Contains now line ↔ (Contains old line ⊎ IsNodeLineAmong merged threshold reported node (take place keys) line)
+  pub distinct : SelectedAreDistinct now
   pub few : length now ≤ length old + place
 
 -- none is judged at first
-pub judged_none : (merged : MergedValue) (threshold : ℕ) (reported : List PrefixValue) (node : NodeValue)
-    (keys : List ℕ) (old : List Line) → AreDistinct old
-    → Judged merged threshold reported node keys old old 0
-judged_none merged threshold reported node keys old distinct = record {
+pub no_node_line_judged : (merged : MergedValue) (threshold : ℕ) (reported : List PrefixValue) (node : NodeValue)
+    (keys : List ℕ) (old : List Line) → SelectedAreDistinct old
+    → HasJudgedNodeLines merged threshold reported node keys old old 0
+no_node_line_judged merged threshold reported node keys old distinct = record {
   members = λ line. (
     λ there. inl there,
     λ either. elim either [
       | inl there ↦ there
-      | inr among ↦ no_key (key_of line.prefix) among.key
+      | inr among ↦ no_key (prefix_key line.prefix) among.key
     ],
   );
   distinct = distinct;
@@ -46,65 +46,65 @@ judged_none merged threshold reported node keys old distinct = record {
     no_key key (k, below, at) = absurd (omega arith)
 
 -- one more key
-more_keys : (keys : List ℕ) (place key : ℕ) → place < length keys → key ≡ get_or keys place key
+node_line_candidates_grow : (keys : List ℕ) (place key : ℕ) → place < length keys → key ≡ get_or keys place key
     → take (place + 1) keys ≡ take place keys ++ key ∷ []
-more_keys keys place key within read = take_more keys place key within ∙ ap (λ k. take place keys ++ k ∷ []) (sym read)
+node_line_candidates_grow keys place key within read = take_more keys place key within ∙ ap (λ k. take place keys ++ k ∷ []) (sym read)
 
 -- a later key isn't among the earlier ones
-not_earlier : (keys : List ℕ) (place key : ℕ) → AllPairs (λ k other. k ≢ other) keys → place < length keys
+node_line_candidate_is_new : (keys : List ℕ) (place key : ℕ) → AllPairs (λ k other. k ≢ other) keys → place < length keys
     → key ≡ get_or keys place key → ¬ Contains (take place keys) key
-not_earlier keys place key distinct within read (k, below, at) =
+node_line_candidate_is_new keys place key distinct within read (k, below, at) =
     let short : length (take place keys) ≡ place = length-take-le place keys (omega arith) in
     let before : k < place = omega (arith, short) in
     distinct k place key before within (sym (get_or-take place keys k key before) ∙ at ∙ read)
 
 module _ (merged : MergedValue) (threshold : ℕ) (reported : List PrefixValue) (node : NodeValue) (keys : List ℕ)
     (old now : List Line) (place key : ℕ) (prefix : PrefixValue) (found : Option Line)
-    (judged : Judged merged threshold reported node keys old now place)
-    (elsewhere : All (λ (line : Line). node_of line.prefix ≢ node) old)
+    (judged : HasJudgedNodeLines merged threshold reported node keys old now place)
+    (elsewhere : All (λ (line : Line). node_of_prefix line.prefix ≢ node) old)
     (distinct : AllPairs (λ k other. k ≢ other) keys) (within : place < length keys)
     (read : key ≡ get_or keys place key)
-    (only : (other : PrefixValue) → (Some prefix ≡ Some other) ↔ HasKey node key other)
-    (asked : (line : Line) → line.prefix ≡ prefix → (found ≡ Some line) ↔ IsMergedLine merged threshold reported line)
+    (only : (other : PrefixValue) → (Some prefix ≡ Some other) ↔ HasPrefixKey node key other)
+    (asked : (line : Line) → line.prefix ≡ prefix → (found ≡ Some line) ↔ CanSelectLine merged threshold reported line)
     (its_prefix : (line : Line) → found ≡ Some line → line.prefix ≡ prefix) where
-  is_its : HasKey node key prefix
-  is_its = (only prefix).0 refl
+  node_line_belongs_to_node : HasPrefixKey node key prefix
+  node_line_belongs_to_node = (only prefix).0 refl
 
   -- a line among one more key is among the earlier ones or that of this key
-  among_more : (line : Line) → IsAmong merged threshold reported node (take (place + 1) keys) line
-      → IsAmong merged threshold reported node (take place keys) line ⊎ (found ≡ Some line)
-  among_more line among =
-      elim (Contains-push_cases (take place keys) key (key_of line.prefix)
-      (subst (λ ks. Contains ks (key_of line.prefix)) (more_keys keys place key within read) among.key)) [
+  node_line_among_more : (line : Line) → IsNodeLineAmong merged threshold reported node (take (place + 1) keys) line
+      → IsNodeLineAmong merged threshold reported node (take place keys) line ⊎ (found ≡ Some line)
+  node_line_among_more line among =
+      elim (Contains-push_cases (take place keys) key (prefix_key line.prefix)
+      (subst (λ ks. Contains ks (prefix_key line.prefix)) (node_line_candidates_grow keys place key within read) among.key)) [
         | inl earlier ↦ inl (record { has_key = among.has_key; key = earlier; asked = among.asked })
         | inr same ↦
             let its : Some prefix ≡ Some line.prefix =
-            (only line.prefix).1 (subst (λ k. HasKey node k line.prefix) (sym same) among.has_key) in
+            (only line.prefix).1 (subst (λ k. HasPrefixKey node k line.prefix) (sym same) among.has_key) in
             let is : line.prefix ≡ prefix = cc in
             inr ((asked line is).1 among.asked)
       ]
 
   -- an earlier key is one of the keys
-  among_earlier : (line : Line) → IsAmong merged threshold reported node (take place keys) line
-      → IsAmong merged threshold reported node (take (place + 1) keys) line
-  among_earlier line among = record {
+  node_line_among_earlier : (line : Line) → IsNodeLineAmong merged threshold reported node (take place keys) line
+      → IsNodeLineAmong merged threshold reported node (take (place + 1) keys) line
+  node_line_among_earlier line among = record {
     has_key = among.has_key;
     key =
-        subst (λ ks. Contains ks (key_of line.prefix)) (sym (more_keys keys place key within read))
-        (Contains-append_left (take place keys) (key ∷ []) (key_of line.prefix) among.key);
+        subst (λ ks. Contains ks (prefix_key line.prefix)) (sym (node_line_candidates_grow keys place key within read))
+        (Contains-append_left (take place keys) (key ∷ []) (prefix_key line.prefix) among.key);
     asked = among.asked;
   }
 
   -- where the key has no line, the list stays
-  pub judged_missing : found ≡ None → Judged merged threshold reported node keys old now (place + 1)
-  judged_missing missing = record {
+  pub node_line_missing_is_judged : found ≡ None → HasJudgedNodeLines merged threshold reported node keys old now (place + 1)
+  node_line_missing_is_judged missing = record {
     members = λ line. (
       λ there.
           elim ((judged.members line).0 there)
-          [ inl old_one ↦ inl old_one | inr among ↦ inr (among_earlier line among) ],
+          [ inl old_one ↦ inl old_one | inr among ↦ inr (node_line_among_earlier line among) ],
       λ either. elim either [
         | inl old_one ↦ (judged.members line).1 (inl old_one)
-        | inr among ↦ elim (among_more line among) [
+        | inr among ↦ elim (node_line_among_more line among) [
           | inl earlier ↦ (judged.members line).1 (inr earlier)
           | inr some ↦ let none_is_some : None ≡ Some line = sym missing ∙ some in cc
         ]
@@ -115,39 +115,39 @@ module _ (merged : MergedValue) (threshold : ℕ) (reported : List PrefixValue) 
   }
 
   -- where it has one, that line goes behind the others
-  pub judged_line : (new : Line) → found ≡ Some new
-      → Judged merged threshold reported node keys old (now ++ new ∷ []) (place + 1)
-  judged_line new is =
+  pub node_line_found_is_judged : (new : Line) → found ≡ Some new
+      → HasJudgedNodeLines merged threshold reported node keys old (now ++ new ∷ []) (place + 1)
+  node_line_found_is_judged new is =
       let new_prefix : new.prefix ≡ prefix = its_prefix new is in
-      let new_key : key_of new.prefix ≡ key = ap key_of new_prefix ∙ is_its.of_key in
-      let new_among : IsAmong merged threshold reported node (take (place + 1) keys) new = record {
+      let new_key : prefix_key new.prefix ≡ key = ap prefix_key new_prefix ∙ node_line_belongs_to_node.of_key in
+      let new_among : IsNodeLineAmong merged threshold reported node (take (place + 1) keys) new = record {
         has_key =
-            subst (λ p. HasKey node (key_of p) p) (sym new_prefix)
-            (subst (λ k. HasKey node k prefix) (sym is_its.of_key) is_its);
-        key = subst (λ ks. Contains ks (key_of new.prefix)) (sym (more_keys keys place key within read))
+            subst (λ p. HasPrefixKey node (prefix_key p) p) (sym new_prefix)
+            (subst (λ k. HasPrefixKey node k prefix) (sym node_line_belongs_to_node.of_key) node_line_belongs_to_node);
+        key = subst (λ ks. Contains ks (prefix_key new.prefix)) (sym (node_line_candidates_grow keys place key within read))
             (subst (Contains (take place keys ++ key ∷ [])) (sym new_key) (Contains-push (take place keys) key));
         asked = (asked new new_prefix).0 is;
       } in
       let other_prefix : (k : ℕ) (d : Line) → k < length now → (get_or now k d).prefix ≢ new.prefix = λ k d below same.
       elim ((judged.members (get_or now k d)).0 (Contains-get_or now k d below)) [
         | inl old_one ↦
-            All-contains (λ (l : Line). node_of l.prefix ≢ node) old (get_or now k d) elsewhere old_one
-            (ap node_of (same ∙ new_prefix) ∙ is_its.of_node)
+            All-contains (λ (l : Line). node_of_prefix l.prefix ≢ node) old (get_or now k d) elsewhere old_one
+            (ap node_of_prefix (same ∙ new_prefix) ∙ node_line_belongs_to_node.of_node)
         | inr among ↦
-            not_earlier keys place key distinct within read
-            (subst (Contains (take place keys)) (ap key_of same ∙ new_key) among.key)
+            node_line_candidate_is_new keys place key distinct within read
+            (subst (Contains (take place keys)) (ap prefix_key same ∙ new_key) among.key)
       ] in
       record {
         members = λ line. (
           λ there. elim (Contains-push_cases now new line there) [
             | inl earlier ↦
                 elim ((judged.members line).0 earlier)
-                [ inl old_one ↦ inl old_one | inr among ↦ inr (among_earlier line among) ]
-            | inr same ↦ inr (subst (IsAmong merged threshold reported node (take (place + 1) keys)) same new_among)
+                [ inl old_one ↦ inl old_one | inr among ↦ inr (node_line_among_earlier line among) ]
+            | inr same ↦ inr (subst (IsNodeLineAmong merged threshold reported node (take (place + 1) keys)) same new_among)
           ],
           λ either. elim either [
             | inl old_one ↦ Contains-append_left now (new ∷ []) line ((judged.members line).1 (inl old_one))
-            | inr among ↦ elim (among_more line among) [
+            | inr among ↦ elim (node_line_among_more line among) [
               | inl earlier ↦ Contains-append_left now (new ∷ []) line ((judged.members line).1 (inr earlier))
               | inr some ↦ let both : Some new ≡ Some line = sym is ∙ some in
                   let same : new ≡ line = cc in subst (Contains (now ++ new ∷ [])) same (Contains-push now new)
@@ -160,15 +160,15 @@ module _ (merged : MergedValue) (threshold : ℕ) (reported : List PrefixValue) 
       }
 
 -- all candidates judged
-pub judged_all : (merged : MergedValue) (threshold : ℕ) (reported : List PrefixValue) (node : NodeValue)
+pub all_node_lines_judged : (merged : MergedValue) (threshold : ℕ) (reported : List PrefixValue) (node : NodeValue)
     (old now : List Line) (place : ℕ)
-    → length (candidates_at merged node) ≤ place
-    → Judged merged threshold reported node (candidates_at merged node) old now place
+    → length (merged_candidates_at merged node) ≤ place
+    → HasJudgedNodeLines merged threshold reported node (merged_candidates_at merged node) old now place
     → (line : Line) → Contains now line
-    ↔ (Contains old line ⊎ ((node_of line.prefix ≡ node) × IsSelected merged threshold reported line))
-judged_all merged threshold reported node old now place done judged line =
-    let all : take place (candidates_at merged node) ≡ candidates_at merged node =
-    take_all place (candidates_at merged node) done in (
+    ↔ (Contains old line ⊎ ((node_of_prefix line.prefix ≡ node) × IsSelected merged threshold reported line))
+all_node_lines_judged merged threshold reported node old now place done judged line =
+    let all : take place (merged_candidates_at merged node) ≡ merged_candidates_at merged node =
+    take_all place (merged_candidates_at merged node) done in (
       λ there. elim ((judged.members line).0 there) [
         | inl old_one ↦ inl old_one
         | inr among ↦ inr (
@@ -176,8 +176,8 @@ judged_all merged threshold reported node old now place done judged line =
           record {
             is_prefix = among.has_key.is_prefix;
             candidate =
-                subst (λ n. Contains (candidates_at merged n) (key_of line.prefix)) (sym among.has_key.of_node)
-                (subst (λ ks. Contains ks (key_of line.prefix)) all among.key);
+                subst (λ n. Contains (merged_candidates_at merged n) (prefix_key line.prefix)) (sym among.has_key.of_node)
+                (subst (λ ks. Contains ks (prefix_key line.prefix)) all among.key);
             asked = among.asked;
           },
         )
@@ -187,8 +187,8 @@ judged_all merged threshold reported node old now place done judged line =
         | inr selected ↦ (judged.members line).1 (inr (record {
           has_key = record { is_prefix = selected.1.is_prefix; of_node = selected.0; of_key = refl };
           key =
-              subst (λ ks. Contains ks (key_of line.prefix)) (sym all)
-              (subst (λ n. Contains (candidates_at merged n) (key_of line.prefix)) selected.0
+              subst (λ ks. Contains ks (prefix_key line.prefix)) (sym all)
+              (subst (λ n. Contains (merged_candidates_at merged n) (prefix_key line.prefix)) selected.0
               selected.1.candidate);
           asked = selected.1.asked;
         }))
@@ -198,19 +198,19 @@ judged_all merged threshold reported node old now place done judged line =
 -- the next key is judged, whether it has a line or not
 module _ (merged : MergedValue) (threshold : ℕ) (reported : List PrefixValue) (node : NodeValue) (keys : List ℕ)
     (old now : List Line) (place key : ℕ) (prefix : PrefixValue)
-    (judged : Judged merged threshold reported node keys old now place)
-    (elsewhere : All (λ (line : Line). node_of line.prefix ≢ node) old)
+    (judged : HasJudgedNodeLines merged threshold reported node keys old now place)
+    (elsewhere : All (λ (line : Line). node_of_prefix line.prefix ≢ node) old)
     (distinct : AllPairs (λ k other. k ≢ other) keys) (within : place < length keys)
     (read : key ≡ get_or keys place key)
-    (only : (other : PrefixValue) → (Some prefix ≡ Some other) ↔ HasKey node key other) where
-  pub judged_more : (found : Option Line)
-      → ((line : Line) → line.prefix ≡ prefix → (found ≡ Some line) ↔ IsMergedLine merged threshold reported line)
+    (only : (other : PrefixValue) → (Some prefix ≡ Some other) ↔ HasPrefixKey node key other) where
+  pub next_node_line_judged : (found : Option Line)
+      → ((line : Line) → line.prefix ≡ prefix → (found ≡ Some line) ↔ CanSelectLine merged threshold reported line)
       → ((line : Line) → found ≡ Some line → line.prefix ≡ prefix)
-      → Judged merged threshold reported node keys old (now ++ option_to_list found) (place + 1)
-  judged_more None asked its_prefix =
-      subst (λ lines. Judged merged threshold reported node keys old lines (place + 1)) (sym (append-nil now))
-      (judged_missing merged threshold reported node keys old now place key prefix None judged elsewhere distinct
+      → HasJudgedNodeLines merged threshold reported node keys old (now ++ option_to_list found) (place + 1)
+  next_node_line_judged None asked its_prefix =
+      subst (λ lines. HasJudgedNodeLines merged threshold reported node keys old lines (place + 1)) (sym (append-nil now))
+      (node_line_missing_is_judged merged threshold reported node keys old now place key prefix None judged elsewhere distinct
       within read only asked its_prefix refl)
-  judged_more (Some line) asked its_prefix =
-      judged_line merged threshold reported node keys old now place key prefix (Some line) judged elsewhere distinct
+  next_node_line_judged (Some line) asked its_prefix =
+      node_line_found_is_judged merged threshold reported node keys old now place key prefix (Some line) judged elsewhere distinct
       within read only asked its_prefix line refl

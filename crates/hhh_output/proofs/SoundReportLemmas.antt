@@ -11,85 +11,85 @@ use Rattle.std.proofs.Math.Nat.{mul-le-mul_left, mul_comm, mul_assoc}
 use Rattle.std.specs.List.{AllZip}
 use Rattle.std.specs.declared.cmp.Ordering.TheVariants.{Less}
 use Rattle.std.specs.Cmp.{IsTotalOrder}
-use Rattle.prefix_lattice.specs.{RecordValue, PrefixValue, IsPrefix, covers, node_of, key_of, weight_of}
-use Rattle.prefix_lattice.specs.{total_weight, report_order, lines_under, one_covers, conditioned_weight, closest}
-use Rattle.prefix_lattice.specs.{kept_pairs, Holds, IsNarrow}
-use Rattle.shard_state.specs.{SnapshotValue, SnapshotRepresents, CutValue, positions_of, total_of_cut, CutRepresents}
-use Rattle.shard_state.specs.{records_before, HoldsNarrowly}
+use Rattle.prefix_lattice.specs.{RecordValue, PrefixValue, IsPrefix, covers, node_of_prefix, prefix_key, prefix_weight}
+use Rattle.prefix_lattice.specs.{total_weight, report_order, lines_under, one_line_covers, conditioned_weight, closest}
+use Rattle.prefix_lattice.specs.{kept_pairs, IntervalHoldsWeight, IsNarrowInterval}
+use Rattle.shard_state.specs.{SnapshotValue, SnapshotRepresents, CutValue, cut_positions, total_of_cut, CutRepresents}
+use Rattle.shard_state.specs.{records_before_cut, HoldsWeightNarrowly}
 use Rattle.cut_merge.specs.{merged_interval_in, monitored_at}
-use Rattle.conditioned_bounds.specs.{bound_of, asked_of, HoldWeights, AreNarrow}
+use Rattle.conditioned_bounds.specs.{bound_of, asked_for_bound, BoundsHoldWeights, BoundsAreNarrow}
 use Rattle.hhh_output.specs.declared.line.Line.{Line}
 use Rattle.hhh_output.specs.declared.report.Report.{Report}
 use Rattle.hhh_output.specs.Threshold.{IsThreshold}
-use Rattle.hhh_output.specs.Lines.{prefixes_of, AreLines}
-use Rattle.hhh_output.specs.Report.{IsMonitored, low_in, high_in, IsLineOf, IsReportOf}
-use Rattle.hhh_output.specs.SoundReport.{HoldsWeight, IsNarrowLine, IsJustified, IsSound}
-use Rattle.prefix_lattice.proofs.ListLemmas.{AllPairs-head, AllPairs-tail, Contains-head, Contains-tail}
-use Rattle.prefix_lattice.proofs.ListLemmas.{Contains-cons, Contains-nil}
-use Rattle.hhh_output.proofs.OneReportLemmas.{Before, before-apart}
+use Rattle.hhh_output.specs.ReportLines.{prefixes_of_lines, AreReportLines}
+use Rattle.hhh_output.specs.Report.{IsMonitoredInReport, report_low_in, report_high_in, IsLineOfReport, IsReportOf}
+use Rattle.hhh_output.specs.SoundReport.{HoldsWeightInSoundReport, IsNarrowInSoundReport, IsJustifiedInSoundReport, IsSound}
+use Rattle.prefix_lattice.proofs.ListLemmas.{AllPairs-list_head, AllPairs-list_tail, Contains-list_head, Contains-list_tail}
+use Rattle.prefix_lattice.proofs.ListLemmas.{Contains-list_cons, Contains-empty_list}
+use Rattle.hhh_output.proofs.OneReportLemmas.{BeforeInOneReport, BeforeInOneReport-strict}
 
 -- the laws that soundness stands on, over one cut and its lists
-pub record CutHolds (cut : CutValue) (lists : List (List RecordValue)) : Type 0 where
+pub record SoundReportLawsHold (cut : CutValue) (lists : List (List RecordValue)) : Type 0 where
   pub order : IsTotalOrder report_order
   pub stands : CutRepresents cut lists
   pub intervals : (prefix : PrefixValue) → IsPrefix prefix
-      → HoldsNarrowly (merged_interval_in cut prefix) cut.capacity
-      (weight_of prefix (records_before lists (positions_of cut)))
+      → HoldsWeightNarrowly (merged_interval_in cut prefix) cut.capacity
+      (prefix_weight prefix (records_before_cut lists (cut_positions cut)))
       (total_of_cut cut)
-  pub light : (prefix : PrefixValue) → IsPrefix prefix → ¬ IsMonitored cut prefix
+  pub light : (prefix : PrefixValue) → IsPrefix prefix → ¬ IsMonitoredInReport cut prefix
       → (merged_interval_in cut prefix).high * cut.capacity ≤ total_of_cut cut
-  pub total : total_of_cut cut ≡ total_weight (records_before lists (positions_of cut))
+  pub total : total_of_cut cut ≡ total_weight (records_before_cut lists (cut_positions cut))
   pub asked : (prefix : PrefixValue) (lines : List PrefixValue) → IsPrefix prefix → All IsPrefix lines
-      → All IsPrefix (asked_of prefix lines)
+      → All IsPrefix (asked_for_bound prefix lines)
   pub at_least : (low high : PrefixValue → ℕ) (prefix : PrefixValue) (lines : List PrefixValue)
       (records : List RecordValue)
-      → AllPairs (λ line other. line ≢ other) lines → HoldWeights low high records (asked_of prefix lines)
+      → AllPairs (λ line other. line ≢ other) lines → BoundsHoldWeights low high records (asked_for_bound prefix lines)
       → pos (conditioned_weight prefix lines records) ≤ℤ bound_of low high prefix lines
   pub reached : (low high : PrefixValue → ℕ) (prefix : PrefixValue) (lines : List PrefixValue)
       (records : List RecordValue) (times whole least : ℕ)
-      → AllPairs (λ line other. line ≢ other) lines → HoldWeights low high records (asked_of prefix lines)
-      → AreNarrow low high times whole (asked_of prefix lines) → pos least ≤ℤ bound_of low high prefix lines
+      → AllPairs (λ line other. line ≢ other) lines → BoundsHoldWeights low high records (asked_for_bound prefix lines)
+      → BoundsAreNarrow low high times whole (asked_for_bound prefix lines) → pos least ≤ℤ bound_of low high prefix lines
       → times * least
       ≤ times * conditioned_weight prefix lines records
       + (1 + length (closest prefix lines) + length (kept_pairs (closest prefix lines))) * whole
 
 -- positions of a cut that stands for lists are within them
-within_lists : (shards : List SnapshotValue) (lists : List (List RecordValue)) → AllZip SnapshotRepresents shards lists
+sound_report_within_lists : (shards : List SnapshotValue) (lists : List (List RecordValue)) → AllZip SnapshotRepresents shards lists
     → AllZip (λ position list. position ≤ length list) (map (λ (s : SnapshotValue). s.position) shards) lists
-within_lists [] [] stand = tt
-within_lists [] (list ∷ lists) stand = stand
-within_lists (shard ∷ shards) [] stand = stand
-within_lists (shard ∷ shards) (list ∷ lists) stand = (stand.0.within, within_lists shards lists stand.1)
+sound_report_within_lists [] [] stand = tt
+sound_report_within_lists [] (list ∷ lists) stand = stand
+sound_report_within_lists (shard ∷ shards) [] stand = stand
+sound_report_within_lists (shard ∷ shards) (list ∷ lists) stand = (stand.0.within, sound_report_within_lists shards lists stand.1)
 
 -- no two lines of a report have one prefix
-pub distinct_prefixes : IsTotalOrder report_order → (lines : List Line) → AllPairs Before lines
-    → AllPairs (λ prefix other. prefix ≢ other) (prefixes_of lines)
-distinct_prefixes order [] rising = λ i j d before below. absurd (omega arith)
-distinct_prefixes order (line ∷ lines) rising =
-    AllPairs-cons (λ prefix other. prefix ≢ other) line.prefix (prefixes_of lines)
+pub sound_report_prefixes_differ : IsTotalOrder report_order → (lines : List Line) → AllPairs BeforeInOneReport lines
+    → AllPairs (λ prefix other. prefix ≢ other) (prefixes_of_lines lines)
+sound_report_prefixes_differ order [] rising = λ i j d before below. absurd (omega arith)
+sound_report_prefixes_differ order (line ∷ lines) rising =
+    AllPairs-cons (λ prefix other. prefix ≢ other) line.prefix (prefixes_of_lines lines)
     (All-map (λ other. line.prefix ≢ other) (λ (l : Line). l.prefix) lines
-    (All-weaker (Before line) (λ (other : Line). line.prefix ≢ other.prefix)
+    (All-weaker (BeforeInOneReport line) (λ (other : Line). line.prefix ≢ other.prefix)
     (λ other before same.
-    let back : Before other line =
+    let back : BeforeInOneReport other line =
     subst (λ p. report_order p line.prefix ≡ Less) same
     (subst (λ p. report_order line.prefix p ≡ Less) (sym same) before) in
-    before-apart order line other before back)
-    lines (AllPairs-head Before line lines rising)))
-    (distinct_prefixes order lines (AllPairs-tail Before line lines rising))
+    BeforeInOneReport-strict order line other before back)
+    lines (AllPairs-list_head BeforeInOneReport line lines rising)))
+    (sound_report_prefixes_differ order lines (AllPairs-list_tail BeforeInOneReport line lines rising))
 
 -- what holds of each line of a report, shown of any line that it contains
-each_line : (P : Line → Type 0) (lines : List Line) → ((line : Line) → Contains lines line → P line) → All P lines
-each_line P lines shown = All-weaker (Contains lines) P shown lines (All-contains_itself lines)
+each_sound_report_line : (P : Line → Type 0) (lines : List Line) → ((line : Line) → Contains lines line → P line) → All P lines
+each_sound_report_line P lines shown = All-weaker (Contains lines) P shown lines (All-contains_itself lines)
 
 -- what is left of a weight is no more than the weight
-conditioned-le-weight : (prefix : PrefixValue) (lines : List PrefixValue) (records : List RecordValue)
-    → conditioned_weight prefix lines records ≤ weight_of prefix records
-conditioned-le-weight prefix lines [] = omega arith
-conditioned-le-weight prefix lines (rec ∷ records) =
-    by (covers prefix rec) (one_covers (lines_under prefix lines) rec) (conditioned-le-weight prefix lines records)
+sound_report_leaves_no_more : (prefix : PrefixValue) (lines : List PrefixValue) (records : List RecordValue)
+    → conditioned_weight prefix lines records ≤ prefix_weight prefix records
+sound_report_leaves_no_more prefix lines [] = omega arith
+sound_report_leaves_no_more prefix lines (rec ∷ records) =
+    by (covers prefix rec) (one_line_covers (lines_under prefix lines) rec) (sound_report_leaves_no_more prefix lines records)
   where
     kept : List RecordValue
-    kept = filter (λ (r : RecordValue). covers prefix r && not (one_covers (lines_under prefix lines) r)) records
+    kept = filter (λ (r : RecordValue). covers prefix r && not (one_line_covers (lines_under prefix lines) r)) records
 
     covered : List RecordValue
     covered = filter (covers prefix) records
@@ -108,9 +108,9 @@ conditioned-le-weight prefix lines (rec ∷ records) =
     by false c rest = rest
 
 -- a prefix whose high is at most the total over the capacity isn't heavy
-light_below : (phi capacity total threshold high : ℕ) → 2000000 ≤ phi * capacity → IsThreshold phi total threshold
+sound_report_light_below : (phi capacity total threshold high : ℕ) → 2000000 ≤ phi * capacity → IsThreshold phi total threshold
     → high * capacity ≤ total → high < threshold
-light_below phi capacity total threshold high wide is light = elim (cases_lt high threshold) [
+sound_report_light_below phi capacity total threshold high wide is light = elim (cases_lt high threshold) [
   | inl below ↦ below
   | inr above ↦
       let more : threshold * capacity ≤ high * capacity =
@@ -125,80 +125,80 @@ light_below phi capacity total threshold high wide is light = elim (cases_lt hig
 ]
 
 -- whether a key is among some keys
-among : (key : ℕ) (keys : List ℕ) → Contains keys key ⊎ ¬ Contains keys key
-among key [] = inr (Contains-nil key)
-among key (first ∷ keys) = by (eqb first key) refl (among key keys)
+sound_report_key_or_not : (key : ℕ) (keys : List ℕ) → Contains keys key ⊎ ¬ Contains keys key
+sound_report_key_or_not key [] = inr (Contains-empty_list key)
+sound_report_key_or_not key (first ∷ keys) = by (eqb first key) refl (sound_report_key_or_not key keys)
   where
     by : (b : Bool) → eqb first key ≡ b → Contains keys key ⊎ ¬ Contains keys key
         → Contains (first ∷ keys) key ⊎ ¬ Contains (first ∷ keys) key
-    by true same _ = inl (subst (Contains (first ∷ keys)) (eqb-true first key same) (Contains-head first keys))
-    by false _ (inl later) = inl (Contains-tail first keys key later)
-    by false differs (inr missing) = inr (λ there. elim (Contains-cons first keys key there) [
+    by true same _ = inl (subst (Contains (first ∷ keys)) (eqb-true first key same) (Contains-list_head first keys))
+    by false _ (inl later) = inl (Contains-list_tail first keys key later)
+    by false differs (inr missing) = inr (λ there. elim (Contains-list_cons first keys key there) [
       | inl is ↦ false≢true (sym differs ∙ eq-eqb first key is)
       | inr later ↦ missing later
     ])
 
 -- the intervals that a bound asks hold the weights, and are narrow
-hold_asked : (cut : CutValue) (lists : List (List RecordValue)) → CutHolds cut lists
+sound_report_intervals_hold : (cut : CutValue) (lists : List (List RecordValue)) → SoundReportLawsHold cut lists
     → (prefix : PrefixValue) (lines : List PrefixValue) → IsPrefix prefix → All IsPrefix lines
-    → HoldWeights (low_in cut) (high_in cut) (records_before lists (positions_of cut)) (asked_of prefix lines)
-hold_asked cut lists holds prefix lines is_prefix are_prefixes =
-    let records = records_before lists (positions_of cut) in
-    All-weaker IsPrefix (λ p. Holds (low_in cut p) (high_in cut p) (weight_of p records))
-    (λ p is. (holds.intervals p is).holds) (asked_of prefix lines)
+    → BoundsHoldWeights (report_low_in cut) (report_high_in cut) (records_before_cut lists (cut_positions cut)) (asked_for_bound prefix lines)
+sound_report_intervals_hold cut lists holds prefix lines is_prefix are_prefixes =
+    let records = records_before_cut lists (cut_positions cut) in
+    All-weaker IsPrefix (λ p. IntervalHoldsWeight (report_low_in cut p) (report_high_in cut p) (prefix_weight p records))
+    (λ p is. (holds.intervals p is).holds) (asked_for_bound prefix lines)
     (holds.asked prefix lines is_prefix are_prefixes)
 
-narrow_asked : (cut : CutValue) (lists : List (List RecordValue)) → CutHolds cut lists
+sound_report_intervals_are_narrow : (cut : CutValue) (lists : List (List RecordValue)) → SoundReportLawsHold cut lists
     → (prefix : PrefixValue) (lines : List PrefixValue) → IsPrefix prefix → All IsPrefix lines
-    → AreNarrow (low_in cut) (high_in cut) cut.capacity (total_weight (records_before lists (positions_of cut)))
-    (asked_of prefix lines)
-narrow_asked cut lists holds prefix lines is_prefix are_prefixes =
+    → BoundsAreNarrow (report_low_in cut) (report_high_in cut) cut.capacity (total_weight (records_before_cut lists (cut_positions cut)))
+    (asked_for_bound prefix lines)
+sound_report_intervals_are_narrow cut lists holds prefix lines is_prefix are_prefixes =
     All-weaker IsPrefix
-    (λ p. IsNarrow (low_in cut p) (high_in cut p) cut.capacity (total_weight (records_before lists (positions_of cut))))
-    (λ p is. subst (IsNarrow (low_in cut p) (high_in cut p) cut.capacity) holds.total (holds.intervals p is).narrow)
-    (asked_of prefix lines) (holds.asked prefix lines is_prefix are_prefixes)
+    (λ p. IsNarrowInterval (report_low_in cut p) (report_high_in cut p) cut.capacity (total_weight (records_before_cut lists (cut_positions cut))))
+    (λ p is. subst (IsNarrowInterval (report_low_in cut p) (report_high_in cut p) cut.capacity) holds.total (holds.intervals p is).narrow)
+    (asked_for_bound prefix lines) (holds.asked prefix lines is_prefix are_prefixes)
 
 -- the report of a cut, the lists that it stands for, and what holds of both
-pub record Reports (cut : CutValue) (lists : List (List RecordValue)) (phi : ℕ) (report : Report) : Type 0 where
-  pub holds : CutHolds cut lists
-  pub kept : AreLines report.lines
+pub record CanBeSoundReport (cut : CutValue) (lists : List (List RecordValue)) (phi : ℕ) (report : Report) : Type 0 where
+  pub holds : SoundReportLawsHold cut lists
+  pub kept : AreReportLines report.lines
   pub wide : 2000000 ≤ phi * cut.capacity
   pub is_report : IsReportOf cut phi report
 
 -- its lines have prefixes, and no two the same
-report_prefixes : (cut : CutValue) (lists : List (List RecordValue)) (phi : ℕ) (report : Report)
-    → Reports cut lists phi report → All IsPrefix (prefixes_of report.lines)
-report_prefixes cut lists phi report reports =
+sound_report_has_prefixes : (cut : CutValue) (lists : List (List RecordValue)) (phi : ℕ) (report : Report)
+    → CanBeSoundReport cut lists phi report → All IsPrefix (prefixes_of_lines report.lines)
+sound_report_has_prefixes cut lists phi report reports =
     All-map IsPrefix (λ (l : Line). l.prefix) report.lines
-    (each_line (λ l. IsPrefix l.prefix) report.lines (λ line there. ((reports.is_report.lines line).0 there).is_prefix))
+    (each_sound_report_line (λ l. IsPrefix l.prefix) report.lines (λ line there. ((reports.is_report.lines line).0 there).is_prefix))
 
 -- a prefix that has no line is light once the lines are accounted for
-left_out : (cut : CutValue) (lists : List (List RecordValue)) (phi : ℕ) (report : Report)
-    → Reports cut lists phi report → (prefix : PrefixValue) → IsPrefix prefix
-    → ¬ Contains (prefixes_of report.lines) prefix
-    → conditioned_weight prefix (prefixes_of report.lines) (records_before lists (positions_of cut))
+sound_report_leaves_out_light : (cut : CutValue) (lists : List (List RecordValue)) (phi : ℕ) (report : Report)
+    → CanBeSoundReport cut lists phi report → (prefix : PrefixValue) → IsPrefix prefix
+    → ¬ Contains (prefixes_of_lines report.lines) prefix
+    → conditioned_weight prefix (prefixes_of_lines report.lines) (records_before_cut lists (cut_positions cut))
     < report.threshold
-left_out cut lists phi report reports prefix is_prefix missing =
-    elim (among (key_of prefix) (monitored_at cut (node_of prefix))) [
+sound_report_leaves_out_light cut lists phi report reports prefix is_prefix missing =
+    elim (sound_report_key_or_not (prefix_key prefix) (monitored_at cut (node_of_prefix prefix))) [
       | inr unknown ↦
-          let light : high_in cut prefix < report.threshold =
-          light_below phi cut.capacity report.total report.threshold (high_in cut prefix) reports.wide
+          let light : report_high_in cut prefix < report.threshold =
+          sound_report_light_below phi cut.capacity report.total report.threshold (report_high_in cut prefix) reports.wide
           reports.is_report.threshold
-          (subst (λ n. high_in cut prefix * cut.capacity ≤ n) (sym reports.is_report.total)
+          (subst (λ n. report_high_in cut prefix * cut.capacity ≤ n) (sym reports.is_report.total)
           (holds.light prefix is_prefix unknown)) in
           omega (arith, light, few, interval_holds.holds.high)
-      | inl monitored ↦ elim (cases_lt (high_in cut prefix) report.threshold) [
+      | inl monitored ↦ elim (cases_lt (report_high_in cut prefix) report.threshold) [
         | inl light ↦ omega (arith, light, few, interval_holds.holds.high)
-        | inr heavy ↦ elim (cases_lt (high_in cut prefix + sum_by (high_in cut) (kept_pairs (closest prefix lines)))
-            (report.threshold + sum_by (low_in cut) (closest prefix lines))) [
+        | inr heavy ↦ elim (cases_lt (report_high_in cut prefix + sum_by (report_high_in cut) (kept_pairs (closest prefix lines)))
+            (report.threshold + sum_by (report_low_in cut) (closest prefix lines))) [
               | inl explained ↦
-                  let least = holds.at_least (low_in cut) (high_in cut) prefix lines records
-                  (distinct_prefixes holds.order report.lines reports.kept.rising)
-                  (hold_asked cut lists holds prefix lines is_prefix (report_prefixes cut lists phi report reports)) in
+                  let least = holds.at_least (report_low_in cut) (report_high_in cut) prefix lines records
+                  (sound_report_prefixes_differ holds.order report.lines reports.kept.rising)
+                  (sound_report_intervals_hold cut lists holds prefix lines is_prefix (sound_report_has_prefixes cut lists phi report reports)) in
                   omega (arith, ints, least, explained)
               | inr unexplained ↦
-                  let line : Line = record { prefix = prefix; lo = low_in cut prefix; hi = high_in cut prefix } in
-                  let is : IsLineOf cut report.threshold lines line = record {
+                  let line : Line = record { prefix = prefix; lo = report_low_in cut prefix; hi = report_high_in cut prefix } in
+                  let is : IsLineOfReport cut report.threshold lines line = record {
                     is_prefix = is_prefix;
                     low = refl;
                     high = refl;
@@ -212,50 +212,50 @@ left_out cut lists phi report reports prefix is_prefix missing =
     ]
   where
     lines : List PrefixValue
-    lines = prefixes_of report.lines
+    lines = prefixes_of_lines report.lines
 
     records : List RecordValue
-    records = records_before lists (positions_of cut)
+    records = records_before_cut lists (cut_positions cut)
 
-    holds : CutHolds cut lists
+    holds : SoundReportLawsHold cut lists
     holds = reports.holds
 
-    interval_holds : HoldsNarrowly (merged_interval_in cut prefix) cut.capacity (weight_of prefix records)
+    interval_holds : HoldsWeightNarrowly (merged_interval_in cut prefix) cut.capacity (prefix_weight prefix records)
         (total_of_cut cut)
     interval_holds = holds.intervals prefix is_prefix
 
-    few : conditioned_weight prefix lines records ≤ weight_of prefix records
-    few = conditioned-le-weight prefix lines records
+    few : conditioned_weight prefix lines records ≤ prefix_weight prefix records
+    few = sound_report_leaves_no_more prefix lines records
 
-    contains_prefix : (ls : List Line) (line : Line) → Contains ls line → Contains (prefixes_of ls) line.prefix
-    contains_prefix [] line there = absurd (Contains-nil line there)
-    contains_prefix (l ∷ ls) line there = elim (Contains-cons l ls line there) [
+    contains_prefix : (ls : List Line) (line : Line) → Contains ls line → Contains (prefixes_of_lines ls) line.prefix
+    contains_prefix [] line there = absurd (Contains-empty_list line there)
+    contains_prefix (l ∷ ls) line there = elim (Contains-list_cons l ls line there) [
       | inl same ↦
-          subst (λ (x : Line). Contains (l.prefix ∷ prefixes_of ls) x.prefix) same
-          (Contains-head l.prefix (prefixes_of ls))
-      | inr later ↦ Contains-tail l.prefix (prefixes_of ls) line.prefix (contains_prefix ls line later)
+          subst (λ (x : Line). Contains (l.prefix ∷ prefixes_of_lines ls) x.prefix) same
+          (Contains-list_head l.prefix (prefixes_of_lines ls))
+      | inr later ↦ Contains-list_tail l.prefix (prefixes_of_lines ls) line.prefix (contains_prefix ls line later)
     ]
 
 -- the report is sound
 pub report_is_sound : (cut : CutValue) (lists : List (List RecordValue)) (phi : ℕ) (report : Report)
-    → Reports cut lists phi report → IsSound report lists cut.capacity phi
+    → CanBeSoundReport cut lists phi report → IsSound report lists cut.capacity phi
 report_is_sound cut lists phi report reports =
     let holds = reports.holds in
     let is = reports.is_report in
-    let records = records_before lists (positions_of cut) in
-    let at : records_before lists report.positions ≡ records = ap (records_before lists) is.positions in
-    let prefixes = report_prefixes cut lists phi report reports in
+    let records = records_before_cut lists (cut_positions cut) in
+    let at : records_before_cut lists report.positions ≡ records = ap (records_before_cut lists) is.positions in
+    let prefixes = sound_report_has_prefixes cut lists phi report reports in
     let line_of : (line : Line) → Contains report.lines line
-    → IsLineOf cut report.threshold (prefixes_of report.lines) line =
+    → IsLineOfReport cut report.threshold (prefixes_of_lines report.lines) line =
     λ line there. (is.lines line).0 there in
     record {
       positions =
           subst (λ positions. AllZip (λ position list. position ≤ length list) positions lists) (sym is.positions)
-          (within_lists cut.shards lists holds.stands.shards);
+          (sound_report_within_lists cut.shards lists holds.stands.shards);
       total = is.total ∙ holds.total ∙ ap total_weight (sym at);
       threshold = is.threshold;
-      interval = subst (λ rs. All (HoldsWeight rs) report.lines) (sym at)
-          (each_line (HoldsWeight records) report.lines (λ line there.
+      interval = subst (λ rs. All (HoldsWeightInSoundReport rs) report.lines) (sym at)
+          (each_sound_report_line (HoldsWeightInSoundReport records) report.lines (λ line there.
           let l = line_of line there in
           let interval_holds = holds.intervals line.prefix l.is_prefix in
           record {
@@ -263,26 +263,26 @@ report_is_sound cut lists phi report reports =
             high =
                 omega (arith, l.high, interval_holds.holds.high);
           }));
-      width = each_line (IsNarrowLine cut.capacity report.total) report.lines (λ line there.
+      width = each_sound_report_line (IsNarrowInSoundReport cut.capacity report.total) report.lines (λ line there.
           let l = line_of line there in
           subst (λ n. (n - line.lo) * cut.capacity ≤ report.total) (sym l.high)
-          (subst (λ n. (high_in cut line.prefix - n) * cut.capacity ≤ report.total) (sym l.low)
-          (subst (λ n. (high_in cut line.prefix - low_in cut line.prefix) * cut.capacity ≤ n) (sym is.total)
+          (subst (λ n. (report_high_in cut line.prefix - n) * cut.capacity ≤ report.total) (sym l.low)
+          (subst (λ n. (report_high_in cut line.prefix - report_low_in cut line.prefix) * cut.capacity ≤ n) (sym is.total)
           (holds.intervals line.prefix l.is_prefix).narrow)));
-      heavy = each_line (λ line. report.threshold ≤ line.hi) report.lines (λ line there. (line_of line there).heavy);
+      heavy = each_sound_report_line (λ line. report.threshold ≤ line.hi) report.lines (λ line there. (line_of line there).heavy);
       justified =
-          subst (λ rs. All (IsJustified cut.capacity report.threshold (prefixes_of report.lines) rs) report.lines)
+          subst (λ rs. All (IsJustifiedInSoundReport cut.capacity report.threshold (prefixes_of_lines report.lines) rs) report.lines)
           (sym at)
-          (each_line (IsJustified cut.capacity report.threshold (prefixes_of report.lines) records) report.lines
+          (each_sound_report_line (IsJustifiedInSoundReport cut.capacity report.threshold (prefixes_of_lines report.lines) records) report.lines
           (λ line there.
           let l = line_of line there in
-          holds.reached (low_in cut) (high_in cut) line.prefix (prefixes_of report.lines) records cut.capacity
+          holds.reached (report_low_in cut) (report_high_in cut) line.prefix (prefixes_of_lines report.lines) records cut.capacity
           (total_weight records) report.threshold
-          (distinct_prefixes holds.order report.lines reports.kept.rising)
-          (hold_asked cut lists holds line.prefix (prefixes_of report.lines) l.is_prefix prefixes)
-          (narrow_asked cut lists holds line.prefix (prefixes_of report.lines) l.is_prefix prefixes)
+          (sound_report_prefixes_differ holds.order report.lines reports.kept.rising)
+          (sound_report_intervals_hold cut lists holds line.prefix (prefixes_of_lines report.lines) l.is_prefix prefixes)
+          (sound_report_intervals_are_narrow cut lists holds line.prefix (prefixes_of_lines report.lines) l.is_prefix prefixes)
           l.unexplained));
       complete = λ prefix is_prefix missing.
-          subst (λ rs. conditioned_weight prefix (prefixes_of report.lines) rs < report.threshold) (sym at)
-          (left_out cut lists phi report reports prefix is_prefix missing);
+          subst (λ rs. conditioned_weight prefix (prefixes_of_lines report.lines) rs < report.threshold) (sym at)
+          (sound_report_leaves_out_light cut lists phi report reports prefix is_prefix missing);
     }

@@ -1,50 +1,50 @@
 -- The report of a cut (Mitzenmacher, Steinke, Thaler 2012): which prefixes are its lines.
 use Rattle.std.specs.Prelude.{ℕ, ◌≡◌, ◌≤◌, ◌↔◌, List, Contains, pos, ◌≤ℤ◌}
-use Rattle.prefix_lattice.specs.{PrefixValue, IsPrefix, node_of, key_of}
-use Rattle.shard_state.specs.{CutValue, positions_of, total_of_cut}
+use Rattle.prefix_lattice.specs.{PrefixValue, IsPrefix, node_of_prefix, prefix_key}
+use Rattle.shard_state.specs.{CutValue, cut_positions, total_of_cut}
 use Rattle.cut_merge.specs.{merged_interval_in, monitored_at}
 use Rattle.conditioned_bounds.specs.{bound_of}
 use Rattle.hhh_output.specs.declared.line.Line.{Line}
 use Rattle.hhh_output.specs.declared.report.Report.{Report}
-use Rattle.hhh_output.specs.Lines.{prefixes_of}
+use Rattle.hhh_output.specs.ReportLines.{prefixes_of_lines}
 use Rattle.hhh_output.specs.Threshold.{IsThreshold}
 
 -- some shard of the cut monitors the prefix at its node
-abbrev pub IsMonitored : CutValue → PrefixValue → Type 0
-IsMonitored cut prefix = Contains (monitored_at cut (node_of prefix)) (key_of prefix)
+abbrev pub IsMonitoredInReport : CutValue → PrefixValue → Type 0
+IsMonitoredInReport cut prefix = Contains (monitored_at cut (node_of_prefix prefix)) (prefix_key prefix)
 
 -- the low of a prefix in a cut
-abbrev pub low_in : CutValue → PrefixValue → ℕ
-low_in cut prefix = (merged_interval_in cut prefix).low
+abbrev pub report_low_in : CutValue → PrefixValue → ℕ
+report_low_in cut prefix = (merged_interval_in cut prefix).low
 
 -- the high of a prefix in a cut
-abbrev pub high_in : CutValue → PrefixValue → ℕ
-high_in cut prefix = (merged_interval_in cut prefix).high
+abbrev pub report_high_in : CutValue → PrefixValue → ℕ
+report_high_in cut prefix = (merged_interval_in cut prefix).high
 
 -- the bound of a prefix over some lines is at least the threshold
-abbrev pub IsUnexplained : CutValue → ℕ → List PrefixValue → PrefixValue → Type 0
-IsUnexplained cut threshold lines prefix = pos threshold ≤ℤ bound_of (low_in cut) (high_in cut) prefix lines
+abbrev pub IsUnexplainedInReport : CutValue → ℕ → List PrefixValue → PrefixValue → Type 0
+IsUnexplainedInReport cut threshold lines prefix = pos threshold ≤ℤ bound_of (report_low_in cut) (report_high_in cut) prefix lines
 
 -- the line of a prefix over these lines: it shows the merged interval of the prefix, which some shard monitors,
 -- which is heavy, and which the lines leave unexplained
-pub record IsLineOf (cut : CutValue) (threshold : ℕ) (lines : List PrefixValue) (line : Line) : Type 0 where
+pub record IsLineOfReport (cut : CutValue) (threshold : ℕ) (lines : List PrefixValue) (line : Line) : Type 0 where
   pub is_prefix : IsPrefix line.prefix
-  pub low : line.lo ≡ low_in cut line.prefix
-  pub high : line.hi ≡ high_in cut line.prefix
-  pub monitored : IsMonitored cut line.prefix
+  pub low : line.lo ≡ report_low_in cut line.prefix
+  pub high : line.hi ≡ report_high_in cut line.prefix
+  pub monitored : IsMonitoredInReport cut line.prefix
   pub heavy : threshold ≤ line.hi
-  pub unexplained : IsUnexplained cut threshold lines line.prefix
+  pub unexplained : IsUnexplainedInReport cut threshold lines line.prefix
 
 -- the report of a cut: its positions, its total, the threshold, and a line for exactly the prefixes
 -- that are heavy, monitored, and not explained by the lines themselves
 pub record IsReportOf (cut : CutValue) (phi : ℕ) (report : Report) : Type 0 where
-  pub positions : report.positions ≡ positions_of cut
+  pub positions : report.positions ≡ cut_positions cut
   pub total : report.total ≡ total_of_cut cut
   pub threshold : IsThreshold phi report.total report.threshold
-  pub lines : (line : Line) → Contains report.lines line ↔ IsLineOf cut report.threshold (prefixes_of report.lines) line
+  pub lines : (line : Line) → Contains report.lines line ↔ IsLineOfReport cut report.threshold (prefixes_of_lines report.lines) line
 
 -- two reports show the same positions, total, threshold and lines
-pub record AreSame (report other : Report) : Type 0 where
+pub record IsSameReport (report other : Report) : Type 0 where
   pub positions : report.positions ≡ other.positions
   pub total : report.total ≡ other.total
   pub threshold : report.threshold ≡ other.threshold

@@ -2,13 +2,13 @@
 use Rattle.std.specs.Prelude.{ℕ, ◌*◌, ◌≤◌}
 
 -- the parts of the whole: `phi` is a share in parts per million
-abbrev pub million : ℕ
-million = 1000000
+abbrev pub threshold_million : ℕ
+threshold_million = 1000000
 
 -- a weight that is heavy: at least 1, and at least `phi` parts per million of the total
 pub record IsHeavy (phi total weight : ℕ) : Type 0 where
   pub some : 1 ≤ weight
-  pub share : phi * total ≤ weight * million
+  pub share : phi * total ≤ weight * threshold_million
 
 -- the least weight that is heavy
 pub record IsThreshold (phi total threshold : ℕ) : Type 0 where
@@ -17,4 +17,4 @@ pub record IsThreshold (phi total threshold : ℕ) : Type 0 where
 
 -- tables of this capacity can't hide a prefix of this share, which is at least twice the greatest width of an interval
 abbrev pub IsWideShare : ℕ → ℕ → Type 0
-IsWideShare phi capacity = 2 * million ≤ phi * capacity
+IsWideShare phi capacity = 2 * threshold_million ≤ phi * capacity

@@ -1,13 +1,13 @@
 //! Laws of reports, each the contract of a function that does nothing.
 
 ghost use Rattle.std.specs.Prelude.{◌≡◌, ℕ, ◌≤◌, List, All, Some, length, slice_get};
-ghost use Rattle.prefix_lattice.specs.{RecordValue, weight_of};
-ghost use Rattle.shard_state.specs.{CutValue, IsCut, positions_of, CutRepresents, CoreValue, HasShape, records_before};
-ghost use Rattle.shard_state.specs.{AreNotPast, IsCore, capacity_of, run, BasesRepresent, ReadsEach, lists_of};
+ghost use Rattle.prefix_lattice.specs.{RecordValue, prefix_weight};
+ghost use Rattle.shard_state.specs.{CutValue, IsCut, cut_positions, CutRepresents, CoreValue, HasCoreShape, records_before_cut};
+ghost use Rattle.shard_state.specs.{AreCutPositionsNotPast, IsCore, core_capacity, run, CoreBasesRepresent, ReadsEachCoreShard, core_lists};
 ghost use Rattle.shard_state.specs.declared.event.Event.{Event};
 ghost use Rattle.hhh_output.specs.declared.report.Report.{Report};
-ghost use Rattle.hhh_output.specs.Lines.{AreLines};
-ghost use Rattle.hhh_output.specs.Report.{IsReportOf, AreSame};
+ghost use Rattle.hhh_output.specs.ReportLines.{AreReportLines};
+ghost use Rattle.hhh_output.specs.Report.{IsReportOf, IsSameReport};
 ghost use Rattle.hhh_output.specs.SoundReport.{IsSound};
 ghost use Rattle.hhh_output.specs.Threshold.{IsWideShare};
 
@@ -18,8 +18,8 @@ use shard_state::{runs_stand, snapshots_hold_weights, standing_cuts_are_equal};
 
 /// A cut has one report: two reports that meet the definition show the same.
 pub fn a_cut_has_one_report()
-    ensures { (cut : CutValue) (phi : ℕ) (report other : Report) → AreLines report.lines → AreLines other.lines
-        → IsReportOf cut phi report → IsReportOf cut phi other → AreSame report other }
+    ensures { (cut : CutValue) (phi : ℕ) (report other : Report) → AreReportLines report.lines → AreReportLines other.lines
+        → IsReportOf cut phi report → IsReportOf cut phi other → IsSameReport report other }
 {
     prefixes_are_ordered();
     report_order_is_total();
@@ -29,8 +29,8 @@ pub fn a_cut_has_one_report()
 /// these positions is the same, however the records were folded.
 pub fn standing_cuts_have_one_report()
     ensures { (cut other_cut : CutValue) (lists : List (List RecordValue)) (phi : ℕ) (report other : Report) → cut.capacity ≡ other_cut.capacity
-        → positions_of cut ≡ positions_of other_cut → CutRepresents cut lists → CutRepresents other_cut lists → AreLines report.lines → AreLines other.lines
-        → IsReportOf cut phi report → IsReportOf other_cut phi other → AreSame report other }
+        → cut_positions cut ≡ cut_positions other_cut → CutRepresents cut lists → CutRepresents other_cut lists → AreReportLines report.lines → AreReportLines other.lines
+        → IsReportOf cut phi report → IsReportOf other_cut phi other → IsSameReport report other }
 {
     standing_cuts_are_equal();
     a_cut_has_one_report();
@@ -39,7 +39,7 @@ pub fn standing_cuts_have_one_report()
 /// The report of a cut that represents lists of records is sound over them.
 pub fn reports_are_sound()
     ensures { (cut : CutValue) (lists : List (List RecordValue)) (phi : ℕ) (report : Report) → IsCut cut → CutRepresents cut lists
-        → All (λ list. All (λ rec. 1 ≤ rec.weight) list) lists → IsWideShare phi cut.capacity → AreLines report.lines
+        → All (λ list. All (λ rec. 1 ≤ rec.weight) list) lists → IsWideShare phi cut.capacity → AreReportLines report.lines
         → IsReportOf cut phi report → IsSound report lists cut.capacity phi }
 {
     report_order_is_total();
@@ -56,20 +56,20 @@ pub fn reports_are_sound()
 /// limit for what the earlier one counted.
 pub fn lines_bound_other_positions()
     ensures earlier { (report : Report) (lists : List (List RecordValue)) (capacity phi : ℕ) (positions : List ℕ) → IsSound report lists capacity phi
-        → AreNotPast positions report.positions → All (λ line. weight_of line.prefix (records_before lists positions) ≤ line.hi) report.lines }
+        → AreCutPositionsNotPast positions report.positions → All (λ line. prefix_weight line.prefix (records_before_cut lists positions) ≤ line.hi) report.lines }
     ensures later { (report : Report) (lists : List (List RecordValue)) (capacity phi : ℕ) (positions : List ℕ) → IsSound report lists capacity phi
-        → AreNotPast report.positions positions → All (λ line. line.lo ≤ weight_of line.prefix (records_before lists positions)) report.lines }
+        → AreCutPositionsNotPast report.positions positions → All (λ line. line.lo ≤ prefix_weight line.prefix (records_before_cut lists positions)) report.lines }
 {}
 
 /// After any events on the core, the report of each cut in which a caller read every shard is sound over the
 /// shards' lists, if the base of each shard represents its list.
 pub fn reports_of_the_core_are_sound()
     ensures { (core : CoreValue) (events : List Event) (caller : ℕ) (cut : CutValue) (phi : ℕ) (report : Report) → IsCore core.shards
-        → All (HasShape (length core.shards) (capacity_of core.shards)) core.cuts → BasesRepresent core.shards
-        → All (λ list. All (λ rec. 1 ≤ rec.weight) list) (lists_of core.shards)
-        → slice_get (run core events).cuts caller ≡ Some cut → ReadsEach caller core events → IsCut cut
-        → IsWideShare phi cut.capacity → AreLines report.lines → IsReportOf cut phi report
-        → IsSound report (lists_of core.shards) cut.capacity phi }
+        → All (HasCoreShape (length core.shards) (core_capacity core.shards)) core.cuts → CoreBasesRepresent core.shards
+        → All (λ list. All (λ rec. 1 ≤ rec.weight) list) (core_lists core.shards)
+        → slice_get (run core events).cuts caller ≡ Some cut → ReadsEachCoreShard caller core events → IsCut cut
+        → IsWideShare phi cut.capacity → AreReportLines report.lines → IsReportOf cut phi report
+        → IsSound report (core_lists core.shards) cut.capacity phi }
 {
     runs_stand();
     reports_are_sound();

@@ -11,11 +11,11 @@ pub(crate) struct MergedIntervals<'a> {
 }
 
 impl Intervals for MergedIntervals<'_> {
-    ghost use Rattle.hhh_output.specs.Selecting.{merged_low, merged_high};
+    ghost use Rattle.hhh_output.specs.Selecting.{selecting_low, selecting_high};
 
-    ghost low = { λ s. merged_low s.merged.now };
+    ghost low = { λ s. selecting_low s.merged.now };
 
-    ghost high = { λ s. merged_high s.merged.now };
+    ghost high = { λ s. selecting_high s.merged.now };
 
     fn interval(&self, prefix: &Prefix) -> (u64, u64) {
         self.merged.interval(prefix)

@@ -1,6 +1,6 @@
 //! A report.
 
-ghost use Rattle.hhh_output.specs.Lines.{AreLines};
+ghost use Rattle.hhh_output.specs.ReportLines.{AreReportLines};
 
 use crate::Lines;
 use shard_state::Positions;
@@ -17,5 +17,5 @@ pub struct Report {
     /// The lines, in the order of a report: the level falls, then the source address rises, then its kept
     /// bytes, then the destination address.
     pub lines: Lines,
-    ghost are_lines: { AreLines lines },
+    ghost are_lines: { AreReportLines lines },
 }

@@ -5,7 +5,7 @@ ghost use Rattle.prefix_lattice.specs.{RecordValue, total_limit};
 ghost use Rattle.shard_state.specs.{total_of_cut, CutRepresents};
 ghost use Rattle.hhh_output.specs.Report.{IsReportOf};
 ghost use Rattle.hhh_output.specs.SoundReport.{IsSound};
-ghost use Rattle.hhh_output.specs.Threshold.{million, IsWideShare};
+ghost use Rattle.hhh_output.specs.Threshold.{threshold_million, IsWideShare};
 
 use crate::selecting::select_lines;
 use crate::{Report, reports_are_sound, threshold};
@@ -26,7 +26,7 @@ use std::alloc::{AllocError, Global};
 /// tables counted is below 2^60. The only error is that memory runs out.
 pub fn report_of(alloc: Global, cut: &Cut, phi: u32) -> Result<Report, AllocError>
     requires some { 1 ≤ phi }
-    requires most { phi ≤ million }
+    requires most { phi ≤ threshold_million }
     requires wide { IsWideShare phi cut.now.capacity }
     requires bounded { total_of_cut cut.now < total_limit }
     ensures report { IfOk result (IsReportOf cut.now phi) }

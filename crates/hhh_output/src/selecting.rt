@@ -3,12 +3,12 @@
 
 ghost use Rattle.std.specs.Prelude.{◌≡◌, ◌≢◌, ◌+◌, ◌≤◌, ◌<◌, ◌^◌, ◌↔◌, ◌⊎◌, [], ◌++◌, length, All, AllPairs, Contains, IfOk, OnOk, Some};
 ghost use Rattle.std.specs.Option.{option_to_list};
-ghost use Rattle.prefix_lattice.specs.{IsNode, level_of, node_of};
-ghost use Rattle.cut_merge.specs.{candidates_at};
-ghost use Rattle.conditioned_bounds.specs.{line_limit};
+ghost use Rattle.prefix_lattice.specs.{IsNode, node_level, node_of_prefix};
+ghost use Rattle.cut_merge.specs.{merged_candidates_at};
+ghost use Rattle.conditioned_bounds.specs.{member_limit};
 ghost use Rattle.hhh_output.specs.declared.line.Line.{Line as LineValue};
-ghost use Rattle.hhh_output.specs.Lines.{prefixes_of};
-ghost use Rattle.hhh_output.specs.Selecting.{IsMergedLine, IsSelected, AreCandidates, AreDistinct, AreOfLevel, AreDownTo};
+ghost use Rattle.hhh_output.specs.ReportLines.{prefixes_of_lines};
+ghost use Rattle.hhh_output.specs.Selecting.{CanSelectLine, IsSelected, AreCandidatesToSelect, SelectedAreDistinct, AreSelectedOfLevel, AreSelectedDownTo};
 
 use crate::merged_intervals::MergedIntervals;
 use crate::{Line, Lines};
@@ -25,8 +25,8 @@ pub(crate) fn select_lines(
     merged: &Merged,
     threshold: u64,
 ) -> Result<Lines, AllocError>
-    requires { AreCandidates merged.now }
-    ensures { IfOk result (λ lines. AreDownTo merged.now threshold 9 lines) }
+    requires { AreCandidatesToSelect merged.now }
+    ensures { IfOk result (λ lines. AreSelectedDownTo merged.now threshold 9 lines) }
 {
     prefixes_are_ordered();
     report_order_is_total();
@@ -41,10 +41,10 @@ pub(crate) fn select_lines(
 
 // Appends lines, and their prefixes.
 fn append(lines: &mut Lines, reported: &mut LineIndex, found: &[Line]) -> Result<(), AllocError>
-    requires distinct { AllPairs (λ prefix other. prefix ≢ other) (reported.old ++ prefixes_of found.now) }
-    requires few { length reported.old + length found.now < line_limit }
+    requires distinct { AllPairs (λ prefix other. prefix ≢ other) (reported.old ++ prefixes_of_lines found.now) }
+    requires few { length reported.old + length found.now < member_limit }
     ensures lines { OnOk result (lines.new ≡ lines.old ++ found.now) }
-    ensures prefixes { OnOk result (reported.new ≡ reported.old ++ prefixes_of found.now) }
+    ensures prefixes { OnOk result (reported.new ≡ reported.old ++ prefixes_of_lines found.now) }
 {
     for line in found {
         lines.push(*line)?;
@@ -61,8 +61,8 @@ fn select_level(
     reported: &LineIndex,
     level: u8,
 ) -> Result<Vec<Line>, AllocError>
-    requires { AreCandidates merged.now }
-    ensures { IfOk result (λ found. AreOfLevel merged.now threshold reported.now level found.items) }
+    requires { AreCandidatesToSelect merged.now }
+    ensures { IfOk result (λ found. AreSelectedOfLevel merged.now threshold reported.now level found.items) }
 {
     prefixes_are_ordered();
     report_order_is_total();
@@ -87,13 +87,13 @@ fn select_at(
     found: &mut Vec<Line>,
 ) -> Result<(), AllocError>
     requires is_node { IsNode node }
-    requires candidates { AreCandidates merged.now }
-    requires apart { All (λ line. node_of line.prefix ≢ node) found.old.items }
-    requires distinct { AreDistinct found.old.items }
+    requires candidates { AreCandidatesToSelect merged.now }
+    requires apart { All (λ line. node_of_prefix line.prefix ≢ node) found.old.items }
+    requires distinct { SelectedAreDistinct found.old.items }
     ensures members { OnOk result ((line : LineValue) → Contains found.new.items line
-        ↔ (Contains found.old.items line ⊎ ((node_of line.prefix ≡ node) × IsSelected merged.now threshold reported.now line))) }
-    ensures distinct { OnOk result (AreDistinct found.new.items) }
-    ensures few { OnOk result (length found.new.items ≤ length found.old.items + length (candidates_at merged.now node)) }
+        ↔ (Contains found.old.items line ⊎ ((node_of_prefix line.prefix ≡ node) × IsSelected merged.now threshold reported.now line))) }
+    ensures distinct { OnOk result (SelectedAreDistinct found.new.items) }
+    ensures few { OnOk result (length found.new.items ≤ length found.old.items + length (merged_candidates_at merged.now node)) }
 {
     for key in merged.candidates(node) {
         let prefix = Prefix::from_key(*key, node).unwrap();
@@ -121,7 +121,7 @@ fn line_for(
     prefix: Prefix,
 ) -> Result<Option<Line>, AllocError>
     ensures asked { IfOk result (λ found. (line : LineValue) → line.prefix ≡ prefix
-        → (found ≡ Some line) ↔ IsMergedLine merged.now threshold reported.now line) }
+        → (found ≡ Some line) ↔ CanSelectLine merged.now threshold reported.now line) }
     ensures prefix { IfOk result (λ found. (line : LineValue) → found ≡ Some line → line.prefix ≡ prefix) }
 {
     if merged.at_most(&prefix) < threshold {

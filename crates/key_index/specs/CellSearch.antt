@@ -4,16 +4,16 @@ use Rattle.key_index.specs.declared.searching.End.{End}
 use Rattle.key_index.specs.declared.searching.End.TheVariants.{At, Free, Past}
 
 -- the cell holds the place of another key
-abbrev pub IsOther : List ℕ → List ℕ → ℕ → ℕ → Type 0
-IsOther marks keys key cell = (slice_index marks cell ≢ 0) × (slice_index keys (slice_index marks cell - 1) ≢ key)
+abbrev pub SearchPassesCell : List ℕ → List ℕ → ℕ → ℕ → Type 0
+SearchPassesCell marks keys key cell = (slice_index marks cell ≢ 0) × (slice_index keys (slice_index marks cell - 1) ≢ key)
 
 -- each of these cells holds the place of another key
-abbrev pub AreOthers : List ℕ → List ℕ → ℕ → ℕ → ℕ → Type 0
-AreOthers marks keys key from to = (cell : ℕ) → from ≤ cell → cell < to → IsOther marks keys key cell
+abbrev pub SearchPassesCells : List ℕ → List ℕ → ℕ → ℕ → ℕ → Type 0
+SearchPassesCells marks keys key from to = (cell : ℕ) → from ≤ cell → cell < to → SearchPassesCell marks keys key cell
 
 -- at the place of the key, at the first free cell after others, or past them all
-abbrev pub EndsAt : End → List ℕ → List ℕ → ℕ → ℕ → ℕ → Type 0
-EndsAt (At place) marks keys key from to = (place < length keys) × (slice_index keys place ≡ key)
-EndsAt Free marks keys key from to =
-    (cell : ℕ) × (from ≤ cell) × (cell < to) × (slice_index marks cell ≡ 0) × AreOthers marks keys key from cell
-EndsAt Past marks keys key from to = AreOthers marks keys key from to
+abbrev pub SearchEndsAt : End → List ℕ → List ℕ → ℕ → ℕ → ℕ → Type 0
+SearchEndsAt (At place) marks keys key from to = (place < length keys) × (slice_index keys place ≡ key)
+SearchEndsAt Free marks keys key from to =
+    (cell : ℕ) × (from ≤ cell) × (cell < to) × (slice_index marks cell ≡ 0) × SearchPassesCells marks keys key from cell
+SearchEndsAt Past marks keys key from to = SearchPassesCells marks keys key from to

@@ -8,8 +8,8 @@ pub record Cells : Type 0 where
   pub marks : List ℕ
 
 -- no cell holds a place beyond these
-abbrev pub AreBelow : ℕ → List ℕ → Type 0
-AreBelow count marks = All (λ mark. mark ≤ count) marks
+abbrev pub AreCellsBelow : ℕ → List ℕ → Type 0
+AreCellsBelow count marks = All (λ mark. mark ≤ count) marks
 
 -- eight homes for each key, and after them as many cells as may be filled, one window and one free cell; what lies
 -- past the cells that can have been filled is free

@@ -1,6 +1,6 @@
-pub use Rattle.key_index.specs.KeyIndex.{Keys}
+pub use Rattle.key_index.specs.KeyIndex.{IndexedKeys}
 pub mod KeyIndex
 -- within the crate
-pub mod Paths
+pub mod CellPaths
 pub mod Cells
 pub mod CellSearch

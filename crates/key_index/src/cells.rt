@@ -1,8 +1,8 @@
 //! The cells of an index, which are only ever filled, until all are emptied at once.
 
 ghost use Rattle.std.specs.Prelude.{◌≡◌, ◌+◌, ◌*◌, ◌^◌, ◌<◌, ◌≤◌, ◌↔◌, ℕ, IfOk, IfSome, IfNone, IsTrue, false, length, replicate, slice_index};
-ghost use Rattle.key_index.specs.Cells.{AreBelow};
-ghost use Rattle.key_index.specs.Paths.{IsFound, leads_to, path};
+ghost use Rattle.key_index.specs.Cells.{AreCellsBelow};
+ghost use Rattle.key_index.specs.CellPaths.{CellPathFinds, cell_path_leads_to, cell_path};
 
 use crate::homes::HOMES_A_KEY;
 use crate::searching::{free_cell, place_of};
@@ -50,11 +50,11 @@ impl KeyCells {
 
     /// The place of the key, if a search for each key comes to its place.
     pub(crate) fn find(&self, keys: &[u64], key: u64) -> Option<usize>
-        requires { AreBelow (length keys.now) self.now.marks }
+        requires { AreCellsBelow (length keys.now) self.now.marks }
         ensures within { IfSome result (λ place. place < length keys.now) }
         ensures found { IfSome result (λ place. slice_index keys.now place ≡ key) }
         ensures missing { IfNone result ((place : ℕ) → slice_index keys.now place ≡ key
-            → leads_to (path self.now.room key) self.now.marks place ≡ false) }
+            → cell_path_leads_to (cell_path self.now.room key) self.now.marks place ≡ false) }
     {
         place_of(&self.marks, keys, key, self.room)
     }
@@ -72,10 +72,10 @@ impl KeyCells {
         requires room { self.old.fills < 2 * self.old.room }
         ensures room { self.new.room ≡ self.old.room }
         ensures fills { self.new.fills ≡ self.old.fills + 1 }
-        ensures entered { IsFound self.new.room self.new.marks key place }
-        ensures kept { (known earlier : ℕ) → IsFound self.old.room self.old.marks known earlier
-            → IsFound self.old.room self.new.marks known earlier }
-        ensures below { (count : ℕ) → place < count → AreBelow count self.old.marks → AreBelow count self.new.marks }
+        ensures entered { CellPathFinds self.new.room self.new.marks key place }
+        ensures kept { (known earlier : ℕ) → CellPathFinds self.old.room self.old.marks known earlier
+            → CellPathFinds self.old.room self.new.marks known earlier }
+        ensures below { (count : ℕ) → place < count → AreCellsBelow count self.old.marks → AreCellsBelow count self.new.marks }
     {
         let cell = free_cell(&self.marks, key, self.room);
         self.marks[cell] = (place + 1) as u16;

@@ -1,7 +1,7 @@
 //! The index as a list of keys.
 
 ghost use Rattle.std.specs.Prelude.{◌≡◌, ◌≢◌, ◌+◌, ◌*◌, ◌^◌, ◌<◌, ◌≤◌, ◌++◌, ◌∷◌, [], ℕ, All, IfOk, MatchOption, Some, length, slice_get, slice_set};
-ghost use Rattle.key_index.specs.KeyIndex.{IsFilled, IsFilledBut};
+ghost use Rattle.key_index.specs.KeyIndex.{IsKeyIndexFilled, IsKeyIndexFilledBut};
 
 use crate::cells::KeyCells;
 use std::alloc::{AllocError, Global};
@@ -17,13 +17,13 @@ pub struct KeyIndex {
 
 impl Model for KeyIndex {
     ghost use Rattle.std.specs.Prelude.{vec_capacity};
-    ghost use Rattle.key_index.specs.KeyIndex.{Keys, IsIndex};
+    ghost use Rattle.key_index.specs.KeyIndex.{IndexedKeys, IsKeyIndex};
 
-    ghost Value = { Keys };
+    ghost Value = { IndexedKeys };
 
     ghost view = { λ i. record { room = i.room; keys = i.keys.items } };
 
-    ghost invariant = { λ i. IsIndex i.room (vec_capacity i.keys) i.keys.items i.cells };
+    ghost invariant = { λ i. IsKeyIndex i.room (vec_capacity i.keys) i.keys.items i.cells };
 }
 
 impl KeyIndex {
@@ -74,8 +74,8 @@ impl KeyIndex {
 // whose place has another key by now is given back by that alone.
 fn enter(cells: &mut KeyCells, keys: &[u64], place: usize)
     requires within { place < length keys.now }
-    requires filled { IsFilledBut place cells.old.room keys.now cells.old }
-    ensures { IsFilled cells.old.room keys.now cells.new }
+    requires filled { IsKeyIndexFilledBut place cells.old.room keys.now cells.old }
+    ensures { IsKeyIndexFilled cells.old.room keys.now cells.new }
 {
     if cells.are_used_up() {
         enter_all(cells, keys);
@@ -88,7 +88,7 @@ fn enter(cells: &mut KeyCells, keys: &[u64], place: usize)
 fn enter_all(cells: &mut KeyCells, keys: &[u64])
     requires few { length keys.now ≤ cells.old.room }
     requires room { cells.old.room < 2 ^ 16 }
-    ensures { IsFilled cells.old.room keys.now cells.new }
+    ensures { IsKeyIndexFilled cells.old.room keys.now cells.new }
 {
     cells.clear();
     for (place, key) in keys.iter().enumerate() {

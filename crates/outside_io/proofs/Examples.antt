@@ -1,39 +1,39 @@
 -- Worked examples of the definitions, most by computing.
 use Rattle.std.proofs.Common.{ℕ, ◌≡◌, ◌-◌, ◌^◌, [], ◌∷◌, length, length-append, ap, None, Some, Ok, Err, true}
 use Rattle.std.proofs.Common.{false, refl, arith}
-use Rattle.outside_io.specs.Faults.{counted, Rose, FailsByFault}
+use Rattle.outside_io.specs.FaultCounts.{next_fault_count, FaultCountRose, FailsByFaultCount}
 use Rattle.outside_io.specs.Pieces.{IsBeginning, AppendsBeginning}
-use Rattle.outside_io.specs.MemorySink.{MemorySinkState, room_left, write_fails, accepted, sink_after_fault}
-use Rattle.outside_io.specs.MemorySink.{sink_after_bytes}
-use Rattle.outside_io.specs.MemorySource.{MemorySourceState, read_fails, given, source_after_fault, source_after_bytes}
+use Rattle.outside_io.specs.MemorySink.{MemorySinkState, memory_sink_room_left, memory_sink_write_fails, accepted_by_memory_sink, memory_sink_after_fault}
+use Rattle.outside_io.specs.MemorySink.{memory_sink_after_bytes}
+use Rattle.outside_io.specs.MemorySource.{MemorySourceState, memory_source_call_fails, given_by_memory_source, memory_source_after_fault, memory_source_after_bytes}
 
-pub first_fault_is_counted : counted 0 ≡ 1
+pub first_fault_is_counted : next_fault_count 0 ≡ 1
 first_fault_is_counted = refl
 
-pub greatest_count_stays : counted (2 ^ 64 - 1) ≡ 2 ^ 64 - 1
+pub greatest_count_stays : next_fault_count (2 ^ 64 - 1) ≡ 2 ^ 64 - 1
 greatest_count_stays = refl
 
-pub count_that_rose : Rose 3 4
+pub count_that_rose : FaultCountRose 3 4
 count_that_rose = omega arith
 
 -- at its greatest number a count rose though it stays
-pub greatest_count_rose : Rose (2 ^ 64 - 1) (2 ^ 64 - 1)
+pub greatest_count_rose : FaultCountRose (2 ^ 64 - 1) (2 ^ 64 - 1)
 greatest_count_rose = omega arith
 
-pub count_that_stays_did_not_rise : Rose 3 3 → ⊥
+pub count_that_stays_did_not_rise : FaultCountRose 3 3 → ⊥
 count_that_stays_did_not_rise rose = omega (arith, rose)
 
 -- a call that failed, by the third fault
-pub call_that_failed : FailsByFault {T = ℕ} {E = ℕ} 2 3 (Err 7)
+pub call_that_failed : FailsByFaultCount {T = ℕ} {E = ℕ} 2 3 (Err 7)
 call_that_failed = record { later = omega arith; failed = omega arith; kept = tt }
 
-pub call_that_went_well : FailsByFault {T = ℕ} {E = ℕ} 2 2 (Ok 7)
+pub call_that_went_well : FailsByFaultCount {T = ℕ} {E = ℕ} 2 2 (Ok 7)
 call_that_went_well = record { later = omega arith; failed = tt; kept = refl }
 
-pub no_call_fails_without_a_fault : FailsByFault {T = ℕ} {E = ℕ} 2 2 (Err 7) → ⊥
+pub no_call_fails_without_a_fault : FailsByFaultCount {T = ℕ} {E = ℕ} 2 2 (Err 7) → ⊥
 no_call_fails_without_a_fault said = omega (arith, said.failed)
 
-pub no_fault_is_hidden_by_an_answer : FailsByFault {T = ℕ} {E = ℕ} 2 3 (Ok 7) → ⊥
+pub no_fault_is_hidden_by_an_answer : FailsByFaultCount {T = ℕ} {E = ℕ} 2 3 (Ok 7) → ⊥
 no_fault_is_hidden_by_an_answer said = omega (arith, said.kept)
 
 pub beginning_of_a_list : IsBeginning {X = ℕ} (7 ∷ []) (7 ∷ 8 ∷ [])
@@ -57,34 +57,34 @@ empty_text_is_never_cut_off said = omega (arith, said.cut)
 abbrev sink : MemorySinkState
 sink = record { taken = 1 ∷ 2 ∷ []; room = 3; fails = 4 ∷ []; calls = 3; faults = 0 }
 
-pub room_that_is_left : room_left sink ≡ 1
+pub room_that_is_left : memory_sink_room_left sink ≡ 1
 room_that_is_left = refl
 
-pub piece_that_fits_in_part : write_fails sink 5 ≡ false
+pub piece_that_fits_in_part : memory_sink_write_fails sink 5 ≡ false
 piece_that_fits_in_part = refl
 
-pub bytes_accepted : accepted sink 5 ≡ 1
+pub bytes_accepted : accepted_by_memory_sink sink 5 ≡ 1
 bytes_accepted = refl
 
-pub sink_after_a_byte : sink_after_bytes sink (7 ∷ 8 ∷ []) 1
+pub sink_after_a_byte : memory_sink_after_bytes sink (7 ∷ 8 ∷ []) 1
     ≡ record { taken = 1 ∷ 2 ∷ 7 ∷ []; room = 3; fails = 4 ∷ []; calls = 4; faults = 0 }
 sink_after_a_byte = refl
 
 -- the call number 4 fails, whatever the piece
-pub told_call_fails : write_fails (sink_after_bytes sink (7 ∷ 8 ∷ []) 1) 0 ≡ true
+pub told_call_fails : memory_sink_write_fails (memory_sink_after_bytes sink (7 ∷ 8 ∷ []) 1) 0 ≡ true
 told_call_fails = refl
 
 -- a sink that is full, of whose calls none is to fail
 abbrev full_sink : MemorySinkState
 full_sink = record { taken = 1 ∷ 2 ∷ 3 ∷ []; room = 3; fails = []; calls = 3; faults = 0 }
 
-pub full_sink_fails : write_fails full_sink 1 ≡ true
+pub full_sink_fails : memory_sink_write_fails full_sink 1 ≡ true
 full_sink_fails = refl
 
-pub full_sink_takes_an_empty_piece : write_fails full_sink 0 ≡ false
+pub full_sink_takes_an_empty_piece : memory_sink_write_fails full_sink 0 ≡ false
 full_sink_takes_an_empty_piece = refl
 
-pub sink_with_one_fault : sink_after_fault sink
+pub sink_with_one_fault : memory_sink_after_fault sink
     ≡ record { taken = 1 ∷ 2 ∷ []; room = 3; fails = 4 ∷ []; calls = 4; faults = 1 }
 sink_with_one_fault = refl
 
@@ -92,23 +92,23 @@ sink_with_one_fault = refl
 abbrev source : MemorySourceState
 source = record { left = 1 ∷ 2 ∷ 3 ∷ []; fails = 0 ∷ []; step = 2; calls = 0; faults = 0 }
 
-pub first_call_fails : read_fails source ≡ true
+pub first_call_fails : memory_source_call_fails source ≡ true
 first_call_fails = refl
 
-pub source_with_one_fault : source_after_fault source
+pub source_with_one_fault : memory_source_after_fault source
     ≡ record { left = 1 ∷ 2 ∷ 3 ∷ []; fails = 0 ∷ []; step = 2; calls = 1; faults = 1 }
 source_with_one_fault = refl
 
-pub second_call_gives : read_fails (source_after_fault source) ≡ false
+pub second_call_gives : memory_source_call_fails (memory_source_after_fault source) ≡ false
 second_call_gives = refl
 
-pub bytes_given : given source 10 ≡ 2
+pub bytes_given : given_by_memory_source source 10 ≡ 2
 bytes_given = refl
 
-pub source_after_two_bytes : source_after_bytes source 2
+pub source_after_two_bytes : memory_source_after_bytes source 2
     ≡ record { left = 3 ∷ []; fails = 0 ∷ []; step = 2; calls = 1; faults = 0 }
 source_after_two_bytes = refl
 
 -- with one byte left no more is given, whatever the step and the room
-pub last_byte_given : given (source_after_bytes source 2) 10 ≡ 1
+pub last_byte_given : given_by_memory_source (memory_source_after_bytes source 2) 10 ≡ 1
 last_byte_given = refl

@@ -1,3 +1,3 @@
-pub mod PieceLemmas
+pub mod SentTextLemmas
 pub mod MemorySourceLemmas
 pub mod Examples

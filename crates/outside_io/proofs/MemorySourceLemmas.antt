@@ -5,16 +5,16 @@ use Rattle.std.proofs.lemmas.List.{take_at}
 use Rattle.std.proofs.Math.ListN.{drop_of_length-le}
 
 -- the bytes left are those given, as they stand in the caller's room, and those that stay
-pub given_then_left : (left room filled after : List ℕ) (count : ℕ) → count ≤ length left
+pub memory_source_given_and_left : (left room filled after : List ℕ) (count : ℕ) → count ≤ length left
     → filled ≡ take count left ++ drop count room → after ≡ drop count left → left ≡ take count filled ++ after
-given_then_left left room filled after count fits is_filled is_after =
+memory_source_given_and_left left room filled after count fits is_filled is_after =
     let front : take count (take count left ++ drop count room) ≡ take count left =
     take_at (take count left) (drop count room) count (length-take-le count left fits) in
     sym (ap (λ l. take count l ++ after) is_filled ∙ ap (λ l. l ++ after) front
     ∙ ap (λ l. take count left ++ l) is_after ∙ take-append-drop count left)
 
 -- a call with room that gives nothing meets the end
-pub none_at_end : (left after : List ℕ) (step room count : ℕ) → 1 ≤ step → 0 < room
+pub memory_source_none_at_end : (left after : List ℕ) (step room count : ℕ) → 1 ≤ step → 0 < room
     → count ≡ min (min step room) (length left) → count ≡ 0 → after ≡ drop count left → after ≡ []
-none_at_end left after step room count has_step has_room is_count none is_after =
+memory_source_none_at_end left after step room count has_step has_room is_count none is_after =
     is_after ∙ drop_of_length-le left (omega arith)

@@ -1,7 +1,7 @@
-pub mod Faults
+pub mod FaultCounts
 pub mod MemorySink
 pub mod MemorySource
 pub mod Pieces
 -- the face: what contracts of other crates cite
-pub use Rattle.outside_io.specs.Faults.{FailsByFault, Rose, counted}
+pub use Rattle.outside_io.specs.FaultCounts.{FailsByFaultCount, FaultCountRose, next_fault_count}
 pub use Rattle.outside_io.specs.Pieces.{AppendsBeginning, IsBeginning}

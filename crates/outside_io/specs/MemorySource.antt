@@ -1,7 +1,7 @@
 -- The state of a source in memory, as tests see it.
 use Rattle.std.specs.Prelude.{ℕ, List, Bool, ◌==◌, min, length, drop}
 use Rattle.std.specs.List.{list_any}
-use Rattle.outside_io.specs.Faults.{counted}
+use Rattle.outside_io.specs.FaultCounts.{next_fault_count}
 
 -- the remaining bytes, the numbers of the calls that fail, the most bytes of a call, the counts of calls and of faults
 pub record MemorySourceState : Type 0 where
@@ -12,17 +12,17 @@ pub record MemorySourceState : Type 0 where
   pub faults : ℕ
 
 -- whether the next call is one of those that fail
-abbrev pub read_fails : MemorySourceState → Bool
-read_fails s = list_any (λ number. number == s.calls) s.fails
+abbrev pub memory_source_call_fails : MemorySourceState → Bool
+memory_source_call_fails s = list_any (λ number. number == s.calls) s.fails
 
 -- how many bytes a call with this much room gives, if it doesn't fail
-abbrev pub given : MemorySourceState → ℕ → ℕ
-given s room = min (min s.step room) (length s.left)
+abbrev pub given_by_memory_source : MemorySourceState → ℕ → ℕ
+given_by_memory_source s room = min (min s.step room) (length s.left)
 
 -- the source after a call that failed
-abbrev pub source_after_fault : MemorySourceState → MemorySourceState
-source_after_fault s = record s { calls = counted s.calls; faults = counted s.faults }
+abbrev pub memory_source_after_fault : MemorySourceState → MemorySourceState
+memory_source_after_fault s = record s { calls = next_fault_count s.calls; faults = next_fault_count s.faults }
 
 -- the source after a call that gave this many bytes
-abbrev pub source_after_bytes : MemorySourceState → ℕ → MemorySourceState
-source_after_bytes s count = record s { left = drop count s.left; calls = counted s.calls }
+abbrev pub memory_source_after_bytes : MemorySourceState → ℕ → MemorySourceState
+memory_source_after_bytes s count = record s { left = drop count s.left; calls = next_fault_count s.calls }

@@ -2,8 +2,8 @@
 
 ghost use Rattle.std.specs.Prelude.{◌≡◌, ◌≤◌, ◌<◌, [], length, is_err, IfOk, OnErr, Some};
 ghost use Rattle.std.specs.Io.KnownBytes.{WriteAppends};
-ghost use Rattle.outside_io.specs.Faults.{FailsByFault};
-ghost use Rattle.outside_io.specs.MemorySink.{write_fails, accepted, sink_after_fault, sink_after_bytes};
+ghost use Rattle.outside_io.specs.FaultCounts.{FailsByFaultCount};
+ghost use Rattle.outside_io.specs.MemorySink.{memory_sink_write_fails, accepted_by_memory_sink, memory_sink_after_fault, memory_sink_after_bytes};
 
 use crate::{Failed, Sink};
 use std::alloc::{AllocError, Global};
@@ -69,12 +69,12 @@ impl Sink for MemorySink {
         ensures fits { IfOk result (λ count. count ≤ length bytes.now) }
         ensures takes_some { IfOk result (λ count. 0 < length bytes.now → 0 < count) }
         ensures appended { WriteAppends (Some self.old.taken) (Some self.new.taken) result bytes.now }
-        ensures cause { FailsByFault self.old.faults self.new.faults result }
+        ensures cause { FailsByFaultCount self.old.faults self.new.faults result }
 
-        ensures fails { is_err result ≡ write_fails self.old (length bytes.now) }
-        ensures failed { OnErr result (self.new ≡ sink_after_fault self.old) }
-        ensures count { IfOk result (λ count. count ≡ accepted self.old (length bytes.now)) }
-        ensures took { IfOk result (λ count. self.new ≡ sink_after_bytes self.old bytes.now count) }
+        ensures fails { is_err result ≡ memory_sink_write_fails self.old (length bytes.now) }
+        ensures failed { OnErr result (self.new ≡ memory_sink_after_fault self.old) }
+        ensures count { IfOk result (λ count. count ≡ accepted_by_memory_sink self.old (length bytes.now)) }
+        ensures took { IfOk result (λ count. self.new ≡ memory_sink_after_bytes self.old bytes.now count) }
     {
         let left = self.room - self.taken.len();
         let fails = self.fails.contains(&self.calls) || (left == 0 && !bytes.is_empty());

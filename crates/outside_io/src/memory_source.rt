@@ -2,8 +2,8 @@
 
 ghost use Rattle.std.specs.Prelude.{◌≡◌, ◌≤◌, ◌++◌, [], length, take, drop, is_err, IfOk, OnErr, None, Some};
 ghost use Rattle.std.specs.Io.KnownBytes.{ReadConsumes};
-ghost use Rattle.outside_io.specs.Faults.{FailsByFault};
-ghost use Rattle.outside_io.specs.MemorySource.{read_fails, given, source_after_fault, source_after_bytes};
+ghost use Rattle.outside_io.specs.FaultCounts.{FailsByFaultCount};
+ghost use Rattle.outside_io.specs.MemorySource.{memory_source_call_fails, given_by_memory_source, memory_source_after_fault, memory_source_after_bytes};
 
 use crate::{Failed, Source};
 use std::marker::Model;
@@ -64,13 +64,13 @@ impl Source for MemorySource {
         ensures fits { IfOk result (λ count. count ≤ length into.old) }
         ensures later_places { IfOk result (λ count. drop count into.new ≡ drop count into.old) }
         ensures first_bytes { ReadConsumes (Some self.old.left) (Some self.new.left) result into.new }
-        ensures cause { FailsByFault self.old.faults self.new.faults result }
+        ensures cause { FailsByFaultCount self.old.faults self.new.faults result }
 
-        ensures fails { is_err result ≡ read_fails self.old }
-        ensures failed { OnErr result (self.new ≡ source_after_fault self.old) }
+        ensures fails { is_err result ≡ memory_source_call_fails self.old }
+        ensures failed { OnErr result (self.new ≡ memory_source_after_fault self.old) }
         ensures untouched { OnErr result (into.new ≡ into.old) }
-        ensures count { IfOk result (λ count. count ≡ given self.old (length into.old)) }
-        ensures gave { IfOk result (λ count. self.new ≡ source_after_bytes self.old count) }
+        ensures count { IfOk result (λ count. count ≡ given_by_memory_source self.old (length into.old)) }
+        ensures gave { IfOk result (λ count. self.new ≡ memory_source_after_bytes self.old count) }
     {
         let fails = self.fails.contains(&self.calls);
         self.calls = self.calls.saturating_add(1);

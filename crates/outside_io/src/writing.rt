@@ -2,7 +2,7 @@
 
 ghost use Rattle.std.specs.Prelude.{OnOk, OnErr};
 ghost use Rattle.std.specs.Io.KnownBytes.{Appends};
-ghost use Rattle.outside_io.specs.Faults.{FailsByFault};
+ghost use Rattle.outside_io.specs.FaultCounts.{FailsByFaultCount};
 ghost use Rattle.outside_io.specs.Pieces.{AppendsBeginning};
 
 use crate::{Failed, Sink};
@@ -12,7 +12,7 @@ use crate::{Failed, Sink};
 pub fn write_all<K: Sink>(sink: &mut K, bytes: &[u8]) -> Result<(), Failed>
     ensures whole { OnOk result (Appends (K.taken sink.old) (K.taken sink.new) bytes.now) }
     ensures beginning { OnErr result (AppendsBeginning (K.taken sink.old) (K.taken sink.new) bytes.now) }
-    ensures cause { FailsByFault (K.faults sink.old) (K.faults sink.new) result }
+    ensures cause { FailsByFaultCount (K.faults sink.old) (K.faults sink.new) result }
 {
     let mut rest = bytes;
     while !rest.is_empty() {

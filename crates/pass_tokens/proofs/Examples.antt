@@ -5,15 +5,15 @@ use Rattle.std.specs.Prelude.{slice_index}
 use Rattle.std.proofs.lemmas.List.Elements.{All-from_recursion}
 use Rattle.std.proofs.lemmas.Option.{same_Some}
 use Rattle.prefix_lattice.specs.{RecordValue}
-use Rattle.shard_state.specs.{ShardValue, empty_snapshot, folded, state_at}
+use Rattle.shard_state.specs.{ShardValue, empty_snapshot, folded_shard, shard_state_at}
 use Rattle.shard_state.specs.declared.shard_state.Folded.{Folded}
-use Rattle.position_words.specs.{IsOdd, SeatValue, WordsValue, first_view, looked, lost, seen_of, took}
+use Rattle.position_words.specs.{IsOdd, SeatValue, WordsValue, first_view, view_after_look, view_after_loss, seen_in_view, view_after_win}
 use Rattle.position_words.specs.declared.view.Aim.TheVariants.{Fold}
 use Rattle.position_words.specs.declared.view.Trail.{Trail}
 use Rattle.position_words.specs.declared.view.View.{View}
 use Rattle.pass_tokens.specs.declared.board.TryFold.TheVariants.{Done, Busy}
-use Rattle.pass_tokens.specs.Board.{IsPassOf}
-use Rattle.pass_tokens.specs.Fold.{folded_once, IsFoldOf, Folds, TriesToFold, lost_all, FoldsAtLast, Waits}
+use Rattle.pass_tokens.specs.Board.{IsPassOfBoard}
+use Rattle.pass_tokens.specs.Fold.{folded_once, IsFoldOf, Folds, TriesToFold, lost_all_folds, FoldsAtLast, WaitsToFold}
 
 -- a packet from 1.0.0.1 to 101.0.0.1
 abbrev pub x : RecordValue
@@ -40,14 +40,14 @@ trail position = record { seen = position; looks = []; reads = []; folds = []; l
 abbrev board_of : SeatValue → WordsValue
 board_of seat = record { id = seat.table_id; opening = shards }
 
-pub free_seat_is_a_pass : (seat : SeatValue) → IsPassOf (board_of seat) (record seat { me = (first, []) })
+pub free_seat_is_a_pass : (seat : SeatValue) → IsPassOfBoard (board_of seat) (record seat { me = (first, []) })
 free_seat_is_a_pass seat = record {
   seat = record { id = refl; opening = refl; trails = refl; live = refl; slot = refl };
   free = refl;
 }
 
 pub holder_is_no_pass : (seat : SeatValue)
-    → IsPassOf (board_of seat) (record seat { me = (took Fold 0 1 first, (0, None) ∷ []) }) → ⊥
+    → IsPassOfBoard (board_of seat) (record seat { me = (view_after_win Fold 0 1 first, (0, None) ∷ []) }) → ⊥
 holder_is_no_pass seat pass = cc pass.free
 
 abbrev block : ℕ → ℕ → Folded
@@ -73,8 +73,8 @@ fold_from_past_the_end fold = omega (arith, fold.forward)
 pub fold_of_a_record_too_many : IsFoldOf shards 0 1 (block 0 2) → ⊥
 fold_of_a_record_too_many fold =
     let same : fold.state ≡ pair = sym (same_Some pair fold.state fold.is) in
-    let core : state_at 2 pair ≡ folded 1 (state_at 0 pair) =
-    subst (λ (s : ShardValue). state_at 2 s ≡ folded 1 (state_at 0 s)) same fold.core in
+    let core : shard_state_at 2 pair ≡ folded_shard 1 (shard_state_at 0 pair) =
+    subst (λ (s : ShardValue). shard_state_at 2 s ≡ folded_shard 1 (shard_state_at 0 s)) same fold.core in
     let position : 2 ≡ 1 = ap (λ (s : ShardValue). s.position) core in
     omega (arith, position)
 
@@ -86,15 +86,15 @@ pub folds_one_record : Folds shards 0 1 first after_one (block 0 1)
 folds_one_record = record { core = fold_of_one_record; later = omega arith; view = refl }
 
 pub fold_that_the_view_lacks : Folds shards 0 1 first first (block 0 1) → ⊥
-fold_that_the_view_lacks folds = let seen : 0 ≡ 1 = ap (seen_of 0) folds.view in omega (arith, seen)
+fold_that_the_view_lacks folds = let seen : 0 ≡ 1 = ap (seen_in_view 0) folds.view in omega (arith, seen)
 
-pub fold_before_what_was_seen : (now : View) → Folds shards 0 1 (looked 0 1 first) now (block 0 1) → ⊥
+pub fold_before_what_was_seen : (now : View) → Folds shards 0 1 (view_after_look 0 1 first) now (block 0 1) → ⊥
 fold_before_what_was_seen now folds = let later : 1 ≤ 0 = folds.later in omega (arith, later)
 
 pub try_that_folds : TriesToFold shards 0 1 first after_one (Done (block 0 1))
 try_that_folds = folds_one_record
 
-pub try_that_loses : TriesToFold shards 0 1 first (lost 0 3 first) Busy
+pub try_that_loses : TriesToFold shards 0 1 first (view_after_loss 0 3 first) Busy
 try_that_loses = record {
   word = 3;
   odd = refl;
@@ -112,7 +112,7 @@ losses_of view = slice_index (map (λ trail. length trail.losses) view.trails) 0
 pub busy_without_a_loss : TriesToFold shards 0 1 first first Busy → ⊥
 busy_without_a_loss loses = let count : 0 ≡ 1 = ap losses_of loses.view in omega (arith, count)
 
-pub losses_are_kept : lost_all (3 ∷ 5 ∷ []) (trail 0) ≡ record (trail 2) { losses = 3 ∷ 5 ∷ [] }
+pub losses_are_kept : lost_all_folds (3 ∷ 5 ∷ []) (trail 0) ≡ record (trail 2) { losses = 3 ∷ 5 ∷ [] }
 losses_are_kept = refl
 
 -- a take met the word 3, and the next one won at position 1
@@ -127,9 +127,9 @@ folds_after_a_loss = record {
 }
 
 pub fold_at_last_that_the_view_lacks : FoldsAtLast shards 0 1 first first (block 0 1) → ⊥
-fold_at_last_that_the_view_lacks folds = let seen : 0 ≡ 1 = ap (seen_of 0) folds.view in omega (arith, seen)
+fold_at_last_that_the_view_lacks folds = let seen : 0 ≡ 1 = ap (seen_in_view 0) folds.view in omega (arith, seen)
 
-pub waits_for_two_losses : Waits 0 first (lost 0 5 (lost 0 3 first))
+pub waits_for_two_losses : WaitsToFold 0 first (view_after_loss 0 5 (view_after_loss 0 3 first))
 waits_for_two_losses = record {
   losses = 3 ∷ 5 ∷ [];
   odd = All-from_recursion IsOdd (3 ∷ 5 ∷ []) (refl, (refl, tt));
@@ -141,13 +141,13 @@ waits_for_two_losses = record {
 abbrev looks_of : View → ℕ
 looks_of view = slice_index (map (λ trail. length trail.looks) view.trails) 0
 
-looks_stay : (words : List ℕ) (trail : Trail) → (lost_all words trail).looks ≡ trail.looks
+looks_stay : (words : List ℕ) (trail : Trail) → (lost_all_folds words trail).looks ≡ trail.looks
 looks_stay [] trail = refl
 looks_stay (word ∷ words) trail =
     looks_stay words (record trail { seen = word / 2; losses = trail.losses ++ word ∷ [] })
 
 -- a look is no wait
-pub waits_with_a_look : Waits 0 first (looked 0 1 first) → ⊥
+pub waits_with_a_look : WaitsToFold 0 first (view_after_look 0 1 first) → ⊥
 waits_with_a_look waits =
     let count : 1 ≡ 0 = ap looks_of waits.view ∙ ap length (looks_stay waits.losses (trail 0)) in
     omega (arith, count)

@@ -3,13 +3,13 @@ use Rattle.std.proofs.Common.{◌≡◌, ℕ, zero, suc, ◌/◌, ◌≤◌, Lis
 use Rattle.std.proofs.Common.{refl, ap, ◌∙◌, arith}
 use Rattle.std.specs.Prelude.{slice_index}
 use Rattle.std.proofs.lemmas.List.Elements.{All-from_recursion}
-use Rattle.shard_state.specs.{CutValue, IsShard, empty_snapshot, positions_of, snapshot_of, state_at}
-use Rattle.position_words.specs.{IsOdd, lost, seen_of}
+use Rattle.shard_state.specs.{CutValue, IsShard, empty_snapshot, cut_positions, snapshot_of_shard, shard_state_at}
+use Rattle.position_words.specs.{IsOdd, view_after_loss, seen_in_view}
 use Rattle.position_words.specs.declared.view.Trail.{Trail}
 use Rattle.position_words.specs.declared.view.View.{View}
 use Rattle.pass_tokens.specs.declared.board.TryRead.TheVariants.{Done, Busy}
-use Rattle.pass_tokens.specs.Fold.{lost_all}
-use Rattle.pass_tokens.specs.Read.{read_once, Reads, TriesToRead, ShardRead, after_read, after_reads, states_read}
+use Rattle.pass_tokens.specs.Fold.{lost_all_folds}
+use Rattle.pass_tokens.specs.Read.{read_once, ReadsShard, TriesToRead, ShardRead, after_read, after_reads, states_of_read}
 use Rattle.pass_tokens.specs.Read.{ReadsCut, ReadsAtLast, ReadsSoFar}
 use Rattle.pass_tokens.proofs.Examples.{pair, single, shards, first, trail, try_that_loses}
 
@@ -21,13 +21,13 @@ abbrev cut : CutValue
 cut = record { capacity = 4; shards = empty_snapshot 4 ∷ empty_snapshot 4 ∷ [] }
 
 abbrev with_first : CutValue
-with_first = record { capacity = 4; shards = snapshot_of (state_at 1 pair) ∷ empty_snapshot 4 ∷ [] }
+with_first = record { capacity = 4; shards = snapshot_of_shard (shard_state_at 1 pair) ∷ empty_snapshot 4 ∷ [] }
 
 -- the view after that
 abbrev after_one : View
 after_one = record first { trails = record (trail 1) { reads = 1 ∷ [] } ∷ trail 0 ∷ [] }
 
-pub reads_the_first : IsShard (state_at 1 pair) → Reads shards 0 first cut after_one with_first
+pub reads_the_first : IsShard (shard_state_at 1 pair) → ReadsShard shards 0 first cut after_one with_first
 reads_the_first kept = record {
   position = 1;
   state = pair;
@@ -39,21 +39,21 @@ reads_the_first kept = record {
 }
 
 -- the view has a read at position 1, and the cut is still at position 0
-pub read_that_leaves_the_cut : Reads shards 0 first cut after_one cut → ⊥
+pub read_that_leaves_the_cut : ReadsShard shards 0 first cut after_one cut → ⊥
 read_that_leaves_the_cut reads =
-    let met : 1 ≡ reads.position = ap (seen_of 0) reads.view in
-    let in_the_cut : 0 ≡ reads.position = ap (λ c. slice_index (positions_of c) 0) reads.core in
+    let met : 1 ≡ reads.position = ap (seen_in_view 0) reads.view in
+    let in_the_cut : 0 ≡ reads.position = ap (λ c. slice_index (cut_positions c) 0) reads.core in
     omega (arith, met, in_the_cut)
 
-pub try_that_reads : IsShard (state_at 1 pair) → TriesToRead shards 0 first cut after_one with_first Done
+pub try_that_reads : IsShard (shard_state_at 1 pair) → TriesToRead shards 0 first cut after_one with_first Done
 try_that_reads kept = reads_the_first kept
 
-pub try_that_loses_leaves_the_cut : TriesToRead shards 0 first cut (lost 0 3 first) cut Busy
+pub try_that_loses_leaves_the_cut : TriesToRead shards 0 first cut (view_after_loss 0 3 first) cut Busy
 try_that_loses_leaves_the_cut = (try_that_loses, refl)
 
-pub try_that_loses_and_reads : TriesToRead shards 0 first cut (lost 0 3 first) with_first Busy → ⊥
+pub try_that_loses_and_reads : TriesToRead shards 0 first cut (view_after_loss 0 3 first) with_first Busy → ⊥
 try_that_loses_and_reads tries =
-    let position : 1 ≡ 0 = ap (λ c. slice_index (positions_of c) 0) tries.1 in
+    let position : 1 ≡ 0 = ap (λ c. slice_index (cut_positions c) 0) tries.1 in
     omega (arith, position)
 
 -- the first shard was read at position 1, after a take that met the word 3; the second at once, at position 0
@@ -75,10 +75,10 @@ both_reads_are_kept = refl
 pub second_not_yet_read : after_reads first.trails (one ∷ []) ≡ after_read one (trail 0) ∷ trail 0 ∷ []
 second_not_yet_read = refl
 
-pub states_of_both : states_read shards (one ∷ two ∷ []) ≡ state_at 1 pair ∷ state_at 0 single ∷ []
+pub states_of_both : states_of_read shards (one ∷ two ∷ []) ≡ shard_state_at 1 pair ∷ shard_state_at 0 single ∷ []
 states_of_both = refl
 
-pub states_of_the_first : states_read shards (one ∷ []) ≡ state_at 1 pair ∷ []
+pub states_of_the_first : states_of_read shards (one ∷ []) ≡ shard_state_at 1 pair ∷ []
 states_of_the_first = refl
 
 abbrev losses_are_odd : ShardRead → Type 0
@@ -88,9 +88,9 @@ one_is_odd : All IsOdd one.losses
 one_is_odd = All-from_recursion IsOdd (3 ∷ []) (refl, tt)
 
 abbrev with_both : CutValue
-with_both = record { capacity = 4; shards = snapshot_of (state_at 1 pair) ∷ snapshot_of (state_at 0 single) ∷ [] }
+with_both = record { capacity = 4; shards = snapshot_of_shard (shard_state_at 1 pair) ∷ snapshot_of_shard (shard_state_at 0 single) ∷ [] }
 
-pub reads_both : All IsShard (state_at 1 pair ∷ state_at 0 single ∷ [])
+pub reads_both : All IsShard (shard_state_at 1 pair ∷ shard_state_at 0 single ∷ [])
     → ReadsCut shards first cut (record first { trails = trails_of_both }) with_both
 reads_both kept = record {
   reads = one ∷ two ∷ [];
@@ -103,7 +103,7 @@ reads_both kept = record {
 }
   where
     seen_before : (shard : ℕ) (read : ShardRead) → slice_get (one ∷ two ∷ []) shard ≡ Some read
-        → seen_of shard first ≤ read.position
+        → seen_in_view shard first ≤ read.position
     seen_before zero read is = omega arith
     seen_before (suc zero) read is = omega arith
     seen_before (suc (suc shard)) read is = omega arith
@@ -112,7 +112,7 @@ reads_both kept = record {
 abbrev reads_of : View → ℕ
 reads_of view = slice_index (map (λ trail. length trail.reads) view.trails) 1
 
-reads_stay : (words : List ℕ) (trail : Trail) → (lost_all words trail).reads ≡ trail.reads
+reads_stay : (words : List ℕ) (trail : Trail) → (lost_all_folds words trail).reads ≡ trail.reads
 reads_stay [] trail = refl
 reads_stay (word ∷ words) trail =
     reads_stay words (record trail { seen = word / 2; losses = trail.losses ++ word ∷ [] })
@@ -133,7 +133,7 @@ cut_without_the_second changed cut_read = both cut_read.reads cut_read.as_many c
 abbrev after_a_loss : View
 after_a_loss = record first { trails = after_read one (trail 0) ∷ trail 0 ∷ [] }
 
-pub reads_the_first_at_last : IsShard (state_at 1 pair) → ReadsAtLast shards 0 first cut after_a_loss with_first
+pub reads_the_first_at_last : IsShard (shard_state_at 1 pair) → ReadsAtLast shards 0 first cut after_a_loss with_first
 reads_the_first_at_last kept = record {
   read = one;
   odd = one_is_odd;
@@ -147,11 +147,11 @@ reads_the_first_at_last kept = record {
 
 pub read_at_last_that_leaves_the_cut : ReadsAtLast shards 0 first cut after_a_loss cut → ⊥
 read_at_last_that_leaves_the_cut reads =
-    let met : 1 ≡ reads.read.position = ap (seen_of 0) reads.view in
-    let in_the_cut : 0 ≡ reads.read.position = ap (λ c. slice_index (positions_of c) 0) reads.core in
+    let met : 1 ≡ reads.read.position = ap (seen_in_view 0) reads.view in
+    let in_the_cut : 0 ≡ reads.read.position = ap (λ c. slice_index (cut_positions c) 0) reads.core in
     omega (arith, met, in_the_cut)
 
-pub reads_one_so_far : All IsShard (state_at 1 pair ∷ []) → ReadsSoFar shards 1 first cut after_a_loss with_first
+pub reads_one_so_far : All IsShard (shard_state_at 1 pair ∷ []) → ReadsSoFar shards 1 first cut after_a_loss with_first
 reads_one_so_far kept = record {
   reads = one ∷ [];
   as_many = refl;
@@ -163,7 +163,7 @@ reads_one_so_far kept = record {
 }
   where
     seen_before : (shard : ℕ) (read : ShardRead) → slice_get (one ∷ []) shard ≡ Some read
-        → seen_of shard first ≤ read.position
+        → seen_in_view shard first ≤ read.position
     seen_before zero read is = omega arith
     seen_before (suc zero) read is = omega arith
     seen_before (suc (suc shard)) read is = omega arith
@@ -174,5 +174,5 @@ reads_none_so_far changed far = none far.reads far.as_many far.view
   where
     none : (reads : List ShardRead) → length reads ≡ 0
         → after_a_loss ≡ record first { trails = after_reads first.trails reads } → ⊥
-    none [] many view = let seen : 1 ≡ 0 = ap (seen_of 0) view in omega (arith, seen)
+    none [] many view = let seen : 1 ≡ 0 = ap (seen_in_view 0) view in omega (arith, seen)
     none (read ∷ reads) many view = omega (arith, many)

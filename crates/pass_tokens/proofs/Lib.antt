@@ -1,7 +1,7 @@
-pub mod ChangedListLemmas
-pub mod FoldLemmas
-pub mod ReadLemmas
+pub mod ChangedPlaceLemmas
+pub mod PassFoldLemmas
+pub mod PassReadLemmas
 pub mod WaitLemmas
-pub mod CutLemmas
+pub mod PassCutLemmas
 pub mod Examples
 pub mod ExamplesOfReads

@@ -1,8 +1,8 @@
 -- What a fold does: one fold of the pure core.
 use Rattle.std.specs.Prelude.{ℕ, ◌≡◌, ◌≤◌, List, [], ◌∷◌, ◌++◌, fold, All, Some, slice_get}
-use Rattle.shard_state.specs.{ShardValue, folded, state_at}
+use Rattle.shard_state.specs.{ShardValue, folded_shard, shard_state_at}
 use Rattle.shard_state.specs.declared.shard_state.Folded.{Folded}
-use Rattle.position_words.specs.{IsOdd, Loses, lost_at, seen_of, with_trail}
+use Rattle.position_words.specs.{IsOdd, StepLoses, view_trail_after_loss, seen_in_view, view_with_trail}
 use Rattle.position_words.specs.declared.view.Trail.{Trail}
 use Rattle.position_words.specs.declared.view.View.{View}
 use Rattle.pass_tokens.specs.declared.board.TryFold.{TryFold}
@@ -17,35 +17,35 @@ folded_once block trail = record trail { seen = block.to; folds = trail.folds ++
 pub record IsFoldOf (opening : List ShardValue) (shard block : ℕ) (done : Folded) : Type 0 where
   pub state : ShardValue
   pub is : slice_get opening shard ≡ Some state
-  pub core : state_at done.to state ≡ folded block (state_at done.from state)
+  pub core : shard_state_at done.to state ≡ folded_shard block (shard_state_at done.from state)
   pub forward : done.from ≤ done.to
 
 -- a fold that was made: it begins at or after the position that the pass had seen, and is the view's only new step
 pub record Folds (opening : List ShardValue) (shard block : ℕ) (before now : View) (done : Folded) : Type 0 where
   pub core : IsFoldOf opening shard block done
-  pub later : seen_of shard before ≤ done.from
-  pub view : now ≡ with_trail (folded_once done) shard before
+  pub later : seen_in_view shard before ≤ done.from
+  pub view : now ≡ view_with_trail (folded_once done) shard before
 
 -- what a try to fold returns: the fold, or that the take lost
 abbrev pub TriesToFold : List ShardValue → ℕ → ℕ → View → View → TryFold → Type 0
 TriesToFold opening shard block before now (Done done) = Folds opening shard block before now done
-TriesToFold opening shard block before now Busy = Loses shard before now
+TriesToFold opening shard block before now Busy = StepLoses shard before now
 
 -- a trail after takes that met these odd words
-abbrev pub lost_all : List ℕ → Trail → Trail
-lost_all words trail = fold (λ trail word. lost_at word trail) trail words
+abbrev pub lost_all_folds : List ℕ → Trail → Trail
+lost_all_folds words trail = fold (λ trail word. view_trail_after_loss word trail) trail words
 
 -- a fold after any number of takes that lost
 pub record FoldsAtLast (opening : List ShardValue) (shard block : ℕ) (before now : View) (done : Folded) : Type 0 where
   pub losses : List ℕ
   pub odd : All IsOdd losses
   pub core : IsFoldOf opening shard block done
-  pub later : seen_of shard before ≤ done.from
-  pub view : now ≡ with_trail (λ trail. folded_once done (lost_all losses trail)) shard before
+  pub later : seen_in_view shard before ≤ done.from
+  pub view : now ≡ view_with_trail (λ trail. folded_once done (lost_all_folds losses trail)) shard before
 
 -- within the crate: takes of a shard, all of which lost
-pub record Waits (shard : ℕ) (before now : View) : Type 0 where
+pub record WaitsToFold (shard : ℕ) (before now : View) : Type 0 where
   pub losses : List ℕ
   pub odd : All IsOdd losses
-  pub later : seen_of shard before ≤ seen_of shard now
-  pub view : now ≡ with_trail (lost_all losses) shard before
+  pub later : seen_in_view shard before ≤ seen_in_view shard now
+  pub view : now ≡ view_with_trail (lost_all_folds losses) shard before

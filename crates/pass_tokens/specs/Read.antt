@@ -1,10 +1,10 @@
 -- What a read does: one read of the pure core for each shard.
 use Rattle.std.specs.Prelude.{ℕ, ◌≡◌, ◌≤◌, List, [], ◌∷◌, ◌++◌, map, drop, length, All, Some, slice_get}
-use Rattle.shard_state.specs.{CutValue, IsShard, ShardValue, snapshot_of, state_at, with_read}
-use Rattle.position_words.specs.{IsOdd, Loses, seen_of, with_trail}
+use Rattle.shard_state.specs.{CutValue, IsShard, ShardValue, snapshot_of_shard, shard_state_at, core_cut_with_shard}
+use Rattle.position_words.specs.{IsOdd, StepLoses, seen_in_view, view_with_trail}
 use Rattle.position_words.specs.declared.view.Trail.{Trail}
 use Rattle.position_words.specs.declared.view.View.{View}
-use Rattle.pass_tokens.specs.Fold.{lost_all}
+use Rattle.pass_tokens.specs.Fold.{lost_all_folds}
 use Rattle.pass_tokens.specs.declared.board.TryRead.{TryRead}
 use Rattle.pass_tokens.specs.declared.board.TryRead.TheVariants.{Done, Busy}
 
@@ -14,20 +14,20 @@ read_once position trail = record trail { seen = position; reads = trail.reads +
 
 -- a read that was made: it met a position, at least the one that the pass had seen; the cut gets the snapshot of the
 -- pure core at that position, and the read is the view's only new step
-pub record Reads (opening : List ShardValue) (shard : ℕ) (before : View) (cut : CutValue) (now : View)
+pub record ReadsShard (opening : List ShardValue) (shard : ℕ) (before : View) (cut : CutValue) (now : View)
     (changed : CutValue) : Type 0 where
   pub position : ℕ
   pub state : ShardValue
   pub is : slice_get opening shard ≡ Some state
-  pub kept : IsShard (state_at position state)
-  pub later : seen_of shard before ≤ position
-  pub view : now ≡ with_trail (read_once position) shard before
-  pub core : changed ≡ with_read shard (Some (state_at position state)) cut
+  pub kept : IsShard (shard_state_at position state)
+  pub later : seen_in_view shard before ≤ position
+  pub view : now ≡ view_with_trail (read_once position) shard before
+  pub core : changed ≡ core_cut_with_shard shard (Some (shard_state_at position state)) cut
 
 -- what a try to read returns: that the cut has the snapshot, or that the take lost and the cut is unchanged
 abbrev pub TriesToRead : List ShardValue → ℕ → View → CutValue → View → CutValue → TryRead → Type 0
-TriesToRead opening shard before cut now changed Done = Reads opening shard before cut now changed
-TriesToRead opening shard before cut now changed Busy = Loses shard before now × (changed ≡ cut)
+TriesToRead opening shard before cut now changed Done = ReadsShard opening shard before cut now changed
+TriesToRead opening shard before cut now changed Busy = StepLoses shard before now × (changed ≡ cut)
 
 -- one read of a shard: the odd words that takes met before, and the position at which it was taken
 pub record ShardRead : Type 0 where
@@ -36,7 +36,7 @@ pub record ShardRead : Type 0 where
 
 -- a trail after such a read
 abbrev pub after_read : ShardRead → Trail → Trail
-after_read read trail = read_once read.position (lost_all read.losses trail)
+after_read read trail = read_once read.position (lost_all_folds read.losses trail)
 
 -- trails after one such read of each of the first shards
 abbrev pub after_reads : List Trail → List ShardRead → List Trail
@@ -45,10 +45,10 @@ after_reads (trail ∷ rest) [] = trail ∷ rest
 after_reads (trail ∷ rest) (read ∷ reads) = after_read read trail ∷ after_reads rest reads
 
 -- the shards of the pure core at the positions of such reads
-abbrev pub states_read : List ShardValue → List ShardRead → List ShardValue
-states_read [] reads = []
-states_read (shard ∷ rest) [] = []
-states_read (shard ∷ rest) (read ∷ reads) = state_at read.position shard ∷ states_read rest reads
+abbrev pub states_of_read : List ShardValue → List ShardRead → List ShardValue
+states_of_read [] reads = []
+states_of_read (shard ∷ rest) [] = []
+states_of_read (shard ∷ rest) (read ∷ reads) = shard_state_at read.position shard ∷ states_of_read rest reads
 
 -- one read of each shard, each after any number of takes that lost: the cut gets the snapshots of the pure core at the
 -- positions met, each at least the one that the pass had seen
@@ -57,10 +57,10 @@ pub record ReadsCut (opening : List ShardValue) (before : View) (cut : CutValue)
   pub reads : List ShardRead
   pub as_many : length reads ≡ length opening
   pub odd : All (λ read. All IsOdd read.losses) reads
-  pub kept : All IsShard (states_read opening reads)
-  pub later : (shard : ℕ) (read : ShardRead) → slice_get reads shard ≡ Some read → seen_of shard before ≤ read.position
+  pub kept : All IsShard (states_of_read opening reads)
+  pub later : (shard : ℕ) (read : ShardRead) → slice_get reads shard ≡ Some read → seen_in_view shard before ≤ read.position
   pub view : now ≡ record before { trails = after_reads before.trails reads }
-  pub core : changed ≡ record cut { shards = map snapshot_of (states_read opening reads) }
+  pub core : changed ≡ record cut { shards = map snapshot_of_shard (states_of_read opening reads) }
 
 -- within the crate: one read of a shard after any number of takes that lost
 pub record ReadsAtLast (opening : List ShardValue) (shard : ℕ) (before : View) (cut : CutValue) (now : View)
@@ -69,10 +69,10 @@ pub record ReadsAtLast (opening : List ShardValue) (shard : ℕ) (before : View)
   pub odd : All IsOdd read.losses
   pub state : ShardValue
   pub is : slice_get opening shard ≡ Some state
-  pub kept : IsShard (state_at read.position state)
-  pub later : seen_of shard before ≤ read.position
-  pub view : now ≡ with_trail (after_read read) shard before
-  pub core : changed ≡ with_read shard (Some (state_at read.position state)) cut
+  pub kept : IsShard (shard_state_at read.position state)
+  pub later : seen_in_view shard before ≤ read.position
+  pub view : now ≡ view_with_trail (after_read read) shard before
+  pub core : changed ≡ core_cut_with_shard shard (Some (shard_state_at read.position state)) cut
 
 -- within the crate: such reads of the first shards
 pub record ReadsSoFar (opening : List ShardValue) (count : ℕ) (before : View) (cut : CutValue) (now : View)
@@ -80,7 +80,7 @@ pub record ReadsSoFar (opening : List ShardValue) (count : ℕ) (before : View) 
   pub reads : List ShardRead
   pub as_many : length reads ≡ count
   pub odd : All (λ read. All IsOdd read.losses) reads
-  pub kept : All IsShard (states_read opening reads)
-  pub later : (shard : ℕ) (read : ShardRead) → slice_get reads shard ≡ Some read → seen_of shard before ≤ read.position
+  pub kept : All IsShard (states_of_read opening reads)
+  pub later : (shard : ℕ) (read : ShardRead) → slice_get reads shard ≡ Some read → seen_in_view shard before ≤ read.position
   pub view : now ≡ record before { trails = after_reads before.trails reads }
-  pub core : changed ≡ record cut { shards = map snapshot_of (states_read opening reads) ++ drop count cut.shards }
+  pub core : changed ≡ record cut { shards = map snapshot_of_shard (states_of_read opening reads) ++ drop count cut.shards }

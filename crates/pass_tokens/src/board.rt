@@ -1,9 +1,9 @@
 //! The shards of a board, folded and read by many threads.
 
 ghost use Rattle.std.specs.Prelude.{◌≡◌, ◌≤◌, ◌<◌, length, IfOk};
-ghost use Rattle.shard_state.specs.{AreShards, HasShape, capacity_of};
-ghost use Rattle.position_words.specs.{Meets, first_view, joined, looked, newcomer, split_off, view};
-ghost use Rattle.pass_tokens.specs.Board.{IsPassOf};
+ghost use Rattle.shard_state.specs.{AreCoreShards, HasCoreShape, core_capacity};
+ghost use Rattle.position_words.specs.{StepMeets, first_view, view_after_join, view_after_look, newcomer_view, view_after_split, view};
+ghost use Rattle.pass_tokens.specs.Board.{IsPassOfBoard};
 ghost use Rattle.pass_tokens.specs.Fold.{FoldsAtLast, TriesToFold};
 ghost use Rattle.pass_tokens.specs.Read.{ReadsAtLast, ReadsCut, TriesToRead};
 
@@ -56,9 +56,9 @@ impl Board {
     /// The board of 1 to 16 shards of one capacity, and its first pass, which has seen their positions. On an error,
     /// which means that memory ran out, the states are dropped.
     pub fn start(alloc: Global, states: Vec<ShardState>) -> Result<(Board, Pass), AllocError>
-        requires { AreShards states.items }
+        requires { AreCoreShards states.items }
         ensures opening { IfOk result (λ made. made.0.opening ≡ states.items) }
-        ensures pass { IfOk result (λ made. IsPassOf made.0 made.1) }
+        ensures pass { IfOk result (λ made. IsPassOfBoard made.0 made.1) }
         ensures view { IfOk result (λ made. view made.1 ≡ first_view states.items) }
     {
         let (words, pass) = Words::start(alloc, states)?;
@@ -68,28 +68,28 @@ impl Board {
     /// How many shards there are, 1 to 16.
     pub fn shards(&self) -> u32
         ensures shards { result ≡ length self.now.opening }
-        ensures kept { AreShards self.now.opening }
+        ensures kept { AreCoreShards self.now.opening }
     {
         self.words.shards()
     }
 
     /// A new pass, which has seen the same positions as this one.
     pub fn split(&self, pass: &mut Pass) -> Pass
-        requires { IsPassOf self.now pass.old }
-        ensures split { view pass.new ≡ split_off (view pass.old) }
-        ensures newcomer { view result ≡ newcomer (view pass.old) }
-        ensures pass { IsPassOf self.now pass.new }
-        ensures new_pass { IsPassOf self.now result }
+        requires { IsPassOfBoard self.now pass.old }
+        ensures split { view pass.new ≡ view_after_split (view pass.old) }
+        ensures newcomer { view result ≡ newcomer_view (view pass.old) }
+        ensures pass { IsPassOfBoard self.now pass.new }
+        ensures new_pass { IsPassOfBoard self.now result }
     {
         self.words.split(pass)
     }
 
     /// Joins another pass to this one, which has then seen what both had, and keeps its own steps alone.
     pub fn join(&self, pass: &mut Pass, other: Pass)
-        requires pass { IsPassOf self.now pass.old }
-        requires other { IsPassOf self.now other }
-        ensures join { view pass.new ≡ joined (view pass.old) (view other) }
-        ensures pass { IsPassOf self.now pass.new }
+        requires pass { IsPassOfBoard self.now pass.old }
+        requires other { IsPassOfBoard self.now other }
+        ensures join { view pass.new ≡ view_after_join (view pass.old) (view other) }
+        ensures pass { IsPassOfBoard self.now pass.new }
     {
         self.words.join(pass, other);
     }
@@ -97,10 +97,10 @@ impl Board {
     /// The position of a shard, at least the one that the pass had seen. It is met whether or not a pass holds the shard.
     pub fn position(&self, shard: u32, pass: &mut Pass) -> u64
         requires within { shard < length self.now.opening }
-        requires pass { IsPassOf self.now pass.old }
-        ensures look { view pass.new ≡ looked shard result (view pass.old) }
-        ensures meets { Meets shard result (view pass.old) }
-        ensures pass { IsPassOf self.now pass.new }
+        requires pass { IsPassOfBoard self.now pass.old }
+        ensures look { view pass.new ≡ view_after_look shard result (view pass.old) }
+        ensures meets { StepMeets shard result (view pass.old) }
+        ensures pass { IsPassOfBoard self.now pass.new }
     {
         self.words.look(shard, pass)
     }
@@ -110,9 +110,9 @@ impl Board {
     pub fn try_fold(&self, shard: u32, block: u32, pass: &mut Pass) -> TryFold
         requires within { shard < length self.now.opening }
         requires block { 1 ≤ block }
-        requires pass { IsPassOf self.now pass.old }
+        requires pass { IsPassOfBoard self.now pass.old }
         ensures fold { TriesToFold self.now.opening shard block (view pass.old) (view pass.new) result }
-        ensures pass { IsPassOf self.now pass.new }
+        ensures pass { IsPassOfBoard self.now pass.new }
     {
         match self.words.try_take(shard, Aim::Fold, pass) {
             Take::Busy => TryFold::Busy,
@@ -126,14 +126,14 @@ impl Board {
 
     /// Makes a cut's snapshot of a shard equal to the shard's, unless another pass holds the shard. The cut has the
     /// board's shape, and its other shards are unchanged. It allocates no memory.
-    #[tactic(auto, using(crate::proofs::ReadLemmas::is_read))]
+    #[tactic(auto, using(crate::proofs::PassReadLemmas::is_pass_read))]
     pub fn try_read(&self, shard: u32, pass: &mut Pass, cut: &mut Cut) -> TryRead
         requires within { shard < length self.now.opening }
-        requires pass { IsPassOf self.now pass.old }
-        requires shape { HasShape (length self.now.opening) (capacity_of self.now.opening) cut.old }
+        requires pass { IsPassOfBoard self.now pass.old }
+        requires shape { HasCoreShape (length self.now.opening) (core_capacity self.now.opening) cut.old }
         ensures read { TriesToRead self.now.opening shard (view pass.old) cut.old (view pass.new) cut.new result }
-        ensures shape { HasShape (length self.now.opening) (capacity_of self.now.opening) cut.new }
-        ensures pass { IsPassOf self.now pass.new }
+        ensures shape { HasCoreShape (length self.now.opening) (core_capacity self.now.opening) cut.new }
+        ensures pass { IsPassOfBoard self.now pass.new }
     {
         let _shards = self.words.shards();
         match self.words.try_take(shard, Aim::Read, pass) {
@@ -149,13 +149,13 @@ impl Board {
 
     /// Counts the next `block` records of a shard, at least one, or its remaining records. It tries until no other pass
     /// holds the shard, and lets other threads run between two tries. It allocates no memory.
-    #[tactic(auto, using(crate::proofs::WaitLemmas::nothing_lost, crate::proofs::WaitLemmas::lost_again, crate::proofs::WaitLemmas::folds_at_last))]
+    #[tactic(auto, using(crate::proofs::WaitLemmas::wait_without_losses, crate::proofs::WaitLemmas::wait_loses_again, crate::proofs::WaitLemmas::wait_ends_with_fold))]
     pub fn fold<R: Wait>(&self, rt: &R, shard: u32, block: u32, pass: &mut Pass) -> Folded
         requires within { shard < length self.now.opening }
         requires block { 1 ≤ block }
-        requires pass { IsPassOf self.now pass.old }
+        requires pass { IsPassOfBoard self.now pass.old }
         ensures fold { FoldsAtLast self.now.opening shard block (view pass.old) (view pass.new) result }
-        ensures pass { IsPassOf self.now pass.new }
+        ensures pass { IsPassOfBoard self.now pass.new }
     {
         for _ in rt.forever() {
             match self.try_fold(shard, block, pass) {
@@ -169,11 +169,11 @@ impl Board {
     /// Reads each shard once, in order, into a cut of the board's shape. It tries each until no other pass holds it, and
     /// lets other threads run between two tries. It allocates no memory.
     pub fn read_cut<R: Wait>(&self, rt: &R, pass: &mut Pass, cut: &mut Cut)
-        requires pass { IsPassOf self.now pass.old }
-        requires shape { HasShape (length self.now.opening) (capacity_of self.now.opening) cut.old }
+        requires pass { IsPassOfBoard self.now pass.old }
+        requires shape { HasCoreShape (length self.now.opening) (core_capacity self.now.opening) cut.old }
         ensures read { ReadsCut self.now.opening (view pass.old) cut.old (view pass.new) cut.new }
-        ensures shape { HasShape (length self.now.opening) (capacity_of self.now.opening) cut.new }
-        ensures pass { IsPassOf self.now pass.new }
+        ensures shape { HasCoreShape (length self.now.opening) (core_capacity self.now.opening) cut.new }
+        ensures pass { IsPassOfBoard self.now pass.new }
     {
         for shard in 0..self.shards() {
             self.read(rt, shard, pass, cut);
@@ -181,14 +181,14 @@ impl Board {
     }
 
     // Reads a shard into a cut, as soon as no other pass holds it.
-    #[tactic(auto, using(crate::proofs::WaitLemmas::nothing_lost, crate::proofs::WaitLemmas::lost_again, crate::proofs::WaitLemmas::reads_at_last))]
+    #[tactic(auto, using(crate::proofs::WaitLemmas::wait_without_losses, crate::proofs::WaitLemmas::wait_loses_again, crate::proofs::WaitLemmas::wait_ends_with_read))]
     fn read<R: Wait>(&self, rt: &R, shard: u32, pass: &mut Pass, cut: &mut Cut)
         requires within { shard < length self.now.opening }
-        requires pass { IsPassOf self.now pass.old }
-        requires shape { HasShape (length self.now.opening) (capacity_of self.now.opening) cut.old }
+        requires pass { IsPassOfBoard self.now pass.old }
+        requires shape { HasCoreShape (length self.now.opening) (core_capacity self.now.opening) cut.old }
         ensures read { ReadsAtLast self.now.opening shard (view pass.old) cut.old (view pass.new) cut.new }
-        ensures shape { HasShape (length self.now.opening) (capacity_of self.now.opening) cut.new }
-        ensures pass { IsPassOf self.now pass.new }
+        ensures shape { HasCoreShape (length self.now.opening) (core_capacity self.now.opening) cut.new }
+        ensures pass { IsPassOfBoard self.now pass.new }
     {
         for _ in rt.forever() {
             match self.try_read(shard, pass, cut) {

@@ -1,6 +1,6 @@
 ghost use Rattle.std.specs.Prelude.{◌≡◌, ◌^◌, ◌<◌, ◌≤◌, length, IfOk};
-ghost use Rattle.shard_state.specs.{AreShards, HasShape, capacity_of};
-ghost use Rattle.pass_tokens.specs.Board.{IsPassOf};
+ghost use Rattle.shard_state.specs.{AreCoreShards, HasCoreShape, core_capacity};
+ghost use Rattle.pass_tokens.specs.Board.{IsPassOfBoard};
 
 use super::*;
 use position_words::{Aim, Take};
@@ -14,7 +14,7 @@ use std::thread::{Threads, join};
 
 // The shards of eleven packets that were dealt to two shards in turn: six and five packets, in tables of capacity 4.
 fn worked_states(alloc: Global) -> Result<Vec<ShardState>, AllocError>
-    ensures { IfOk result (λ states. AreShards states.items × (length states.items ≡ 2) × (capacity_of states.items ≡ 4)) }
+    ensures { IfOk result (λ states. AreCoreShards states.items × (length states.items ≡ 2) × (core_capacity states.items ≡ 4)) }
 {
     let mut states = Vec::new(alloc);
     states.push(started(alloc, &[1, 1, 1, 1, 1, 2])?)?;
@@ -102,7 +102,7 @@ fn folds_to_the_end<R: Wait>(
     board: &Board,
     mut pass: Pass,
 ) -> Result<Vec<Folded>, AllocError>
-    requires { (0 < length board.now.opening) × IsPassOf board.now pass }
+    requires { (0 < length board.now.opening) × IsPassOfBoard board.now pass }
 {
     let mut folds = Vec::new(alloc);
     for _ in 0..1_000 {
@@ -127,7 +127,7 @@ fn folds_of_two<R: Threads + Wait + Sync>(
     Result<Vec<Folded>, AllocError>,
     Result<Vec<Folded>, AllocError>,
 )
-    requires { (0 < length board.now.opening) × IsPassOf board.now first × IsPassOf board.now second }
+    requires { (0 < length board.now.opening) × IsPassOfBoard board.now first × IsPassOfBoard board.now second }
 {
     join(
         rt,
@@ -144,7 +144,7 @@ fn reads_to_the_end<R: Wait>(
     mut pass: Pass,
     mut cut: Cut,
 ) -> Result<Vec<u64>, AllocError>
-    requires { IsPassOf board.now pass × HasShape (length board.now.opening) (capacity_of board.now.opening) cut }
+    requires { IsPassOfBoard board.now pass × HasCoreShape (length board.now.opening) (core_capacity board.now.opening) cut }
 {
     let mut positions = Vec::new(alloc);
     for _ in 0..1_000_000 {

@@ -5,29 +5,29 @@ use Rattle.std.proofs.Common.{◌≡◌, [], ◌∷◌, ◌++◌, length, Some, 
 use Rattle.pcap_frames.specs.declared.fault.FaultKind.TheVariants.{CutFrame, LongFrame}
 use Rattle.pcap_frames.specs.declared.fault.FeedFault.TheVariants as feed
 use Rattle.pcap_frames.specs.declared.fault.ReadRefusal.TheVariants.{Capture, ReadFault, OutOfMemory}
-use Rattle.pcap_frames.specs.Header.{fault_at}
-use Rattle.pcap_frames.specs.Capture.{IsOfTheEnd}
-use Rattle.pcap_frames.specs.Visitor.{Sees}
-use Rattle.pcap_frames.specs.Reading.{refusal_of, SeesCapture, SeesBeforeFault, SeesFront, SeesPart, IsSeen, IsReadOf}
-use Rattle.pcap_frames.proofs.CaptureLawLemmas.{files_decided}
+use Rattle.pcap_frames.specs.Header.{header_fault_at}
+use Rattle.pcap_frames.specs.Capture.{IsCaptureEndFault}
+use Rattle.pcap_frames.specs.Visitor.{VisitorSees}
+use Rattle.pcap_frames.specs.SourceReading.{source_reading_refusal, SourceReadingShowsCapture, SourceReadingShowsBeforeFault, SourceReadingShowsFront, SourceReadingShowsPart, IsSeenInSourceReading, IsSourceReadingOf}
+use Rattle.pcap_frames.proofs.CaptureFileLemmas.{capture_files_are_decided}
 use Rattle.pcap_frames.proofs.Examples.{frame, capture, cut_file, frame_of_three_bytes, header_and_frame}
 use Rattle.pcap_frames.proofs.Examples.{fault_of_a_cut_file, cut_file_is_no_capture, capture_has_no_fault}
 use Rattle.pcap_frames.proofs.ExamplesOfReaders.{album, cut_file_completes_no_frame, capture_completes_the_frame}
 
 -- the album put a frame behind what it held, or nothing
-sees_frame : Sees album [] (frame ∷ []) (frame ∷ [])
+sees_frame : VisitorSees album [] (frame ∷ []) (frame ∷ [])
 sees_frame before held = ap (λ frames. frames ++ frame ∷ []) held
 
-sees_nothing : Sees album [] [] []
+sees_nothing : VisitorSees album [] [] []
 sees_nothing before held = held ∙ sym (append-nil before)
 
-pub fault_is_passed_on : refusal_of (feed.Refused (fault_at CutFrame 24)) ≡ Capture (fault_at CutFrame 24)
+pub fault_is_passed_on : source_reading_refusal (feed.Refused (header_fault_at CutFrame 24)) ≡ Capture (header_fault_at CutFrame 24)
 fault_is_passed_on = refl
 
-pub want_of_memory_is_passed_on : refusal_of feed.OutOfMemory ≡ OutOfMemory
+pub want_of_memory_is_passed_on : source_reading_refusal feed.OutOfMemory ≡ OutOfMemory
 want_of_memory_is_passed_on = refl
 
-pub whole_capture_is_seen : SeesCapture album [] (frame ∷ []) (Some capture) (Some []) 1
+pub whole_capture_is_seen : SourceReadingShowsCapture album [] (frame ∷ []) (Some capture) (Some []) 1
 whole_capture_is_seen = record {
   frames = frame ∷ [];
   counted = refl;
@@ -39,10 +39,10 @@ whole_capture_is_seen = record {
 }
 
 -- a capture is not seen before its source is at the end
-pub capture_is_seen_at_the_end : SeesCapture album [] (frame ∷ []) (Some capture) (Some (9 ∷ [])) 1 → ⊥
+pub capture_is_seen_at_the_end : SourceReadingShowsCapture album [] (frame ∷ []) (Some capture) (Some (9 ∷ [])) 1 → ⊥
 capture_is_seen_at_the_end seen = absurd (let none_left : 9 ∷ [] ≡ [] = seen.at_end in cc)
 
-pub nothing_is_seen_of_a_cut_frame : SeesBeforeFault album [] [] (Some cut_file) (Some []) (fault_at CutFrame 24)
+pub nothing_is_seen_of_a_cut_frame : SourceReadingShowsBeforeFault album [] [] (Some cut_file) (Some []) (header_fault_at CutFrame 24)
 nothing_is_seen_of_a_cut_frame = record {
   front = cut_file;
   frames = [];
@@ -56,15 +56,15 @@ nothing_is_seen_of_a_cut_frame = record {
 }
 
 -- that a frame is cut is not known before the source is at its end
-pub cut_frame_is_seen_at_the_end : SeesBeforeFault album [] [] (Some (cut_file ++ 9 ∷ [])) (Some (9 ∷ []))
-    (fault_at CutFrame 24) → ⊥
+pub cut_frame_is_seen_at_the_end : SourceReadingShowsBeforeFault album [] [] (Some (cut_file ++ 9 ∷ [])) (Some (9 ∷ []))
+    (header_fault_at CutFrame 24) → ⊥
 cut_frame_is_seen_at_the_end seen = absurd (let none_left : 9 ∷ [] ≡ [] = seen.at_end tt in cc)
 
-pub only_the_end_cuts_a_frame : IsOfTheEnd CutFrame × (IsOfTheEnd LongFrame → ⊥)
+pub only_the_end_cuts_a_frame : IsCaptureEndFault CutFrame × (IsCaptureEndFault LongFrame → ⊥)
 only_the_end_cuts_a_frame = (tt, λ ends. ends)
 
 -- the call behind the piece that was the cut file failed
-pub front_is_seen : SeesFront album [] [] (Some capture) (Some (9 ∷ []))
+pub front_is_seen : SourceReadingShowsFront album [] [] (Some capture) (Some (9 ∷ []))
 front_is_seen = record {
   front = cut_file;
   frames = [];
@@ -75,7 +75,7 @@ front_is_seen = record {
 }
 
 -- the whole capture was read, and memory for its frame lacked
-pub part_is_seen : SeesPart album [] [] (Some capture) (Some [])
+pub part_is_seen : SourceReadingShowsPart album [] [] (Some capture) (Some [])
 part_is_seen = record {
   front = capture;
   all = frame ∷ [];
@@ -87,22 +87,22 @@ part_is_seen = record {
   sees = sees_nothing;
 }
 
-pub seen_at_each_answer : IsSeen album [] (frame ∷ []) (Some capture) (Some []) (Ok 1)
-    × IsSeen album [] [] (Some cut_file) (Some []) (Err (Capture (fault_at CutFrame 24)))
-    × IsSeen album [] [] (Some capture) (Some (9 ∷ [])) (Err ReadFault)
-    × IsSeen album [] [] (Some capture) (Some []) (Err OutOfMemory)
+pub seen_at_each_answer : IsSeenInSourceReading album [] (frame ∷ []) (Some capture) (Some []) (Ok 1)
+    × IsSeenInSourceReading album [] [] (Some cut_file) (Some []) (Err (Capture (header_fault_at CutFrame 24)))
+    × IsSeenInSourceReading album [] [] (Some capture) (Some (9 ∷ [])) (Err ReadFault)
+    × IsSeenInSourceReading album [] [] (Some capture) (Some []) (Err OutOfMemory)
 seen_at_each_answer = (whole_capture_is_seen, nothing_is_seen_of_a_cut_frame, front_is_seen, part_is_seen)
 
-pub capture_is_read : IsReadOf capture (Ok 1)
+pub capture_is_read : IsSourceReadingOf capture (Ok 1)
 capture_is_read = ((frame ∷ [], header_and_frame, refl), capture_has_no_fault)
 
-pub count_is_of_frames : IsReadOf capture (Ok 2) → ⊥
+pub count_is_of_frames : IsSourceReadingOf capture (Ok 2) → ⊥
 count_is_of_frames ((frames, is, counted), none) =
-    let same : frames ≡ frame ∷ [] = files_decided.one_list capture (frame ∷ []) frames header_and_frame is in
+    let same : frames ≡ frame ∷ [] = capture_files_are_decided.one_list capture (frame ∷ []) frames header_and_frame is in
     omega (arith, counted, ap length same)
 
-pub cut_file_is_refused : IsReadOf cut_file (Err (Capture (fault_at CutFrame 24)))
+pub cut_file_is_refused : IsSourceReadingOf cut_file (Err (Capture (header_fault_at CutFrame 24)))
 cut_file_is_refused = (([], fault_of_a_cut_file), cut_file_is_no_capture)
 
-pub cut_file_is_not_read : IsReadOf cut_file (Ok 0) → ⊥
-cut_file_is_not_read (read, none) = none (fault_at CutFrame 24) ([], fault_of_a_cut_file)
+pub cut_file_is_not_read : IsSourceReadingOf cut_file (Ok 0) → ⊥
+cut_file_is_not_read (read, none) = none (header_fault_at CutFrame 24) ([], fault_of_a_cut_file)

@@ -4,8 +4,8 @@ use Rattle.std.proofs.lemmas.Bool.{cases_lt}
 use Rattle.std.proofs.lemmas.List.{take_all, take-take}
 
 -- the first m of the first n
-pub take_of_take : (n m : ℕ) (xs : List ℕ) → take (min n m) xs ≡ take m (take n xs)
-take_of_take n m xs = elim (cases_lt n m) [
+pub frame_head_of_front : (n m : ℕ) (xs : List ℕ) → take (min n m) xs ≡ take m (take n xs)
+frame_head_of_front n m xs = elim (cases_lt n m) [
   | inl below ↦
       ap (λ k. take k xs) (let e : min n m ≡ n = omega arith in e)
       ∙ sym (take_all m (take n xs) (omega (arith, length-take n xs)))

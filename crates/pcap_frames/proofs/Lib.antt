@@ -1,12 +1,12 @@
-pub mod NumberLemmas
+pub mod FileNumberLemmas
 pub mod FileHeaderLemmas
-pub mod FrameListLemmas
-pub mod SplitLemmas
+pub mod BeginsFrameLemmas
+pub mod FileSplitLemmas
 pub mod ReaderStepLemmas
 pub mod FirstFaultLemmas
 pub mod FrameHeadLemmas
-pub mod FeedLemmas
-pub mod CaptureLawLemmas
+pub mod FedPieceLemmas
+pub mod CaptureFileLemmas
 pub mod EndFaultLemmas
 pub mod SourceReadLemmas
 pub mod Examples

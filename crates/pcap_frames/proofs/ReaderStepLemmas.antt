@@ -6,24 +6,24 @@ use Rattle.std.proofs.lemmas.Bool.{ltb-false, lt-ltb, le-ltb, eqb-false, eq-eqb,
 use Rattle.std.proofs.lemmas.List.{take_all, take-take, take-append-le, drop-take, drop_all, nil_from_length}
 use Rattle.pcap_frames.specs.declared.file_order.FileOrder.{FileOrder}
 use Rattle.pcap_frames.specs.declared.fault.CaptureFault.{CaptureFault}
-use Rattle.pcap_frames.specs.FileOrder.{number_at}
+use Rattle.pcap_frames.specs.FileOrder.{number_in_file_order}
 use Rattle.pcap_frames.specs.Frame.{FrameValue}
-use Rattle.pcap_frames.specs.Header.{IsHeader, magic_order, header_fault}
-use Rattle.pcap_frames.specs.Frames.{frame_at, BeginsFrame, BeginsFrames, needed, frame_fault}
-use Rattle.pcap_frames.specs.Capture.{ShowsFault}
-use Rattle.pcap_frames.specs.ReaderState.{FramePlace, ReaderState, InHeader, InFrames, AtFault, LacksMemory}
-use Rattle.pcap_frames.specs.ReaderState.{IsBehind, ReaderRepresents, Advances}
-use Rattle.pcap_frames.specs.Steps.{SplitsFrame, Takes}
-use Rattle.pcap_frames.proofs.NumberLemmas.{number_at-take, number_at-append}
-use Rattle.pcap_frames.proofs.FileHeaderLemmas.{header_of_order}
-use Rattle.pcap_frames.proofs.FrameListLemmas.{BeginsFrames-more, needed_least, needed-header, needed-part}
-use Rattle.pcap_frames.proofs.SplitLemmas.{Splits-append, ShowsFault-append}
+use Rattle.pcap_frames.specs.Header.{IsHeader, header_magic_order, header_fault}
+use Rattle.pcap_frames.specs.Frames.{frame_at, BeginsFrame, BeginsFrames, frame_bytes_needed, frame_fault}
+use Rattle.pcap_frames.specs.Capture.{ShowsCaptureFault}
+use Rattle.pcap_frames.specs.ReaderState.{ReaderFramePlace, ReaderState, InHeader, InFrames, AtFault, LacksMemory}
+use Rattle.pcap_frames.specs.ReaderState.{IsReaderBehind, ReaderRepresents, ReaderAdvances}
+use Rattle.pcap_frames.specs.ReaderSteps.{StepSplitsFrame, ReaderStepTakes}
+use Rattle.pcap_frames.proofs.FileNumberLemmas.{number_in_file_order-in_file_front, number_in_file_order-in_longer_file}
+use Rattle.pcap_frames.proofs.FileHeaderLemmas.{file_header_of_magic_order}
+use Rattle.pcap_frames.proofs.BeginsFrameLemmas.{BeginsFrames-more, frame_that_begins_needs_header, frame_bytes_needed-begins_frame_header, frame_bytes_needed-begins_part_of_frame}
+use Rattle.pcap_frames.proofs.FileSplitLemmas.{SplitsCapture-longer_file, ShowsCaptureFault-longer_split_file}
 
 -- ---- the first bytes of a run are enough
 
 -- the first bytes of a run that grows
-pub take-take_append : (n : ℕ) (xs ys : List ℕ) → take n (take n xs ++ ys) ≡ take n (xs ++ ys)
-take-take_append n xs ys = elim (cases_lt n (length xs)) [
+pub reader_step_front_grows : (n : ℕ) (xs ys : List ℕ) → take n (take n xs ++ ys) ≡ take n (xs ++ ys)
+reader_step_front_grows n xs ys = elim (cases_lt n (length xs)) [
   | inl longer ↦
       let room : length (take n xs) ≡ n = omega (arith, length-take n xs) in
       take-append-le n (take n xs) ys (omega arith) ∙ take-take n n xs (omega arith)
@@ -32,8 +32,8 @@ take-take_append n xs ys = elim (cases_lt n (length xs)) [
 ]
 
 -- the least of two fronts
-pub take-take_take : (n m : ℕ) (xs : List ℕ) → take n (take m (take n xs)) ≡ take n (take m xs)
-take-take_take n m xs = elim (cases_lt n m) [
+pub reader_step_least_front : (n m : ℕ) (xs : List ℕ) → take n (take m (take n xs)) ≡ take n (take m xs)
+reader_step_least_front n m xs = elim (cases_lt n m) [
   | inl longer ↦
       ap (take n) (take_all m (take n xs) (omega (arith, length-take n xs))) ∙ take-take n n xs (omega arith)
       ∙ sym (take-take n m xs (omega arith))
@@ -41,131 +41,131 @@ take-take_take n m xs = elim (cases_lt n m) [
 ]
 
 -- a test of the length reads no more than its front
-length_test-take : (n m : ℕ) (xs : List ℕ) → n ≤ m → ltb (length (take m xs)) n ≡ ltb (length xs) n
-length_test-take n m xs fits = elim (cases_lt (length xs) n) [
+reader_step_length_test : (n m : ℕ) (xs : List ℕ) → n ≤ m → ltb (length (take m xs)) n ≡ ltb (length xs) n
+reader_step_length_test n m xs fits = elim (cases_lt (length xs) n) [
   | inl short ↦ lt-ltb _ n (omega (arith, length-take m xs)) ∙ sym (lt-ltb (length xs) n short)
   | inr long ↦ le-ltb _ n (omega (arith, length-take m xs)) ∙ sym (le-ltb (length xs) n long)
 ]
 
-some_test-take : (m : ℕ) (xs : List ℕ) → 0 < m → ltb 0 (length (take m xs)) ≡ ltb 0 (length xs)
-some_test-take m xs fits = elim (cases_lt 0 (length xs)) [
+reader_step_nonempty_test : (m : ℕ) (xs : List ℕ) → 0 < m → ltb 0 (length (take m xs)) ≡ ltb 0 (length xs)
+reader_step_nonempty_test m xs fits = elim (cases_lt 0 (length xs)) [
   | inl some ↦ lt-ltb 0 _ (omega (arith, length-take m xs)) ∙ sym (lt-ltb 0 (length xs) some)
   | inr none ↦ le-ltb 0 _ (omega (arith, length-take m xs)) ∙ sym (le-ltb 0 (length xs) none)
 ]
 
 -- the first 58 bytes say what a frame needs
-pub needed-take : (order : FileOrder) (rest : List ℕ) → needed order (take 58 rest) ≡ needed order rest
-unfolding needed
-needed-take order rest =
-    rw (length_test-take 16 58 rest (omega arith), number_at-take order 4 8 58 rest (omega arith)) refl
+pub frame_bytes_needed-reader_step_front : (order : FileOrder) (rest : List ℕ) → frame_bytes_needed order (take 58 rest) ≡ frame_bytes_needed order rest
+unfolding frame_bytes_needed
+frame_bytes_needed-reader_step_front order rest =
+    rw (reader_step_length_test 16 58 rest (omega arith), number_in_file_order-in_file_front order 4 8 58 rest (omega arith)) refl
 
 -- the first 58 bytes show what a rest shows
-pub frame_fault-take : (order : FileOrder) (count place : ℕ) (rest : List ℕ)
+pub frame_fault-reader_step_front : (order : FileOrder) (count place : ℕ) (rest : List ℕ)
     → frame_fault order count place (take 58 rest) ≡ frame_fault order count place rest
 unfolding frame_fault
-frame_fault-take order count place rest =
+frame_fault-reader_step_front order count place rest =
     rw (
-      some_test-take 58 rest (omega arith),
-      length_test-take 16 58 rest (omega arith),
-      number_at-take order 4 8 58 rest (omega arith),
+      reader_step_nonempty_test 58 rest (omega arith),
+      reader_step_length_test 16 58 rest (omega arith),
+      number_in_file_order-in_file_front order 4 8 58 rest (omega arith),
     ) refl
 
 -- the first 58 bytes hold what a frame says
-pub frame_at-take : (order : FileOrder) (rest : List ℕ) → frame_at order (take 58 rest) ≡ frame_at order rest
-frame_at-take order rest =
+pub frame_at-reader_step_front : (order : FileOrder) (rest : List ℕ) → frame_at order (take 58 rest) ≡ frame_at order rest
+frame_at-reader_step_front order rest =
     rw (
-      number_at-take order 4 8 58 rest (omega arith),
-      number_at-take order 4 12 58 rest (omega arith),
+      number_in_file_order-in_file_front order 4 8 58 rest (omega arith),
+      number_in_file_order-in_file_front order 4 12 58 rest (omega arith),
       drop-take 16 42 rest,
-      take-take_take 42 (number_at order 4 8 rest) (drop 16 rest),
+      reader_step_least_front 42 (number_in_file_order order 4 8 rest) (drop 16 rest),
     ) refl
 
 -- ---- a rest that shows no fault
 
 -- a rest with a frame header that shows no fault stands before the limit on frames and isn't long
-pub right_frame : (order : FileOrder) (count place : ℕ) (rest : List ℕ) → frame_fault order count place rest ≡ None
-    → 16 ≤ length rest → (count ≡ 16777216 → ⊥) × (number_at order 4 8 rest ≤ 262144)
+pub reader_step_at_right_frame : (order : FileOrder) (count place : ℕ) (rest : List ℕ) → frame_fault order count place rest ≡ None
+    → 16 ≤ length rest → (count ≡ 16777216 → ⊥) × (number_in_file_order order 4 8 rest ≤ 262144)
 unfolding frame_fault
-right_frame order count place rest none header =
+reader_step_at_right_frame order count place rest none header =
     let some : ltb 0 (length rest) ≡ true = lt-ltb 0 (length rest) (omega arith) in
     let past : ltb (length rest) 16 ≡ false = le-ltb (length rest) 16 header in
     let first = rw some at none in
     elim (cases_Bool (eqb count 16777216)) [
       | inl full ↦ absurd (let wrong = rw full at first in cc)
-      | inr room ↦ let second = rw (room, past) at first in elim (cases_Bool (ltb 262144 (number_at order 4 8 rest))) [
+      | inr room ↦ let second = rw (room, past) at first in elim (cases_Bool (ltb 262144 (number_in_file_order order 4 8 rest))) [
         | inl long ↦ absurd (let wrong = rw long at second in cc)
         | inr fits ↦ (eqb-false count 16777216 room, ltb-false 262144 _ fits)
       ]
     ]
 
 -- a byte behind as many frames as the limit allows is a fault
-pub full_is_fault : (order : FileOrder) (count place : ℕ) (rest : List ℕ)
+pub reader_step_past_limit : (order : FileOrder) (count place : ℕ) (rest : List ℕ)
     → frame_fault order count place rest ≡ None → count ≡ 16777216 → 0 < length rest → ⊥
 unfolding frame_fault
-full_is_fault order count place rest none full some =
+reader_step_past_limit order count place rest none full some =
     let first = rw (lt-ltb 0 (length rest) some, eq-eqb count 16777216 full) at none in cc
 
 -- what a frame that shows no fault needs is bounded
-pub needed_bound : (order : FileOrder) (count place : ℕ) (rest : List ℕ) → frame_fault order count place rest ≡ None
-    → needed order rest ≤ 262160
-needed_bound order count place rest none = elim (cases_lt (length rest) 16) [
-  | inl short ↦ omega (arith, needed-part order rest short)
-  | inr past ↦ omega (arith, needed-header order rest past, (right_frame order count place rest none past).1)
+pub frame_bytes_needed-reader_step_bound : (order : FileOrder) (count place : ℕ) (rest : List ℕ) → frame_fault order count place rest ≡ None
+    → frame_bytes_needed order rest ≤ 262160
+frame_bytes_needed-reader_step_bound order count place rest none = elim (cases_lt (length rest) 16) [
+  | inl short ↦ omega (arith, frame_bytes_needed-begins_part_of_frame order rest short)
+  | inr past ↦ omega (arith, frame_bytes_needed-begins_frame_header order rest past, (reader_step_at_right_frame order count place rest none past).1)
 ]
 
 -- nothing kept needs a frame header
-pub needed_at_none : (order : FileOrder) (rest : List ℕ) → rest ≡ [] → needed order rest ≡ 16
-needed_at_none order rest none = needed-part order rest (omega (arith, ap length none))
+pub frame_bytes_needed-empty_reader_step : (order : FileOrder) (rest : List ℕ) → rest ≡ [] → frame_bytes_needed order rest ≡ 16
+frame_bytes_needed-empty_reader_step order rest none = frame_bytes_needed-begins_part_of_frame order rest (omega (arith, ap length none))
 
 -- a frame needs no less when more of it came
-pub needed_more : (order : FileOrder) (kept front now : List ℕ) → now ≡ take 58 (kept ++ front)
-    → needed order kept ≤ needed order now
-needed_more order kept front now is =
-    let same : needed order now ≡ needed order (kept ++ front) =
-    ap (needed order) is ∙ needed-take order (kept ++ front) in
+pub frame_bytes_needed-reader_step_grows : (order : FileOrder) (kept front now : List ℕ) → now ≡ take 58 (kept ++ front)
+    → frame_bytes_needed order kept ≤ frame_bytes_needed order now
+frame_bytes_needed-reader_step_grows order kept front now is =
+    let same : frame_bytes_needed order now ≡ frame_bytes_needed order (kept ++ front) =
+    ap (frame_bytes_needed order) is ∙ frame_bytes_needed-reader_step_front order (kept ++ front) in
     elim (cases_lt (length kept) 16) [
-      | inl short ↦ omega (arith, needed-part order kept short, needed_least order now)
+      | inl short ↦ omega (arith, frame_bytes_needed-begins_part_of_frame order kept short, frame_that_begins_needs_header order now)
       | inr past ↦
           let longer : 16 ≤ length (kept ++ front) = omega (arith, length-append kept front) in
           omega (
             arith,
-            needed-header order kept past,
-            needed-header order (kept ++ front) longer,
-            number_at-append order 4 8 kept front (omega arith),
+            frame_bytes_needed-begins_frame_header order kept past,
+            frame_bytes_needed-begins_frame_header order (kept ++ front) longer,
+            number_in_file_order-in_longer_file order 4 8 kept front (omega arith),
           )
     ]
 
 -- the kept bytes of a whole frame have its header and its head
-pub held_fits : (order : FileOrder) (count place came : ℕ) (now : List ℕ) → frame_fault order count place now ≡ None
-    → length now ≡ min 58 came → needed order now ≤ came
-    → (16 ≤ length now) × (number_at order 4 8 now ≤ 262144) × (16 + min 42 (number_at order 4 8 now) ≤ length now)
-held_fits order count place came now none size whole =
-    let past : 16 ≤ length now = omega (arith, needed_least order now) in
-    let right = right_frame order count place now none past in
-    (past, right.1, omega (arith, needed-header order now past))
+pub reader_step_held_frame_fits : (order : FileOrder) (count place came : ℕ) (now : List ℕ) → frame_fault order count place now ≡ None
+    → length now ≡ min 58 came → frame_bytes_needed order now ≤ came
+    → (16 ≤ length now) × (number_in_file_order order 4 8 now ≤ 262144) × (16 + min 42 (number_in_file_order order 4 8 now) ≤ length now)
+reader_step_held_frame_fits order count place came now none size whole =
+    let past : 16 ≤ length now = omega (arith, frame_that_begins_needs_header order now) in
+    let right = reader_step_at_right_frame order count place now none past in
+    (past, right.1, omega (arith, frame_bytes_needed-begins_frame_header order now past))
 
 -- nothing shows no fault
-pub frame_fault-nil : (order : FileOrder) (count place : ℕ) → frame_fault order count place [] ≡ None
+pub frame_fault-empty_reader_step : (order : FileOrder) (count place : ℕ) → frame_fault order count place [] ≡ None
 unfolding frame_fault
-frame_fault-nil order count place = refl
+frame_fault-empty_reader_step order count place = refl
 
 -- ---- steps in the file header
 
 -- a new reader stands for no bytes
-pub new_stands : ReaderRepresents (InHeader []) [] []
+pub reader_before_first_step : ReaderRepresents (InHeader []) [] []
 unfolding header_fault
-new_stands = record { kept_is = refl; short = omega arith; none_shown = refl; no_frame = refl }
+reader_before_first_step = record { kept_is = refl; short = omega arith; none_shown = refl; no_frame = refl }
 
 -- the front of the header that is kept is all of it
-kept_all : (kept front now : List ℕ) → now ≡ take 58 (kept ++ front) → length kept + length front ≤ 24
+reader_step_keeps_all : (kept front now : List ℕ) → now ≡ take 58 (kept ++ front) → length kept + length front ≤ 24
     → now ≡ kept ++ front
-kept_all kept front now is fits = is ∙ take_all 58 (kept ++ front) (omega (arith, length-append kept front))
+reader_step_keeps_all kept front now is fits = is ∙ take_all 58 (kept ++ front) (omega (arith, length-append kept front))
 
 -- less than a header, still
-pub still_header : (kept front now : List ℕ) → now ≡ take 58 (kept ++ front) → length kept + length front < 24
-    → header_fault now ≡ None → Advances (InHeader kept) (InHeader now) front []
-still_header kept front now is short none =
-    let all : now ≡ kept ++ front = kept_all kept front now is (omega arith) in
+pub reader_step_in_header : (kept front now : List ℕ) → now ≡ take 58 (kept ++ front) → length kept + length front < 24
+    → header_fault now ≡ None → ReaderAdvances (InHeader kept) (InHeader now) front []
+reader_step_in_header kept front now is short none =
+    let all : now ≡ kept ++ front = reader_step_keeps_all kept front now is (omega arith) in
     record {
       reads = λ before frames stands.
           let whole : now ≡ before ++ front = all ∙ ap (λ l. l ++ front) stands.kept_is in record {
@@ -177,11 +177,11 @@ still_header kept front now is short none =
     }
 
 -- the header shows a fault
-pub faulty_header : (kept front now : List ℕ) (fault : CaptureFault) → now ≡ take 58 (kept ++ front)
+pub reader_step_to_header_fault : (kept front now : List ℕ) (fault : CaptureFault) → now ≡ take 58 (kept ++ front)
     → length kept + length front ≤ 24 → header_fault now ≡ Some fault
-    → Advances (InHeader kept) (AtFault fault) front []
-faulty_header kept front now fault is fits shown =
-    let all : now ≡ kept ++ front = kept_all kept front now is fits in
+    → ReaderAdvances (InHeader kept) (AtFault fault) front []
+reader_step_to_header_fault kept front now fault is fits shown =
+    let all : now ≡ kept ++ front = reader_step_keeps_all kept front now is fits in
     record {
       reads = λ before frames stands. inl (record {
         shown = subst (λ l. header_fault l ≡ Some fault) (all ∙ ap (λ l. l ++ front) stands.kept_is) shown;
@@ -190,32 +190,32 @@ faulty_header kept front now fault is fits shown =
     }
 
 -- behind the header
-abbrev pub first_place : FileOrder → FramePlace
-first_place order = record { order = order; count = 0; place = 24; kept = []; came = 0 }
+abbrev pub reader_step_first_place : FileOrder → ReaderFramePlace
+reader_step_first_place order = record { order = order; count = 0; place = 24; kept = []; came = 0 }
 
 -- the header is whole
-pub whole_header : (kept front now : List ℕ) (order : FileOrder) → now ≡ take 58 (kept ++ front)
-    → length kept + length front ≡ 24 → header_fault now ≡ None → magic_order now ≡ Some order
-    → Advances (InHeader kept) (InFrames (first_place order)) front []
-whole_header kept front now order is whole none magic =
-    let all : now ≡ kept ++ front = kept_all kept front now is (omega arith) in
+pub reader_step_ends_header : (kept front now : List ℕ) (order : FileOrder) → now ≡ take 58 (kept ++ front)
+    → length kept + length front ≡ 24 → header_fault now ≡ None → header_magic_order now ≡ Some order
+    → ReaderAdvances (InHeader kept) (InFrames (reader_step_first_place order)) front []
+reader_step_ends_header kept front now order is whole none magic =
+    let all : now ≡ kept ++ front = reader_step_keeps_all kept front now is (omega arith) in
     record {
       reads = λ before frames stands.
           let same : now ≡ before ++ front = all ∙ ap (λ l. l ++ front) stands.kept_is in
           let size : length (before ++ front) ≡ 24 =
           omega (arith, ap length stands.kept_is, length-append before front) in
           let header : IsHeader order (before ++ front) =
-          header_of_order order (before ++ front) (omega arith) (subst (λ l. header_fault l ≡ None) same none)
-          (subst (λ l. magic_order l ≡ Some order) same magic) in
-          subst (IsBehind (first_place order) (before ++ front)) (sym (append-nil frames ∙ stands.no_frame)) (record {
+          file_header_of_magic_order order (before ++ front) (omega arith) (subst (λ l. header_fault l ≡ None) same none)
+          (subst (λ l. header_magic_order l ≡ Some order) same magic) in
+          subst (IsReaderBehind (reader_step_first_place order) (before ++ front)) (sym (append-nil frames ∙ stands.no_frame)) (record {
             rest = [];
             splits = record {
               header = header;
               begins = sym (drop_all 24 (before ++ front) (omega arith));
               limit = omega arith;
             };
-            none_shown = frame_fault-nil order 0 24;
-            cut = omega (arith, needed_least order []);
+            none_shown = frame_fault-empty_reader_step order 0 24;
+            cut = omega (arith, frame_that_begins_needs_header order []);
             count_is = refl;
             place_is = omega arith;
             kept_is = refl;
@@ -226,31 +226,31 @@ whole_header kept front now order is whole none magic =
 -- ---- steps behind some frames
 
 -- the first bytes of the rest, after more of it came
-kept_more : (at : FramePlace) (before front now : List ℕ) (frames : List FrameValue)
-    (stands : IsBehind at before frames) → now ≡ take 58 (at.kept ++ front) → now ≡ take 58 (stands.rest ++ front)
-kept_more at before front now frames stands is =
-    is ∙ ap (λ l. take 58 (l ++ front)) stands.kept_is ∙ take-take_append 58 stands.rest front
+reader_step_keeps_more : (at : ReaderFramePlace) (before front now : List ℕ) (frames : List FrameValue)
+    (stands : IsReaderBehind at before frames) → now ≡ take 58 (at.kept ++ front) → now ≡ take 58 (stands.rest ++ front)
+reader_step_keeps_more at before front now frames stands is =
+    is ∙ ap (λ l. take 58 (l ++ front)) stands.kept_is ∙ reader_step_front_grows 58 stands.rest front
 
 -- more of a frame came, and it isn't whole
-part_so_far : (at : FramePlace) (front now : List ℕ) → now ≡ take 58 (at.kept ++ front)
-    → frame_fault at.order at.count at.place now ≡ None → at.came + length front < needed at.order now
-    → Advances (InFrames at) (InFrames (record at { kept = now; came = at.came + length front })) front []
-part_so_far at front now is none cut = record {
+reader_step_part_so_far : (at : ReaderFramePlace) (front now : List ℕ) → now ≡ take 58 (at.kept ++ front)
+    → frame_fault at.order at.count at.place now ≡ None → at.came + length front < frame_bytes_needed at.order now
+    → ReaderAdvances (InFrames at) (InFrames (record at { kept = now; came = at.came + length front })) front []
+reader_step_part_so_far at front now is none cut = record {
   reads = λ before frames stands.
-      let same : now ≡ take 58 (stands.rest ++ front) = kept_more at before front now frames stands is in
-      subst (IsBehind (record at { kept = now; came = at.came + length front }) (before ++ front))
+      let same : now ≡ take 58 (stands.rest ++ front) = reader_step_keeps_more at before front now frames stands is in
+      subst (IsReaderBehind (record at { kept = now; came = at.came + length front }) (before ++ front))
       (sym (append-nil frames)) (record {
         rest = stands.rest ++ front;
-        splits = Splits-append before front at.order frames stands.rest stands.splits;
+        splits = SplitsCapture-longer_file before front at.order frames stands.rest stands.splits;
         none_shown =
-            sym (frame_fault-take at.order at.count at.place (stands.rest ++ front))
+            sym (frame_fault-reader_step_front at.order at.count at.place (stands.rest ++ front))
             ∙ sym (ap (frame_fault at.order at.count at.place) same) ∙ none;
         cut =
             omega (
               arith,
               cut,
-              ap (needed at.order) same,
-              needed-take at.order (stands.rest ++ front),
+              ap (frame_bytes_needed at.order) same,
+              frame_bytes_needed-reader_step_front at.order (stands.rest ++ front),
               stands.came_is,
               length-append stands.rest front,
             );
@@ -262,29 +262,29 @@ part_so_far at front now is none cut = record {
 }
 
 -- the same, by how many bytes came
-pub part_of_frame : (at : FramePlace) (front now : List ℕ) (total : ℕ) → now ≡ take 58 (at.kept ++ front)
+pub reader_step_in_frame : (at : ReaderFramePlace) (front now : List ℕ) (total : ℕ) → now ≡ take 58 (at.kept ++ front)
     → total ≡ at.came + length front → frame_fault at.order at.count at.place now ≡ None
-    → total < needed at.order now
-    → Advances (InFrames at) (InFrames (record at { kept = now; came = total })) front []
-part_of_frame at front now total is sum none cut =
-    subst (λ n. Advances (InFrames at) (InFrames (record at { kept = now; came = n })) front []) (sym sum)
-    (part_so_far at front now is none (omega arith))
+    → total < frame_bytes_needed at.order now
+    → ReaderAdvances (InFrames at) (InFrames (record at { kept = now; came = total })) front []
+reader_step_in_frame at front now total is sum none cut =
+    subst (λ n. ReaderAdvances (InFrames at) (InFrames (record at { kept = now; came = n })) front []) (sym sum)
+    (reader_step_part_so_far at front now is none (omega arith))
 
 -- the rest shows a fault
-pub faulty_frame : (at : FramePlace) (front now : List ℕ) (fault : CaptureFault) → now ≡ take 58 (at.kept ++ front)
-    → frame_fault at.order at.count at.place now ≡ Some fault → Advances (InFrames at) (AtFault fault) front []
-faulty_frame at front now fault is shown = record {
+pub reader_step_to_frame_fault : (at : ReaderFramePlace) (front now : List ℕ) (fault : CaptureFault) → now ≡ take 58 (at.kept ++ front)
+    → frame_fault at.order at.count at.place now ≡ Some fault → ReaderAdvances (InFrames at) (AtFault fault) front []
+reader_step_to_frame_fault at front now fault is shown = record {
   reads = λ before frames stands.
-      let same : now ≡ take 58 (stands.rest ++ front) = kept_more at before front now frames stands is in
+      let same : now ≡ take 58 (stands.rest ++ front) = reader_step_keeps_more at before front now frames stands is in
       let place : at.place ≡ length (before ++ front) - length (stands.rest ++ front) =
       omega (arith, stands.place_is, length-append stands.rest front, length-append before front) in
       let here : frame_fault at.order at.count at.place (stands.rest ++ front) ≡ Some fault =
-      sym (frame_fault-take at.order at.count at.place (stands.rest ++ front))
+      sym (frame_fault-reader_step_front at.order at.count at.place (stands.rest ++ front))
       ∙ sym (ap (frame_fault at.order at.count at.place) same) ∙ shown in
-      subst (λ l. ShowsFault (before ++ front) l fault) (sym (append-nil frames)) (inr (record {
+      subst (λ l. ShowsCaptureFault (before ++ front) l fault) (sym (append-nil frames)) (inr (record {
         order = at.order;
         rest = stands.rest ++ front;
-        splits = Splits-append before front at.order frames stands.rest stands.splits;
+        splits = SplitsCapture-longer_file before front at.order frames stands.rest stands.splits;
         shown =
             subst (λ p. frame_fault at.order (length frames) p (stands.rest ++ front) ≡ Some fault) place
             (subst (λ n. frame_fault at.order n at.place (stands.rest ++ front) ≡ Some fault) stands.count_is
@@ -293,20 +293,20 @@ faulty_frame at front now fault is shown = record {
 }
 
 -- behind one frame more, of this many bytes
-abbrev pub next_place : FramePlace → ℕ → FramePlace
-next_place at size = record { order = at.order; count = at.count + 1; place = at.place + size; kept = []; came = 0 }
+abbrev pub reader_step_next_place : ReaderFramePlace → ℕ → ReaderFramePlace
+reader_step_next_place at size = record { order = at.order; count = at.count + 1; place = at.place + size; kept = []; came = 0 }
 
 -- the rest is one frame
-one_frame : (at : FramePlace) (before front : List ℕ) (frames : List FrameValue)
-    (stands : IsBehind at before frames)
+reader_step_one_frame : (at : ReaderFramePlace) (before front : List ℕ) (frames : List FrameValue)
+    (stands : IsReaderBehind at before frames)
     → BeginsFrame at.order (stands.rest ++ front) (frame_at at.order (stands.rest ++ front))
-    → length (stands.rest ++ front) ≡ 16 + number_at at.order 4 8 (stands.rest ++ front) → (at.count ≡ 16777216 → ⊥)
-    → IsBehind (next_place at (length (stands.rest ++ front))) (before ++ front)
+    → length (stands.rest ++ front) ≡ 16 + number_in_file_order at.order 4 8 (stands.rest ++ front) → (at.count ≡ 16777216 → ⊥)
+    → IsReaderBehind (reader_step_next_place at (length (stands.rest ++ front))) (before ++ front)
     (frames ++ frame_at at.order (stands.rest ++ front) ∷ [])
-one_frame at before front frames stands begins size room =
+reader_step_one_frame at before front frames stands begins size room =
     let rest = stands.rest ++ front in
-    let splits = Splits-append before front at.order frames stands.rest stands.splits in
-    let none : drop (16 + number_at at.order 4 8 (stands.rest ++ front)) (stands.rest ++ front) ≡ [] =
+    let splits = SplitsCapture-longer_file before front at.order frames stands.rest stands.splits in
+    let none : drop (16 + number_in_file_order at.order 4 8 (stands.rest ++ front)) (stands.rest ++ front) ≡ [] =
     drop_all _ (stands.rest ++ front) (omega arith) in record {
       rest = [];
       splits = record {
@@ -324,8 +324,8 @@ one_frame at before front frames stands begins size room =
               length-append frames (frame_at at.order (stands.rest ++ front) ∷ []),
             );
       };
-      none_shown = frame_fault-nil at.order _ _;
-      cut = omega (arith, needed_least at.order []);
+      none_shown = frame_fault-empty_reader_step at.order _ _;
+      cut = omega (arith, frame_that_begins_needs_header at.order []);
       count_is = omega (arith, stands.count_is, length-append frames (frame_at at.order (stands.rest ++ front) ∷ []));
       place_is = omega (arith, stands.place_is, length-append stands.rest front, length-append before front);
       kept_is = refl;
@@ -333,23 +333,23 @@ one_frame at before front frames stands begins size room =
     }
 
 -- the kept frame is whole
-whole_so_far : (at : FramePlace) (front now : List ℕ) → now ≡ take 58 (at.kept ++ front)
+reader_step_whole_so_far : (at : ReaderFramePlace) (front now : List ℕ) → now ≡ take 58 (at.kept ++ front)
     → frame_fault at.order at.count at.place now ≡ None → 16 ≤ at.came + length front
-    → at.came + length front ≡ needed at.order now
-    → Advances (InFrames at) (InFrames (next_place at (at.came + length front))) front (frame_at at.order now ∷ [])
-whole_so_far at front now is none header size = record {
+    → at.came + length front ≡ frame_bytes_needed at.order now
+    → ReaderAdvances (InFrames at) (InFrames (reader_step_next_place at (at.came + length front))) front (frame_at at.order now ∷ [])
+reader_step_whole_so_far at front now is none header size = record {
   reads = λ before frames stands.
-      let same : now ≡ take 58 (stands.rest ++ front) = kept_more at before front now frames stands is in
+      let same : now ≡ take 58 (stands.rest ++ front) = reader_step_keeps_more at before front now frames stands is in
       let here : frame_fault at.order at.count at.place (stands.rest ++ front) ≡ None =
-      sym (frame_fault-take at.order at.count at.place (stands.rest ++ front))
+      sym (frame_fault-reader_step_front at.order at.count at.place (stands.rest ++ front))
       ∙ sym (ap (frame_fault at.order at.count at.place) same) ∙ none in
       let came : at.came + length front ≡ length (stands.rest ++ front) =
       omega (arith, stands.came_is, length-append stands.rest front) in
       let past : 16 ≤ length (stands.rest ++ front) = omega arith in
-      let right = right_frame at.order at.count at.place (stands.rest ++ front) here past in
-      let whole : length (stands.rest ++ front) ≡ 16 + number_at at.order 4 8 (stands.rest ++ front) =
-      sym came ∙ size ∙ ap (needed at.order) same ∙ needed-take at.order (stands.rest ++ front)
-      ∙ needed-header at.order (stands.rest ++ front) past in
+      let right = reader_step_at_right_frame at.order at.count at.place (stands.rest ++ front) here past in
+      let whole : length (stands.rest ++ front) ≡ 16 + number_in_file_order at.order 4 8 (stands.rest ++ front) =
+      sym came ∙ size ∙ ap (frame_bytes_needed at.order) same ∙ frame_bytes_needed-reader_step_front at.order (stands.rest ++ front)
+      ∙ frame_bytes_needed-begins_frame_header at.order (stands.rest ++ front) past in
       let begins : BeginsFrame at.order (stands.rest ++ front) (frame_at at.order (stands.rest ++ front)) = record {
         header = past;
         is_frame = refl;
@@ -357,28 +357,28 @@ whole_so_far at front now is none header size = record {
         room = omega (arith, whole);
       } in
       let frame_is : frame_at at.order now ≡ frame_at at.order (stands.rest ++ front) =
-      ap (frame_at at.order) same ∙ frame_at-take at.order (stands.rest ++ front) in
-      subst (λ n. IsBehind (next_place at n) (before ++ front) (frames ++ frame_at at.order now ∷ [])) (sym came)
-      (subst (λ f. IsBehind (next_place at (length (stands.rest ++ front))) (before ++ front) (frames ++ f ∷ []))
+      ap (frame_at at.order) same ∙ frame_at-reader_step_front at.order (stands.rest ++ front) in
+      subst (λ n. IsReaderBehind (reader_step_next_place at n) (before ++ front) (frames ++ frame_at at.order now ∷ [])) (sym came)
+      (subst (λ f. IsReaderBehind (reader_step_next_place at (length (stands.rest ++ front))) (before ++ front) (frames ++ f ∷ []))
       (sym frame_is)
-      (one_frame at before front frames stands begins whole right.0));
+      (reader_step_one_frame at before front frames stands begins whole right.0));
 }
 
 -- the same, by how many bytes came
-pub whole_frame : (at : FramePlace) (front now : List ℕ) (total size : ℕ) → now ≡ take 58 (at.kept ++ front)
+pub reader_step_ends_frame : (at : ReaderFramePlace) (front now : List ℕ) (total size : ℕ) → now ≡ take 58 (at.kept ++ front)
     → total ≡ at.came + length front → frame_fault at.order at.count at.place now ≡ None
-    → total ≡ needed at.order now → size ≡ needed at.order now
-    → Advances (InFrames at) (InFrames (next_place at size)) front (frame_at at.order now ∷ [])
-whole_frame at front now total size is sum none whole is_size =
-    subst (λ n. Advances (InFrames at) (InFrames (next_place at n)) front (frame_at at.order now ∷ []))
+    → total ≡ frame_bytes_needed at.order now → size ≡ frame_bytes_needed at.order now
+    → ReaderAdvances (InFrames at) (InFrames (reader_step_next_place at size)) front (frame_at at.order now ∷ [])
+reader_step_ends_frame at front now total size is sum none whole is_size =
+    subst (λ n. ReaderAdvances (InFrames at) (InFrames (reader_step_next_place at n)) front (frame_at at.order now ∷ []))
     (sym sum ∙ whole ∙ sym is_size)
-    (whole_so_far at front now is none (omega (arith, needed_least at.order now)) (sym sum ∙ whole))
+    (reader_step_whole_so_far at front now is none (omega (arith, frame_that_begins_needs_header at.order now)) (sym sum ∙ whole))
 
 -- a frame stands whole in the piece, and nothing of it came before
-frame_in_piece : (at : FramePlace) (front : List ℕ) → at.came ≡ 0 → at.kept ≡ [] → at.count < 16777216
-    → 16 ≤ length front → number_at at.order 4 8 front ≤ 262144 → length front ≡ 16 + number_at at.order 4 8 front
-    → Advances (InFrames at) (InFrames (next_place at (length front))) front (frame_at at.order front ∷ [])
-frame_in_piece at front none empty room past fits whole = record {
+reader_step_frame_in_piece : (at : ReaderFramePlace) (front : List ℕ) → at.came ≡ 0 → at.kept ≡ [] → at.count < 16777216
+    → 16 ≤ length front → number_in_file_order at.order 4 8 front ≤ 262144 → length front ≡ 16 + number_in_file_order at.order 4 8 front
+    → ReaderAdvances (InFrames at) (InFrames (reader_step_next_place at (length front))) front (frame_at at.order front ∷ [])
+reader_step_frame_in_piece at front none empty room past fits whole = record {
   reads = λ before frames stands.
       let nothing : stands.rest ≡ [] = nil_from_length stands.rest (sym stands.came_is ∙ none) in
       let same : stands.rest ++ front ≡ front = ap (λ l. l ++ front) nothing in
@@ -388,25 +388,25 @@ frame_in_piece at front none empty room past fits whole = record {
         limit = fits;
         room = omega (arith, whole);
       } in
-      subst (λ l. IsBehind (next_place at (length l)) (before ++ front) (frames ++ frame_at at.order l ∷ [])) same
-      (one_frame at before front frames stands
+      subst (λ l. IsReaderBehind (reader_step_next_place at (length l)) (before ++ front) (frames ++ frame_at at.order l ∷ [])) same
+      (reader_step_one_frame at before front frames stands
       (subst (λ l. BeginsFrame at.order l (frame_at at.order l)) (sym same) begins)
-      (subst (λ l. length l ≡ 16 + number_at at.order 4 8 l) (sym same) whole) (λ full. omega arith));
+      (subst (λ l. length l ≡ 16 + number_in_file_order at.order 4 8 l) (sym same) whole) (λ full. omega arith));
 }
 
 -- the same, as a step over the piece
-pub frame_at_front : (at : FramePlace) (piece rest : List ℕ) (frame : FrameValue) (size : ℕ)
-    → SplitsFrame at.order piece rest frame → at.came ≡ 0 → at.kept ≡ [] → at.count < 16777216
+pub reader_step_frame_at_front : (at : ReaderFramePlace) (piece rest : List ℕ) (frame : FrameValue) (size : ℕ)
+    → StepSplitsFrame at.order piece rest frame → at.came ≡ 0 → at.kept ≡ [] → at.count < 16777216
     → size ≡ length piece - length rest
-    → Takes (InFrames at) (InFrames (record at { count = at.count + 1; place = at.place + size })) piece rest
+    → ReaderStepTakes (InFrames at) (InFrames (record at { count = at.count + 1; place = at.place + size })) piece rest
     (frame ∷ [])
-frame_at_front at piece rest frame size splits none empty room is_size =
+reader_step_frame_at_front at piece rest frame size splits none empty room is_size =
     let front_is : length splits.front ≡ size =
     omega (arith, ap length splits.joined, length-append splits.front rest) in
-    let step = frame_in_piece at splits.front none empty room splits.header splits.limit splits.whole in
+    let step = reader_step_frame_in_piece at splits.front none empty room splits.header splits.limit splits.whole in
     let kept =
     subst (λ l.
-    Advances (InFrames at)
+    ReaderAdvances (InFrames at)
     (InFrames (record {
       order = at.order;
       count = at.count + 1;
@@ -416,7 +416,7 @@ frame_at_front at piece rest frame size splits none empty room is_size =
     })) splits.front (frame_at at.order splits.front ∷ [])) (sym empty) step in
     let came =
     subst (λ n.
-    Advances (InFrames at)
+    ReaderAdvances (InFrames at)
     (InFrames (record {
       order = at.order;
       count = at.count + 1;
@@ -424,7 +424,7 @@ frame_at_front at piece rest frame size splits none empty room is_size =
       kept = at.kept;
       came = n;
     })) splits.front (frame_at at.order splits.front ∷ [])) (sym none) kept in
-    let shown = subst (λ f. Advances (InFrames at)
+    let shown = subst (λ f. ReaderAdvances (InFrames at)
     (InFrames (record at { count = at.count + 1; place = at.place + length splits.front })) splits.front (f ∷ []))
     (sym splits.frame_is) came in record {
       front = splits.front;
@@ -432,37 +432,37 @@ frame_at_front at piece rest frame size splits none empty room is_size =
       some = omega (arith, splits.header);
       advances =
           subst (λ n.
-          Advances (InFrames at) (InFrames (record at { count = at.count + 1; place = at.place + n }))
+          ReaderAdvances (InFrames at) (InFrames (record at { count = at.count + 1; place = at.place + n }))
           splits.front (frame ∷ [])) front_is shown;
     }
 
 -- ---- steps of a reader that has stopped, and steps one after another
 
 -- a fault stays
-pub stays_at_fault : (fault : CaptureFault) (front : List ℕ) → Advances (AtFault fault) (AtFault fault) front []
-stays_at_fault fault front = record {
+pub reader_step_at_fault : (fault : CaptureFault) (front : List ℕ) → ReaderAdvances (AtFault fault) (AtFault fault) front []
+reader_step_at_fault fault front = record {
   reads = λ before frames stands.
-      subst (λ l. ShowsFault (before ++ front) l fault) (sym (append-nil frames))
-      (ShowsFault-append before front frames fault stands);
+      subst (λ l. ShowsCaptureFault (before ++ front) l fault) (sym (append-nil frames))
+      (ShowsCaptureFault-longer_split_file before front frames fault stands);
 }
 
 -- a reader without memory stands for nothing
-pub stays_without_memory : (front : List ℕ) → Advances LacksMemory LacksMemory front []
-stays_without_memory front = record { reads = λ before frames stands. absurd stands }
+pub reader_step_without_memory : (front : List ℕ) → ReaderAdvances LacksMemory LacksMemory front []
+reader_step_without_memory front = record { reads = λ before frames stands. absurd stands }
 
 -- no bytes complete no frames
-pub Advances-nil : (state : ReaderState) → Advances state state [] []
-Advances-nil state = record {
+pub ReaderAdvances-no_step : (state : ReaderState) → ReaderAdvances state state [] []
+ReaderAdvances-no_step state = record {
   reads = λ before frames stands.
       subst (λ l. ReaderRepresents state l (frames ++ [])) (sym (append-nil before))
       (subst (ReaderRepresents state before) (sym (append-nil frames)) stands);
 }
 
 -- one step after another
-pub Advances-trans : (old mid new : ReaderState) (front more : List ℕ) (given others : List FrameValue)
-    → Advances old mid front given → Advances mid new more others
-    → Advances old new (front ++ more) (given ++ others)
-Advances-trans old mid new front more given others first second = record {
+pub ReaderAdvances-two_steps : (old mid new : ReaderState) (front more : List ℕ) (given others : List FrameValue)
+    → ReaderAdvances old mid front given → ReaderAdvances mid new more others
+    → ReaderAdvances old new (front ++ more) (given ++ others)
+ReaderAdvances-two_steps old mid new front more given others first second = record {
   reads = λ before frames stands.
       subst (λ l. ReaderRepresents new l (frames ++ (given ++ others))) (append_assoc before front more)
       (subst (ReaderRepresents new ((before ++ front) ++ more)) (append_assoc frames given others)

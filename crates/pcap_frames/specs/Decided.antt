@@ -3,36 +3,36 @@ use Rattle.std.specs.Prelude.{ℕ, ◌≡◌, ◌<◌, ◌⊎◌, List, ◌++◌
 use Rattle.pcap_frames.specs.declared.fault.CaptureFault.{CaptureFault}
 use Rattle.pcap_frames.specs.Frame.{FrameValue}
 use Rattle.pcap_frames.specs.Frames.{AreFrames}
-use Rattle.pcap_frames.specs.Capture.{IsCapture, ShowsFault, HasFaultAfter, HasFault}
-use Rattle.pcap_frames.specs.ReaderState.{Completes}
+use Rattle.pcap_frames.specs.Capture.{IsCapture, ShowsCaptureFault, HasCaptureFaultAfter, HasCaptureFault}
+use Rattle.pcap_frames.specs.ReaderState.{ReaderCompletes}
 use Rattle.outside_io.specs.{IsBeginning}
 
 -- each file is a capture of one list of frames, or has one first fault after one list of frames, and never both
 pub record FilesAreDecided : Type 0 where
   pub either : (file : List ℕ)
-      → ((frames : List FrameValue) × IsCapture file frames) ⊎ ((fault : CaptureFault) × HasFault file fault)
+      → ((frames : List FrameValue) × IsCapture file frames) ⊎ ((fault : CaptureFault) × HasCaptureFault file fault)
   pub never_both : (file : List ℕ) (frames : List FrameValue) (fault : CaptureFault) → IsCapture file frames
-      → HasFault file fault → ⊥
+      → HasCaptureFault file fault → ⊥
   pub one_list : (file : List ℕ) (frames others : List FrameValue) → IsCapture file frames → IsCapture file others
       → others ≡ frames
-  pub one_fault : (file : List ℕ) (fault other : CaptureFault) → HasFault file fault → HasFault file other
+  pub one_fault : (file : List ℕ) (fault other : CaptureFault) → HasCaptureFault file fault → HasCaptureFault file other
       → other ≡ fault
   pub one_before : (file : List ℕ) (frames others : List FrameValue) (fault other : CaptureFault)
-      → HasFaultAfter file frames fault → HasFaultAfter file others other → others ≡ frames
+      → HasCaptureFaultAfter file frames fault → HasCaptureFaultAfter file others other → others ≡ frames
   pub are_frames : (file : List ℕ) (frames : List FrameValue) → ((place : ℕ) → slice_index file place < 256)
       → IsCapture file frames → AreFrames frames
 
 -- the bytes at the front of a file complete one list of frames, which begins that of any longer front and of the file;
 -- a fault that they show is the file's first
 pub record FrontsAreDecided : Type 0 where
-  pub some : (front : List ℕ) → (frames : List FrameValue) × Completes front frames
-  pub one : (front : List ℕ) (frames others : List FrameValue) → Completes front frames → Completes front others
+  pub some : (front : List ℕ) → (frames : List FrameValue) × ReaderCompletes front frames
+  pub one : (front : List ℕ) (frames others : List FrameValue) → ReaderCompletes front frames → ReaderCompletes front others
       → others ≡ frames
-  pub longer : (front more : List ℕ) (frames others : List FrameValue) → Completes front frames
-      → Completes (front ++ more) others → IsBeginning frames others
-  pub of_capture : (front more : List ℕ) (frames all : List FrameValue) → Completes front frames
+  pub longer : (front more : List ℕ) (frames others : List FrameValue) → ReaderCompletes front frames
+      → ReaderCompletes (front ++ more) others → IsBeginning frames others
+  pub of_capture : (front more : List ℕ) (frames all : List FrameValue) → ReaderCompletes front frames
       → IsCapture (front ++ more) all → IsBeginning frames all
   pub before_fault : (front more : List ℕ) (frames all : List FrameValue) (fault : CaptureFault)
-      → Completes front frames → HasFaultAfter (front ++ more) all fault → IsBeginning frames all
+      → ReaderCompletes front frames → HasCaptureFaultAfter (front ++ more) all fault → IsBeginning frames all
   pub shown : (front more : List ℕ) (frames : List FrameValue) (fault : CaptureFault)
-      → ShowsFault front frames fault → HasFaultAfter (front ++ more) frames fault
+      → ShowsCaptureFault front frames fault → HasCaptureFaultAfter (front ++ more) frames fault

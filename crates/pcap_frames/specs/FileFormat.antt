@@ -10,12 +10,12 @@ abbrev pub frame_header_length : ℕ
 frame_header_length = 16
 
 -- the most captured bytes of a frame, which is libpcap's own limit
-abbrev pub most_captured : ℕ
-most_captured = 262144
+abbrev pub most_captured_length : ℕ
+most_captured_length = 262144
 
 -- the most frames of a capture, 2^24
-abbrev pub most_frames : ℕ
-most_frames = 16777216
+abbrev pub most_frames_in_file : ℕ
+most_frames_in_file = 16777216
 
 -- the bytes of a frame that its record is read from: two hardware addresses of 6 bytes, two VLAN tags of 4,
 -- the type of 2, and an IPv4 header of 20

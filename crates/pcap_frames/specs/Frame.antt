@@ -9,5 +9,5 @@ pub record FrameValue : Type 0 where
   pub original : ℕ
 
 -- the head, the captured length and the original length of a frame
-abbrev pub content_of : Frame → FrameValue
-content_of frame = record { head = frame.head.now; captured = frame.captured; original = frame.original }
+abbrev pub frame_content : Frame → FrameValue
+frame_content frame = record { head = frame.head.now; captured = frame.captured; original = frame.original }

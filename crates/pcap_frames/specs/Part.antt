@@ -1,15 +1,15 @@
 -- The state of a reader, made from its parts.
 use Rattle.std.specs.Prelude.{⊤, ◌+◌, ◌*◌, ◌≤◌, ◌<◌}
-use Rattle.pcap_frames.specs.FileFormat.{file_header_length, frame_header_length, most_captured, most_frames}
+use Rattle.pcap_frames.specs.FileFormat.{file_header_length, frame_header_length, most_captured_length, most_frames_in_file}
 use Rattle.pcap_frames.specs.declared.reader.part.FramePart.{FramePart}
 use Rattle.pcap_frames.specs.declared.reader.part.Stage.{Stage}
 use Rattle.pcap_frames.specs.declared.reader.part.Stage.TheVariants.{Header, Frames, AtFault, LacksMemory}
-use Rattle.pcap_frames.specs.Frames.{needed}
+use Rattle.pcap_frames.specs.Frames.{frame_bytes_needed}
 use Rattle.pcap_frames.specs.ReaderState as state
 
 -- this part as a place after some frames
-abbrev pub frame_place : FramePart → state.FramePlace
-frame_place part = record {
+abbrev pub place_of_part : FramePart → state.ReaderFramePlace
+place_of_part part = record {
   order = part.order;
   count = part.count;
   place = part.place;
@@ -18,22 +18,22 @@ frame_place part = record {
 }
 
 -- the state of a reader with this part
-abbrev pub state_of : Stage → FramePart → state.ReaderState
-state_of Header part = state.InHeader part.kept.first
-state_of Frames part = state.InFrames (frame_place part)
-state_of (AtFault fault) part = state.AtFault fault
-state_of LacksMemory part = state.LacksMemory
+abbrev pub state_of_part : Stage → FramePart → state.ReaderState
+state_of_part Header part = state.InHeader part.kept.first
+state_of_part Frames part = state.InFrames (place_of_part part)
+state_of_part (AtFault fault) part = state.AtFault fault
+state_of_part LacksMemory part = state.LacksMemory
 
 -- the counts of a part after some frames stay within their limits, and its frame is not yet whole
-pub record IsWithin (part : FramePart) : Type 0 where
-  pub count : part.count ≤ most_frames
-  pub place : part.place ≤ file_header_length + (frame_header_length + most_captured) * part.count
-  pub cut : part.kept.came < needed part.order part.kept.first
-  pub bound : needed part.order part.kept.first ≤ 262160
+pub record IsPartWithin (part : FramePart) : Type 0 where
+  pub count : part.count ≤ most_frames_in_file
+  pub place : part.place ≤ file_header_length + (frame_header_length + most_captured_length) * part.count
+  pub cut : part.kept.came < frame_bytes_needed part.order part.kept.first
+  pub bound : frame_bytes_needed part.order part.kept.first ≤ 262160
 
 -- what always holds of the part in each stage
-abbrev pub IsInStage : Stage → FramePart → Type 0
-IsInStage Header part = part.kept.came < file_header_length
-IsInStage Frames part = IsWithin part
-IsInStage (AtFault fault) part = ⊤
-IsInStage LacksMemory part = ⊤
+abbrev pub IsPartInStage : Stage → FramePart → Type 0
+IsPartInStage Header part = part.kept.came < file_header_length
+IsPartInStage Frames part = IsPartWithin part
+IsPartInStage (AtFault fault) part = ⊤
+IsPartInStage LacksMemory part = ⊤

@@ -5,12 +5,12 @@ use Rattle.pcap_frames.specs.declared.file_order.FileOrder.{FileOrder}
 use Rattle.pcap_frames.specs.declared.fault.CaptureFault.{CaptureFault}
 use Rattle.pcap_frames.specs.Frame.{FrameValue}
 use Rattle.pcap_frames.specs.Header.{header_fault}
-use Rattle.pcap_frames.specs.Frames.{frame_fault, needed}
-use Rattle.pcap_frames.specs.Capture.{Splits, ShowsFault}
+use Rattle.pcap_frames.specs.Frames.{frame_fault, frame_bytes_needed}
+use Rattle.pcap_frames.specs.Capture.{SplitsCapture, ShowsCaptureFault}
 
 -- after some frames: the byte order, the number of frames, the offset of the next frame, as much of its first 58 bytes
 -- as arrived, and how many of its bytes arrived
-pub record FramePlace : Type 0 where
+pub record ReaderFramePlace : Type 0 where
   pub order : FileOrder
   pub count : ℕ
   pub place : ℕ
@@ -20,23 +20,23 @@ pub record FramePlace : Type 0 where
 -- inside the file header with its bytes so far, after some frames, at a fault, or out of memory
 pub data ReaderState : Type 0 where
   InHeader : List ℕ → ReaderState
-  InFrames : FramePlace → ReaderState
+  InFrames : ReaderFramePlace → ReaderState
   AtFault : CaptureFault → ReaderState
   LacksMemory : ReaderState
 
 -- the bytes are fewer than a file header, and show no fault
-pub record IsPartHeader (kept : List ℕ) (bytes : List ℕ) (frames : List FrameValue) : Type 0 where
+pub record IsReaderInHeader (kept : List ℕ) (bytes : List ℕ) (frames : List FrameValue) : Type 0 where
   pub kept_is : kept ≡ bytes
   pub short : length bytes < file_header_length
   pub none_shown : header_fault bytes ≡ None
   pub no_frame : frames ≡ []
 
 -- the bytes are a file header, these frames, and less than a whole frame, which shows no fault
-pub record IsBehind (at : FramePlace) (bytes : List ℕ) (frames : List FrameValue) : Type 0 where
+pub record IsReaderBehind (at : ReaderFramePlace) (bytes : List ℕ) (frames : List FrameValue) : Type 0 where
   pub rest : List ℕ
-  pub splits : Splits bytes at.order frames rest
+  pub splits : SplitsCapture bytes at.order frames rest
   pub none_shown : frame_fault at.order at.count at.place rest ≡ None
-  pub cut : length rest < needed at.order rest
+  pub cut : length rest < frame_bytes_needed at.order rest
   pub count_is : at.count ≡ length frames
   pub place_is : at.place + length rest ≡ length bytes
   pub kept_is : at.kept ≡ take kept_length rest
@@ -44,23 +44,23 @@ pub record IsBehind (at : FramePlace) (bytes : List ℕ) (frames : List FrameVal
 
 -- a reader in this state represents these bytes at the front of a file, which contain these whole frames
 abbrev pub ReaderRepresents : ReaderState → List ℕ → List FrameValue → Type 0
-ReaderRepresents (InHeader kept) bytes frames = IsPartHeader kept bytes frames
-ReaderRepresents (InFrames at) bytes frames = IsBehind at bytes frames
-ReaderRepresents (AtFault fault) bytes frames = ShowsFault bytes frames fault
+ReaderRepresents (InHeader kept) bytes frames = IsReaderInHeader kept bytes frames
+ReaderRepresents (InFrames at) bytes frames = IsReaderBehind at bytes frames
+ReaderRepresents (AtFault fault) bytes frames = ShowsCaptureFault bytes frames fault
 ReaderRepresents LacksMemory bytes frames = ⊥
 
 -- the bytes at the front of a file contain exactly these whole frames
-abbrev pub Completes : List ℕ → List FrameValue → Type 0
-Completes bytes frames = (state : ReaderState) × ReaderRepresents state bytes frames
+abbrev pub ReaderCompletes : List ℕ → List FrameValue → Type 0
+ReaderCompletes bytes frames = (state : ReaderState) × ReaderRepresents state bytes frames
 
 -- a reader that takes no more bytes
-abbrev pub HasStopped : ReaderState → Type 0
-HasStopped (InHeader kept) = ⊥
-HasStopped (InFrames at) = ⊥
-HasStopped (AtFault fault) = ⊤
-HasStopped LacksMemory = ⊤
+abbrev pub ReaderHasStopped : ReaderState → Type 0
+ReaderHasStopped (InHeader kept) = ⊥
+ReaderHasStopped (InFrames at) = ⊥
+ReaderHasStopped (AtFault fault) = ⊤
+ReaderHasStopped LacksMemory = ⊤
 
 -- whatever bytes the reader represented, it now represents them followed by these bytes, which complete these frames
-pub record Advances (old new : ReaderState) (bytes : List ℕ) (given : List FrameValue) : Type 0 where
+pub record ReaderAdvances (old new : ReaderState) (bytes : List ℕ) (given : List FrameValue) : Type 0 where
   pub reads : (before : List ℕ) (frames : List FrameValue) → ReaderRepresents old before frames
       → ReaderRepresents new (before ++ bytes) (frames ++ given)

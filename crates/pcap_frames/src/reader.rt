@@ -7,9 +7,9 @@ mod part;
 
 ghost use Rattle.std.specs.Prelude.{◌≡◌, ℕ, ◌<◌, List, [], ◌∷◌, ◌++◌, length, IfOk, OnOk, OnErr, IfSome, IfNone, IsTrue, ◌↔◌};
 ghost use Rattle.pcap_frames.specs.Frame.{FrameValue};
-ghost use Rattle.pcap_frames.specs.Steps.{held_frames};
-ghost use Rattle.pcap_frames.specs.ReaderState.{InHeader, ReaderRepresents, HasStopped};
-ghost use Rattle.pcap_frames.specs.Feeding.{IsAnswerOf, IfMemory, Feeds, SeesBeginning, IsAnswerTo, IsEndOf};
+ghost use Rattle.pcap_frames.specs.ReaderSteps.{frames_held_in_step};
+ghost use Rattle.pcap_frames.specs.ReaderState.{InHeader, ReaderRepresents, ReaderHasStopped};
+ghost use Rattle.pcap_frames.specs.Feeding.{IsFeedingResultOf, IfFeedingHadMemory, Feeds, FeedingShowsBeginning, IsFeedingResultFor, IsFinalFeedingResult};
 
 use crate::header::fault_at;
 use crate::{FaultKind, FeedFault, Frame, FrameVisitor};
@@ -28,19 +28,19 @@ pub struct FrameReader {
 
 impl Model for FrameReader {
     ghost use Rattle.pcap_frames.specs.ReaderState.{ReaderState};
-    ghost use Rattle.pcap_frames.specs.Part.{state_of, IsInStage};
+    ghost use Rattle.pcap_frames.specs.Part.{state_of_part, IsPartInStage};
 
     ghost Value = { ReaderState };
 
-    ghost view = { λ r. state_of r.stage r.part };
+    ghost view = { λ r. state_of_part r.stage r.part };
 
-    ghost invariant = { λ r. IsInStage r.stage r.part };
+    ghost invariant = { λ r. IsPartInStage r.stage r.part };
 }
 
 impl FrameReader {
-    ghost use Rattle.pcap_frames.specs.Frame.{content_of};
+    ghost use Rattle.pcap_frames.specs.Frame.{frame_content};
     ghost use Rattle.pcap_frames.specs.Frames.{IsFrame};
-    ghost use Rattle.pcap_frames.specs.Steps.{Takes, ShowsFront, LacksRoom};
+    ghost use Rattle.pcap_frames.specs.ReaderSteps.{ReaderStepTakes, ReaderStepShowsFront, ReaderStepLacksRoom};
 
     /// A reader that was fed no bytes.
     pub fn new() -> FrameReader
@@ -56,8 +56,8 @@ impl FrameReader {
     /// The frame at the front of the piece and the bytes after it, if the reader is between two frames and the whole
     /// next frame is there.
     fn whole_frame<'a>(&mut self, piece: &'a [u8]) -> Option<(Frame<'a>, &'a [u8])>
-        ensures takes { IfSome result (λ found. Takes self.old self.new piece.now found.1.now (content_of found.0 ∷ [])) }
-        ensures is_frame { IfSome result (λ found. IsFrame (content_of found.0)) }
+        ensures takes { IfSome result (λ found. ReaderStepTakes self.old self.new piece.now found.1.now (frame_content found.0 ∷ [])) }
+        ensures is_frame { IfSome result (λ found. IsFrame (frame_content found.0)) }
         ensures none { IfNone result (self.new ≡ self.old) }
     {
         match self.stage {
@@ -69,7 +69,7 @@ impl FrameReader {
     /// Takes the next bytes of a header or a frame. Gives the frame if they complete it, and the bytes after them.
     fn take<'a>(&mut self, piece: &'a [u8]) -> (Option<HeldFrame>, &'a [u8])
         requires { 0 < length piece.now }
-        ensures { Takes self.old self.new piece.now result.1.now (held_frames result.0) }
+        ensures { ReaderStepTakes self.old self.new piece.now result.1.now (frames_held_in_step result.0) }
     {
         let Taken { stage, held, rest } = self.part.take(self.stage, piece);
         self.stage = stage;
@@ -83,8 +83,8 @@ impl FrameReader {
         visitor: &mut V,
     ) -> Result<&'a [u8], AllocError>
         requires { 0 < length piece.now }
-        ensures ok { IfOk result (λ rest. ShowsFront V.represents visitor.old visitor.new self.old self.new piece.now rest.now) }
-        ensures err { OnErr result (LacksRoom V.represents visitor.old visitor.new self.old piece.now) }
+        ensures ok { IfOk result (λ rest. ReaderStepShowsFront V.represents visitor.old visitor.new self.old self.new piece.now rest.now) }
+        ensures err { OnErr result (ReaderStepLacksRoom V.represents visitor.old visitor.new self.old piece.now) }
     {
         if let Some((frame, rest)) = self.whole_frame(piece) {
             visitor.frame(&frame)?;
@@ -100,7 +100,7 @@ impl FrameReader {
     /// Shows the visitor the frames that the piece completes.
     fn show_all<V: FrameVisitor>(&mut self, piece: &[u8], visitor: &mut V) -> Result<(), AllocError>
         ensures ok { OnOk result (Feeds V.represents visitor.old visitor.new self.old self.new piece.now) }
-        ensures err { OnErr result (SeesBeginning V.represents visitor.old visitor.new self.old piece.now) }
+        ensures err { OnErr result (FeedingShowsBeginning V.represents visitor.old visitor.new self.old piece.now) }
     {
         let mut rest = piece;
         while !rest.is_empty() {
@@ -111,14 +111,14 @@ impl FrameReader {
 
     /// Whether the reader takes no more bytes.
     fn has_stopped(&self) -> bool
-        ensures { IsTrue result ↔ HasStopped self.now }
+        ensures { IsTrue result ↔ ReaderHasStopped self.now }
     {
         matches!(self.stage, Stage::AtFault(_) | Stage::LacksMemory)
     }
 
     /// The result that the reader gives in its present state.
     fn answer(&self) -> Result<(), FeedFault>
-        ensures { IsAnswerOf self.now result }
+        ensures { IsFeedingResultOf self.now result }
     {
         match self.stage {
             Stage::AtFault(fault) => Err(FeedFault::Refused(fault)),
@@ -134,17 +134,17 @@ impl FrameReader {
     /// call. A reader that has returned either takes no more bytes.
     pub fn feed<V: FrameVisitor>(&mut self, piece: &[u8], visitor: &mut V) -> Result<(), FeedFault>
         // What the reader represents, and what the visitor saw.
-        ensures fed { IfMemory result
+        ensures fed { IfFeedingHadMemory result
             (Feeds V.represents visitor.old visitor.new self.old self.new piece.now)
-            (SeesBeginning V.represents visitor.old visitor.new self.old piece.now) }
+            (FeedingShowsBeginning V.represents visitor.old visitor.new self.old piece.now) }
 
         // When each result is returned.
-        ensures answer { IsAnswerOf self.new result }
+        ensures answer { IsFeedingResultOf self.new result }
         ensures exact { (before : List ℕ) (frames : List FrameValue) → ReaderRepresents self.old before frames
-            → IsAnswerTo (before ++ piece.now) result }
+            → IsFeedingResultFor (before ++ piece.now) result }
 
         // After a fault, or after memory ran out, nothing changes.
-        ensures stays { HasStopped self.old → (self.new ≡ self.old) × (visitor.new ≡ visitor.old) }
+        ensures stays { ReaderHasStopped self.old → (self.new ≡ self.old) × (visitor.new ≡ visitor.old) }
     {
         if self.has_stopped() {
             return self.answer();
@@ -163,8 +163,8 @@ impl FrameReader {
     /// `ShortHeader` and `CutFrame` are returned here. A reader that has refused the file or run out of memory
     /// returns that again.
     pub fn finish(self) -> Result<u64, FeedFault>
-        ensures stopped { HasStopped self → IsAnswerOf self result }
-        ensures end { (file : List ℕ) (frames : List FrameValue) → ReaderRepresents self file frames → IsEndOf file frames result }
+        ensures stopped { ReaderHasStopped self → IsFeedingResultOf self result }
+        ensures end { (file : List ℕ) (frames : List FrameValue) → ReaderRepresents self file frames → IsFinalFeedingResult file frames result }
     {
         match self.stage {
             Stage::Header => Err(FeedFault::Refused(fault_at(

@@ -1,8 +1,8 @@
 //! The visitor that is shown the frames of a capture.
 
 ghost use Rattle.std.specs.Prelude.{List, [], ◌∷◌, OnOk, OnErr};
-ghost use Rattle.pcap_frames.specs.Frame.{FrameValue, content_of};
-ghost use Rattle.pcap_frames.specs.Visitor.{Sees, IsAlike};
+ghost use Rattle.pcap_frames.specs.Frame.{FrameValue, frame_content};
+ghost use Rattle.pcap_frames.specs.Visitor.{VisitorSees, IsVisitorAlike};
 
 use crate::Frame;
 use std::alloc::AllocError;
@@ -15,6 +15,6 @@ pub trait FrameVisitor {
     /// Takes the next frame. After an error, which means that memory ran out, the visitor represents the same frames
     /// as before.
     fn frame(&mut self, frame: &Frame<'_>) -> Result<(), AllocError>
-        ensures seen { OnOk result (Sees represents self.old self.new (content_of frame.now ∷ [])) }
-        ensures unchanged { OnErr result (IsAlike represents self.old self.new) };
+        ensures seen { OnOk result (VisitorSees represents self.old self.new (frame_content frame.now ∷ [])) }
+        ensures unchanged { OnErr result (IsVisitorAlike represents self.old self.new) };
 }

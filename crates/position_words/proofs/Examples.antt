@@ -6,9 +6,9 @@ use Rattle.position_words.specs.declared.view.Aim.TheVariants.{Fold, Read}
 use Rattle.position_words.specs.declared.view.Held.{Held}
 use Rattle.position_words.specs.declared.view.Trail.{Trail}
 use Rattle.position_words.specs.declared.view.View.{View}
-use Rattle.position_words.specs.View.{trail_from, first_view, seen_of, with_trail, looked, taken_for, took, lost_at}
-use Rattle.position_words.specs.View.{lost, given_after, gave_held, gave, split_off, newcomer, joined_trails}
-use Rattle.position_words.specs.View.{joined, spent}
+use Rattle.position_words.specs.View.{view_trail_from, first_view, seen_in_view, view_with_trail, view_after_look, view_trail_after_win, view_after_win, view_trail_after_loss}
+use Rattle.position_words.specs.View.{view_after_loss, view_trail_after_giving, view_after_giving_held, view_after_giving, view_after_split, newcomer_view, joined_view_trails}
+use Rattle.position_words.specs.View.{view_after_join, spent_view}
 use Rattle.position_words.specs.Words.{slot_out}
 
 -- a packet from 1.0.0.1 to 101.0.0.1
@@ -25,7 +25,7 @@ single = record { list = x ∷ []; base = empty_snapshot 4; position = 0 }
 abbrev pub shards : List ShardValue
 shards = pair ∷ single ∷ []
 
-pub trail_of_no_step : trail_from 3 ≡ record { seen = 3; looks = []; reads = []; folds = []; losses = [] }
+pub trail_of_no_step : view_trail_from 3 ≡ record { seen = 3; looks = []; reads = []; folds = []; losses = [] }
 trail_of_no_step = refl
 
 abbrev pub first : View
@@ -33,7 +33,7 @@ first = first_view shards
 
 pub first_has_seen_the_starts : first ≡ record {
   opening = shards;
-  trails = trail_from 0 ∷ trail_from 0 ∷ [];
+  trails = view_trail_from 0 ∷ view_trail_from 0 ∷ [];
   generation = 0;
   splits = 0;
   joins = [];
@@ -42,89 +42,89 @@ pub first_has_seen_the_starts : first ≡ record {
 }
 first_has_seen_the_starts = refl
 
-pub seen_after_a_look : seen_of 0 (looked 0 1 first) ≡ 1
+pub seen_after_a_look : seen_in_view 0 (view_after_look 0 1 first) ≡ 1
 seen_after_a_look = refl
 
-pub other_shard_not_seen : seen_of 1 (looked 0 1 first) ≡ 0
+pub other_shard_not_seen : seen_in_view 1 (view_after_look 0 1 first) ≡ 0
 other_shard_not_seen = refl
 
-pub second_trail_changes : with_trail (λ trail. trail_from 1) 1 first
-    ≡ record first { trails = trail_from 0 ∷ trail_from 1 ∷ [] }
+pub second_trail_changes : view_with_trail (λ trail. view_trail_from 1) 1 first
+    ≡ record first { trails = view_trail_from 0 ∷ view_trail_from 1 ∷ [] }
 second_trail_changes = refl
 
 -- looks that met positions 1 and 2
-pub looks_are_kept : looked 0 2 (looked 0 1 first)
-    ≡ record first { trails = record (trail_from 2) { looks = 1 ∷ 2 ∷ [] } ∷ trail_from 0 ∷ [] }
+pub looks_are_kept : view_after_look 0 2 (view_after_look 0 1 first)
+    ≡ record first { trails = record (view_trail_from 2) { looks = 1 ∷ 2 ∷ [] } ∷ view_trail_from 0 ∷ [] }
 looks_are_kept = refl
 
-pub take_to_fold_keeps_no_read : taken_for Fold 1 (trail_from 0) ≡ trail_from 1
+pub take_to_fold_keeps_no_read : view_trail_after_win Fold 1 (view_trail_from 0) ≡ view_trail_from 1
 take_to_fold_keeps_no_read = refl
 
-pub take_to_read_keeps_a_read : taken_for Read 1 (trail_from 0) ≡ record (trail_from 1) { reads = 1 ∷ [] }
+pub take_to_read_keeps_a_read : view_trail_after_win Read 1 (view_trail_from 0) ≡ record (view_trail_from 1) { reads = 1 ∷ [] }
 take_to_read_keeps_a_read = refl
 
 -- the first seat holds the first shard, at position 1, to fold it
 abbrev pub holding : View
-holding = took Fold 0 1 first
+holding = view_after_win Fold 0 1 first
 
 abbrev pub held_first : Held
 held_first = record { shard = 0; position = 1; aim = Fold }
 
 pub holds_the_first : holding ≡ record first {
-  trails = trail_from 1 ∷ trail_from 0 ∷ [];
+  trails = view_trail_from 1 ∷ view_trail_from 0 ∷ [];
   held = Some held_first;
 }
 holds_the_first = refl
 
-pub half_of_an_odd_word_is_seen : lost_at 5 (trail_from 1) ≡ record (trail_from 2) { losses = 5 ∷ [] }
+pub half_of_an_odd_word_is_seen : view_trail_after_loss 5 (view_trail_from 1) ≡ record (view_trail_from 2) { losses = 5 ∷ [] }
 half_of_an_odd_word_is_seen = refl
 
-pub loss_is_kept : lost 0 3 first
-    ≡ record first { trails = record (trail_from 1) { losses = 3 ∷ [] } ∷ trail_from 0 ∷ [] }
+pub loss_is_kept : view_after_loss 0 3 first
+    ≡ record first { trails = record (view_trail_from 1) { losses = 3 ∷ [] } ∷ view_trail_from 0 ∷ [] }
 loss_is_kept = refl
 
-pub fold_is_kept : given_after Fold 1 2 (trail_from 1)
-    ≡ record (trail_from 2) { folds = record { from = 1; to = 2 } ∷ [] }
+pub fold_is_kept : view_trail_after_giving Fold 1 2 (view_trail_from 1)
+    ≡ record (view_trail_from 2) { folds = record { from = 1; to = 2 } ∷ [] }
 fold_is_kept = refl
 
 -- a take to read is kept as it is made, not as the shard is given back
-pub give_after_a_read : given_after Read 1 1 (taken_for Read 1 (trail_from 0))
-    ≡ record (trail_from 1) { reads = 1 ∷ [] }
+pub give_after_a_read : view_trail_after_giving Read 1 1 (view_trail_after_win Read 1 (view_trail_from 0))
+    ≡ record (view_trail_from 1) { reads = 1 ∷ [] }
 give_after_a_read = refl
 
-pub nothing_to_give : gave_held 2 None first ≡ first
+pub nothing_to_give : view_after_giving_held 2 None first ≡ first
 nothing_to_give = refl
 
-pub gave_what_it_held : gave 2 holding
-    ≡ record first { trails = record (trail_from 2) { folds = record { from = 1; to = 2 } ∷ [] } ∷ trail_from 0 ∷ [] }
+pub gave_what_it_held : view_after_giving 2 holding
+    ≡ record first { trails = record (view_trail_from 2) { folds = record { from = 1; to = 2 } ∷ [] } ∷ view_trail_from 0 ∷ [] }
 gave_what_it_held = refl
 
-pub two_seats_split_off : (split_off (split_off first)).splits ≡ 2
+pub two_seats_split_off : (view_after_split (view_after_split first)).splits ≡ 2
 two_seats_split_off = refl
 
 -- it has seen what the first has, and made no step
-pub newcomer_has_seen : newcomer (split_off (lost 0 3 first))
-    ≡ record first { trails = trail_from 1 ∷ trail_from 0 ∷ []; generation = 1 }
+pub newcomer_has_seen : newcomer_view (view_after_split (view_after_loss 0 3 first))
+    ≡ record first { trails = view_trail_from 1 ∷ view_trail_from 0 ∷ []; generation = 1 }
 newcomer_has_seen = refl
 
 -- a seat that was split off a new seat is no new seat of the first
-pub newcomer_of_a_newcomer : (newcomer (newcomer first)).generation ≡ 2
+pub newcomer_of_a_newcomer : (newcomer_view (newcomer_view first)).generation ≡ 2
 newcomer_of_a_newcomer = refl
 
 -- what was seen of two shards: each list is ahead at one of them
 abbrev far : List Trail
-far = (lost_at 5 (trail_from 1)) ∷ trail_from 0 ∷ []
+far = (view_trail_after_loss 5 (view_trail_from 1)) ∷ view_trail_from 0 ∷ []
 
-pub both_have_seen : joined_trails far (trail_from 1 ∷ trail_from 1 ∷ [])
-    ≡ record (trail_from 2) { losses = 5 ∷ [] } ∷ trail_from 1 ∷ []
+pub both_have_seen : joined_view_trails far (view_trail_from 1 ∷ view_trail_from 1 ∷ [])
+    ≡ record (view_trail_from 2) { losses = 5 ∷ [] } ∷ view_trail_from 1 ∷ []
 both_have_seen = refl
 
 -- a join takes over no step of the other
-pub joined_has_seen : joined first (newcomer (lost 0 3 first))
-    ≡ record first { trails = trail_from 1 ∷ trail_from 0 ∷ []; joins = 1 ∷ [] }
+pub joined_has_seen : view_after_join first (newcomer_view (view_after_loss 0 3 first))
+    ≡ record first { trails = view_trail_from 1 ∷ view_trail_from 0 ∷ []; joins = 1 ∷ [] }
 joined_has_seen = refl
 
-pub spent_knows_nothing : spent
+pub spent_knows_nothing : spent_view
     ≡ record { opening = []; trails = []; generation = 0; splits = 0; joins = []; held = None; spent = true }
 spent_knows_nothing = refl
 

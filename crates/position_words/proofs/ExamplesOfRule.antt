@@ -6,13 +6,13 @@ use Rattle.std.proofs.lemmas.Option.{same_Some}
 use mathlib.Core.Option.{some, none, some-injective}
 use lib.ListN.{get_elem?}
 use Rattle.atomic_table.specs.Table.{State}
-use Rattle.shard_state.specs.{ShardValue, state_at}
+use Rattle.shard_state.specs.{ShardValue, shard_state_at}
 use Rattle.position_words.specs.declared.view.Aim.TheVariants.{Fold, Read}
 use Rattle.position_words.specs.declared.view.Held.{Held}
 use Rattle.position_words.specs.declared.view.View.{View}
-use Rattle.position_words.specs.View.{newcomer, spent}
-use Rattle.position_words.specs.Words.{SeatValue, WordsValue, IsSeatOf, IsOfShard, MayFollow, MayGive}
-use Rattle.position_words.specs.Rule.{IsEven, IsOdd, IsHolder, Fits, IsKept}
+use Rattle.position_words.specs.View.{newcomer_view, spent_view}
+use Rattle.position_words.specs.Words.{SeatValue, WordsValue, IsSeatOf, IsWordOfShard, WordMayFollow, WordMayGive}
+use Rattle.position_words.specs.Rule.{IsEven, IsOdd, IsHolder, FitsRule, RuleIsKept}
 use Rattle.position_words.proofs.Examples.{pair, single, shards, first, holding, held_first}
 
 pub word_of_a_free_shard : IsEven 4
@@ -29,7 +29,7 @@ even_word odd = omega (arith, odd)
 
 -- two seats, the first of which holds the first shard at position 1
 abbrev other : View
-other = newcomer first
+other = newcomer_view first
 
 abbrev views : List View
 views = holding ∷ other ∷ []
@@ -63,14 +63,14 @@ reached_by_words zero = omega arith
 reached_by_words (suc zero) = omega arith
 reached_by_words (suc (suc shard)) = omega arith
 
-pub holder_fits : Fits shards words holding
+pub holder_fits : FitsRule shards words holding
 holder_fits = record { opening = refl; trails = refl; reached = reached_by_words }
 
 -- it has seen position 1 of a shard whose word is still 0
-pub seen_too_much : Fits shards (0 ∷ 0 ∷ []) holding → ⊥
+pub seen_too_much : FitsRule shards (0 ∷ 0 ∷ []) holding → ⊥
 seen_too_much fits = let reached : 1 ≤ 0 = fits.reached 0 in omega (arith, reached)
 
-pub spent_view_fits_no_shards : Fits shards words spent → ⊥
+pub spent_view_fits_no_shards : FitsRule shards words spent_view → ⊥
 spent_view_fits_no_shards fits = omega (arith, fits.trails)
 
 -- nor has that of the other seat
@@ -83,7 +83,7 @@ unseen (suc (suc shard)) = omega arith
 abbrev held_once : State (Option ShardValue) View
 held_once = record { words = words; homes = none ∷ some (Some single) ∷ []; views = views }
 
-pub held_shard_is_kept : IsKept shards held_once
+pub held_shard_is_kept : RuleIsKept shards held_once
 held_shard_is_kept = record {
   words = refl;
   slots = refl;
@@ -103,10 +103,10 @@ held_shard_is_kept = record {
 
     slots_of_even : (place : ℕ) (shard : ShardValue) → slice_get shards place ≡ Some shard
         → IsEven (slice_index words place)
-        → get_elem? held_once.homes place ≡ some (some (Some (state_at (slice_index words place / 2) shard)))
+        → get_elem? held_once.homes place ≡ some (some (Some (shard_state_at (slice_index words place / 2) shard)))
     slots_of_even zero shard is even = absurd (omega (arith, even))
     slots_of_even (suc zero) shard is even =
-        ap (λ (s : ShardValue). some (some (Some (state_at 0 s)))) (same_Some single shard is)
+        ap (λ (s : ShardValue). some (some (Some (shard_state_at 0 s)))) (same_Some single shard is)
     slots_of_even (suc (suc place)) shard is even = absurd (cc is)
 
     holder_of_odd : (place : ℕ) → place < 2 → IsOdd (slice_index words place) → (seat : ℕ) × IsHolder views seat place
@@ -123,10 +123,10 @@ held_shard_is_kept = record {
     word_of_held (suc (suc seat)) view held at holds = absurd (cc at)
 
     all_fit : (seat : ℕ) (view : View) → get_elem? views seat ≡ some view → view.spent ≡ false
-        → Fits shards words view
-    all_fit zero view at live = subst (Fits shards words) (some-injective holding view at) holder_fits
+        → FitsRule shards words view
+    all_fit zero view at live = subst (FitsRule shards words) (some-injective holding view at) holder_fits
     all_fit (suc zero) view at live =
-        subst (Fits shards words) (some-injective other view at)
+        subst (FitsRule shards words) (some-injective other view at)
         (record { opening = refl; trails = refl; reached = unseen })
     all_fit (suc (suc seat)) view at live = absurd (cc at)
 
@@ -134,13 +134,13 @@ held_shard_is_kept = record {
 abbrev too_old : State (Option ShardValue) View
 too_old = record { words = 2 ∷ 0 ∷ []; homes = some (Some pair) ∷ some (Some single) ∷ []; views = first ∷ [] }
 
-pub slot_with_an_older_state : IsKept shards too_old → ⊥
+pub slot_with_an_older_state : RuleIsKept shards too_old → ⊥
 slot_with_an_older_state kept =
     let older = Some pair in
-    let newer = Some (state_at 1 pair) in
+    let newer = Some (shard_state_at 1 pair) in
     let slot : some (some older) ≡ some (some newer) = kept.even 0 pair refl refl in
     let at_home : older ≡ newer = some-injective older newer (some-injective (some older) (some newer) slot) in
-    let state : pair ≡ state_at 1 pair = same_Some pair (state_at 1 pair) at_home in
+    let state : pair ≡ shard_state_at 1 pair = same_Some pair (shard_state_at 1 pair) at_home in
     let position : 0 ≡ 1 = ap (λ (s : ShardValue). s.position) state in
     omega (arith, position)
 
@@ -148,7 +148,7 @@ slot_with_an_older_state kept =
 abbrev held_by_none : State (Option ShardValue) View
 held_by_none = record { words = 1 ∷ 0 ∷ []; homes = none ∷ some (Some single) ∷ []; views = first ∷ [] }
 
-pub odd_word_without_a_holder : IsKept shards held_by_none → ⊥
+pub odd_word_without_a_holder : RuleIsKept shards held_by_none → ⊥
 odd_word_without_a_holder kept = let found = kept.odd 0 (omega arith) refl in none_holds found.0 found.1
   where
     none_holds : (seat : ℕ) → IsHolder (first ∷ []) seat 0 → ⊥
@@ -166,36 +166,36 @@ pub holder_has_a_slot_out : (seat : SeatValue)
     → IsSeatOf (words_of seat) (record seat { me = (holding, (0, None) ∷ []) })
 holder_has_a_slot_out seat = record { id = refl; opening = refl; trails = refl; live = refl; slot = refl }
 
-pub seat_that_was_joined : (seat : SeatValue) → IsSeatOf (words_of seat) (record seat { me = (spent, []) }) → ⊥
+pub seat_that_was_joined : (seat : SeatValue) → IsSeatOf (words_of seat) (record seat { me = (spent_view, []) }) → ⊥
 seat_that_was_joined seat of = omega (arith, of.trails)
 
-pub same_list_and_base : IsOfShard shards 0 (state_at 2 pair)
+pub same_list_and_base : IsWordOfShard shards 0 (shard_state_at 2 pair)
 same_list_and_base = record { start = 0; is = refl }
 
-pub list_of_another_shard : IsOfShard shards 0 single → ⊥
+pub list_of_another_shard : IsWordOfShard shards 0 single → ⊥
 list_of_another_shard of =
-    let count : 2 ≡ 1 = ap (λ (s : ShardValue). length s.list) (same_Some pair (state_at of.start single) of.is) in
+    let count : 2 ≡ 1 = ap (λ (s : ShardValue). length s.list) (same_Some pair (shard_state_at of.start single) of.is) in
     omega (arith, count)
 
-pub fold_may_end_later : MayFollow Fold 1 2
+pub fold_may_end_later : WordMayFollow Fold 1 2
 fold_may_end_later = omega arith
 
-pub fold_may_not_go_back : MayFollow Fold 1 0 → ⊥
+pub fold_may_not_go_back : WordMayFollow Fold 1 0 → ⊥
 fold_may_not_go_back follows = omega (arith, follows)
 
-pub read_leaves_the_position : MayFollow Read 1 1
+pub read_leaves_the_position : WordMayFollow Read 1 1
 read_leaves_the_position = refl
 
-pub read_may_not_move : MayFollow Read 1 2 → ⊥
+pub read_may_not_move : WordMayFollow Read 1 2 → ⊥
 read_may_not_move follows = omega (arith, follows)
 
-pub holder_may_give : MayGive 0 2 holding
+pub holder_may_give : WordMayGive 0 2 holding
 holder_may_give = record { held = held_first; holds = refl; is = refl; follows = omega arith }
 
-pub holder_may_not_give_another_shard : MayGive 1 2 holding → ⊥
+pub holder_may_not_give_another_shard : WordMayGive 1 2 holding → ⊥
 holder_may_not_give_another_shard gives =
     let shard : 0 ≡ 1 = ap (λ h. h.shard) (held_is gives.held gives.holds) ∙ gives.is in
     omega (arith, shard)
 
-pub free_seat_gives_nothing : MayGive 0 2 first → ⊥
+pub free_seat_gives_nothing : WordMayGive 0 2 first → ⊥
 free_seat_gives_nothing gives = cc gives.holds

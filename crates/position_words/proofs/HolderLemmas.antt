@@ -9,13 +9,13 @@ use Rattle.position_words.specs.declared.view.Held.{Held}
 use Rattle.position_words.specs.declared.view.View.{View}
 use Rattle.position_words.specs.Rule.{IsHolder}
 
-pub there_is : {A : Type 0} (xs : List A) (place : ℕ) (x : A) → get_elem? xs place ≡ some x → place < length xs
-there_is [] place x is = absurd (some-ne-none x (sym is))
-there_is (y ∷ ys) zero x is = omega arith
-there_is (y ∷ ys) (suc place) x is = let below : place < length ys = there_is ys place x is in omega arith
+pub holder_place_is_inside : {A : Type 0} (xs : List A) (place : ℕ) (x : A) → get_elem? xs place ≡ some x → place < length xs
+holder_place_is_inside [] place x is = absurd (some-ne-none x (sym is))
+holder_place_is_inside (y ∷ ys) zero x is = omega arith
+holder_place_is_inside (y ∷ ys) (suc place) x is = let below : place < length ys = holder_place_is_inside ys place x is in omega arith
 
 -- a view holds this shard
-pub record HoldsShard (view : View) (shard : ℕ) : Type 0 where
+pub record IsHolderView (view : View) (shard : ℕ) : Type 0 where
   pub held : Held
   pub holds : view.held ≡ Some held
   pub is : held.shard ≡ shard
@@ -34,26 +34,26 @@ holder_there views seat other place now apart holder =
 
 -- the seat's own view changes to one that holds the shard
 pub holder_here : (views : List View) (seat place : ℕ) (before now : View) → get_elem? views seat ≡ some before
-    → HoldsShard now place → IsHolder (set views seat now) seat place
+    → IsHolderView now place → IsHolder (set views seat now) seat place
 holder_here views seat place before now at has =
     record {
       view = now;
       held = has.held;
-      at = set_here views seat now (there_is views seat before at);
+      at = set_here views seat now (holder_place_is_inside views seat before at);
       holds = has.holds;
       is = has.is;
     }
 
 -- a holder's view is the one that stands at its seat
-pub held_by : (views : List View) (seat place : ℕ) (view : View) → get_elem? views seat ≡ some view
-    → IsHolder views seat place → HoldsShard view place
-held_by views seat place view at holder =
+pub holder_has_its_view : (views : List View) (seat place : ℕ) (view : View) → get_elem? views seat ≡ some view
+    → IsHolder views seat place → IsHolderView view place
+holder_has_its_view views seat place view at holder =
     let same : holder.view ≡ view = some-injective holder.view view (sym holder.at ∙ at) in
     record { held = holder.held; holds = ap (λ v. v.held) (sym same) ∙ holder.holds; is = holder.is }
 
 -- after a change a holder is the seat with its new view, or held the shard before
 pub holder_after : (views : List View) (seat other place : ℕ) (now : View) → IsHolder (set views seat now) other place
-    → ((other ≡ seat) × HoldsShard now place) ⊎ ((other ≡ seat → ⊥) × IsHolder views other place)
+    → ((other ≡ seat) × IsHolderView now place) ⊎ ((other ≡ seat → ⊥) × IsHolder views other place)
 holder_after views seat other place now holder =
     ⊎_elim (λ here.
     inl (here.0, record { held = holder.held; holds = ap (λ v. v.held) here.1 ∙ holder.holds; is = holder.is }))
@@ -73,7 +73,7 @@ holder_kept views seat other place before now at same holder =
       | inr apart ↦ holder_there views seat other place now apart holder
       | inl here ↦
           let mine : IsHolder views seat place = subst (λ k. IsHolder views k place) here holder in
-          let has : HoldsShard before place = held_by views seat place before at mine in
+          let has : IsHolderView before place = holder_has_its_view views seat place before at mine in
           subst (λ k. IsHolder (set views seat now) k place) (sym here)
           (holder_here views seat place before now at
           (record { held = has.held; holds = same ∙ has.holds; is = has.is }))

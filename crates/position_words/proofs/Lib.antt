@@ -1,8 +1,8 @@
-pub mod WordLemmas
+pub mod PositionWordLemmas
 pub mod TrailLemmas
 pub mod HolderLemmas
 pub mod RuleLemmas
-pub mod StepLemmas
+pub mod AllowedStepLemmas
 pub mod SeatLemmas
 pub mod Examples
 pub mod ExamplesOfRule

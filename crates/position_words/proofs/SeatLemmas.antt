@@ -4,24 +4,24 @@ use Rattle.std.proofs.Common.{None, Some, refl, sym, ap, ◌∙◌, subst}
 use Rattle.atomic_table.specs.Table.{Me, Allows, step}
 use mathlib.Core.Option.{none}
 use Rattle.std.proofs.lemmas.Option.{slice_get_within, same_Some}
-use Rattle.shard_state.specs.{ShardValue, state_at}
+use Rattle.shard_state.specs.{ShardValue, shard_state_at}
 use Rattle.position_words.specs.declared.view.Aim.{Aim}
 use Rattle.position_words.specs.declared.view.Held.{Held}
 use Rattle.position_words.specs.declared.view.Trail.{Trail}
 use Rattle.position_words.specs.declared.view.View.{View}
-use Rattle.position_words.specs.View.{with_trail, lost_at, taken_for, took, given_after, gave, gave_held}
+use Rattle.position_words.specs.View.{view_with_trail, view_trail_after_loss, view_trail_after_win, view_after_win, view_trail_after_giving, view_after_giving, view_after_giving_held}
 use Rattle.position_words.specs.declared.view.Aim.TheVariants.{Fold, Read}
-use Rattle.position_words.specs.Words.{SeatValue, WordsValue, view, slot_out, IsSeatOf, IsOfShard, MayFollow, MayGive}
-use Rattle.position_words.specs.Rule.{IsOdd, IsKept}
-use Rattle.position_words.specs.Step.{Gives, HasTaken, IsReady, IsSame, Marks, Meets}
-use Rattle.position_words.proofs.WordLemmas.{even_if_not_odd}
-use Rattle.position_words.proofs.StepLemmas.{may_give}
-use Rattle.position_words.proofs.TrailLemmas.{length-changed}
+use Rattle.position_words.specs.Words.{SeatValue, WordsValue, view, slot_out, IsSeatOf, IsWordOfShard, WordMayFollow, WordMayGive}
+use Rattle.position_words.specs.Rule.{IsOdd, RuleIsKept}
+use Rattle.position_words.specs.Step.{StepGives, StepHasTaken, StepIsReady, IsSameSeatInStep, StepMarks, StepMeets}
+use Rattle.position_words.proofs.PositionWordLemmas.{position_word_even_unless_odd}
+use Rattle.position_words.proofs.AllowedStepLemmas.{give_step_is_allowed}
+use Rattle.position_words.proofs.TrailLemmas.{length_of_changed_trails}
 
 -- the state in the first of some slots
-abbrev first_state : List (ℕ × Option ShardValue) → Option ShardValue
-first_state [] = None
-first_state (slot ∷ slots) = slot.1
+abbrev seat_first_state : List (ℕ × Option ShardValue) → Option ShardValue
+seat_first_state [] = None
+seat_first_state (slot ∷ slots) = slot.1
 
 -- a seat with a live view of the shards, and the slot that goes with what it holds
 pub is_seat : (words : WordsValue) (seat : SeatValue) (now : View) (slots : List (ℕ × Option ShardValue))
@@ -37,44 +37,44 @@ is_seat words seat now slots id me opening trails live slot = record {
 }
 
 -- after a step at one shard which leaves what is held
-pub trail_steps : (words : WordsValue) (before after : SeatValue) (change : Trail → Trail) (place : ℕ)
-    → IsSeatOf words before → IsSame before after
-    → after.me ≡ (with_trail change place (view before), before.me.1) → IsSeatOf words after
-trail_steps words before after change place of same me =
-    is_seat words after (with_trail change place (view before)) before.me.1 (same.table ∙ of.id) me of.opening
-    (length-changed change place (view before).trails ∙ of.trails) of.live of.slot
+pub seat_stays_after_change : (words : WordsValue) (before after : SeatValue) (change : Trail → Trail) (place : ℕ)
+    → IsSeatOf words before → IsSameSeatInStep before after
+    → after.me ≡ (view_with_trail change place (view before), before.me.1) → IsSeatOf words after
+seat_stays_after_change words before after change place of same me =
+    is_seat words after (view_with_trail change place (view before)) before.me.1 (same.table ∙ of.id) me of.opening
+    (length_of_changed_trails change place (view before).trails ∙ of.trails) of.live of.slot
 
 -- a shard is given back at no earlier position
-pub forward : (aim : Aim) (met position : ℕ) → MayFollow aim met position → met ≤ position
-forward Fold met position follows = follows
-forward Read met position follows = omega (arith, follows)
+pub seat_gives_no_earlier : (aim : Aim) (met position : ℕ) → WordMayFollow aim met position → met ≤ position
+seat_gives_no_earlier Fold met position follows = follows
+seat_gives_no_earlier Read met position follows = omega (arith, follows)
 
 -- the slot is filled with the state, and may be given back
-pub may_give_back : (shards : List ShardValue) (slots seat place position : ℕ) (me : Me (Option ShardValue) View)
+pub seat_may_give_back : (shards : List ShardValue) (slots seat place position : ℕ) (me : Me (Option ShardValue) View)
     (state : ShardValue) → me.0.spent ≡ false
-    → me.1 ≡ (place, Some state) ∷ [] → IsOfShard shards place state → MayGive place position me.0
+    → me.1 ≡ (place, Some state) ∷ [] → IsWordOfShard shards place state → WordMayGive place position me.0
     → state.position ≡ position → state.position ≤ length state.list
-    → Allows (IsKept shards) slots seat me place (λ _. 2 * position)
-    (λ _. Gives (step slots place (2 * position) 0 none) me (2 * position))
-may_give_back shards slots seat place position me state live out of gives at ends =
-    let here : state_at position (state_at of.start state) ≡ state = ap (λ p. state_at p state) (sym at) in
-    may_give shards slots seat place position me gives.held (state_at of.start state) live gives.holds gives.is
-    (forward gives.held.aim gives.held.position position gives.follows)
+    → Allows (RuleIsKept shards) slots seat me place (λ _. 2 * position)
+    (λ _. StepGives (step slots place (2 * position) 0 none) me (2 * position))
+seat_may_give_back shards slots seat place position me state live out of gives at ends =
+    let here : shard_state_at position (shard_state_at of.start state) ≡ state = ap (λ p. shard_state_at p state) (sym at) in
+    give_step_is_allowed shards slots seat place position me gives.held (shard_state_at of.start state) live gives.holds gives.is
+    (seat_gives_no_earlier gives.held.aim gives.held.position position gives.follows)
     (omega (arith, at, ends)) of.is (out ∙ ap (λ s. (place, Some s) ∷ []) (sym here))
 
-pub shard_inside : (shards : List ShardValue) (place : ℕ) (state : ShardValue) → IsOfShard shards place state
+pub seat_shard_is_inside : (shards : List ShardValue) (place : ℕ) (state : ShardValue) → IsWordOfShard shards place state
     → place < length shards
-shard_inside shards place state of = slice_get_within shards place (state_at of.start state) of.is
+seat_shard_is_inside shards place state of = slice_get_within shards place (shard_state_at of.start state) of.is
 
 -- a give: the seat's one slot is empty, then it has the state, and at last it is out no more
 module _ (words : WordsValue) (before filled after : SeatValue) (shard position : ℕ) (state : ShardValue) where
-  pub empty_slot : IsSeatOf words before → MayGive shard position (view before) → before.me.1 ≡ (shard, None) ∷ []
-  empty_slot of gives = of.slot ∙ ap slot_out gives.holds ∙ ap (λ k. (k, None) ∷ []) gives.is
+  pub seat_slot_is_empty : IsSeatOf words before → WordMayGive shard position (view before) → before.me.1 ≡ (shard, None) ∷ []
+  seat_slot_is_empty of gives = of.slot ∙ ap slot_out gives.holds ∙ ap (λ k. (k, None) ∷ []) gives.is
 
-  pub ready : IsSeatOf words before → IsOfShard words.opening shard state
-      → MayGive shard state.position (view before) → position ≡ state.position → position ≤ length state.list
-      → filled.me ≡ (view before, (shard, Some state) ∷ []) → IsReady words.opening shard position filled.me
-  ready of of_shard gives at ends me = record {
+  pub seat_is_ready_to_give : IsSeatOf words before → IsWordOfShard words.opening shard state
+      → WordMayGive shard state.position (view before) → position ≡ state.position → position ≤ length state.list
+      → filled.me ≡ (view before, (shard, Some state) ∷ []) → StepIsReady words.opening shard position filled.me
+  seat_is_ready_to_give of of_shard gives at ends me = record {
     state = state;
     live = ap (λ m. m.0.spent) me ∙ of.live;
     slot = ap (λ m. m.1) me;
@@ -82,100 +82,100 @@ module _ (words : WordsValue) (before filled after : SeatValue) (shard position 
     at = sym at;
     within = omega (arith, at, ends);
     gives =
-        subst (λ v. MayGive shard position v) (sym (ap (λ m. m.0) me))
-        (subst (λ p. MayGive shard p (view before)) (sym at) gives);
+        subst (λ v. WordMayGive shard position v) (sym (ap (λ m. m.0) me))
+        (subst (λ p. WordMayGive shard p (view before)) (sym at) gives);
   }
 
-  pub given_view : position ≡ state.position → filled.me ≡ (view before, (shard, Some state) ∷ [])
-      → after.me ≡ (gave position (view filled), [])
-      → view after ≡ gave state.position (view before)
-  given_view at full me = ap (λ m. m.0) me ∙ ap (λ m. gave position m.0) full ∙ ap (λ p. gave p (view before)) at
+  pub seat_view_after_giving : position ≡ state.position → filled.me ≡ (view before, (shard, Some state) ∷ [])
+      → after.me ≡ (view_after_giving position (view filled), [])
+      → view after ≡ view_after_giving state.position (view before)
+  seat_view_after_giving at full me = ap (λ m. m.0) me ∙ ap (λ m. view_after_giving position m.0) full ∙ ap (λ p. view_after_giving p (view before)) at
 
   -- what the seat is left with
-  left : MayGive shard state.position (view before) → position ≡ state.position
-      → filled.me ≡ (view before, (shard, Some state) ∷ []) → after.me ≡ (gave position (view filled), [])
+  seat_remains_after_giving : WordMayGive shard state.position (view before) → position ≡ state.position
+      → filled.me ≡ (view before, (shard, Some state) ∷ []) → after.me ≡ (view_after_giving position (view filled), [])
       → (held : Held)
       × (after.me
       ≡ (
-        record (with_trail (given_after held.aim held.position state.position) held.shard (view before)) {
+        record (view_with_trail (view_trail_after_giving held.aim held.position state.position) held.shard (view before)) {
           held = None;
         },
         [],
       ))
-  left gives at full me = (
+  seat_remains_after_giving gives at full me = (
     gives.held,
     me
         ∙ ap (λ v. (v, []))
-        (ap (λ m. gave position m.0) full ∙ ap (λ p. gave p (view before)) at
-        ∙ ap (λ h. gave_held state.position h (view before)) gives.holds),
+        (ap (λ m. view_after_giving position m.0) full ∙ ap (λ p. view_after_giving p (view before)) at
+        ∙ ap (λ h. view_after_giving_held state.position h (view before)) gives.holds),
   )
 
-  pub given_free : MayGive shard state.position (view before) → position ≡ state.position
+  pub seat_is_free_after_giving : WordMayGive shard state.position (view before) → position ≡ state.position
       → filled.me ≡ (view before, (shard, Some state) ∷ [])
-      → after.me ≡ (gave position (view filled), []) → (view after).held ≡ None
-  given_free gives at full me = let is = left gives at full me in ap (λ m. m.0.held) is.1
+      → after.me ≡ (view_after_giving position (view filled), []) → (view after).held ≡ None
+  seat_is_free_after_giving gives at full me = let is = seat_remains_after_giving gives at full me in ap (λ m. m.0.held) is.1
 
-  pub given_seat : after.me ≡ (gave position (view filled), [])
-      → filled.me ≡ (view before, (shard, Some state) ∷ []) → position ≡ state.position → IsSame filled after
-      → IsSame before filled → MayGive shard state.position (view before) → IsSeatOf words before → IsSeatOf words after
-  given_seat me full at also same gives of =
-      let is = left gives at full me in
-      let change : Trail → Trail = given_after is.0.aim is.0.position state.position in
-      is_seat words after (record (with_trail change is.0.shard (view before)) { held = None }) []
+  pub seat_stays_after_giving : after.me ≡ (view_after_giving position (view filled), [])
+      → filled.me ≡ (view before, (shard, Some state) ∷ []) → position ≡ state.position → IsSameSeatInStep filled after
+      → IsSameSeatInStep before filled → WordMayGive shard state.position (view before) → IsSeatOf words before → IsSeatOf words after
+  seat_stays_after_giving me full at also same gives of =
+      let is = seat_remains_after_giving gives at full me in
+      let change : Trail → Trail = view_trail_after_giving is.0.aim is.0.position state.position in
+      is_seat words after (record (view_with_trail change is.0.shard (view before)) { held = None }) []
       (also.table ∙ same.table ∙ of.id) is.1 of.opening
-      (length-changed change is.0.shard (view before).trails ∙ of.trails) of.live refl
+      (length_of_changed_trails change is.0.shard (view before).trails ∙ of.trails) of.live refl
 
 -- a take that met an odd word
-pub lost_seat : (words : WordsValue) (before after : SeatValue) (aim : Aim) (shard word : ℕ)
-    → Marks aim shard before.me word after.me → IsOdd word → IsSame before after → IsSeatOf words before
+pub seat_stays_after_losing : (words : WordsValue) (before after : SeatValue) (aim : Aim) (shard word : ℕ)
+    → StepMarks aim shard before.me word after.me → IsOdd word → IsSameSeatInStep before after → IsSeatOf words before
     → IsSeatOf words after
-lost_seat words before after aim shard word marks odd same of =
-    trail_steps words before after (lost_at word) shard of same (marks.loses odd)
+seat_stays_after_losing words before after aim shard word marks odd same of =
+    seat_stays_after_change words before after (view_trail_after_loss word) shard of same (marks.loses odd)
 
 -- a take that met an even one: the slot that came out with the seat has a state, and then none
 module _ (words : WordsValue) (before marked after : SeatValue) (aim : Aim) (shard word : ℕ) where
   -- what a seat has that won
-  won : IsSeatOf words before → (view before).held ≡ None → Marks aim shard before.me word marked.me → (IsOdd word → ⊥)
+  seat_has_won : IsSeatOf words before → (view before).held ≡ None → StepMarks aim shard before.me word marked.me → (IsOdd word → ⊥)
       → (state : ShardValue) × (slice_get words.opening shard ≡ Some state)
-      × (marked.me ≡ (took aim shard (word / 2) (view before), (shard, Some (state_at (word / 2) state)) ∷ []))
-  won of free marks not_odd =
-      let won = marks.wins (even_if_not_odd word not_odd) in
+      × (marked.me ≡ (view_after_win aim shard (word / 2) (view before), (shard, Some (shard_state_at (word / 2) state)) ∷ []))
+  seat_has_won of free marks not_odd =
+      let seat_has_won = marks.wins (position_word_even_unless_odd word not_odd) in
       let nothing : before.me.1 ≡ [] = of.slot ∙ ap slot_out free in (
-        won.state,
-        ap (λ ss. slice_get ss shard) (sym of.opening) ∙ won.is,
-        won.now_is
-            ∙ ap (λ c. (took aim shard (word / 2) (view before), (shard, Some (state_at (word / 2) won.state)) ∷ c))
+        seat_has_won.state,
+        ap (λ ss. slice_get ss shard) (sym of.opening) ∙ seat_has_won.is,
+        seat_has_won.now_is
+            ∙ ap (λ c. (view_after_win aim shard (word / 2) (view before), (shard, Some (shard_state_at (word / 2) seat_has_won.state)) ∷ c))
             nothing,
       )
 
-  pub won_slot : IsSeatOf words before → (view before).held ≡ None → Marks aim shard before.me word marked.me
-      → (IsOdd word → ⊥) → HasTaken shard marked.me.1
-  won_slot of free marks not_odd =
-      let is = won of free marks not_odd in record { state = state_at (word / 2) is.0; is = ap (λ m. m.1) is.2 }
+  pub seat_slot_after_winning : IsSeatOf words before → (view before).held ≡ None → StepMarks aim shard before.me word marked.me
+      → (IsOdd word → ⊥) → StepHasTaken shard marked.me.1
+  seat_slot_after_winning of free marks not_odd =
+      let is = seat_has_won of free marks not_odd in record { state = shard_state_at (word / 2) is.0; is = ap (λ m. m.1) is.2 }
 
-  pub won_id : IsSeatOf words before → IsSame before marked → marked.table_id ≡ words.id
-  won_id of same = same.table ∙ of.id
+  pub seat_id_after_winning : IsSeatOf words before → IsSameSeatInStep before marked → marked.table_id ≡ words.id
+  seat_id_after_winning of same = same.table ∙ of.id
 
-  pub won_seat : IsSeatOf words before → (view before).held ≡ None → Marks aim shard before.me word marked.me
-      → (IsOdd word → ⊥) → IsSame before marked → IsSame marked after
+  pub seat_stays_after_winning : IsSeatOf words before → (view before).held ≡ None → StepMarks aim shard before.me word marked.me
+      → (IsOdd word → ⊥) → IsSameSeatInStep before marked → IsSameSeatInStep marked after
       → after.me ≡ (view marked, (shard, None) ∷ []) → IsSeatOf words after
-  won_seat of free marks not_odd same also me =
-      let is = won of free marks not_odd in
-      is_seat words after (took aim shard (word / 2) (view before)) ((shard, None) ∷ [])
+  seat_stays_after_winning of free marks not_odd same also me =
+      let is = seat_has_won of free marks not_odd in
+      is_seat words after (view_after_win aim shard (word / 2) (view before)) ((shard, None) ∷ [])
       (also.table ∙ same.table ∙ of.id) (me ∙ ap (λ m. (m.0, (shard, None) ∷ [])) is.2) of.opening
-      (length-changed (taken_for aim (word / 2)) shard (view before).trails ∙ of.trails) of.live refl
+      (length_of_changed_trails (view_trail_after_win aim (word / 2)) shard (view before).trails ∙ of.trails) of.live refl
 
   -- the state that came out
-  pub won_answer : (out : ShardValue) → IsSeatOf words before → (view before).held ≡ None
-      → Marks aim shard before.me word marked.me → (IsOdd word → ⊥)
+  pub seat_answer_after_winning : (out : ShardValue) → IsSeatOf words before → (view before).held ≡ None
+      → StepMarks aim shard before.me word marked.me → (IsOdd word → ⊥)
       → marked.me.1 ≡ (shard, Some out) ∷ [] → after.me ≡ (view marked, (shard, None) ∷ [])
-      → IsOfShard words.opening shard out × Meets shard out.position (view before)
-      × (view after ≡ took aim shard out.position (view before))
-  won_answer out of free marks not_odd out_is me =
-      let is = won of free marks not_odd in
-      let state_is : state_at (word / 2) is.0 ≡ out =
-      same_Some (state_at (word / 2) is.0) out (ap first_state (ap (λ m. m.1) (sym is.2) ∙ out_is)) in
+      → IsWordOfShard words.opening shard out × StepMeets shard out.position (view before)
+      × (view after ≡ view_after_win aim shard out.position (view before))
+  seat_answer_after_winning out of free marks not_odd out_is me =
+      let is = seat_has_won of free marks not_odd in
+      let state_is : shard_state_at (word / 2) is.0 ≡ out =
+      same_Some (shard_state_at (word / 2) is.0) out (ap seat_first_state (ap (λ m. m.1) (sym is.2) ∙ out_is)) in
       subst (λ (o : ShardValue).
-      IsOfShard words.opening shard o × Meets shard o.position (view before)
-      × (view after ≡ took aim shard o.position (view before))) state_is
+      IsWordOfShard words.opening shard o × StepMeets shard o.position (view before)
+      × (view after ≡ view_after_win aim shard o.position (view before))) state_is
       (record { start = is.0.position; is = is.1 }, marks.meets, ap (λ m. m.0) me ∙ ap (λ m. m.0) is.2)

@@ -2,7 +2,7 @@
 use Rattle.std.specs.Prelude.{ℕ, ◌≡◌, ◌≤◌, false, List, [], ◌∷◌, length, Option, None, Some, slice_get}
 use Rattle.atomic_table.specs.Seated.{TableId}
 use Rattle.atomic_table.specs.declared.shared.Seat.{Seat}
-use Rattle.shard_state.specs.{ShardValue, state_at}
+use Rattle.shard_state.specs.{ShardValue, shard_state_at}
 use Rattle.position_words.specs.declared.view.Aim.{Aim}
 use Rattle.position_words.specs.declared.view.Aim.TheVariants.{Fold, Read}
 use Rattle.position_words.specs.declared.view.Held.{Held}
@@ -35,18 +35,18 @@ pub record IsSeatOf (words : WordsValue) (seat : SeatValue) : Type 0 where
   pub slot : seat.me.1 ≡ slot_out (view seat).held
 
 -- a state has the list and the base of a shard: only its position may differ from that at the start
-pub record IsOfShard (opening : List ShardValue) (shard : ℕ) (state : ShardValue) : Type 0 where
+pub record IsWordOfShard (opening : List ShardValue) (shard : ℕ) (state : ShardValue) : Type 0 where
   pub start : ℕ
-  pub is : slice_get opening shard ≡ Some (state_at start state)
+  pub is : slice_get opening shard ≡ Some (shard_state_at start state)
 
 -- a shard taken at one position may be given back at another: after a read at the same, after a fold at none before
-abbrev pub MayFollow : Aim → ℕ → ℕ → Type 0
-MayFollow Fold met position = met ≤ position
-MayFollow Read met position = position ≡ met
+abbrev pub WordMayFollow : Aim → ℕ → ℕ → Type 0
+WordMayFollow Fold met position = met ≤ position
+WordMayFollow Read met position = position ≡ met
 
 -- a view holds this shard, and may give it back at this position
-pub record MayGive (shard position : ℕ) (view : View) : Type 0 where
+pub record WordMayGive (shard position : ℕ) (view : View) : Type 0 where
   pub held : Held
   pub holds : view.held ≡ Some held
   pub is : held.shard ≡ shard
-  pub follows : MayFollow held.aim held.position position
+  pub follows : WordMayFollow held.aim held.position position

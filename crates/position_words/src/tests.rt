@@ -1,5 +1,5 @@
 ghost use Rattle.std.specs.Prelude.{◌≡◌, ◌^◌, ◌<◌, ◌≤◌, [], ◌∷◌, length, IfOk, None};
-ghost use Rattle.shard_state.specs.{AreShards};
+ghost use Rattle.shard_state.specs.{AreCoreShards};
 ghost use Rattle.position_words.specs.Words.{IsSeatOf, view};
 
 use super::*;
@@ -12,7 +12,7 @@ use std::thread::join;
 
 // The shards of eleven packets that were dealt to two shards in turn: six and five packets, in tables of capacity 4.
 fn worked_states(alloc: Global) -> Result<Vec<ShardState>, AllocError>
-    ensures { IfOk result (λ states. AreShards states.items × (length states.items ≡ 2)) }
+    ensures { IfOk result (λ states. AreCoreShards states.items × (length states.items ≡ 2)) }
 {
     let mut states = Vec::new(alloc);
     states.push(started(alloc, &[1, 1, 1, 1, 1, 2])?)?;

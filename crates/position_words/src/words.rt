@@ -2,10 +2,10 @@
 
 ghost use Rattle.std.specs.Prelude.{◌≡◌, ◌≤◌, ◌<◌, ◌*◌, ◌^◌, All, length, map, IfOk, None, Some};
 ghost use Rattle.prefix_lattice.specs.{most_records};
-ghost use Rattle.shard_state.specs.{AreShards};
-ghost use Rattle.position_words.specs.View.{first_view, gave, joined, looked, newcomer, split_off};
-ghost use Rattle.position_words.specs.Words.{IsOfShard, IsSeatOf, MayGive, view};
-ghost use Rattle.position_words.specs.Step.{Answers, Meets};
+ghost use Rattle.shard_state.specs.{AreCoreShards};
+ghost use Rattle.position_words.specs.View.{first_view, view_after_giving, view_after_join, view_after_look, newcomer_view, view_after_split};
+ghost use Rattle.position_words.specs.Words.{IsWordOfShard, IsSeatOf, WordMayGive, view};
+ghost use Rattle.position_words.specs.Step.{StepAnswers, StepMeets};
 
 use crate::rule::{Joining, SlotRule, SplittingOff};
 use crate::view::{Aim, View};
@@ -44,7 +44,7 @@ pub struct Words {
 
 impl Model for Words {
     ghost use Rattle.std.specs.Prelude.{◌≡◌, length};
-    ghost use Rattle.shard_state.specs.{AreShards};
+    ghost use Rattle.shard_state.specs.{AreCoreShards};
     ghost use Rattle.position_words.specs.Words.{WordsValue};
 
     ghost Value = { WordsValue };
@@ -53,14 +53,14 @@ impl Model for Words {
 
     ghost invariant = { λ w. (w.table.shared.table_id.words ≡ length w.table.shared.key.value.items)
         × (w.table.shared.table_id.slots ≡ length w.table.shared.key.value.items)
-        × AreShards w.table.shared.key.value.items };
+        × AreCoreShards w.table.shared.key.value.items };
 }
 
 impl Words {
     /// The words of 1 to 16 shards of one capacity, and the first seat, which has seen the shards' positions. On an
     /// error, which means that memory ran out, the states are dropped.
     pub fn start(alloc: Global, states: Vec<ShardState>) -> Result<(Words, Seat), AllocError>
-        requires { AreShards states.items }
+        requires { AreCoreShards states.items }
         ensures opening { IfOk result (λ made. made.0.opening ≡ states.items) }
         ensures seat { IfOk result (λ made. IsSeatOf made.0 made.1) }
         ensures view { IfOk result (λ made. view made.1 ≡ first_view states.items) }
@@ -78,30 +78,30 @@ impl Words {
     /// How many shards there are, 1 to 16.
     pub fn shards(&self) -> u32
         ensures shards { result ≡ length self.now.opening }
-        ensures kept { AreShards self.now.opening }
+        ensures kept { AreCoreShards self.now.opening }
     {
         self.table.word_count() as u32
     }
 
     /// The position of a shard: one load of its word.
-    #[tactic(auto, using(crate::proofs::SeatLemmas::trail_steps))]
+    #[tactic(auto, using(crate::proofs::SeatLemmas::seat_stays_after_change))]
     pub fn look(&self, shard: u32, seat: &mut Seat) -> u64
         requires within { shard < length self.now.opening }
         requires seat { IsSeatOf self.now seat.old }
-        ensures look { view seat.new ≡ looked shard result (view seat.old) }
-        ensures meets { Meets shard result (view seat.old) }
+        ensures look { view seat.new ≡ view_after_look shard result (view seat.old) }
+        ensures meets { StepMeets shard result (view seat.old) }
         ensures seat { IsSeatOf self.now seat.new }
     {
         self.load(shard, seat) / 2
     }
 
     /// Takes a shard, unless another seat holds it: one `fetch_or` of its word. The seat holds no shard yet.
-    #[tactic(auto, using(crate::proofs::SeatLemmas::won_id, crate::proofs::SeatLemmas::won_slot, crate::proofs::SeatLemmas::won_seat))]
+    #[tactic(auto, using(crate::proofs::SeatLemmas::seat_id_after_winning, crate::proofs::SeatLemmas::seat_slot_after_winning, crate::proofs::SeatLemmas::seat_stays_after_winning))]
     pub fn try_take(&self, shard: u32, aim: Aim, seat: &mut Seat) -> Take
         requires within { shard < length self.now.opening }
         requires seat { IsSeatOf self.now seat.old }
         requires free { (view seat.old).held ≡ None }
-        ensures take { Answers self.now.opening shard aim (view seat.old) (view seat.new) result }
+        ensures take { StepAnswers self.now.opening shard aim (view seat.old) (view seat.new) result }
         ensures seat { IsSeatOf self.now seat.new }
     {
         let word = self.mark(shard, aim, seat);
@@ -113,12 +113,12 @@ impl Words {
     }
 
     /// Gives back the shard that the seat holds, with its state: one store of its word.
-    #[tactic(auto, using(crate::proofs::SeatLemmas::empty_slot, crate::proofs::SeatLemmas::ready, crate::proofs::SeatLemmas::given_view, crate::proofs::SeatLemmas::given_free))]
+    #[tactic(auto, using(crate::proofs::SeatLemmas::seat_slot_is_empty, crate::proofs::SeatLemmas::seat_is_ready_to_give, crate::proofs::SeatLemmas::seat_view_after_giving, crate::proofs::SeatLemmas::seat_is_free_after_giving))]
     pub fn give(&self, shard: u32, seat: &mut Seat, state: ShardState)
         requires seat { IsSeatOf self.now seat.old }
-        requires state { IsOfShard self.now.opening shard state }
-        requires held { MayGive shard state.position (view seat.old) }
-        ensures give { view seat.new ≡ gave state.position (view seat.old) }
+        requires state { IsWordOfShard self.now.opening shard state }
+        requires held { WordMayGive shard state.position (view seat.old) }
+        ensures give { view seat.new ≡ view_after_giving state.position (view seat.old) }
         ensures free { (view seat.new).held ≡ None }
         ensures seat { IsSeatOf self.now seat.new }
     {
@@ -131,8 +131,8 @@ impl Words {
     pub fn split(&self, seat: &mut Seat) -> Seat
         requires seat { IsSeatOf self.now seat.old }
         requires free { (view seat.old).held ≡ None }
-        ensures split { view seat.new ≡ split_off (view seat.old) }
-        ensures newcomer { view result ≡ newcomer (view seat.old) }
+        ensures split { view seat.new ≡ view_after_split (view seat.old) }
+        ensures newcomer { view result ≡ newcomer_view (view seat.old) }
         ensures seat { IsSeatOf self.now seat.new }
         ensures new_seat { IsSeatOf self.now result }
     {
@@ -146,7 +146,7 @@ impl Words {
         requires free { (view seat.old).held ≡ None }
         requires other { IsSeatOf self.now other }
         requires other_free { (view other).held ≡ None }
-        ensures join { view seat.new ≡ joined (view seat.old) (view other) }
+        ensures join { view seat.new ≡ view_after_join (view seat.old) (view other) }
         ensures seat { IsSeatOf self.now seat.new }
     {
         self.table.shared.join_seat::<Joining>(seat, other);

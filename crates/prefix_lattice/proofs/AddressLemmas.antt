@@ -5,151 +5,151 @@ use Rattle.std.proofs.lemmas.Bool.{false≢true, eqb-true, eq-eqb, and_parts, an
 use Rattle.std.proofs.lemmas.Nat.{pow-add}
 use Rattle.std.proofs.Math.Nat.{pow-zero, pow-suc, div-lt_iff_lt-mul, mul-div_cancel, mul-lt-mul_of_pos_right}
 use Rattle.std.proofs.Math.Nat.{div-mul-le_self}
-use Rattle.prefix_lattice.specs.KeptBytes.{digits, number_from, address_bytes, address_of, begins_with, AreLeadingBytes}
-use Rattle.prefix_lattice.proofs.DigitLemmas.{length-digits, number_from-digits, take-digits, digits_small}
-use Rattle.prefix_lattice.proofs.DigitLemmas.{same_digits, number_small}
-use Rattle.prefix_lattice.proofs.ListFrontLemmas.{begins_with-front, begins_with-shorter_list}
+use Rattle.prefix_lattice.specs.KeptBytes.{address_digits, address_number_from, address_bytes, address_of, begins_with, AreLeadingBytes}
+use Rattle.prefix_lattice.proofs.DigitLemmas.{length-digits, address_digits-read_back, take-digits, digits_small}
+use Rattle.prefix_lattice.proofs.DigitLemmas.{same_digits, digits_stay_below_power}
+use Rattle.prefix_lattice.proofs.ListFrontLemmas.{list_front-taken, longer_list_is_no_front}
 
 -- the first bytes of an address are the digits of its high part
-pub leading_digits : (n address : ℕ) → n ≤ 4 → take n (address_bytes address) ≡ digits 256 n (address / 256 ^ (4 - n))
-leading_digits n address few =
+pub address_bytes-are_digits : (n address : ℕ) → n ≤ 4 → take n (address_bytes address) ≡ address_digits 256 n (address / 256 ^ (4 - n))
+address_bytes-are_digits n address few =
     let whole : n + (4 - n) ≡ 4 = omega arith in
-    ap (λ m. take n (digits 256 m address)) (sym whole) ∙ take-digits 256 n (4 - n) address
+    ap (λ m. take n (address_digits 256 m address)) (sym whole) ∙ take-digits 256 n (4 - n) address
 
-pub length-leading : (n address : ℕ) → n ≤ 4 → length (take n (address_bytes address)) ≡ n
-length-leading n address few = ap length (leading_digits n address few) ∙ length-digits 256 n (address / 256 ^ (4 - n))
+pub address_front-length : (n address : ℕ) → n ≤ 4 → length (take n (address_bytes address)) ≡ n
+address_front-length n address few = ap length (address_bytes-are_digits n address few) ∙ length-digits 256 n (address / 256 ^ (4 - n))
 
 -- the first bytes of an address are leading bytes
-pub leading_bytes : (n address : ℕ) → n ≤ 4 → AreLeadingBytes (take n (address_bytes address))
-leading_bytes n address few = record {
-  few = omega (arith, length-leading n address few);
+pub address_front_is_leading : (n address : ℕ) → n ≤ 4 → AreLeadingBytes (take n (address_bytes address))
+address_front_is_leading n address few = record {
+  few = omega (arith, address_front-length n address few);
   bytes = λ place.
-      subst (λ l. get_or l place 0 < 256) (sym (leading_digits n address few))
+      subst (λ l. get_or l place 0 < 256) (sym (address_bytes-are_digits n address few))
       (digits_small 256 n (address / 256 ^ (4 - n)) place (omega arith));
 }
 
 -- the two parts of an address together have four bytes
-parts : (n : ℕ) → n ≤ 4 → 256 ^ n * 256 ^ (4 - n) ≡ 2 ^ 32
-parts n few =
+address_parts_have_four_bytes : (n : ℕ) → n ≤ 4 → 256 ^ n * 256 ^ (4 - n) ≡ 2 ^ 32
+address_parts_have_four_bytes n few =
     let whole : n + (4 - n) ≡ 4 = omega arith in
     sym (pow-add 256 n (4 - n)) ∙ ap (λ m. 256 ^ m) whole
 
-pub some_unit : (k : ℕ) → 0 < 256 ^ k
-some_unit zero = omega (arith, pow-zero 256)
-some_unit (suc k) = omega (arith, pow-suc 256 k, some_unit k)
+pub address_unit_is_positive : (k : ℕ) → 0 < 256 ^ k
+address_unit_is_positive zero = omega (arith, pow-zero 256)
+address_unit_is_positive (suc k) = omega (arith, pow-suc 256 k, address_unit_is_positive k)
 
 -- the high part of an address has at most as many digits as bytes are kept
-high_small : (n address : ℕ) → n ≤ 4 → address < 2 ^ 32 → address / 256 ^ (4 - n) < 256 ^ n
-high_small n address few small =
-    (div-lt_iff_lt-mul (some_unit (4 - n))).1 (subst (λ bound. address < bound) (sym (parts n few)) small)
+address_high_part_is_small : (n address : ℕ) → n ≤ 4 → address < 2 ^ 32 → address / 256 ^ (4 - n) < 256 ^ n
+address_high_part_is_small n address few small =
+    (div-lt_iff_lt-mul (address_unit_is_positive (4 - n))).1 (subst (λ bound. address < bound) (sym (address_parts_have_four_bytes n few)) small)
 
 -- the address of the first bytes of an address is that address with the others set to zero
 pub address_of-leading : (n address : ℕ) → n ≤ 4 → address < 2 ^ 32
     → address_of (take n (address_bytes address)) ≡ address / 256 ^ (4 - n) * 256 ^ (4 - n)
 address_of-leading n address few small =
     let high = address / 256 ^ (4 - n) in
-    let spelled : number_from 256 0 (take n (address_bytes address)) ≡ high =
-    ap (number_from 256 0) (leading_digits n address few)
-    ∙ number_from-digits 256 n high (omega arith) (high_small n address few small) in
-    ap (λ m. number_from 256 0 (take n (address_bytes address)) * 256 ^ (4 - m)) (length-leading n address few)
+    let spelled : address_number_from 256 0 (take n (address_bytes address)) ≡ high =
+    ap (address_number_from 256 0) (address_bytes-are_digits n address few)
+    ∙ address_digits-read_back 256 n high (omega arith) (address_high_part_is_small n address few small) in
+    ap (λ m. address_number_from 256 0 (take n (address_bytes address)) * 256 ^ (4 - m)) (address_front-length n address few)
     ∙ ap (λ m. m * 256 ^ (4 - n)) spelled
 
 -- the address of leading bytes is an address
 pub address_of-small : (front : List ℕ) → AreLeadingBytes front → address_of front < 2 ^ 32
 address_of-small front leading =
     let n = length front in
-    let number : number_from 256 0 front < 256 ^ n = omega (arith, number_small 256 0 front leading.bytes) in
-    subst (λ bound. address_of front < bound) (parts n leading.few) (mul-lt-mul_of_pos_right number (some_unit (4 - n)))
+    let number : address_number_from 256 0 front < 256 ^ n = omega (arith, digits_stay_below_power 256 0 front leading.bytes) in
+    subst (λ bound. address_of front < bound) (address_parts_have_four_bytes n leading.few) (mul-lt-mul_of_pos_right number (address_unit_is_positive (4 - n)))
 
 -- leading bytes that spell one address are the same, where they are as many
-pub same_leading : (xs ys : List ℕ) → AreLeadingBytes xs → AreLeadingBytes ys → length xs ≡ length ys
+pub address_tells_leading_bytes : (xs ys : List ℕ) → AreLeadingBytes xs → AreLeadingBytes ys → length xs ≡ length ys
     → address_of xs ≡ address_of ys → xs ≡ ys
-same_leading xs ys xs_leading ys_leading same_length same =
+address_tells_leading_bytes xs ys xs_leading ys_leading same_length same =
     let unit = 256 ^ (4 - length xs) in
-    let numbers : number_from 256 0 xs * unit ≡ number_from 256 0 ys * unit =
-    same ∙ ap (λ m. number_from 256 0 ys * 256 ^ (4 - m)) (sym same_length) in
-    let has_unit : 0 < unit = some_unit (4 - length xs) in
-    let spelled : number_from 256 0 xs ≡ number_from 256 0 ys =
-    sym (mul-div_cancel (number_from 256 0 xs) has_unit) ∙ ap (λ m. m / unit) numbers
-    ∙ mul-div_cancel (number_from 256 0 ys) has_unit in
+    let numbers : address_number_from 256 0 xs * unit ≡ address_number_from 256 0 ys * unit =
+    same ∙ ap (λ m. address_number_from 256 0 ys * 256 ^ (4 - m)) (sym same_length) in
+    let has_unit : 0 < unit = address_unit_is_positive (4 - length xs) in
+    let spelled : address_number_from 256 0 xs ≡ address_number_from 256 0 ys =
+    sym (mul-div_cancel (address_number_from 256 0 xs) has_unit) ∙ ap (λ m. m / unit) numbers
+    ∙ mul-div_cancel (address_number_from 256 0 ys) has_unit in
     (same_digits 256 0 0 xs ys same_length xs_leading.bytes ys_leading.bytes spelled).1
 
 -- two tests that hold together are one
-pub same_truth : (a b : Bool) → (a ≡ true → b ≡ true) → (b ≡ true → a ≡ true) → a ≡ b
-same_truth true b to from = sym (to refl)
-same_truth false true to from = from refl
-same_truth false false to from = refl
+pub address_tests_agree : (a b : Bool) → (a ≡ true → b ≡ true) → (b ≡ true → a ≡ true) → a ≡ b
+address_tests_agree true b to from = sym (to refl)
+address_tests_agree false true to from = from refl
+address_tests_agree false false to from = refl
 
 -- a list begins with its own front
-pub begins_with-take : (bytes front : List ℕ) → take (length front) bytes ≡ front → begins_with bytes front ≡ true
-begins_with-take bytes [] same = refl
-begins_with-take [] (b ∷ front) same = cc
-begins_with-take (x ∷ bytes) (b ∷ front) same =
+pub begins_with-address_front : (bytes front : List ℕ) → take (length front) bytes ≡ front → begins_with bytes front ≡ true
+begins_with-address_front bytes [] same = refl
+begins_with-address_front [] (b ∷ front) same = cc
+begins_with-address_front (x ∷ bytes) (b ∷ front) same =
     let heads : x ≡ b = cc in
     let tails : take (length front) bytes ≡ front = cc in
-    and_from (eqb x b) (begins_with bytes front) (eq-eqb x b heads) (begins_with-take bytes front tails)
+    and_from (eqb x b) (begins_with bytes front) (eq-eqb x b heads) (begins_with-address_front bytes front tails)
 
 -- what a list begins with is its front
-pub take-begins_with : (bytes front : List ℕ) → begins_with bytes front ≡ true → take (length front) bytes ≡ front
-take-begins_with bytes [] begins = refl
-take-begins_with [] (b ∷ front) begins = absurd (false≢true begins)
-take-begins_with (x ∷ bytes) (b ∷ front) begins =
+pub address_front-from_begins_with : (bytes front : List ℕ) → begins_with bytes front ≡ true → take (length front) bytes ≡ front
+address_front-from_begins_with bytes [] begins = refl
+address_front-from_begins_with [] (b ∷ front) begins = absurd (false≢true begins)
+address_front-from_begins_with (x ∷ bytes) (b ∷ front) begins =
     let both : (eqb x b ≡ true) × (begins_with bytes front ≡ true) =
     and_parts (eqb x b) (begins_with bytes front) begins in
     ap (λ d. d ∷ take (length front) bytes) (eqb-true x b both.0)
-    ∙ ap (λ l. b ∷ l) (take-begins_with bytes front both.1)
+    ∙ ap (λ l. b ∷ l) (address_front-from_begins_with bytes front both.1)
 
 -- setting the last bytes to zero leaves the first ones
-pub leading-masked : (n address : ℕ) → n ≤ 4
+pub address_front-masked : (n address : ℕ) → n ≤ 4
     → take n (address_bytes (address / 256 ^ (4 - n) * 256 ^ (4 - n))) ≡ take n (address_bytes address)
-leading-masked n address few =
+address_front-masked n address few =
     let unit = 256 ^ (4 - n) in
-    leading_digits n (address / unit * unit) few
-    ∙ ap (digits 256 n) (mul-div_cancel (address / unit) (some_unit (4 - n)))
-    ∙ sym (leading_digits n address few)
+    address_bytes-are_digits n (address / unit * unit) few
+    ∙ ap (address_digits 256 n) (mul-div_cancel (address / unit) (address_unit_is_positive (4 - n)))
+    ∙ sym (address_bytes-are_digits n address few)
 
 -- what is left when the last bytes are set to zero is an address
-pub masked_small : (n address : ℕ) → address < 2 ^ 32 → address / 256 ^ (4 - n) * 256 ^ (4 - n) < 2 ^ 32
-masked_small n address small = omega (arith, div-mul-le_self address (256 ^ (4 - n)))
+pub masked_address_is_small : (n address : ℕ) → address < 2 ^ 32 → address / 256 ^ (4 - n) * 256 ^ (4 - n) < 2 ^ 32
+masked_address_is_small n address small = omega (arith, div-mul-le_self address (256 ^ (4 - n)))
 
 -- the address of its own first bytes, once the last ones are zero
 pub address_of-masked : (n address : ℕ) → n ≤ 4 → address < 2 ^ 32
     → address_of (take n (address_bytes (address / 256 ^ (4 - n) * 256 ^ (4 - n))))
     ≡ address / 256 ^ (4 - n) * 256 ^ (4 - n)
 address_of-masked n address few small =
-    ap address_of (leading-masked n address few) ∙ address_of-leading n address few small
+    ap address_of (address_front-masked n address few) ∙ address_of-leading n address few small
 
 -- an address begins with the first bytes of another, whose last bytes are zero, where both are the same once its
 -- last bytes are zero too
-pub begins_with-leading : (n address other : ℕ) → n ≤ 4 → address < 2 ^ 32 → other < 2 ^ 32
+pub begins_with-masked_address : (n address other : ℕ) → n ≤ 4 → address < 2 ^ 32 → other < 2 ^ 32
     → address_of (take n (address_bytes other)) ≡ other
     → begins_with (address_bytes address) (take n (address_bytes other))
     ≡ eqb (address / 256 ^ (4 - n) * 256 ^ (4 - n)) other
-begins_with-leading n address other few small other_small masked =
+begins_with-masked_address n address other few small other_small masked =
     let unit = 256 ^ (4 - n) in
     let front = take n (address_bytes other) in
     let as_many : take (length front) (address_bytes address) ≡ take n (address_bytes address) =
-    ap (λ m. take m (address_bytes address)) (length-leading n other few) in
-    same_truth (begins_with (address_bytes address) front) (eqb (address / unit * unit) other)
+    ap (λ m. take m (address_bytes address)) (address_front-length n other few) in
+    address_tests_agree (begins_with (address_bytes address) front) (eqb (address / unit * unit) other)
     (λ begins. eq-eqb (address / unit * unit) other
     (sym (address_of-leading n address few small)
-    ∙ ap address_of (sym as_many ∙ take-begins_with (address_bytes address) front begins)
+    ∙ ap address_of (sym as_many ∙ address_front-from_begins_with (address_bytes address) front begins)
     ∙ masked))
-    (λ same. begins_with-take (address_bytes address) front
-    (as_many ∙ sym (leading-masked n address few)
+    (λ same. begins_with-address_front (address_bytes address) front
+    (as_many ∙ sym (address_front-masked n address few)
     ∙ ap (λ m. take n (address_bytes m)) (eqb-true (address / unit * unit) other same)))
 
 -- the first bytes of an address begin with those of another that are as many at most, where the address does
-pub kept-begins_with : (n m address other : ℕ) → m ≤ n → n ≤ 4
+pub address_front-begins_with : (n m address other : ℕ) → m ≤ n → n ≤ 4
     → begins_with (take n (address_bytes address)) (take m (address_bytes other))
     ≡ begins_with (address_bytes address) (take m (address_bytes other))
-kept-begins_with n m address other fewer few =
-    begins_with-front (address_bytes address) (take m (address_bytes other)) n
-    (omega (arith, length-leading m other (omega arith)))
+address_front-begins_with n m address other fewer few =
+    list_front-taken (address_bytes address) (take m (address_bytes other)) n
+    (omega (arith, address_front-length m other (omega arith)))
 
 -- the first bytes of an address don't begin with more of another's
-pub kept-begins_with_no_more : (n m address other : ℕ) → n < m → m ≤ 4
+pub address_front-begins_no_more : (n m address other : ℕ) → n < m → m ≤ 4
     → begins_with (take n (address_bytes address)) (take m (address_bytes other)) ≡ false
-kept-begins_with_no_more n m address other more few =
-    begins_with-shorter_list (take n (address_bytes address)) (take m (address_bytes other))
-    (omega (arith, length-leading n address (omega arith), length-leading m other few))
+address_front-begins_no_more n m address other more few =
+    longer_list_is_no_front (take n (address_bytes address)) (take m (address_bytes other))
+    (omega (arith, address_front-length n address (omega arith), address_front-length m other few))

@@ -3,16 +3,16 @@ use Rattle.std.proofs.Common.{◌≡◌, ℕ, ◌<◌, zero, suc, [], ◌∷◌,
 use Rattle.std.proofs.Common.{◌+◌, ◌*◌, ◌^◌, length}
 use Rattle.std.specs.declared.cmp.Ordering.TheVariants.{Less, Equal, Greater}
 use Rattle.prefix_lattice.specs.Record.{RecordValue}
-use Rattle.prefix_lattice.specs.Node.{NodeValue, IsNode, index_of, node_at, level_of, node_count, deepest_level}
-use Rattle.prefix_lattice.specs.Prefix.{IsKeyOf, HasKey, PrefixValue, IsPrefix, covers, weight_of, total_weight}
-use Rattle.prefix_lattice.specs.Prefix.{node_of, prefix_at, key_of}
-use Rattle.prefix_lattice.specs.KeptBytes.{digits, number_from, address_bytes, address_of, begins_with, AreLeadingBytes}
+use Rattle.prefix_lattice.specs.Node.{NodeValue, IsNode, node_index, node_at, node_level, node_count, deepest_node_level}
+use Rattle.prefix_lattice.specs.Prefix.{IsPrefixKey, HasPrefixKey, PrefixValue, IsPrefix, covers, prefix_weight, total_weight}
+use Rattle.prefix_lattice.specs.Prefix.{node_of_prefix, prefix_at, prefix_key}
+use Rattle.prefix_lattice.specs.KeptBytes.{address_digits, address_number_from, address_bytes, address_of, begins_with, AreLeadingBytes}
 use Rattle.prefix_lattice.specs.KeptBytes.{address_length}
 use Rattle.prefix_lattice.specs.Lattice.{under, same_prefix, strictly_under, longer_side, prefix_of_sides, meet}
 use Rattle.prefix_lattice.specs.Lattice.{ShareAddresses, report_order}
-use Rattle.prefix_lattice.proofs.MeetLemmas.{meet-some}
+use Rattle.prefix_lattice.proofs.UnderMeetLemmas.{meet-some}
 use Rattle.prefix_lattice.specs.Limits.{most_records, most_shards, total_limit}
-use Rattle.prefix_lattice.specs.Interval.{Holds, IsNarrow}
+use Rattle.prefix_lattice.specs.Interval.{IntervalHoldsWeight, IsNarrowInterval}
 
 -- 100 bytes from 10.1.2.3 to 20.1.2.3
 abbrev pub packet : RecordValue
@@ -27,13 +27,13 @@ abbrev pub prefix : PrefixValue
 prefix = record { source = 10 ∷ []; dest = 20 ∷ 1 ∷ [] }
 
 -- what stands above the lowest two digits isn't among them
-pub lowest_two_bytes : digits 256 2 0x0a1401 ≡ 20 ∷ 1 ∷ []
+pub lowest_two_bytes : address_digits 256 2 0x0a1401 ≡ 20 ∷ 1 ∷ []
 lowest_two_bytes = refl
 
-pub number_of_two_bytes : number_from 256 0 (20 ∷ 1 ∷ []) ≡ 0x1401
+pub number_of_two_bytes : address_number_from 256 0 (20 ∷ 1 ∷ []) ≡ 0x1401
 number_of_two_bytes = refl
 
-pub number_that_goes_on_with_a_byte : number_from 256 0x1401 (2 ∷ []) ≡ 0x140102
+pub number_that_goes_on_with_a_byte : address_number_from 256 0x1401 (2 ∷ []) ≡ 0x140102
 number_that_goes_on_with_a_byte = refl
 
 pub bytes_of_an_address : address_bytes 0x0a010203 ≡ 10 ∷ 1 ∷ 2 ∷ 3 ∷ []
@@ -87,7 +87,7 @@ covers_no_answer = refl
 pub root_covers_all : covers (record { source = []; dest = [] }) answer ≡ true
 root_covers_all = refl
 
-pub weighs_what_it_covers : weight_of prefix (packet ∷ answer ∷ packet ∷ []) ≡ 200
+pub weighs_what_it_covers : prefix_weight prefix (packet ∷ answer ∷ packet ∷ []) ≡ 200
 weighs_what_it_covers = refl
 
 pub weighs_together : total_weight (packet ∷ answer ∷ packet ∷ []) ≡ 260
@@ -103,10 +103,10 @@ node_of_the_lattice = record { source = omega arith; dest = omega arith }
 pub no_node_of_five_bytes : IsNode (record { source_bytes = 0; dest_bytes = 5 }) → ⊥
 no_node_of_five_bytes is_node = omega (arith, is_node.dest)
 
-pub node_of_the_prefix : node_of prefix ≡ node
+pub node_of_the_prefix : node_of_prefix prefix ≡ node
 node_of_the_prefix = refl
 
-pub place_of_the_node : index_of node ≡ 7
+pub place_of_the_node : node_index node ≡ 7
 place_of_the_node = refl
 
 pub node_of_the_place : node_at 7 ≡ node
@@ -115,27 +115,27 @@ node_of_the_place = refl
 pub last_node_keeps_all : node_at 24 ≡ record { source_bytes = 4; dest_bytes = 4 }
 last_node_keeps_all = refl
 
-pub level_of_the_node : level_of node ≡ 3
+pub level_of_the_node : node_level node ≡ 3
 level_of_the_node = refl
 
 pub prefix_of_the_packet : prefix_at node packet ≡ prefix
 prefix_of_the_packet = refl
 
-pub key_of_the_prefix : key_of prefix ≡ 0x0a00000014010000
+pub key_of_the_prefix : prefix_key prefix ≡ 0x0a00000014010000
 key_of_the_prefix = refl
 
-pub key_of_its_node : IsKeyOf node 0x0a00000014010000
+pub key_of_its_node : IsPrefixKey node 0x0a00000014010000
 key_of_its_node = record { source = refl; dest = refl }
 
 -- of the destination only two bytes are kept
-pub key_with_a_loose_bit : IsKeyOf node 0x0a00000014010001 → ⊥
+pub key_with_a_loose_bit : IsPrefixKey node 0x0a00000014010001 → ⊥
 key_with_a_loose_bit is_key = omega (arith, is_key.dest)
 
-pub prefix_of_a_key : HasKey node 0x0a00000014010000 prefix
+pub prefix_of_a_key : HasPrefixKey node 0x0a00000014010000 prefix
 prefix_of_a_key = record { is_prefix = pair_of_leading_bytes; of_node = refl; of_key = refl }
 
 -- 10.0.0.0/16 has the address of 10.0.0.0/8, but is of another node
-pub key_of_two_nodes : HasKey node 0x0a00000014010000 (record { source = 10 ∷ 0 ∷ []; dest = 20 ∷ 1 ∷ [] }) → ⊥
+pub key_of_two_nodes : HasPrefixKey node 0x0a00000014010000 (record { source = 10 ∷ 0 ∷ []; dest = 20 ∷ 1 ∷ [] }) → ⊥
 key_of_two_nodes has_key = omega (arith, ap (λ n. n.source_bytes) has_key.of_node)
 
 -- 0.0.0.0/0 0.0.0.0/0
@@ -238,10 +238,10 @@ pub length_of_an_address : length (address_bytes 0x0a010203) ≡ address_length
 length_of_an_address = refl
 
 -- the node of whole addresses is the last one, and of the deepest level
-pub nodes_up_to_whole_addresses : index_of (record { source_bytes = 4; dest_bytes = 4 }) + 1 ≡ node_count
+pub nodes_up_to_whole_addresses : node_index (record { source_bytes = 4; dest_bytes = 4 }) + 1 ≡ node_count
 nodes_up_to_whole_addresses = refl
 
-pub level_of_whole_addresses : level_of (record { source_bytes = 4; dest_bytes = 4 }) ≡ deepest_level
+pub level_of_whole_addresses : node_level (record { source_bytes = 4; dest_bytes = 4 }) ≡ deepest_node_level
 level_of_whole_addresses = refl
 
 pub records_are_few : most_records ≡ 2 ^ 24
@@ -253,15 +253,15 @@ limit_of_a_total = refl
 
 -- ---- intervals
 
-pub weight_within : Holds 4 6 5
+pub weight_within : IntervalHoldsWeight 4 6 5
 weight_within = record { low = omega arith; high = omega arith }
 
-pub weight_above : Holds 4 5 6 → ⊥
+pub weight_above : IntervalHoldsWeight 4 5 6 → ⊥
 weight_above holds = omega (arith, holds.high)
 
 -- an interval that is 2 wide is narrow for three entries of a table with a total of 6, not for four
-pub width_for_three_entries : IsNarrow 4 6 3 6
+pub width_for_three_entries : IsNarrowInterval 4 6 3 6
 width_for_three_entries = omega arith
 
-pub too_wide_for_four : IsNarrow 4 6 4 6 → ⊥
+pub too_wide_for_four : IsNarrowInterval 4 6 4 6 → ⊥
 too_wide_for_four narrow = omega (arith, narrow)

@@ -5,9 +5,9 @@ use Rattle.std.proofs.lemmas.List.Kept.{AllPairs-cons}
 use Rattle.prefix_lattice.specs.Record.{RecordValue}
 use Rattle.prefix_lattice.specs.Prefix.{PrefixValue}
 use Rattle.prefix_lattice.specs.Lattice.{strictly_under, meet}
-use Rattle.prefix_lattice.specs.ClosestLines.{lines_under, one_covers, conditioned_weight, greatest, closest}
-use Rattle.prefix_lattice.specs.ClosestLines.{under_third, unless_under_third, kept_meet, kept_among, kept_pairs}
-use Rattle.prefix_lattice.specs.ClosestLines.{AreIncomparable, covering_count, ObeysStaircase}
+use Rattle.prefix_lattice.specs.ClosestLines.{lines_under, one_line_covers, conditioned_weight, greatest_lines, closest}
+use Rattle.prefix_lattice.specs.ClosestLines.{under_third_line, unless_under_third_line, kept_meet, kept_among, kept_pairs}
+use Rattle.prefix_lattice.specs.ClosestLines.{AreIncomparableLines, covering_line_count, LinesObeyStaircase}
 use Rattle.prefix_lattice.proofs.Examples.{packet, answer, prefix, root, to_twenty, from_ten_to_twenty}
 
 -- the root and three under it, of which the first is under the other two
@@ -17,11 +17,11 @@ lines = prefix ∷ from_ten_to_twenty ∷ to_twenty ∷ root ∷ []
 pub no_line_is_under_itself : lines_under to_twenty lines ≡ prefix ∷ from_ten_to_twenty ∷ []
 no_line_is_under_itself = refl
 
-pub lines_that_cover_the_packet : one_covers lines packet ≡ true
+pub lines_that_cover_the_packet : one_line_covers lines packet ≡ true
 lines_that_cover_the_packet = refl
 
 -- none but the root covers the way back
-pub lines_that_cover_no_answer : one_covers (lines_under root lines) answer ≡ false
+pub lines_that_cover_no_answer : one_line_covers (lines_under root lines) answer ≡ false
 lines_that_cover_no_answer = refl
 
 -- a line explains the packet, and leaves the answer
@@ -33,7 +33,7 @@ conditioned_by_a_line = refl
 pub not_conditioned_by_itself : conditioned_weight prefix (prefix ∷ []) (packet ∷ answer ∷ packet ∷ []) ≡ 200
 not_conditioned_by_itself = refl
 
-pub member_that_all_others_are_under : greatest lines ≡ root ∷ []
+pub member_that_all_others_are_under : greatest_lines lines ≡ root ∷ []
 member_that_all_others_are_under = refl
 
 -- a line that is under another line is not closest
@@ -71,17 +71,17 @@ climber = record { src = 0x0a010101; dst = 0x14010101; weight = 9 }
 pub none_of_the_stairs_is_under_another : closest root stairs ≡ stairs
 none_of_the_stairs_is_under_another = refl
 
-pub outer_meet_is_under_the_middle_step : under_third stairs lowest_step highest_step outer_meet ≡ true
+pub outer_meet_is_under_the_middle_step : under_third_line stairs lowest_step highest_step outer_meet ≡ true
 outer_meet_is_under_the_middle_step = refl
 
 -- the two whose meet it is don't count
-pub lower_meet_is_under_no_third_step : under_third stairs lowest_step middle_step lower_meet ≡ false
+pub lower_meet_is_under_no_third_step : under_third_line stairs lowest_step middle_step lower_meet ≡ false
 lower_meet_is_under_no_third_step = refl
 
-pub prefix_under_a_third_is_dropped : unless_under_third stairs lowest_step highest_step (Some outer_meet) ≡ None
+pub prefix_under_a_third_is_dropped : unless_under_third_line stairs lowest_step highest_step (Some outer_meet) ≡ None
 prefix_under_a_third_is_dropped = refl
 
-pub prefix_under_no_third_stays : unless_under_third stairs lowest_step middle_step (Some lower_meet) ≡ Some lower_meet
+pub prefix_under_no_third_stays : unless_under_third_line stairs lowest_step middle_step (Some lower_meet) ≡ Some lower_meet
 prefix_under_no_third_stays = refl
 
 pub meet_of_neighbours_is_kept : kept_meet stairs middle_step highest_step ≡ Some upper_meet
@@ -101,7 +101,7 @@ kept_pairs_of_the_upper_steps = refl
 pub neighbours_are_kept : kept_pairs stairs ≡ lower_meet ∷ upper_meet ∷ []
 neighbours_are_kept = refl
 
-pub stairs_are_incomparable : AreIncomparable stairs
+pub stairs_are_incomparable : AreIncomparableLines stairs
 stairs_are_incomparable = record {
   distinct =
       pairs (λ line other. line ≢ other) (λ same. omega (arith, ap (λ p. length p.dest) same))
@@ -122,19 +122,19 @@ stairs_are_incomparable = record {
         (All-cons (R middle_step) highest_step [] three (All-nil (R middle_step)))
         (AllPairs-cons R highest_step [] (All-nil (R highest_step)) (λ i j d before within. absurd (omega arith))))
 
-pub lines_under_one_another_are_comparable : AreIncomparable lines → ⊥
+pub lines_under_one_another_are_comparable : AreIncomparableLines lines → ⊥
 lines_under_one_another_are_comparable apart = cc ((apart.none_under 0 1 root (omega arith) (omega arith)).0)
 
 -- three steps cover the record, and two kept pairs
-pub steps_that_cover : covering_count climber stairs ≡ 3
+pub steps_that_cover : covering_line_count climber stairs ≡ 3
 steps_that_cover = refl
 
-pub kept_pairs_that_cover : covering_count climber (kept_pairs stairs) ≡ 2
+pub kept_pairs_that_cover : covering_line_count climber (kept_pairs stairs) ≡ 2
 kept_pairs_that_cover = refl
 
-pub stairs_obey_the_law : ObeysStaircase stairs climber
+pub stairs_obey_the_law : LinesObeyStaircase stairs climber
 stairs_obey_the_law some = refl
 
 -- of three lines under one another just one pair is kept, and all three cover the packet
-pub comparable_lines_do_not_obey : ObeysStaircase (prefix ∷ from_ten_to_twenty ∷ to_twenty ∷ []) packet → ⊥
+pub comparable_lines_do_not_obey : LinesObeyStaircase (prefix ∷ from_ten_to_twenty ∷ to_twenty ∷ []) packet → ⊥
 comparable_lines_do_not_obey obeys = omega (arith, obeys (omega arith))

@@ -7,30 +7,30 @@ use Rattle.std.proofs.lemmas.List.Sums.{sum_by-append}
 use Rattle.prefix_lattice.specs.Record.{RecordValue}
 use Rattle.prefix_lattice.specs.Prefix.{PrefixValue, covers}
 use Rattle.prefix_lattice.specs.Lattice.{under, same_prefix, meet}
-use Rattle.prefix_lattice.specs.ClosestLines.{under_third, unless_under_third, kept_meet, kept_among, covering_count}
-use Rattle.prefix_lattice.proofs.ElementLemmas.{list_any-agree}
-use Rattle.prefix_lattice.proofs.CountLemmas.{passes_some, count_by-filter_map, pair_count}
-use Rattle.prefix_lattice.proofs.MeetLemmas.{covers-up, meet-under, meet-turned}
+use Rattle.prefix_lattice.specs.ClosestLines.{under_third_line, unless_under_third_line, kept_meet, kept_among, covering_line_count}
+use Rattle.prefix_lattice.proofs.AmongLemmas.{any_among-agrees}
+use Rattle.prefix_lattice.proofs.OrderedCountLemmas.{counts_if_some, count_by-filter_map, pair_count}
+use Rattle.prefix_lattice.proofs.UnderMeetLemmas.{covers-up_from_under, meet-under, meet-turned}
 
 -- a pair is kept, and its meet covers the record
-abbrev pub keeps : List PrefixValue → RecordValue → PrefixValue → PrefixValue → Bool
-keeps members rec first second = passes_some (λ prefix. covers prefix rec) (kept_meet members first second)
+abbrev pub keeps_pair : List PrefixValue → RecordValue → PrefixValue → PrefixValue → Bool
+keeps_pair members rec first second = counts_if_some (λ prefix. covers prefix rec) (kept_meet members first second)
 
 -- the kept meets that cover a record are counted by their pairs
-pub kept-count : (members : List PrefixValue) (rec : RecordValue) (some : List PrefixValue)
-    → covering_count rec (kept_among members some) ≡ pair_count (keeps members rec) some
-kept-count members rec [] = refl
-kept-count members rec (first ∷ rest) =
+pub kept_pair-count : (members : List PrefixValue) (rec : RecordValue) (some : List PrefixValue)
+    → covering_line_count rec (kept_among members some) ≡ pair_count (keeps_pair members rec) some
+kept_pair-count members rec [] = refl
+kept_pair-count members rec (first ∷ rest) =
     sum_by-append (λ prefix. cond (covers prefix rec) 1 0) (filter_map (kept_meet members first) rest)
     (kept_among members rest)
-    ∙ ap (λ n. n + covering_count rec (kept_among members rest))
+    ∙ ap (λ n. n + covering_line_count rec (kept_among members rest))
     (count_by-filter_map (λ prefix. covers prefix rec) (kept_meet members first) rest)
-    ∙ ap (λ n. count_by (keeps members rec first) rest + n) (kept-count members rec rest)
+    ∙ ap (λ n. count_by (keeps_pair members rec first) rest + n) (kept_pair-count members rec rest)
 
 -- a pair is kept whichever member is named first
-pub third-turned : (members : List PrefixValue) (first second lowest : PrefixValue)
-    → under_third members first second lowest ≡ under_third members second first lowest
-third-turned members first second lowest = list_any-agree
+pub kept_pair-third_turned : (members : List PrefixValue) (first second lowest : PrefixValue)
+    → under_third_line members first second lowest ≡ under_third_line members second first lowest
+kept_pair-third_turned members first second lowest = any_among-agrees
     (λ third. under lowest third && not (same_prefix third first || same_prefix third second))
     (λ third. under lowest third && not (same_prefix third second || same_prefix third first))
     members
@@ -42,43 +42,43 @@ third-turned members first second lowest = list_any-agree
     either false true = refl
     either false false = refl
 
-pub keeps-turned : (members : List PrefixValue) (rec : RecordValue) (first second : PrefixValue)
-    → keeps members rec first second ≡ keeps members rec second first
-keeps-turned members rec first second =
-    ap (λ o. passes_some (λ prefix. covers prefix rec) (unless_under_third members first second o))
+pub keeps_pair-turned : (members : List PrefixValue) (rec : RecordValue) (first second : PrefixValue)
+    → keeps_pair members rec first second ≡ keeps_pair members rec second first
+keeps_pair-turned members rec first second =
+    ap (λ o. counts_if_some (λ prefix. covers prefix rec) (unless_under_third_line members first second o))
     (meet-turned first second)
-    ∙ ap (passes_some (λ prefix. covers prefix rec)) (by_meet (meet second first))
+    ∙ ap (counts_if_some (λ prefix. covers prefix rec)) (by_meet (meet second first))
   where
     by_meet : (o : Option PrefixValue)
-        → unless_under_third members first second o ≡ unless_under_third members second first o
+        → unless_under_third_line members first second o ≡ unless_under_third_line members second first o
     by_meet None = refl
-    by_meet (Some lowest) = ap (λ b. cond b None (Some lowest)) (third-turned members first second lowest)
+    by_meet (Some lowest) = ap (λ b. cond b None (Some lowest)) (kept_pair-third_turned members first second lowest)
 
 -- whether a pair is kept is told by its meet
-pub keeps-is : (members : List PrefixValue) (rec : RecordValue) (first second lowest : PrefixValue)
-    (is_third : Bool) → meet first second ≡ Some lowest → under_third members first second lowest ≡ is_third
-    → keeps members rec first second ≡ passes_some (λ prefix. covers prefix rec) (cond is_third None (Some lowest))
-keeps-is members rec first second lowest is_third found third =
-    ap (λ o. passes_some (λ prefix. covers prefix rec) (unless_under_third members first second o)) found
-    ∙ ap (λ b. passes_some (λ prefix. covers prefix rec) (cond b None (Some lowest))) third
+pub keeps_pair-by_kept_meet : (members : List PrefixValue) (rec : RecordValue) (first second lowest : PrefixValue)
+    (is_third : Bool) → meet first second ≡ Some lowest → under_third_line members first second lowest ≡ is_third
+    → keeps_pair members rec first second ≡ counts_if_some (λ prefix. covers prefix rec) (cond is_third None (Some lowest))
+keeps_pair-by_kept_meet members rec first second lowest is_third found third =
+    ap (λ o. counts_if_some (λ prefix. covers prefix rec) (unless_under_third_line members first second o)) found
+    ∙ ap (λ b. counts_if_some (λ prefix. covers prefix rec) (cond b None (Some lowest))) third
 
 -- where the meet of a kept pair covers a record, so do both members
-pub keeps-covers : (members : List PrefixValue) (rec : RecordValue) (first second : PrefixValue)
-    → keeps members rec first second ≡ true
+pub keeps_pair-covers : (members : List PrefixValue) (rec : RecordValue) (first second : PrefixValue)
+    → keeps_pair members rec first second ≡ true
     → (covers first rec ≡ true) × (covers second rec ≡ true)
-keeps-covers members rec first second = by_meet (meet first second) refl
+keeps_pair-covers members rec first second = by_meet (meet first second) refl
   where
     by_third : (lowest : PrefixValue) (is_third : Bool)
-        → passes_some (λ prefix. covers prefix rec) (cond is_third None (Some lowest)) ≡ true
+        → counts_if_some (λ prefix. covers prefix rec) (cond is_third None (Some lowest)) ≡ true
         → covers lowest rec ≡ true
     by_third lowest true kept = absurd (false≢true kept)
     by_third lowest false kept = kept
 
     by_meet : (o : Option PrefixValue) → meet first second ≡ o
-        → passes_some (λ prefix. covers prefix rec) (unless_under_third members first second o) ≡ true
+        → counts_if_some (λ prefix. covers prefix rec) (unless_under_third_line members first second o) ≡ true
         → (covers first rec ≡ true) × (covers second rec ≡ true)
     by_meet None is kept = absurd (false≢true kept)
     by_meet (Some lowest) is kept =
-        let covered = by_third lowest (under_third members first second lowest) kept in
+        let covered = by_third lowest (under_third_line members first second lowest) kept in
         let both = meet-under first second lowest is in
-        (covers-up lowest first rec both.0 covered, covers-up lowest second rec both.1 covered)
+        (covers-up_from_under lowest first rec both.0 covered, covers-up_from_under lowest second rec both.1 covered)

@@ -5,45 +5,45 @@ use Rattle.std.specs.Cmp.{IsTotalOrder}
 use Rattle.std.specs.Ordering.{nat_cmp, ordering_then}
 use Rattle.std.proofs.lemmas.Cmp.{ranked, nat_cmp_total, on_total, then_total, back_total, tied_itself}
 use Rattle.prefix_lattice.specs.KeptBytes.{address_of}
-use Rattle.prefix_lattice.specs.Node.{level_of}
-use Rattle.prefix_lattice.specs.Prefix.{PrefixValue, IsPrefix, node_of}
+use Rattle.prefix_lattice.specs.Node.{node_level}
+use Rattle.prefix_lattice.specs.Prefix.{PrefixValue, IsPrefix, node_of_prefix}
 use Rattle.prefix_lattice.specs.Lattice.{report_order}
-use Rattle.prefix_lattice.proofs.AddressLemmas.{same_leading}
-use Rattle.prefix_lattice.proofs.MeetLemmas.{same_sides}
+use Rattle.prefix_lattice.proofs.AddressLemmas.{address_tells_leading_bytes}
+use Rattle.prefix_lattice.proofs.UnderMeetLemmas.{under_sides_tell_prefix}
 
 pub report_order-total : IsTotalOrder report_order
-report_order-total = then_total (back_total (on_total (λ (p : PrefixValue). level_of (node_of p)) nat_cmp_total))
+report_order-total = then_total (back_total (on_total (λ (p : PrefixValue). node_level (node_of_prefix p)) nat_cmp_total))
     (then_total (on_total (λ (p : PrefixValue). address_of p.source) nat_cmp_total)
     (then_total (on_total (λ (p : PrefixValue). length p.source) nat_cmp_total)
     (on_total (λ (p : PrefixValue). address_of p.dest) nat_cmp_total)))
 
 -- where one order after another ties, both tie
-then_parts : (first second : Ordering) → ordering_then first second ≡ Equal → (first ≡ Equal) × (second ≡ Equal)
-then_parts Less second tied = absurd (cc)
-then_parts Equal second tied = (refl, tied)
-then_parts Greater second tied = absurd (cc)
+report_order-tied_parts : (first second : Ordering) → ordering_then first second ≡ Equal → (first ≡ Equal) × (second ≡ Equal)
+report_order-tied_parts Less second tied = absurd (cc)
+report_order-tied_parts Equal second tied = (refl, tied)
+report_order-tied_parts Greater second tied = absurd (cc)
 
 -- numbers that tie are the same
-same_number : (x y : ℕ) → nat_cmp x y ≡ Equal → x ≡ y
-same_number x y tied = ranked x y Equal (sym tied)
+report_order-same_number : (x y : ℕ) → nat_cmp x y ≡ Equal → x ≡ y
+report_order-same_number x y tied = ranked x y Equal (sym tied)
 
 -- prefixes that tie in a report are the same
-tied_prefixes : (prefix other : PrefixValue) → IsPrefix prefix → IsPrefix other → report_order prefix other ≡ Equal
+report_order-tied : (prefix other : PrefixValue) → IsPrefix prefix → IsPrefix other → report_order prefix other ≡ Equal
     → prefix ≡ other
-tied_prefixes prefix other valid other_valid tied =
-    let by_level = then_parts (nat_cmp (level_of (node_of other)) (level_of (node_of prefix))) _ tied in
-    let by_source = then_parts (nat_cmp (address_of prefix.source) (address_of other.source)) _ by_level.1 in
-    let by_length = then_parts (nat_cmp (length prefix.source) (length other.source)) _ by_source.1 in
+report_order-tied prefix other valid other_valid tied =
+    let by_level = report_order-tied_parts (nat_cmp (node_level (node_of_prefix other)) (node_level (node_of_prefix prefix))) _ tied in
+    let by_source = report_order-tied_parts (nat_cmp (address_of prefix.source) (address_of other.source)) _ by_level.1 in
+    let by_length = report_order-tied_parts (nat_cmp (length prefix.source) (length other.source)) _ by_source.1 in
     let levels : length other.source + length other.dest ≡ length prefix.source + length prefix.dest =
-    same_number _ _ by_level.0 in
-    let lengths : length prefix.source ≡ length other.source = same_number _ _ by_length.0 in
-    same_sides prefix other
-    (same_leading prefix.source other.source valid.source other_valid.source lengths (same_number _ _ by_source.0))
-    (same_leading prefix.dest other.dest valid.dest other_valid.dest (omega arith) (same_number _ _ by_length.1))
+    report_order-same_number _ _ by_level.0 in
+    let lengths : length prefix.source ≡ length other.source = report_order-same_number _ _ by_length.0 in
+    under_sides_tell_prefix prefix other
+    (address_tells_leading_bytes prefix.source other.source valid.source other_valid.source lengths (report_order-same_number _ _ by_source.0))
+    (address_tells_leading_bytes prefix.dest other.dest valid.dest other_valid.dest (omega arith) (report_order-same_number _ _ by_length.1))
 
 pub report_order-apart : (prefix other : PrefixValue) → IsPrefix prefix → IsPrefix other
     → (report_order prefix other ≡ Equal) ↔ (prefix ≡ other)
 report_order-apart prefix other valid other_valid = (
-  tied_prefixes prefix other valid other_valid,
+  report_order-tied prefix other valid other_valid,
   λ same. ap (report_order prefix) (sym same) ∙ tied_itself report_order-total prefix,
 )

@@ -3,88 +3,88 @@ use Rattle.std.proofs.Common.{◌≡◌, ℕ, ◌-◌, ◌*◌, ◌%◌, ◌^◌
 use Rattle.std.proofs.Common.{◌∙◌, arith}
 use Rattle.std.proofs.lemmas.Fmt.{decimal_injective}
 use Rattle.std.proofs.Math.Nat.{mul-mod_left}
-use Rattle.prefix_lattice.specs.KeptBytes.{number_from, address_of}
-use Rattle.prefix_lattice.specs.PrefixText.{address_text, side_text_of, before_slash, IsAddressText, HasLength}
-use Rattle.prefix_lattice.specs.PrefixText.{SpellsSide, HasSideFault}
+use Rattle.prefix_lattice.specs.KeptBytes.{address_number_from, address_of}
+use Rattle.prefix_lattice.specs.PrefixText.{address_text, side_text_of, text_before_slash, IsAddressText, TextHasLength}
+use Rattle.prefix_lattice.specs.PrefixText.{TextSpellsSide, TextHasSideFault}
 use Rattle.prefix_lattice.specs.declared.prefix_fault.Side.{Side}
 use Rattle.prefix_lattice.specs.declared.prefix_fault.PrefixFault.{PrefixFault}
 use Rattle.prefix_lattice.specs.declared.prefix_fault.PrefixFault.TheVariants.{BadAddress, BadLength, LooseBits}
-use Rattle.prefix_lattice.proofs.AddressLemmas.{address_of-small, same_leading}
-use Rattle.prefix_lattice.proofs.AddressTextLemmas.{address_lacks_slash, one_address}
-use Rattle.prefix_lattice.proofs.TextCutLemmas.{first_cut, same_cut}
+use Rattle.prefix_lattice.proofs.AddressLemmas.{address_of-small, address_tells_leading_bytes}
+use Rattle.prefix_lattice.proofs.AddressTextLemmas.{address_text-lacks_slash, address_text-tells_address}
+use Rattle.prefix_lattice.proofs.TextCutLemmas.{first_text_cut, same_text_cut}
 
 -- what stands before the slash of an address and a length is the address
-pub before_length : (text : List ℕ) (address bytes : ℕ) → text ≡ side_text_of address bytes
-    → before_slash text ≡ address_text address
-before_length text address bytes spelled =
-    ap before_slash spelled
-    ∙ first_cut 47 (address_text address) (decimal (8 * bytes)) (address_lacks_slash address)
+pub side_text-before_slash : (text : List ℕ) (address bytes : ℕ) → text ≡ side_text_of address bytes
+    → text_before_slash text ≡ address_text address
+side_text-before_slash text address bytes spelled =
+    ap text_before_slash spelled
+    ∙ first_text_cut 47 (address_text address) (decimal (8 * bytes)) (address_text-lacks_slash address)
 
 -- an address and a length have an address
-pub has_address : (text : List ℕ) (address bytes : ℕ) → address < 2 ^ 32 → text ≡ side_text_of address bytes
-    → IsAddressText (before_slash text)
-has_address text address bytes small spelled = (address, small, before_length text address bytes spelled)
+pub side_text-has_address : (text : List ℕ) (address bytes : ℕ) → address < 2 ^ 32 → text ≡ side_text_of address bytes
+    → IsAddressText (text_before_slash text)
+side_text-has_address text address bytes small spelled = (address, small, side_text-before_slash text address bytes spelled)
 
 -- an address and a length have a length
-pub has_length : (text : List ℕ) (address bytes : ℕ) → bytes ≤ 4 → text ≡ side_text_of address bytes → HasLength text
-has_length text address bytes few spelled =
-    (bytes, few, spelled ∙ ap (λ l. l ++ 47 ∷ decimal (8 * bytes)) (sym (before_length text address bytes spelled)))
+pub side_text-has_length : (text : List ℕ) (address bytes : ℕ) → bytes ≤ 4 → text ≡ side_text_of address bytes → TextHasLength text
+side_text-has_length text address bytes few spelled =
+    (bytes, few, spelled ∙ ap (λ l. l ++ 47 ∷ decimal (8 * bytes)) (sym (side_text-before_slash text address bytes spelled)))
 
 -- one address and one length
 pub one_side_text : (address bytes other others : ℕ) → address < 2 ^ 32 → other < 2 ^ 32 → bytes ≤ 4 → others ≤ 4
     → side_text_of address bytes ≡ side_text_of other others → (address ≡ other) × (bytes ≡ others)
 one_side_text address bytes other others small other_small few few_others same =
-    let cut = same_cut 47 (side_text_of address bytes) (address_text address) (decimal (8 * bytes))
+    let cut = same_text_cut 47 (side_text_of address bytes) (address_text address) (decimal (8 * bytes))
     (address_text other) (decimal (8 * others))
-    (sym (first_cut 47 (address_text address) (decimal (8 * bytes)) (address_lacks_slash address))) refl same
-    (address_lacks_slash other) in
+    (sym (first_text_cut 47 (address_text address) (decimal (8 * bytes)) (address_text-lacks_slash address))) refl same
+    (address_text-lacks_slash other) in
     let lengths : 8 * bytes ≡ 8 * others =
     decimal_injective (8 * bytes) (8 * others) (omega arith) (omega arith) cut.1 in
-    (one_address address other small other_small cut.0, omega arith)
+    (address_text-tells_address address other small other_small cut.0, omega arith)
 
 -- a text spells one side at most
-pub one_side : (text front other : List ℕ) → SpellsSide text front → SpellsSide text other → front ≡ other
-one_side text front other spells spells_other =
+pub side_text-tells_side : (text front other : List ℕ) → TextSpellsSide text front → TextSpellsSide text other → front ≡ other
+side_text-tells_side text front other spells spells_other =
     let same = one_side_text (address_of front) (length front) (address_of other) (length other)
     (address_of-small front spells.leading) (address_of-small other spells_other.leading) spells.leading.few
     spells_other.leading.few
     (sym spells.spelled ∙ spells_other.spelled) in
-    same_leading front other spells.leading spells_other.leading same.1 same.0
+    address_tells_leading_bytes front other spells.leading spells_other.leading same.1 same.0
 
 -- leading bytes leave nothing past them
-nothing_loose : (front : List ℕ) → address_of front % 256 ^ (4 - length front) ≡ 0
-nothing_loose front = mul-mod_left (number_from 256 0 front) (256 ^ (4 - length front))
+side_text-nothing_loose : (front : List ℕ) → address_of front % 256 ^ (4 - length front) ≡ 0
+side_text-nothing_loose front = mul-mod_left (address_number_from 256 0 front) (256 ^ (4 - length front))
 
 -- a text that spells a side has no fault
-pub no_side_fault : (side : Side) (text front : List ℕ) (fault : PrefixFault) → SpellsSide text front
-    → HasSideFault side text fault → ⊥
-no_side_fault side text front (BadAddress at) spells has =
-    has.1 (has_address text (address_of front) (length front) (address_of-small front spells.leading) spells.spelled)
-no_side_fault side text front (BadLength at) spells has =
-    has.2 (has_length text (address_of front) (length front) spells.leading.few spells.spelled)
-no_side_fault side text front (LooseBits at) spells has =
+pub side_text-no_fault : (side : Side) (text front : List ℕ) (fault : PrefixFault) → TextSpellsSide text front
+    → TextHasSideFault side text fault → ⊥
+side_text-no_fault side text front (BadAddress at) spells has =
+    has.1 (side_text-has_address text (address_of front) (length front) (address_of-small front spells.leading) spells.spelled)
+side_text-no_fault side text front (BadLength at) spells has =
+    has.2 (side_text-has_length text (address_of front) (length front) spells.leading.few spells.spelled)
+side_text-no_fault side text front (LooseBits at) spells has =
     let loose = has.1 in
     let same = one_side_text loose.address loose.bytes (address_of front) (length front) loose.is_address
     (address_of-small front spells.leading) loose.is_length spells.leading.few
     (sym loose.spelled ∙ spells.spelled) in
     loose.loose (ap (λ a. a % 256 ^ (4 - loose.bytes)) same.0 ∙ ap (λ n. address_of front % 256 ^ (4 - n)) same.1
-    ∙ nothing_loose front)
+    ∙ side_text-nothing_loose front)
 
 -- a text has one fault at most
-pub one_side_fault : (side : Side) (text : List ℕ) (fault other : PrefixFault) → HasSideFault side text fault
-    → HasSideFault side text other → fault ≡ other
-one_side_fault side text (BadAddress at) (BadAddress at') has has_other = ap BadAddress (has.0 ∙ sym has_other.0)
-one_side_fault side text (BadAddress at) (BadLength at') has has_other = absurd (has.1 has_other.1)
-one_side_fault side text (BadAddress at) (LooseBits at') has has_other =
+pub side_text-single_fault : (side : Side) (text : List ℕ) (fault other : PrefixFault) → TextHasSideFault side text fault
+    → TextHasSideFault side text other → fault ≡ other
+side_text-single_fault side text (BadAddress at) (BadAddress at') has has_other = ap BadAddress (has.0 ∙ sym has_other.0)
+side_text-single_fault side text (BadAddress at) (BadLength at') has has_other = absurd (has.1 has_other.1)
+side_text-single_fault side text (BadAddress at) (LooseBits at') has has_other =
     let loose = has_other.1 in
-    absurd (has.1 (has_address text loose.address loose.bytes loose.is_address loose.spelled))
-one_side_fault side text (BadLength at) (BadAddress at') has has_other = absurd (has_other.1 has.1)
-one_side_fault side text (BadLength at) (BadLength at') has has_other = ap BadLength (has.0 ∙ sym has_other.0)
-one_side_fault side text (BadLength at) (LooseBits at') has has_other =
-    let loose = has_other.1 in absurd (has.2 (has_length text loose.address loose.bytes loose.is_length loose.spelled))
-one_side_fault side text (LooseBits at) (BadAddress at') has has_other =
+    absurd (has.1 (side_text-has_address text loose.address loose.bytes loose.is_address loose.spelled))
+side_text-single_fault side text (BadLength at) (BadAddress at') has has_other = absurd (has_other.1 has.1)
+side_text-single_fault side text (BadLength at) (BadLength at') has has_other = ap BadLength (has.0 ∙ sym has_other.0)
+side_text-single_fault side text (BadLength at) (LooseBits at') has has_other =
+    let loose = has_other.1 in absurd (has.2 (side_text-has_length text loose.address loose.bytes loose.is_length loose.spelled))
+side_text-single_fault side text (LooseBits at) (BadAddress at') has has_other =
     let loose = has.1 in
-    absurd (has_other.1 (has_address text loose.address loose.bytes loose.is_address loose.spelled))
-one_side_fault side text (LooseBits at) (BadLength at') has has_other =
-    let loose = has.1 in absurd (has_other.2 (has_length text loose.address loose.bytes loose.is_length loose.spelled))
-one_side_fault side text (LooseBits at) (LooseBits at') has has_other = ap LooseBits (has.0 ∙ sym has_other.0)
+    absurd (has_other.1 (side_text-has_address text loose.address loose.bytes loose.is_address loose.spelled))
+side_text-single_fault side text (LooseBits at) (BadLength at') has has_other =
+    let loose = has.1 in absurd (has_other.2 (side_text-has_length text loose.address loose.bytes loose.is_length loose.spelled))
+side_text-single_fault side text (LooseBits at) (LooseBits at') has has_other = ap LooseBits (has.0 ∙ sym has_other.0)

@@ -6,8 +6,8 @@ use Rattle.prefix_lattice.specs.Prefix.{PrefixValue, IsPrefix}
 use Rattle.prefix_lattice.specs.PrefixText.{address_text, side_text, prefix_text}
 
 -- a byte has at most three digits
-byte_digits : (number : ℕ) → length (decimal (number % 256)) ≤ 3
-byte_digits number = length-decimal-le 3 (number % 256) (omega arith) (omega arith) (omega arith)
+byte_text_length : (number : ℕ) → length (decimal (number % 256)) ≤ 3
+byte_text_length number = length-decimal-le 3 (number % 256) (omega arith) (omega arith) (omega arith)
 
 pub length-address_text : (address : ℕ) → length (address_text address) ≤ 15
 length-address_text address =
@@ -17,18 +17,18 @@ length-address_text address =
     let fourth = decimal (address % 256) in
     omega (
       arith,
-      byte_digits (address / 256 / 256 / 256),
-      byte_digits (address / 256 / 256),
-      byte_digits (address / 256),
-      byte_digits address,
+      byte_text_length (address / 256 / 256 / 256),
+      byte_text_length (address / 256 / 256),
+      byte_text_length (address / 256),
+      byte_text_length address,
       length-append first (46 ∷ (second ++ 46 ∷ (third ++ 46 ∷ fourth))),
       length-append second (46 ∷ (third ++ 46 ∷ fourth)),
       length-append third (46 ∷ fourth),
     )
 
 -- a length in bits has at most two digits
-pub length-bits : (bytes : ℕ) → bytes ≤ 4 → length (decimal (8 * bytes)) ≤ 2
-length-bits bytes few = length-decimal-le 2 (8 * bytes) (omega arith) (omega arith) (omega arith)
+pub text_length-bits : (bytes : ℕ) → bytes ≤ 4 → length (decimal (8 * bytes)) ≤ 2
+text_length-bits bytes few = length-decimal-le 2 (8 * bytes) (omega arith) (omega arith) (omega arith)
 
 pub length-side_text : (front : List ℕ) → AreLeadingBytes front → length (side_text front) ≤ 18
 length-side_text front leading =
@@ -36,7 +36,7 @@ length-side_text front leading =
       arith,
       length-append (address_text (address_of front)) (47 ∷ decimal (8 * length front)),
       length-address_text (address_of front),
-      length-bits (length front) leading.few,
+      text_length-bits (length front) leading.few,
     )
 
 pub length-prefix_text : (prefix : PrefixValue) → IsPrefix prefix → length (prefix_text prefix) ≤ 37

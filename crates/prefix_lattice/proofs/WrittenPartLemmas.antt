@@ -3,13 +3,13 @@ use Rattle.std.proofs.Common.{◌≡◌, ℕ, ◌+◌, ◌<◌, ◌≤◌, suc, 
 use Rattle.std.proofs.Common.{ap, ◌∙◌, arith, length-append, append_assoc, subst, decimal}
 use Rattle.std.proofs.lemmas.Slice.{drop-append-drop}
 use Rattle.std.proofs.lemmas.List.{take_at, length-take, set_split}
-use Rattle.prefix_lattice.specs.PrefixText.{WritesPart}
+use Rattle.prefix_lattice.specs.PrefixText.{WritesTextPart}
 
 -- two parts that are written one behind the other are one part
-pub writes-then : (old middle new : List ℕ) (start between end : ℕ) (part other : List ℕ) → between ≤ length old
-    → WritesPart old middle start between part → WritesPart middle new between end other
-    → WritesPart old new start end (part ++ other)
-writes-then old middle new start between end part other within first second =
+pub written_parts-joined : (old middle new : List ℕ) (start between end : ℕ) (part other : List ℕ) → between ≤ length old
+    → WritesTextPart old middle start between part → WritesTextPart middle new between end other
+    → WritesTextPart old new start end (part ++ other)
+written_parts-joined old middle new start between end part other within first second =
     let front = take start old ++ part in
     let front_length : length front ≡ between =
     omega (arith, length-append (take start old) part, length-take start old, first.ends) in
@@ -25,9 +25,9 @@ writes-then old middle new start between end part other within first second =
     }
 
 -- one byte is a part
-pub writes-byte : (text : List ℕ) (at byte : ℕ) → at < length text
-    → WritesPart text (set text at byte) at (at + 1) (byte ∷ [])
-writes-byte text at byte within =
+pub written_part-byte : (text : List ℕ) (at byte : ℕ) → at < length text
+    → WritesTextPart text (set text at byte) at (at + 1) (byte ∷ [])
+written_part-byte text at byte within =
     let next : suc at ≡ at + 1 = omega arith in
     record {
       ends = refl;
@@ -37,30 +37,30 @@ writes-byte text at byte within =
     }
 
 -- two sides with a byte between them, from the front of a text
-pub writes-sides : (old middle new : List ℕ) (byte between end : ℕ) (part other : List ℕ) → between < length old
+pub written_part-sides : (old middle new : List ℕ) (byte between end : ℕ) (part other : List ℕ) → between < length old
     → length middle ≡ length old
-    → WritesPart old middle 0 between part → WritesPart (set middle between byte) new (between + 1) end other
+    → WritesTextPart old middle 0 between part → WritesTextPart (set middle between byte) new (between + 1) end other
     → new ≡ part ++ byte ∷ other ++ drop end old
-writes-sides old middle new byte between end part other within same_length first second =
-    let marked = writes-byte middle between byte (omega arith) in
+written_part-sides old middle new byte between end part other within same_length first second =
+    let marked = written_part-byte middle between byte (omega arith) in
     let both =
-    writes-then middle (set middle between byte) new between (between + 1) end (byte ∷ []) other (omega arith)
+    written_parts-joined middle (set middle between byte) new between (between + 1) end (byte ∷ []) other (omega arith)
     marked second in
-    (writes-then old middle new 0 between end part (byte ∷ other) (omega arith) first both).written
+    (written_parts-joined old middle new 0 between end part (byte ∷ other) (omega arith) first both).written
 
 -- a part under another name
-pub writes-same : (old new : List ℕ) (start end : ℕ) (part same : List ℕ) → part ≡ same
-    → WritesPart old new start end part → WritesPart old new start end same
-writes-same old new start end part same is writes = subst (λ l. WritesPart old new start end l) is writes
+pub written_part-same : (old new : List ℕ) (start end : ℕ) (part same : List ℕ) → part ≡ same
+    → WritesTextPart old new start end part → WritesTextPart old new start end same
+written_part-same old new start end part same is writes = subst (λ l. WritesTextPart old new start end l) is writes
 
 -- four numbers with a byte between them
-pub writes-numbers : (old one two three new : List ℕ) (mark start first second third end a b c d : ℕ)
+pub written_part-numbers : (old one two three new : List ℕ) (mark start first second third end a b c d : ℕ)
     → length one ≡ length old → length two ≡ length old
     → start + length (decimal a ++ mark ∷ (decimal b ++ mark ∷ (decimal c ++ mark ∷ decimal d))) ≤ length old
-    → WritesPart old one start first (decimal a) → WritesPart one two first second (mark ∷ decimal b)
-    → WritesPart two three second third (mark ∷ decimal c) → WritesPart three new third end (mark ∷ decimal d)
-    → WritesPart old new start end (decimal a ++ mark ∷ (decimal b ++ mark ∷ (decimal c ++ mark ∷ decimal d)))
-writes-numbers old one two three new mark start first second third end a b c d same_one same_two room writes_a
+    → WritesTextPart old one start first (decimal a) → WritesTextPart one two first second (mark ∷ decimal b)
+    → WritesTextPart two three second third (mark ∷ decimal c) → WritesTextPart three new third end (mark ∷ decimal d)
+    → WritesTextPart old new start end (decimal a ++ mark ∷ (decimal b ++ mark ∷ (decimal c ++ mark ∷ decimal d)))
+written_part-numbers old one two three new mark start first second third end a b c d same_one same_two room writes_a
     writes_b writes_c writes_d =
     let behind_c = mark ∷ decimal d in
     let behind_b = mark ∷ (decimal c ++ behind_c) in
@@ -85,7 +85,7 @@ writes-numbers old one two three new mark start first second third end a b c d s
       ),
     ) in
     let writes_cd =
-    writes-then two three new second third end (mark ∷ decimal c) behind_c (omega arith) writes_c writes_d in
+    written_parts-joined two three new second third end (mark ∷ decimal c) behind_c (omega arith) writes_c writes_d in
     let writes_bd =
-    writes-then one two new first second end (mark ∷ decimal b) behind_b (omega arith) writes_b writes_cd in
-    writes-then old one new start first end (decimal a) behind_a lengths.0 writes_a writes_bd
+    written_parts-joined one two new first second end (mark ∷ decimal b) behind_b (omega arith) writes_b writes_cd in
+    written_parts-joined old one new start first end (decimal a) behind_a lengths.0 writes_a writes_bd

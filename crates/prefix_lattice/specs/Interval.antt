@@ -2,10 +2,10 @@
 use Rattle.std.specs.Prelude.{ℕ, ◌-◌, ◌*◌, ◌≤◌}
 
 -- the weight is between the low and the high of an interval
-pub record Holds (least most weight : ℕ) : Type 0 where
+pub record IntervalHoldsWeight (least most weight : ℕ) : Type 0 where
   pub low : least ≤ weight
   pub high : weight ≤ most
 
 -- the width of an interval times this number is at most this whole
-abbrev pub IsNarrow : ℕ → ℕ → ℕ → ℕ → Type 0
-IsNarrow low high times whole = (high - low) * times ≤ whole
+abbrev pub IsNarrowInterval : ℕ → ℕ → ℕ → ℕ → Type 0
+IsNarrowInterval low high times whole = (high - low) * times ≤ whole

@@ -3,9 +3,9 @@ use Rattle.std.specs.Prelude.{ℕ, ◌≡◌, ◌^◌, ◌<◌, ◌&&◌, not, B
 use Rattle.std.specs.declared.cmp.Ordering.{Ordering}
 use Rattle.std.specs.Ordering.{nat_cmp, ordering_then}
 use Rattle.prefix_lattice.specs.KeptBytes.{address_of, begins_with}
-use Rattle.prefix_lattice.specs.Node.{level_of}
+use Rattle.prefix_lattice.specs.Node.{node_level}
 use Rattle.prefix_lattice.specs.Record.{RecordValue}
-use Rattle.prefix_lattice.specs.Prefix.{PrefixValue, covers, node_of}
+use Rattle.prefix_lattice.specs.Prefix.{PrefixValue, covers, node_of_prefix}
 
 -- a prefix is under another whose kept bytes begin its own, on both sides
 abbrev pub under : PrefixValue → PrefixValue → Bool
@@ -46,7 +46,7 @@ pub record ShareAddresses (prefix other : PrefixValue) : Type 0 where
 -- address
 abbrev pub report_order : PrefixValue → PrefixValue → Ordering
 report_order prefix other =
-    ordering_then (nat_cmp (level_of (node_of other)) (level_of (node_of prefix)))
+    ordering_then (nat_cmp (node_level (node_of_prefix other)) (node_level (node_of_prefix prefix)))
     (ordering_then (nat_cmp (address_of prefix.source) (address_of other.source))
     (ordering_then (nat_cmp (length prefix.source) (length other.source))
     (nat_cmp (address_of prefix.dest) (address_of other.dest))))

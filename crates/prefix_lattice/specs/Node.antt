@@ -17,17 +17,17 @@ pub record IsNode (node : NodeValue) : Type 0 where
   pub dest : node.dest_bytes ≤ address_length
 
 -- the index of a node among the 25, from 0: five times its source bytes plus its destination bytes
-abbrev pub index_of : NodeValue → ℕ
-index_of node = 5 * node.source_bytes + node.dest_bytes
+abbrev pub node_index : NodeValue → ℕ
+node_index node = 5 * node.source_bytes + node.dest_bytes
 
 -- the node at this index
 abbrev pub node_at : ℕ → NodeValue
 node_at index = record { source_bytes = index / 5; dest_bytes = index % 5 }
 
 -- how many bytes a node keeps of both addresses together
-abbrev pub level_of : NodeValue → ℕ
-level_of node = node.source_bytes + node.dest_bytes
+abbrev pub node_level : NodeValue → ℕ
+node_level node = node.source_bytes + node.dest_bytes
 
 -- the level of the most specific prefixes, which keep all bytes of both addresses
-abbrev pub deepest_level : ℕ
-deepest_level = 2 * address_length
+abbrev pub deepest_node_level : ℕ
+deepest_node_level = 2 * address_length

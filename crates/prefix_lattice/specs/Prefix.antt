@@ -19,16 +19,16 @@ abbrev pub covers : PrefixValue → RecordValue → Bool
 covers prefix rec = begins_with (address_bytes rec.src) prefix.source && begins_with (address_bytes rec.dst) prefix.dest
 
 -- the weight of a prefix over some records: the sum of the weights of the records that it covers
-abbrev pub weight_of : PrefixValue → List RecordValue → ℕ
-weight_of prefix records = sum_by (λ rec. rec.weight) (filter (covers prefix) records)
+abbrev pub prefix_weight : PrefixValue → List RecordValue → ℕ
+prefix_weight prefix records = sum_by (λ rec. rec.weight) (filter (covers prefix) records)
 
 -- the total weight of some records
 abbrev pub total_weight : List RecordValue → ℕ
 total_weight records = sum_by (λ rec. rec.weight) records
 
 -- the node of a prefix: how many bytes it keeps of each address
-abbrev pub node_of : PrefixValue → NodeValue
-node_of prefix = record { source_bytes = length prefix.source; dest_bytes = length prefix.dest }
+abbrev pub node_of_prefix : PrefixValue → NodeValue
+node_of_prefix prefix = record { source_bytes = length prefix.source; dest_bytes = length prefix.dest }
 
 -- the prefix of a node that a record belongs to: the leading bytes of its addresses, as many as the node keeps
 abbrev pub prefix_at : NodeValue → RecordValue → PrefixValue
@@ -38,16 +38,16 @@ prefix_at node rec = record {
 }
 
 -- the two addresses of a prefix as one number, the source in the high half
-abbrev pub key_of : PrefixValue → ℕ
-key_of prefix = address_of prefix.source * 2 ^ 32 + address_of prefix.dest
+abbrev pub prefix_key : PrefixValue → ℕ
+prefix_key prefix = address_of prefix.source * 2 ^ 32 + address_of prefix.dest
 
 -- a key of a node: neither address has a bit set past the bytes that the node keeps
-pub record IsKeyOf (node : NodeValue) (key : ℕ) : Type 0 where
+pub record IsPrefixKey (node : NodeValue) (key : ℕ) : Type 0 where
   pub source : key / 2 ^ 32 % 256 ^ (address_length - node.source_bytes) ≡ 0
   pub dest : key % 2 ^ 32 % 256 ^ (address_length - node.dest_bytes) ≡ 0
 
 -- a prefix of this node that has this key
-pub record HasKey (node : NodeValue) (key : ℕ) (prefix : PrefixValue) : Type 0 where
+pub record HasPrefixKey (node : NodeValue) (key : ℕ) (prefix : PrefixValue) : Type 0 where
   pub is_prefix : IsPrefix prefix
-  pub of_node : node_of prefix ≡ node
-  pub of_key : key_of prefix ≡ key
+  pub of_node : node_of_prefix prefix ≡ node
+  pub of_key : prefix_key prefix ≡ key

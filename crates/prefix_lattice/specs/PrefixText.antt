@@ -46,15 +46,15 @@ abbrev pub longest_prefix_text : ℕ
 longest_prefix_text = 2 * longest_side_text + 1
 
 -- the part of a text before its first space
-abbrev pub source_part : List ℕ → List ℕ
-source_part text = before_first (λ byte. byte == space) text
+abbrev pub source_part_of_text : List ℕ → List ℕ
+source_part_of_text text = before_first (λ byte. byte == space) text
 
 -- the part of a text after its first space
-abbrev pub dest_part : List ℕ → List ℕ
-dest_part text = after_first (λ byte. byte == space) text
+abbrev pub dest_part_of_text : List ℕ → List ℕ
+dest_part_of_text text = after_first (λ byte. byte == space) text
 
 -- the text spells this side of a prefix
-pub record SpellsSide (text front : List ℕ) : Type 0 where
+pub record TextSpellsSide (text front : List ℕ) : Type 0 where
   pub leading : AreLeadingBytes front
   pub spelled : text ≡ side_text front
 
@@ -63,15 +63,15 @@ abbrev pub IsAddressText : List ℕ → Type 0
 IsAddressText text = (address : ℕ) × (address < 2 ^ 32) × (text ≡ address_text address)
 
 -- the part of a text before its first slash, or all of it if there is no slash
-abbrev pub before_slash : List ℕ → List ℕ
-before_slash text = before_first (λ byte. byte == slash) text
+abbrev pub text_before_slash : List ℕ → List ℕ
+text_before_slash text = before_first (λ byte. byte == slash) text
 
 -- the text after its first slash is one of the five lengths
-abbrev pub HasLength : List ℕ → Type 0
-HasLength text = (bytes : ℕ) × (bytes ≤ address_length) × (text ≡ before_slash text ++ slash ∷ decimal (8 * bytes))
+abbrev pub TextHasLength : List ℕ → Type 0
+TextHasLength text = (bytes : ℕ) × (bytes ≤ address_length) × (text ≡ text_before_slash text ++ slash ∷ decimal (8 * bytes))
 
 -- the text is an address and a length, and a bit past the length is set
-pub record HasLooseBits (text : List ℕ) : Type 0 where
+pub record TextHasLooseBits (text : List ℕ) : Type 0 where
   pub address : ℕ
   pub bytes : ℕ
   pub is_address : address < 2 ^ 32
@@ -80,22 +80,22 @@ pub record HasLooseBits (text : List ℕ) : Type 0 where
   pub loose : address % 256 ^ (address_length - bytes) ≢ 0
 
 -- what is wrong with the text of one side
-abbrev pub HasSideFault : Side → List ℕ → PrefixFault → Type 0
-HasSideFault side text (BadAddress at) = (at ≡ side) × ¬ IsAddressText (before_slash text)
-HasSideFault side text (BadLength at) = (at ≡ side) × IsAddressText (before_slash text) × ¬ HasLength text
-HasSideFault side text (LooseBits at) = (at ≡ side) × HasLooseBits text
+abbrev pub TextHasSideFault : Side → List ℕ → PrefixFault → Type 0
+TextHasSideFault side text (BadAddress at) = (at ≡ side) × ¬ IsAddressText (text_before_slash text)
+TextHasSideFault side text (BadLength at) = (at ≡ side) × IsAddressText (text_before_slash text) × ¬ TextHasLength text
+TextHasSideFault side text (LooseBits at) = (at ≡ side) × TextHasLooseBits text
 
 -- the two texts spell the prefix
 pub record SpellsPrefix (source_text dest_text : List ℕ) (prefix : PrefixValue) : Type 0 where
-  pub source : SpellsSide source_text prefix.source
-  pub dest : SpellsSide dest_text prefix.dest
+  pub source : TextSpellsSide source_text prefix.source
+  pub dest : TextSpellsSide dest_text prefix.dest
 
 -- what is wrong with the two texts: the source is checked completely before the destination
 abbrev pub HasPrefixFault : List ℕ → List ℕ → PrefixFault → Type 0
 HasPrefixFault source dest fault =
-    HasSideFault Source source fault ⊎ (((front : List ℕ) × SpellsSide source front) × HasSideFault Dest dest fault)
+    TextHasSideFault Source source fault ⊎ (((front : List ℕ) × TextSpellsSide source front) × TextHasSideFault Dest dest fault)
 
 -- this part was written from this offset on, and other bytes are unchanged
-pub record WritesPart (old new : List ℕ) (start end : ℕ) (part : List ℕ) : Type 0 where
+pub record WritesTextPart (old new : List ℕ) (start end : ℕ) (part : List ℕ) : Type 0 where
   pub ends : end ≡ start + length part
   pub written : new ≡ take start old ++ part ++ drop end old

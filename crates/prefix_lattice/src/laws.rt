@@ -2,12 +2,12 @@
 
 ghost use Rattle.std.specs.Prelude.{◌≡◌, ◌≢◌, ◌<◌, ◌≤◌, ◌↔◌, ℕ, List, ◌∷◌, ◌++◌, length, All, AllPairs, IsSomeAnd, true};
 ghost use Rattle.std.specs.Cmp.{IsTotalOrder};
-ghost use Rattle.prefix_lattice.specs.Node.{level_of};
+ghost use Rattle.prefix_lattice.specs.Node.{node_level};
 ghost use Rattle.prefix_lattice.specs.Record.{RecordValue};
-ghost use Rattle.prefix_lattice.specs.Prefix.{PrefixValue, IsPrefix, covers, node_of};
+ghost use Rattle.prefix_lattice.specs.Prefix.{PrefixValue, IsPrefix, covers, node_of_prefix};
 ghost use Rattle.prefix_lattice.specs.Lattice.{under, strictly_under, meet, report_order};
-ghost use Rattle.prefix_lattice.specs.PrefixText.{space, source_part, dest_part, prefix_text, SpellsPrefix, longest_prefix_text};
-ghost use Rattle.prefix_lattice.specs.ClosestLines.{lines_under, one_covers, closest, kept_pairs, AreIncomparable, ObeysStaircase};
+ghost use Rattle.prefix_lattice.specs.PrefixText.{space, source_part_of_text, dest_part_of_text, prefix_text, SpellsPrefix, longest_prefix_text};
+ghost use Rattle.prefix_lattice.specs.ClosestLines.{lines_under, one_line_covers, closest, kept_pairs, AreIncomparableLines, LinesObeyStaircase};
 
 use std::cmp::Ordering;
 
@@ -17,7 +17,7 @@ pub fn prefixes_are_ordered()
     ensures transitive { (lower middle upper : PrefixValue) → under lower middle ≡ true → under middle upper ≡ true → under lower upper ≡ true }
     ensures antisymmetric { (prefix other : PrefixValue) → under prefix other ≡ true → under other prefix ≡ true → prefix ≡ other }
     ensures strictly { (lower middle upper : PrefixValue) → under lower middle ≡ true → strictly_under middle upper ≡ true → strictly_under lower upper ≡ true }
-    ensures level { (lower upper : PrefixValue) → strictly_under lower upper ≡ true → level_of (node_of upper) < level_of (node_of lower) }
+    ensures level { (lower upper : PrefixValue) → strictly_under lower upper ≡ true → node_level (node_of_prefix upper) < node_level (node_of_prefix lower) }
 {}
 
 /// A law of covering: a record that a prefix covers is also covered by each prefix that this one is under.
@@ -34,7 +34,7 @@ pub fn report_order_is_total()
 /// A law of texts: the text of a prefix is read back as that prefix, side by side, and a text that was read is written
 /// back unchanged. It is at most 37 bytes long, and distinct prefixes have distinct texts.
 pub fn prefix_texts_read_back()
-    ensures read { (prefix : PrefixValue) → IsPrefix prefix → SpellsPrefix (source_part (prefix_text prefix)) (dest_part (prefix_text prefix)) prefix }
+    ensures read { (prefix : PrefixValue) → IsPrefix prefix → SpellsPrefix (source_part_of_text (prefix_text prefix)) (dest_part_of_text (prefix_text prefix)) prefix }
     ensures written { (source dest : List ℕ) (prefix : PrefixValue) → SpellsPrefix source dest prefix → prefix_text prefix ≡ source ++ space ∷ dest }
     ensures apart { (prefix other : PrefixValue) → IsPrefix prefix → IsPrefix other → prefix_text prefix ≡ prefix_text other → prefix ≡ other }
     ensures short { (prefix : PrefixValue) → IsPrefix prefix → length (prefix_text prefix) ≤ longest_prefix_text }
@@ -44,9 +44,9 @@ pub fn prefix_texts_read_back()
 /// distinct lines are incomparable.
 pub fn closest_lines_explain()
     ensures explain { (prefix : PrefixValue) (lines : List PrefixValue) (rec : RecordValue)
-        → one_covers (lines_under prefix lines) rec ≡ one_covers (closest prefix lines) rec }
+        → one_line_covers (lines_under prefix lines) rec ≡ one_line_covers (closest prefix lines) rec }
     ensures incomparable { (prefix : PrefixValue) (lines : List PrefixValue)
-        → AllPairs (λ line other. line ≢ other) lines → AreIncomparable (closest prefix lines) }
+        → AllPairs (λ line other. line ≢ other) lines → AreIncomparableLines (closest prefix lines) }
     ensures under { (prefix : PrefixValue) (lines : List PrefixValue) → All (λ line. strictly_under line prefix ≡ true) (closest prefix lines) }
 {}
 
@@ -68,5 +68,5 @@ pub fn kept_meets_stay_under()
 /// The staircase law: if n of some distinct prefixes, none of which is strictly under another, cover a record, and n is
 /// at least 1, then exactly n - 1 kept pairs have a meet that covers it.
 pub fn staircase_law()
-    ensures { (members : List PrefixValue) (rec : RecordValue) → AreIncomparable members → ObeysStaircase members rec }
+    ensures { (members : List PrefixValue) (rec : RecordValue) → AreIncomparableLines members → LinesObeyStaircase members rec }
 {}

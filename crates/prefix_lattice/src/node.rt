@@ -2,7 +2,7 @@
 
 ghost use Rattle.std.specs.Prelude.{◌≡◌, ◌<◌, ◌≤◌, ◌↔◌, ◌⊎◌, IsNone, IfSome};
 ghost use Rattle.prefix_lattice.specs.KeptBytes.{address_length};
-ghost use Rattle.prefix_lattice.specs.Node.{IsNode, index_of, node_at, level_of, node_count, deepest_level};
+ghost use Rattle.prefix_lattice.specs.Node.{IsNode, node_index, node_at, node_level, node_count, deepest_node_level};
 
 use std::marker::Model;
 
@@ -47,7 +47,7 @@ impl Node {
     pub fn from_index(index: u8) -> Option<Node>
         ensures none { IsNone result ↔ (node_count ≤ index) }
         ensures some { IfSome result (λ node. node ≡ node_at index) }
-        ensures back { IfSome result (λ node. index_of node ≡ index) }
+        ensures back { IfSome result (λ node. node_index node ≡ index) }
         ensures is_node { IfSome result IsNode }
     {
         Node::new(index / 5, index % 5)
@@ -55,7 +55,7 @@ impl Node {
 
     /// The index of the node among the 25, from 0: five times the source bytes plus the destination bytes.
     pub fn index(self) -> u8
-        ensures value { result ≡ index_of self }
+        ensures value { result ≡ node_index self }
         ensures few { result < node_count }
         ensures back { node_at result ≡ self }
         ensures is_node { IsNode self }
@@ -65,8 +65,8 @@ impl Node {
 
     /// How many bytes are kept of both addresses together, 0 to 8.
     pub fn level(self) -> u8
-        ensures value { result ≡ level_of self }
-        ensures few { result ≤ deepest_level }
+        ensures value { result ≡ node_level self }
+        ensures few { result ≤ deepest_node_level }
     {
         self.source_bytes + self.dest_bytes
     }

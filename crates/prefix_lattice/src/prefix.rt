@@ -1,10 +1,10 @@
 //! Prefixes of pairs of addresses.
 
 ghost use Rattle.std.specs.Prelude.{◌≡◌, ◌==◌, ◌↔◌, ◌≤◌, ℕ, List, true, IfOk, IfErr, IfSome, IfNone, IsSome};
-ghost use Rattle.prefix_lattice.specs.Node.{NodeValue, IsNode, level_of, deepest_level};
+ghost use Rattle.prefix_lattice.specs.Node.{NodeValue, IsNode, node_level, deepest_node_level};
 ghost use Rattle.prefix_lattice.specs.Record.{RecordValue};
 ghost use Rattle.prefix_lattice.specs.KeptBytes.{address_of};
-ghost use Rattle.prefix_lattice.specs.Prefix.{IsKeyOf, HasKey, PrefixValue, IsPrefix, covers, node_of, prefix_at, key_of};
+ghost use Rattle.prefix_lattice.specs.Prefix.{IsPrefixKey, HasPrefixKey, PrefixValue, IsPrefix, covers, node_of_prefix, prefix_at, prefix_key};
 ghost use Rattle.prefix_lattice.specs.PrefixText.{SpellsPrefix, HasPrefixFault};
 ghost use Rattle.prefix_lattice.specs.declared.prefix_fault.PrefixFault.{PrefixFault};
 
@@ -47,9 +47,9 @@ impl Prefix {
     /// The only prefix of the node that covers the record.
     pub fn of(rec: &Record, node: Node) -> Prefix
         ensures value { result ≡ prefix_at node rec.now }
-        ensures node { node_of result ≡ node }
+        ensures node { node_of_prefix result ≡ node }
         ensures covers { covers result rec.now ≡ true }
-        ensures only { (other : PrefixValue) → node_of other ≡ node → covers other rec.now ≡ true → other ≡ result }
+        ensures only { (other : PrefixValue) → node_of_prefix other ≡ node → covers other rec.now ≡ true → other ≡ result }
     {
         Prefix {
             source: KeptBytes::of(rec.src, node.source_bytes()),
@@ -59,7 +59,7 @@ impl Prefix {
 
     /// The node of the prefix.
     pub fn node(&self) -> Node
-        ensures { result ≡ node_of self.now }
+        ensures { result ≡ node_of_prefix self.now }
     {
         Node::new(self.source.len(), self.dest.len()).unwrap()
     }
@@ -67,7 +67,7 @@ impl Prefix {
     /// Both addresses, with zeros for the bytes that are not kept, as one number: the source in the high half.
     /// Distinct prefixes of one node have distinct keys, by `keys_are_of_their_node`.
     pub fn key(&self) -> u64
-        ensures value { result ≡ key_of self.now }
+        ensures value { result ≡ prefix_key self.now }
         ensures prefix { IsPrefix self.now }
     {
         u64::from(self.source.address()) << 32 | u64::from(self.dest.address())
@@ -75,8 +75,8 @@ impl Prefix {
 
     /// The prefix of this node with this key. `None` exactly where the key has a bit set that the node doesn't keep.
     pub fn from_key(key: u64, node: Node) -> Option<Prefix>
-        ensures accepted { IsSome result ↔ IsKeyOf node key }
-        ensures prefix { (prefix : PrefixValue) → (result ≡ Some prefix) ↔ HasKey node key prefix }
+        ensures accepted { IsSome result ↔ IsPrefixKey node key }
+        ensures prefix { (prefix : PrefixValue) → (result ≡ Some prefix) ↔ HasPrefixKey node key prefix }
     {
         prefix_of_key(key, node)
     }
@@ -97,8 +97,8 @@ impl Prefix {
 
     /// How many bytes are kept of both addresses together, 0 to 8.
     pub fn level(&self) -> u8
-        ensures value { result ≡ level_of (node_of self.now) }
-        ensures few { result ≤ deepest_level }
+        ensures value { result ≡ node_level (node_of_prefix self.now) }
+        ensures few { result ≤ deepest_node_level }
     {
         self.source.len() + self.dest.len()
     }
@@ -123,8 +123,8 @@ fn parse_sides(source: &[u8], dest: &[u8]) -> Result<Prefix, PrefixFault>
 
 // The prefix with both halves of the key, if all bytes that the node doesn't keep are zero.
 fn prefix_of_key(key: u64, node: Node) -> Option<Prefix>
-    ensures some { IfSome result (HasKey node key) }
-    ensures none { IfNone result (IsKeyOf node key → ⊥) }
+    ensures some { IfSome result (HasPrefixKey node key) }
+    ensures none { IfNone result (IsPrefixKey node key → ⊥) }
 {
     let source = KeptBytes::exact((key >> 32) as u32, node.source_bytes())?;
     let dest = KeptBytes::exact((key % (1 << 32)) as u32, node.dest_bytes())?;
@@ -134,17 +134,17 @@ fn prefix_of_key(key: u64, node: Node) -> Option<Prefix>
 /// A law of keys: a prefix covers a record exactly where the record's prefix of that node has its key.
 pub fn keys_tell_covering()
     ensures { (prefix : PrefixValue) (rec : _) → IsPrefix prefix
-        → covers prefix rec ≡ (key_of (prefix_at (node_of prefix) rec) == key_of prefix) }
+        → covers prefix rec ≡ (prefix_key (prefix_at (node_of_prefix prefix) rec) == prefix_key prefix) }
 {}
 
 /// A law of keys: the key of a prefix sets no bit that the prefix doesn't keep, each record's prefix at a node has a
 /// key of that node, and distinct prefixes of one node have distinct keys.
 pub fn keys_are_of_their_node()
-    ensures of_prefix { (prefix : PrefixValue) → IsPrefix prefix → IsKeyOf (node_of prefix) (key_of prefix) }
-    ensures of_record { (node : NodeValue) (rec : RecordValue) → IsNode node → HasKey node (key_of (prefix_at node rec)) (prefix_at node rec) }
-    ensures of_record_key { (node : NodeValue) (rec : RecordValue) → IsNode node → IsKeyOf node (key_of (prefix_at node rec)) }
+    ensures of_prefix { (prefix : PrefixValue) → IsPrefix prefix → IsPrefixKey (node_of_prefix prefix) (prefix_key prefix) }
+    ensures of_record { (node : NodeValue) (rec : RecordValue) → IsNode node → HasPrefixKey node (prefix_key (prefix_at node rec)) (prefix_at node rec) }
+    ensures of_record_key { (node : NodeValue) (rec : RecordValue) → IsNode node → IsPrefixKey node (prefix_key (prefix_at node rec)) }
     ensures apart { (prefix other : PrefixValue) → IsPrefix prefix → IsPrefix other
-        → node_of prefix ≡ node_of other → key_of prefix ≡ key_of other → prefix ≡ other }
+        → node_of_prefix prefix ≡ node_of_prefix other → prefix_key prefix ≡ prefix_key other → prefix ≡ other }
 {}
 
 /// A law of texts: two texts spell one prefix, or have one fault, and never both.

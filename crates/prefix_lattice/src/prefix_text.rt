@@ -2,7 +2,7 @@
 
 ghost use Rattle.std.specs.Prelude.{◌≡◌, ◌≢◌, ◌==◌, ◌<◌, ◌≤◌, ◌*◌, ◌^◌, ◌++◌, ◌∷◌, ℕ, length, position, decimal, IfSome, IfNone, IfOk, IfErr};
 ghost use Rattle.std.specs.List.{before_first};
-ghost use Rattle.prefix_lattice.specs.PrefixText.{address_text, slash, SpellsSide, HasSideFault};
+ghost use Rattle.prefix_lattice.specs.PrefixText.{address_text, slash, TextSpellsSide, TextHasSideFault};
 ghost use Rattle.prefix_lattice.specs.KeptBytes.{address_length};
 
 use crate::kept_bytes::KeptBytes;
@@ -10,8 +10,8 @@ use crate::{PrefixFault, Side, number_of};
 
 /// Reads an address, a slash and a length in bits.
 pub fn parse_side(text: &[u8], side: Side) -> Result<KeptBytes, PrefixFault>
-    ensures ok { IfOk result (SpellsSide text.now) }
-    ensures fault { IfErr result (HasSideFault side text.now) }
+    ensures ok { IfOk result (TextSpellsSide text.now) }
+    ensures fault { IfErr result (TextHasSideFault side text.now) }
 {
     let Some(cut) = cut_at(text, b'/') else {
         return Err(without_length(text, side));
@@ -31,7 +31,7 @@ pub fn parse_side(text: &[u8], side: Side) -> Result<KeptBytes, PrefixFault>
 // What is wrong with a text that has no slash.
 fn without_length(text: &[u8], side: Side) -> PrefixFault
     requires { before_first (λ byte. byte == slash) text.now ≡ text.now }
-    ensures { HasSideFault side text.now result }
+    ensures { TextHasSideFault side text.now result }
 {
     match address_of_text(text) {
         Some(_) => PrefixFault::BadLength(side),

@@ -1,7 +1,7 @@
 //! Writing one side of the text of a prefix.
 
 ghost use Rattle.std.specs.Prelude.{◌≡◌, ◌+◌, ◌≤◌, ◌∷◌, length, decimal};
-ghost use Rattle.prefix_lattice.specs.PrefixText.{WritesPart, address_text, longest_side_text, side_text};
+ghost use Rattle.prefix_lattice.specs.PrefixText.{WritesTextPart, address_text, longest_side_text, side_text};
 
 use crate::decimal::write_number;
 use crate::kept_bytes::KeptBytes;
@@ -10,7 +10,7 @@ use crate::kept_bytes::KeptBytes;
 /// has room for the 18 bytes that they may need. Other bytes are unchanged.
 pub fn write_side(text: &mut [u8], at: usize, side: &KeptBytes) -> usize
     requires { at + longest_side_text ≤ length text.old }
-    ensures written { WritesPart text.old text.new at result (side_text side.now) }
+    ensures written { WritesTextPart text.old text.new at result (side_text side.now) }
     ensures short { result ≤ at + longest_side_text }
 {
     let end = write_address(text, at, side.address());
@@ -19,7 +19,7 @@ pub fn write_side(text: &mut [u8], at: usize, side: &KeptBytes) -> usize
 
 fn write_address(text: &mut [u8], at: usize, address: u32) -> usize
     requires { at + length (address_text address) ≤ length text.old }
-    ensures { WritesPart text.old text.new at result (address_text address) }
+    ensures { WritesTextPart text.old text.new at result (address_text address) }
 {
     let [a, b, c, d] = address.to_be_bytes();
     let end = write_number(text, at, a);
@@ -31,7 +31,7 @@ fn write_address(text: &mut [u8], at: usize, address: u32) -> usize
 // Writes a byte and a number after it.
 fn write_behind(text: &mut [u8], at: usize, mark: u8, number: u8) -> usize
     requires { at + length (mark ∷ decimal number) ≤ length text.old }
-    ensures { WritesPart text.old text.new at result (mark ∷ decimal number) }
+    ensures { WritesTextPart text.old text.new at result (mark ∷ decimal number) }
 {
     text[at] = mark;
     write_number(text, at + 1, number)

@@ -1,15 +1,15 @@
 -- Worked examples of the definitions, most by computing.
 use Rattle.std.proofs.Common.{◌≡◌, ◌<◌, ◌≤◌, ◌^◌, ◌*◌, ◌+◌, ℕ, List, [], ◌∷◌, zero, suc, slice_index_or, lit<, refl, arith}
 use Rattle.space_saving.specs.declared.entry.Entry.{Entry}
-use Rattle.key_index.specs.{Keys}
+use Rattle.key_index.specs.{IndexedKeys}
 use Rattle.rank_table.specs.declared.slot.Slot.{Slot}
-use Rattle.rank_table.specs.SlotOrder.{rank, ranked_in, in_order, entries_of, IsApart, AreDistinct, AreSlots}
+use Rattle.rank_table.specs.SlotOrder.{slot_rank, slot_put_in_order, slots_in_rank_order, entries_in_slot_order, IsApartFromSlots, AreDistinctSlots, AreOrderedSlots}
 use Rattle.rank_table.specs.Slots.{Slots}
-use Rattle.rank_table.specs.Words.{word, IsExact}
-use Rattle.rank_table.specs.Ranks.{IsLeast, AreLeaves, AreRanked}
-use Rattle.rank_table.specs.Marks.{mark_of, marks_from, rank_of_mark, blank, slot_of, numbered}
-use Rattle.rank_table.specs.Steps.{raised, fresh, heir, IsTakenOver}
-use Rattle.rank_table.specs.RankTable.{AreTogether, IsRankTable}
+use Rattle.rank_table.specs.RankWords.{rank_word, IsExactRankWord}
+use Rattle.rank_table.specs.Ranks.{IsLeastRank, AreRankLeaves, AreRanked}
+use Rattle.rank_table.specs.Marks.{mark_of, marks_from, rank_of_mark, slot_without_mark, slot_of_mark, numbered_for_marks}
+use Rattle.rank_table.specs.TableSteps.{raised_by_step, fresh_by_step, heir_by_step, IsTakenOverByStep}
+use Rattle.rank_table.specs.RankTable.{AreRankTableParts, IsRankTable}
 
 abbrev entry : ℕ → ℕ → ℕ → Entry
 entry key count error = record { key = key; count = count; error = error }
@@ -22,90 +22,90 @@ abbrev slots : List Slot
 slots = slot 1 5 0 2 ∷ slot 2 3 0 0 ∷ slot 3 5 0 1 ∷ []
 
 -- a count is worth more than any time
-pub rank_by_count_first : rank (slot 2 3 0 9) < rank (slot 1 4 0 0)
-unfolding rank
+pub rank_by_count_first : slot_rank (slot 2 3 0 9) < slot_rank (slot 1 4 0 0)
+unfolding slot_rank
 rank_by_count_first = omega arith
 
 -- of equal counts the one put in first comes first
-pub slots_in_order : in_order slots ≡ slot 2 3 0 0 ∷ slot 3 5 0 1 ∷ slot 1 5 0 2 ∷ []
-unfolding rank
+pub slots_in_order : slots_in_rank_order slots ≡ slot 2 3 0 0 ∷ slot 3 5 0 1 ∷ slot 1 5 0 2 ∷ []
+unfolding slot_rank
 slots_in_order = refl
 
-pub entries_in_order : entries_of slots ≡ entry 2 3 0 ∷ entry 3 5 0 ∷ entry 1 5 0 ∷ []
-unfolding rank
+pub entries_in_order : entries_in_slot_order slots ≡ entry 2 3 0 ∷ entry 3 5 0 ∷ entry 1 5 0 ∷ []
+unfolding slot_rank
 entries_in_order = refl
 
-pub put_in_between : ranked_in (slot 4 4 0 3) (slot 2 3 0 0 ∷ slot 3 5 0 1 ∷ []) ≡ slot 2 3 0 0 ∷ slot 4 4 0 3 ∷ slot 3 5 0 1 ∷ []
-unfolding rank
+pub put_in_between : slot_put_in_order (slot 4 4 0 3) (slot 2 3 0 0 ∷ slot 3 5 0 1 ∷ []) ≡ slot 2 3 0 0 ∷ slot 4 4 0 3 ∷ slot 3 5 0 1 ∷ []
+unfolding slot_rank
 put_in_between = refl
 
-pub slots_apart : IsApart (slot 1 5 0 2) (slot 2 3 0 0)
+pub slots_apart : IsApartFromSlots (slot 1 5 0 2) (slot 2 3 0 0)
 slots_apart = ((λ same. omega (arith, same)), (λ same. omega (arith, same)))
 
-pub one_key_twice : AreDistinct (slot 1 5 0 2 ∷ slot 1 3 0 0 ∷ []) → ⊥
+pub one_key_twice : AreDistinctSlots (slot 1 5 0 2 ∷ slot 1 3 0 0 ∷ []) → ⊥
 one_key_twice distinct = distinct.0.0.0 refl
 
-pub one_time_twice : AreDistinct (slot 1 5 0 2 ∷ slot 2 3 0 2 ∷ []) → ⊥
+pub one_time_twice : AreDistinctSlots (slot 1 5 0 2 ∷ slot 2 3 0 2 ∷ []) → ⊥
 one_time_twice distinct = distinct.0.0.1 refl
 
-pub slots_of_two_keys : AreSlots 3 (slot 1 5 0 2 ∷ slot 2 3 0 0 ∷ [])
+pub slots_of_two_keys : AreOrderedSlots 3 (slot 1 5 0 2 ∷ slot 2 3 0 0 ∷ [])
 slots_of_two_keys = record {
   timed = (omega arith, (omega arith, tt));
   distinct = ((slots_apart, tt), (tt, tt));
 }
 
 -- a slot of a time to come
-pub slot_of_now : AreSlots 2 (slot 1 5 0 2 ∷ []) → ⊥
+pub slot_of_now : AreOrderedSlots 2 (slot 1 5 0 2 ∷ []) → ⊥
 slot_of_now are = omega (arith, are.timed.0)
 
 -- excess 2 over base 3, time 2, place 1
-pub word_of_a_rank : word 3 (slot 1 5 0 2) 1 ≡ 2 * 2 ^ 36 + 2 * 4096 + 1
-unfolding word
+pub word_of_a_rank : rank_word 3 (slot 1 5 0 2) 1 ≡ 2 * 2 ^ 36 + 2 * 4096 + 1
+unfolding rank_word
 word_of_a_rank = refl
 
 -- an excess of 2^28 and one of 2^29 have one word
-pub far_counts_have_one_word : word 0 (slot 1 268435456 0 2) 1 ≡ word 0 (slot 1 536870912 0 2) 1
-unfolding word
+pub far_counts_have_one_word : rank_word 0 (slot 1 268435456 0 2) 1 ≡ rank_word 0 (slot 1 536870912 0 2) 1
+unfolding rank_word
 far_counts_have_one_word = refl
 
-pub small_rank_is_exact : IsExact 3 (slot 1 5 0 2)
+pub small_rank_is_exact : IsExactRankWord 3 (slot 1 5 0 2)
 small_rank_is_exact = (omega arith, omega arith)
 
-pub cut_off_count_is_not : IsExact 0 (slot 1 268435455 0 2) → ⊥
+pub cut_off_count_is_not : IsExactRankWord 0 (slot 1 268435455 0 2) → ⊥
 cut_off_count_is_not exact = omega (arith, exact.0)
 
-pub cut_off_time_is_not : IsExact 0 (slot 1 5 0 16777215) → ⊥
+pub cut_off_time_is_not : IsExactRankWord 0 (slot 1 5 0 16777215) → ⊥
 cut_off_time_is_not exact = omega (arith, exact.1)
 
-pub least_of_two : IsLeast (slot 1 5 0 2 ∷ slot 2 3 0 0 ∷ []) 1
-unfolding rank
+pub least_of_two : IsLeastRank (slot 1 5 0 2 ∷ slot 2 3 0 0 ∷ []) 1
+unfolding slot_rank
 least_of_two = record { within = omega arith; least = least }
   where
-    least : (other : ℕ) (d : Slot) → other < 2 → rank (slot 2 3 0 0) ≤ rank (slice_index_or (slot 1 5 0 2 ∷ slot 2 3 0 0 ∷ []) other d)
+    least : (other : ℕ) (d : Slot) → other < 2 → slot_rank (slot 2 3 0 0) ≤ slot_rank (slice_index_or (slot 1 5 0 2 ∷ slot 2 3 0 0 ∷ []) other d)
     least zero d inside = omega arith
     least (suc zero) d inside = omega arith
     least (suc (suc other)) d inside = absurd (omega arith)
 
-pub greater_is_not_least : IsLeast (slot 1 5 0 2 ∷ slot 2 3 0 0 ∷ []) 0 → ⊥
-unfolding rank
-greater_is_not_least least = omega (arith, least.least 1 blank (omega arith))
+pub greater_is_not_least : IsLeastRank (slot 1 5 0 2 ∷ slot 2 3 0 0 ∷ []) 0 → ⊥
+unfolding slot_rank
+greater_is_not_least least = omega (arith, least.least 1 slot_without_mark (omega arith))
 
 -- leaves as many as the capacity
-pub leaf_is_missing : AreLeaves 2 0 (0 ∷ []) [] → ⊥
+pub leaf_is_missing : AreRankLeaves 2 0 (0 ∷ []) [] → ⊥
 leaf_is_missing leaves = omega (arith, leaves.shape)
 
 -- a leaf of place 1 at place 0
-pub leaf_of_another_place : AreLeaves 2 0 (1 ∷ 1 ∷ []) [] → ⊥
+pub leaf_of_another_place : AreRankLeaves 2 0 (1 ∷ 1 ∷ []) [] → ⊥
 leaf_of_another_place leaves = omega (arith, leaves.early 0 (omega arith) (omega arith))
 
-pub grown_slot : raised 4 7 (slot 1 5 2 2) ≡ slot 1 9 2 7
+pub grown_slot : raised_by_step 4 7 (slot 1 5 2 2) ≡ slot 1 9 2 7
 grown_slot = refl
 
-pub fresh_slot : fresh 6 4 7 ≡ slot 6 4 0 7
+pub fresh_slot : fresh_by_step 6 4 7 ≡ slot 6 4 0 7
 fresh_slot = refl
 
 -- the count of the slot that is taken over becomes the error
-pub taken_over_slot : heir 6 4 7 (slot 2 3 1 0) ≡ slot 6 7 3 7
+pub taken_over_slot : heir_by_step 6 4 7 (slot 2 3 1 0) ≡ slot 6 7 3 7
 taken_over_slot = refl
 
 pub mark_of_a_slot : mark_of 1 (slot 2 3 1 8) ≡ entry 1 3 8
@@ -114,30 +114,30 @@ mark_of_a_slot = refl
 pub marks_of_slots : marks_from 0 slots ≡ entry 0 5 2 ∷ entry 1 3 0 ∷ entry 2 5 1 ∷ []
 marks_of_slots = refl
 
-pub rank_of_a_mark : rank_of_mark (mark_of 1 (slot 2 3 1 8)) ≡ rank (slot 2 3 1 8)
-unfolding rank rank_of_mark
+pub rank_of_a_mark : rank_of_mark (mark_of 1 (slot 2 3 1 8)) ≡ slot_rank (slot 2 3 1 8)
+unfolding slot_rank rank_of_mark
 rank_of_a_mark = refl
 
-pub slot_of_a_mark : slot_of slots (entry 1 3 0) ≡ slot 2 3 0 0
+pub slot_of_a_mark : slot_of_mark slots (entry 1 3 0) ≡ slot 2 3 0 0
 slot_of_a_mark = refl
 
-pub slot_of_a_wrong_mark : slot_of slots (entry 9 3 0) ≡ blank
+pub slot_of_a_wrong_mark : slot_of_mark slots (entry 9 3 0) ≡ slot_without_mark
 slot_of_a_wrong_mark = refl
 
-pub entries_by_their_numbers : numbered 0 (entry 2 3 0 ∷ entry 1 5 0 ∷ []) ≡ slot 2 3 0 0 ∷ slot 1 5 0 1 ∷ []
+pub entries_by_their_numbers : numbered_for_marks 0 (entry 2 3 0 ∷ entry 1 5 0 ∷ []) ≡ slot 2 3 0 0 ∷ slot 1 5 0 1 ∷ []
 entries_by_their_numbers = refl
 
-abbrev two_keys : Keys
+abbrev two_keys : IndexedKeys
 two_keys = record { room = 4; keys = 1 ∷ 2 ∷ [] }
 
 abbrev two_slots : Slots
 two_slots = record { capacity = 4; slots = slot 1 5 0 2 ∷ slot 2 3 0 0 ∷ [] }
 
-pub keys_of_the_slots : AreTogether 4 two_keys two_slots
+pub keys_of_the_slots : AreRankTableParts 4 two_keys two_slots
 keys_of_the_slots = record { roomy = refl; as_many = refl; keyed = refl }
 
 -- an index that kept the key of another slot
-pub stale_key : AreTogether 4 (record { room = 4; keys = 1 ∷ 3 ∷ [] }) two_slots → ⊥
+pub stale_key : AreRankTableParts 4 (record { room = 4; keys = 1 ∷ 3 ∷ [] }) two_slots → ⊥
 stale_key together = cc
 
 -- no tables of no capacity
@@ -145,7 +145,7 @@ pub no_room_for_slots : AreRanked 0 4 0 [] [] → ⊥
 no_room_for_slots ranked = omega (arith, ranked.some)
 
 -- key 6 takes over the slot of key 2
-pub slot_taken_over : IsTakenOver 6 4 7 (record { room = 2; keys = 1 ∷ 2 ∷ [] }) (record { capacity = 2; slots = slot 1 5 0 2 ∷ slot 2 3 0 0 ∷ [] })
+pub slot_taken_over : IsTakenOverByStep 6 4 7 (record { room = 2; keys = 1 ∷ 2 ∷ [] }) (record { capacity = 2; slots = slot 1 5 0 2 ∷ slot 2 3 0 0 ∷ [] })
     (record { room = 2; keys = 1 ∷ 6 ∷ [] }) (record { capacity = 2; slots = slot 1 5 0 2 ∷ slot 6 7 3 7 ∷ [] })
 slot_taken_over = record { place = 1; least = least_of_two; indexed = refl; taken = λ d. refl }
 

@@ -7,15 +7,16 @@ use Rattle.std.proofs.lemmas.List.{get_or_default, get_or_append_left, length_pu
 use Rattle.std.proofs.lemmas.List.FromFn.{length-range_with_len, get_or-range_with_len}
 use Rattle.std.proofs.lemmas.List.Sums.{sum_by-set, sum_by-le}
 use Rattle.rank_table.specs.declared.slot.Slot.{Slot}
-use Rattle.rank_table.specs.SlotOrder.{rank}
-use Rattle.rank_table.specs.Words.{word, IsExact}
-use Rattle.rank_table.specs.Ranks.{AreLeaves, AreRanked, IsLeast}
-use Rattle.rank_table.proofs.WordLemmas.{place_of-word, place-le-word, word-fits, word-rises, exact_is_least}
+use Rattle.rank_table.specs.SlotOrder.{slot_rank}
+use Rattle.rank_table.specs.RankWords.{rank_word, IsExactRankWord}
+use Rattle.rank_table.specs.Ranks.{AreRankLeaves, AreRanked, IsLeastRank}
+use Rattle.rank_table.proofs.RankWordLemmas.{rank_word_names_place, rank_word_not_below_place, rank_word_fits, rank_word_rises, exact_rank_word_is_least}
 
 -- leaves that are their places' numbers
-pub AreLeaves-start : (capacity base : ℕ) (slots : List Slot) → capacity ≤ 4096 → length slots ≤ capacity
-    → ((place : ℕ) (d : Slot) → place < length slots → base ≤ (get_or slots place d).entry.count) → AreLeaves capacity base (range_with_len 0 capacity) slots
-AreLeaves-start capacity base slots most fits based =
+pub leaf_starts_as_its_place : (capacity base : ℕ) (slots : List Slot) → capacity ≤ 4096 → length slots ≤ capacity
+    → ((place : ℕ) (d : Slot) → place < length slots → base ≤ (get_or slots place d).entry.count)
+    → AreRankLeaves capacity base (range_with_len 0 capacity) slots
+leaf_starts_as_its_place capacity base slots most fits based =
     let number : (place : ℕ) → place < capacity
     → get_or (range_with_len 0 capacity) place 0 ≡ place = λ place within. get_or-range_with_len 0 capacity place 0 within
     ∙ (let e : 0 + place ≡ place = omega arith in e) in
@@ -25,14 +26,14 @@ AreLeaves-start capacity base slots most fits based =
       fits = fits;
       placed = λ place within. ap (λ n. n % 4096) (number place within) ∙ (let small : place % 4096 ≡ place = omega arith in small);
       early = λ place _ within. number place within;
-      below = λ place d within. omega (arith, number place (omega arith), place-le-word base (get_or slots place d) place);
+      below = λ place d within. omega (arith, number place (omega arith), rank_word_not_below_place base (get_or slots place d) place);
       based = based;
     }
 
 -- the place that a leaf names has that leaf
-pub named_place : (capacity base leaf : ℕ) (leaves : List ℕ) (slots : List Slot) → AreLeaves capacity base leaves slots → Contains leaves leaf
+pub leaf_stands_at_its_place : (capacity base leaf : ℕ) (leaves : List ℕ) (slots : List Slot) → AreRankLeaves capacity base leaves slots → Contains leaves leaf
     → (leaf % 4096 < capacity) × (get_or leaves (leaf % 4096) 0 ≡ leaf)
-named_place capacity base leaf leaves slots are present =
+leaf_stands_at_its_place capacity base leaf leaves slots are present =
     let place = present.0 in
     let within : place < capacity = omega (arith, are.shape, present.1) in
     let is : get_or leaves place 0 ≡ leaf = get_or_default leaves place 0 leaf present.1 ∙ present.2 in
@@ -40,41 +41,42 @@ named_place capacity base leaf leaves slots are present =
     (omega arith, ap (λ n. get_or leaves n 0) named ∙ is)
 
 -- a leaf that becomes its slot's word
-pub AreLeaves-mended : (capacity base : ℕ) (leaves : List ℕ) (slots : List Slot) (place : ℕ) (slot : Slot) → AreLeaves capacity base leaves slots
+pub leaf_is_mended_to_word : (capacity base : ℕ) (leaves : List ℕ) (slots : List Slot) (place : ℕ) (slot : Slot) → AreRankLeaves capacity base leaves slots
     → place < length slots
-    → slot ≡ get_or slots place slot → AreLeaves capacity base (set leaves place (word base slot place)) slots
-AreLeaves-mended capacity base leaves slots place slot are within read =
+    → slot ≡ get_or slots place slot → AreRankLeaves capacity base (set leaves place (rank_word base slot place)) slots
+leaf_is_mended_to_word capacity base leaves slots place slot are within read =
     let shape : length leaves ≡ capacity = are.shape in
     let fits : length slots ≤ capacity = are.fits in
     let most : capacity ≤ 4096 = are.most in
-    let here : get_or (set leaves place (word base slot place)) place 0 ≡ word base slot place = get_or-set_same leaves place
-    (word base slot place) 0 (omega arith) in
-    let there = λ (other : ℕ) (apart : other ≢ place). get_or-set_other leaves place other (word base slot place) 0 apart in
+    let here : get_or (set leaves place (rank_word base slot place)) place 0 ≡ rank_word base slot place = get_or-set_same leaves place
+    (rank_word base slot place) 0 (omega arith) in
+    let there = λ (other : ℕ) (apart : other ≢ place). get_or-set_other leaves place other (rank_word base slot place) 0 apart in
     record {
       most = are.most;
-      shape = length-set leaves place (word base slot place) ∙ are.shape;
+      shape = length-set leaves place (rank_word base slot place) ∙ are.shape;
       fits = are.fits;
       placed = λ other inside. ⊎_elim
-          (λ (same : other ≡ place). ap (λ n. get_or (set leaves place (word base slot place)) n 0 % 4096) same ∙ ap (λ n. n % 4096) here
-          ∙ place_of-word base slot place (omega arith) ∙ sym same)
+          (λ (same : other ≡ place). ap (λ n. get_or (set leaves place (rank_word base slot place)) n 0 % 4096) same ∙ ap (λ n. n % 4096) here
+          ∙ rank_word_names_place base slot place (omega arith) ∙ sym same)
           (λ (apart : other ≢ place). ap (λ n. n % 4096) (there other apart) ∙ are.placed other inside)
           (cases_eq other place);
       early = λ other behind inside. let apart : other ≢ place = omega arith in there other apart ∙ are.early other behind inside;
       below = λ other d inside. ⊎_elim
-          (λ (same : other ≡ place). subst (λ n. get_or (set leaves place (word base slot place)) n 0 ≤ word base (get_or slots n d) n) (sym same)
-          (subst (λ (s : Slot). get_or (set leaves place (word base slot place)) place 0 ≤ word base s place) (read
+          (λ (same : other ≡ place). subst (λ n. get_or (set leaves place (rank_word base slot place)) n 0 ≤ rank_word base (get_or slots n d) n) (sym same)
+          (subst (λ (s : Slot). get_or (set leaves place (rank_word base slot place)) place 0 ≤ rank_word base s place) (read
           ∙ get_or_default slots place slot d within) (omega (arith, here))))
-          (λ (apart : other ≢ place). subst (λ n. n ≤ word base (get_or slots other d) other) (sym (there other apart)) (are.below other d inside))
+          (λ (apart : other ≢ place). subst (λ n. n ≤ rank_word base (get_or slots other d) other) (sym (there other apart)) (are.below other d inside))
           (cases_eq other place);
       based = are.based;
     }
 
 -- a slot that changes to one of no smaller count and time
-pub AreLeaves-raised : (capacity base : ℕ) (leaves : List ℕ) (slots : List Slot) (place : ℕ) (slot : Slot) → AreLeaves capacity base leaves slots
+pub leaf_stays_below_raised_slot : (capacity base : ℕ) (leaves : List ℕ) (slots : List Slot) (place : ℕ) (slot : Slot)
+    → AreRankLeaves capacity base leaves slots
     → place < length slots
     → (get_or slots place slot).entry.count ≤ slot.entry.count → (get_or slots place slot).time ≤ slot.time
-    → AreLeaves capacity base leaves (set slots place slot)
-AreLeaves-raised capacity base leaves slots place slot are within more later =
+    → AreRankLeaves capacity base leaves (set slots place slot)
+leaf_stays_below_raised_slot capacity base leaves slots place slot are within more later =
     let same_length : length (set slots place slot) ≡ length slots = length-set slots place slot in
     record {
       most = are.most;
@@ -83,10 +85,10 @@ AreLeaves-raised capacity base leaves slots place slot are within more later =
       placed = are.placed;
       early = λ other behind inside. are.early other (omega (arith, same_length)) inside;
       below = λ other d inside. ⊎_elim
-          (λ (same : other ≡ place). subst (λ n. get_or leaves n 0 ≤ word base (get_or (set slots place slot) n d) n) (sym same)
-          (subst (λ (s : Slot). get_or leaves place 0 ≤ word base s place) (sym (get_or-set_same slots place slot d within))
-          (omega (arith, are.below place slot within, word-rises base (get_or slots place slot) slot place more later))))
-          (λ (apart : other ≢ place). subst (λ (s : Slot). get_or leaves other 0 ≤ word base s other)
+          (λ (same : other ≡ place). subst (λ n. get_or leaves n 0 ≤ rank_word base (get_or (set slots place slot) n d) n) (sym same)
+          (subst (λ (s : Slot). get_or leaves place 0 ≤ rank_word base s place) (sym (get_or-set_same slots place slot d within))
+          (omega (arith, are.below place slot within, rank_word_rises base (get_or slots place slot) slot place more later))))
+          (λ (apart : other ≢ place). subst (λ (s : Slot). get_or leaves other 0 ≤ rank_word base s other)
           (sym (get_or-set_other slots place other slot d apart)) (are.below other d (omega (arith, same_length))))
           (cases_eq other place);
       based = λ other d inside. ⊎_elim
@@ -98,10 +100,10 @@ AreLeaves-raised capacity base leaves slots place slot are within more later =
     }
 
 -- a slot more, where the base is 0
-pub AreLeaves-pushed : (capacity base : ℕ) (leaves : List ℕ) (slots : List Slot) (slot : Slot) → AreLeaves capacity base leaves slots
+pub leaf_stays_after_push : (capacity base : ℕ) (leaves : List ℕ) (slots : List Slot) (slot : Slot) → AreRankLeaves capacity base leaves slots
     → length slots < capacity → base ≡ 0
-    → AreLeaves capacity base leaves (slots ++ slot ∷ [])
-AreLeaves-pushed capacity base leaves slots slot are room unbased =
+    → AreRankLeaves capacity base leaves (slots ++ slot ∷ [])
+leaf_stays_after_push capacity base leaves slots slot are room unbased =
     let one_more : length (slots ++ slot ∷ []) ≡ length slots + 1 = length_push slots slot in
     record {
       most = are.most;
@@ -110,12 +112,12 @@ AreLeaves-pushed capacity base leaves slots slot are room unbased =
       placed = are.placed;
       early = λ other behind inside. are.early other (omega (arith, one_more)) inside;
       below = λ other d inside. ⊎_elim
-          (λ (old : other < length slots). subst (λ (s : Slot). get_or leaves other 0 ≤ word base s other)
+          (λ (old : other < length slots). subst (λ (s : Slot). get_or leaves other 0 ≤ rank_word base s other)
           (sym (get_or_append_left slots (slot ∷ []) d other old)) (are.below other d old))
           (λ (new : length slots ≤ other). omega (
             arith,
             are.early other new (omega (arith, one_more)),
-            place-le-word base (get_or
+            rank_word_not_below_place base (get_or
                 (slots ++ slot ∷ []) other d) other,
           ))
           (cases_lt other (length slots));
@@ -123,51 +125,53 @@ AreLeaves-pushed capacity base leaves slots slot are room unbased =
     }
 
 -- so much can leaves still rise
-pub leaves_rise : (capacity base : ℕ) (leaves : List ℕ) (slots : List Slot) (place : ℕ) (slot : Slot) → AreLeaves capacity base leaves slots
+pub leaf_rises_when_mended : (capacity base : ℕ) (leaves : List ℕ) (slots : List Slot) (place : ℕ) (slot : Slot) → AreRankLeaves capacity base leaves slots
     → capacity ≡ length slots → place < capacity
-    → slot ≡ get_or slots place slot → get_or leaves place 0 ≢ word base slot place
-    → length (set leaves place (word base slot place)) * 2 ^ 64 - sum (set leaves place (word base slot place)) < length leaves * 2 ^ 64 - sum leaves
-leaves_rise capacity base leaves slots place slot are full within read differs =
+    → slot ≡ get_or slots place slot → get_or leaves place 0 ≢ rank_word base slot place
+    → length (set leaves place (rank_word base slot place)) * 2 ^ 64 - sum (set leaves place (rank_word base slot place)) < length leaves * 2 ^ 64 - sum leaves
+leaf_rises_when_mended capacity base leaves slots place slot are full within read differs =
     let shape : length leaves ≡ capacity = are.shape in
     let most : capacity ≤ 4096 = are.most in
-    let new = word base slot place in
-    let after = AreLeaves-mended capacity base leaves slots place slot are (omega arith) read in
-    let rises : get_or leaves place 0 ≤ new = subst (λ (s : Slot). get_or leaves place 0 ≤ word base s place) (sym read)
+    let new = rank_word base slot place in
+    let after = leaf_is_mended_to_word capacity base leaves slots place slot are (omega arith) read in
+    let rises : get_or leaves place 0 ≤ new = subst (λ (s : Slot). get_or leaves place 0 ≤ rank_word base s place) (sym read)
     (are.below place slot (omega arith)) in
     let small : All (λ leaf. leaf ≤ 2 ^ 64) (set leaves place new) = λ other d inside.
     let inner : other < capacity = omega (arith, length-set leaves place new) in
     let low = after.below other slot (omega arith) in
-    omega (arith, get_or_default (set leaves place new) other d 0 inside, low, word-fits base (get_or slots other slot) other (omega arith)) in
+    omega (arith, get_or_default (set leaves place new) other d 0 inside, low, rank_word_fits base (get_or slots other slot) other (omega arith)) in
     omega (arith, length-set leaves place new, sum_by-set (λ x. x) leaves place new 0 (omega arith), sum_by-le (λ x. x) (2 ^ 64) (set leaves place new) small)
 
 -- the winner of an exact rank comes first
-pub least_from_exact : (capacity base : ℕ) (leaves : List ℕ) (slots : List Slot) (place : ℕ) (slot : Slot) → AreLeaves capacity base leaves slots
+pub exact_leaf_is_least : (capacity base : ℕ) (leaves : List ℕ) (slots : List Slot) (place : ℕ) (slot : Slot) → AreRankLeaves capacity base leaves slots
     → place < length slots
-    → slot ≡ get_or slots place slot → IsExact base slot
-    → ((other : ℕ) (d : Slot) → other < length slots → word base (get_or slots place d) place ≤ word base (get_or slots other d) other) → IsLeast slots place
-least_from_exact capacity base leaves slots place slot are within read exact least =
+    → slot ≡ get_or slots place slot → IsExactRankWord base slot
+    → ((other : ℕ) (d : Slot) → other < length slots → rank_word base (get_or slots place d) place ≤ rank_word base (get_or slots other d) other)
+    → IsLeastRank slots place
+exact_leaf_is_least capacity base leaves slots place slot are within read exact least =
     let most : capacity ≤ 4096 = are.most in
     let fits : length slots ≤ capacity = are.fits in
     record {
       within = within;
       least = λ other d inside.
           let at : slot ≡ get_or slots place d = read ∙ get_or_default slots place slot d within in
-          subst (λ (s : Slot). rank s ≤ rank (get_or slots other d)) at
-          (exact_is_least base slot (get_or slots other d) place other exact (subst (λ (s : Slot). base ≤ s.entry.count) (sym read)
+          subst (λ (s : Slot). slot_rank s ≤ slot_rank (get_or slots other d)) at
+          (exact_rank_word_is_least base slot (get_or slots other d) place other exact (subst (λ (s : Slot). base ≤ s.entry.count) (sym read)
           (are.based place slot within)) (are.based other d inside)
-          (omega arith) (omega arith) (subst (λ (s : Slot). word base s place ≤ word base (get_or slots other d) other) (sym at) (least other d inside)));
+          (omega arith) (omega arith) (subst (λ (s : Slot). rank_word base s place ≤ rank_word base (get_or slots other d) other) (sym at)
+          (least other d inside)));
     }
 
 -- a tree that restarts from the least count
-pub AreRanked-restarted : (capacity reserved base : ℕ) (leaves : List ℕ) (slots : List Slot) (place : ℕ) (slot : Slot)
+pub leaf_restarts_at_least_count : (capacity reserved base : ℕ) (leaves : List ℕ) (slots : List Slot) (place : ℕ) (slot : Slot)
     → AreRanked capacity reserved base leaves slots → length slots ≡ capacity
     → place < length slots → slot ≡ get_or slots place slot → ((other : ℕ) (d : Slot) → other < length slots
     → (get_or slots place d).entry.count ≤ (get_or slots other d).entry.count)
     → AreRanked capacity reserved slot.entry.count (range_with_len 0 capacity) slots
-AreRanked-restarted capacity reserved base leaves slots place slot are full within read least = record {
+leaf_restarts_at_least_count capacity reserved base leaves slots place slot are full within read least = record {
   some = are.some;
   has_room = are.has_room;
-  are_leaves = AreLeaves-start capacity slot.entry.count slots are.are_leaves.most are.are_leaves.fits
+  are_leaves = leaf_starts_as_its_place capacity slot.entry.count slots are.are_leaves.most are.are_leaves.fits
       (λ other d inside. subst (λ (s : Slot). s.entry.count ≤ (get_or slots other d).entry.count) (sym (read
       ∙ get_or_default slots place slot d within)) (least other d inside));
   unbased = λ room. absurd (omega arith);

@@ -1,10 +1,10 @@
-pub mod OrderLemmas
-pub mod WordLemmas
+pub mod RankedSlotLemmas
+pub mod RankWordLemmas
 pub mod LeafLemmas
 pub mod SlotChangeLemmas
-pub mod KeyLemmas
-pub mod RisingLemmas
+pub mod SlotKeyLemmas
+pub mod SlotRiseLemmas
 pub mod MarkLemmas
-pub mod LoadLemmas
-pub mod TableLemmas
+pub mod NumberedEntryLemmas
+pub mod RankTableLemmas
 pub mod Examples

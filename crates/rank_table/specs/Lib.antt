@@ -1,8 +1,8 @@
 -- within the crate
 pub mod SlotOrder
 pub mod Slots
-pub mod Words
+pub mod RankWords
 pub mod Ranks
 pub mod Marks
-pub mod Steps
+pub mod TableSteps
 pub mod RankTable

@@ -1,27 +1,27 @@
 -- Slots beside the leaves of a tree, which no public contract cites.
 use Rattle.std.specs.Prelude.{ℕ, ◌≡◌, ◌%◌, ◌<◌, ◌≤◌, List, length, slice_index, slice_index_or}
 use Rattle.rank_table.specs.declared.slot.Slot.{Slot}
-use Rattle.rank_table.specs.SlotOrder.{rank}
-use Rattle.rank_table.specs.Words.{word}
+use Rattle.rank_table.specs.SlotOrder.{slot_rank}
+use Rattle.rank_table.specs.RankWords.{rank_word}
 
 -- the slot at this place comes before all others
-pub record IsLeast (slots : List Slot) (place : ℕ) : Type 0 where
+pub record IsLeastRank (slots : List Slot) (place : ℕ) : Type 0 where
   pub within : place < length slots
-  pub least : (other : ℕ) (d : Slot) → other < length slots → rank (slice_index_or slots place d) ≤ rank (slice_index_or slots other d)
+  pub least : (other : ℕ) (d : Slot) → other < length slots → slot_rank (slice_index_or slots place d) ≤ slot_rank (slice_index_or slots other d)
 
 -- each leaf names its place in its low 12 bits, and is a lower bound of the word of the slot at that place
-pub record AreLeaves (capacity base : ℕ) (leaves : List ℕ) (slots : List Slot) : Type 0 where
+pub record AreRankLeaves (capacity base : ℕ) (leaves : List ℕ) (slots : List Slot) : Type 0 where
   pub most : capacity ≤ 4096
   pub shape : length leaves ≡ capacity
   pub fits : length slots ≤ capacity
   pub placed : (place : ℕ) → place < capacity → slice_index leaves place % 4096 ≡ place
   pub early : (place : ℕ) → length slots ≤ place → place < capacity → slice_index leaves place ≡ place
-  pub below : (place : ℕ) (d : Slot) → place < length slots → slice_index leaves place ≤ word base (slice_index_or slots place d) place
+  pub below : (place : ℕ) (d : Slot) → place < length slots → slice_index leaves place ≤ rank_word base (slice_index_or slots place d) place
   pub based : (place : ℕ) (d : Slot) → place < length slots → base ≤ (slice_index_or slots place d).entry.count
 
 -- memory for all slots, such leaves, and a base of 0 as long as a slot may come with any count
 pub record AreRanked (capacity reserved base : ℕ) (leaves : List ℕ) (slots : List Slot) : Type 0 where
   pub some : 1 ≤ capacity
   pub has_room : capacity ≤ reserved
-  pub are_leaves : AreLeaves capacity base leaves slots
+  pub are_leaves : AreRankLeaves capacity base leaves slots
   pub unbased : length slots < capacity → base ≡ 0

@@ -3,17 +3,17 @@
 
 ghost use Rattle.std.specs.Prelude.{◌≡◌, ◌^◌, ◌<◌, All, length, map};
 ghost use Rattle.std.specs.List.Sorted.{IsNonDecreasingBy, IsPermutation};
-ghost use Rattle.rank_table.specs.Marks.{marks_from, rank_of_mark, slot_of};
-ghost use Rattle.rank_table.specs.SlotOrder.{AreSlots, entries_of};
+ghost use Rattle.rank_table.specs.Marks.{marks_from, rank_of_mark, slot_of_mark};
+ghost use Rattle.rank_table.specs.SlotOrder.{AreOrderedSlots, entries_in_slot_order};
 
 use crate::slot::Slot;
 use space_saving::Entry;
 
 /// Writes the entries of slots in their order over as many entries, in the time of one sort.
 pub(crate) fn write_in_order(slots: &[Slot], into: &mut [Entry])
-    requires slots { AreSlots (2 ^ 64) slots.now }
+    requires slots { AreOrderedSlots (2 ^ 64) slots.now }
     requires as_many { length into.old ≡ length slots.now }
-    ensures { into.new ≡ entries_of slots.now }
+    ensures { into.new ≡ entries_in_slot_order slots.now }
 {
     write_marks(slots, into);
     sort_marks(into);
@@ -53,7 +53,7 @@ fn mark_rank(mark: &Entry) -> u128
 // Writes over each mark the entry of its slot.
 fn write_entries(slots: &[Slot], marks: &mut [Entry])
     requires { All (λ mark. mark.key < length slots.now) marks.old }
-    ensures { marks.new ≡ map (λ mark. (slot_of slots.now mark).entry) marks.old }
+    ensures { marks.new ≡ map (λ mark. (slot_of_mark slots.now mark).entry) marks.old }
 {
     for place in 0..marks.len() {
         let mark = marks[place];

@@ -2,8 +2,8 @@
 
 ghost use Rattle.std.specs.Prelude.{◌≡◌, ◌+◌, ◌<◌, ◌≤◌, ◌++◌, ◌∷◌, [], ℕ, IfOk, IsTrue, false, ◌↔◌, length, slice_index_or, slice_set};
 ghost use Rattle.rank_table.specs.declared.slot.Slot.{Slot};
-ghost use Rattle.rank_table.specs.Ranks.{AreLeaves, IsLeast};
-ghost use Rattle.rank_table.specs.Words.{word};
+ghost use Rattle.rank_table.specs.Ranks.{AreRankLeaves, IsLeastRank};
+ghost use Rattle.rank_table.specs.RankWords.{rank_word};
 
 use crate::scanning::least_of;
 use crate::slot::Slot;
@@ -98,7 +98,7 @@ impl RankedSlots {
     pub(crate) fn least(&mut self) -> usize
         requires { length self.old.slots ≡ self.old.capacity }
         ensures same { self.new ≡ self.old }
-        ensures least { IsLeast self.old.slots result }
+        ensures least { IsLeastRank self.old.slots result }
     {
         let place = winner(&mut self.tree, &self.slots, self.base);
         if is_exact(self.base, &self.slots[place]) {
@@ -117,11 +117,11 @@ impl RankedSlots {
 // The place whose slot has the least word. A leaf that comes first and is less than its slot's word gets that word.
 fn winner(tree: &mut WinnerTree, slots: &[Slot], base: u64) -> usize
     requires some { 0 < length slots.now }
-    requires leaves { AreLeaves (length slots.now) base tree.old slots.now }
-    ensures leaves { AreLeaves (length slots.now) base tree.new slots.now }
+    requires leaves { AreRankLeaves (length slots.now) base tree.old slots.now }
+    ensures leaves { AreRankLeaves (length slots.now) base tree.new slots.now }
     ensures within { result < length slots.now }
     ensures least { (place : ℕ) (d : Slot) → place < length slots.now
-        → word base (slice_index_or slots.now result d) result ≤ word base (slice_index_or slots.now place d) place }
+        → rank_word base (slice_index_or slots.now result d) result ≤ rank_word base (slice_index_or slots.now place d) place }
 {
     'mending: loop {
         let leaf = tree.least();

@@ -2,16 +2,16 @@
 
 ghost use Rattle.std.specs.Prelude.{◌≡◌, ◌^◌, ◌<◌, ◌≤◌, ℕ, Some, IsTrue, false, nat_lt, length, map, slice_get, slice_index_or, count_by};
 ghost use Rattle.rank_table.specs.declared.slot.Slot.{Slot};
-ghost use Rattle.space_saving.specs.{interval_in, AreEntries};
-ghost use Rattle.rank_table.specs.SlotOrder.{AreSlots, entries_of, in_order, rank};
-ghost use Rattle.rank_table.specs.Ranks.{IsLeast};
+ghost use Rattle.space_saving.specs.{interval_in_table, AreTableEntries};
+ghost use Rattle.rank_table.specs.SlotOrder.{AreOrderedSlots, entries_in_slot_order, slots_in_rank_order, slot_rank};
+ghost use Rattle.rank_table.specs.Ranks.{IsLeastRank};
 
 use crate::slot::Slot;
 use key_index::KeyIndex;
 
 /// Whether the first slot comes before the second in a table: it has a smaller count, or an equal one for longer.
 pub(crate) fn is_before(first: &Slot, second: &Slot) -> bool
-    ensures rank { result ≡ nat_lt (rank first.now) (rank second.now) }
+    ensures rank { result ≡ nat_lt (slot_rank first.now) (slot_rank second.now) }
     ensures before { IsTrue result → first.now.entry.count ≤ second.now.entry.count }
     ensures behind { result ≡ false → second.now.entry.count ≤ first.now.entry.count }
 {
@@ -25,7 +25,7 @@ pub(crate) fn is_before(first: &Slot, second: &Slot) -> bool
 /// The place of the slot that comes before all others.
 pub(crate) fn least_of(slots: &[Slot]) -> usize
     requires { 0 < length slots.now }
-    ensures least { IsLeast slots.now result }
+    ensures least { IsLeastRank slots.now result }
     ensures count { (other : ℕ) (d : Slot) → other < length slots.now
         → (slice_index_or slots.now result d).entry.count ≤ (slice_index_or slots.now other d).entry.count }
 {
@@ -40,16 +40,16 @@ pub(crate) fn least_of(slots: &[Slot]) -> usize
 
 /// How many slots come before this one.
 fn count_before(slots: &[Slot], slot: &Slot) -> usize
-    ensures { result ≡ count_by (λ other. nat_lt (rank other) (rank slot.now)) slots.now }
+    ensures { result ≡ count_by (λ other. nat_lt (slot_rank other) (slot_rank slot.now)) slots.now }
 {
     slots.iter().filter(|other| is_before(other, slot)).count()
 }
 
 /// The slot before which `place` others come. It compares each slot with each.
 pub(crate) fn slot_at(slots: &[Slot], place: usize) -> Slot
-    requires slots { AreSlots (2 ^ 64) slots.now }
+    requires slots { AreOrderedSlots (2 ^ 64) slots.now }
     requires within { place < length slots.now }
-    ensures { slice_get (in_order slots.now) place ≡ Some result }
+    ensures { slice_get (slots_in_rank_order slots.now) place ≡ Some result }
 {
     for slot in slots {
         if count_before(slots, slot) == place {
@@ -63,10 +63,10 @@ pub(crate) fn slot_at(slots: &[Slot], place: usize) -> Slot
 pub(crate) fn interval_of(index: &KeyIndex, slots: &[Slot], capacity: u32, key: u64) -> (u64, u64)
     requires some { 1 ≤ capacity }
     requires keyed { index.now.keys ≡ map (λ slot. slot.entry.key) slots.now }
-    requires slots { AreSlots (2 ^ 64) slots.now }
-    requires entries { AreEntries capacity (entries_of slots.now) }
-    ensures low { result.0 ≡ (interval_in (record { capacity = capacity; entries = entries_of slots.now }) key).low }
-    ensures high { result.1 ≡ (interval_in (record { capacity = capacity; entries = entries_of slots.now }) key).high }
+    requires slots { AreOrderedSlots (2 ^ 64) slots.now }
+    requires entries { AreTableEntries capacity (entries_in_slot_order slots.now) }
+    ensures low { result.0 ≡ (interval_in_table (record { capacity = capacity; entries = entries_in_slot_order slots.now }) key).low }
+    ensures high { result.1 ≡ (interval_in_table (record { capacity = capacity; entries = entries_in_slot_order slots.now }) key).high }
 {
     match index.find(key) {
         Some(place) => {

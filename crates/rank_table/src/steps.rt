@@ -1,10 +1,10 @@
 //! One step of Space-Saving on slots.
 
 ghost use Rattle.std.specs.Prelude.{◌≡◌, ◌+◌, ◌^◌, ◌<◌, ◌≤◌, ◌++◌, ◌∷◌, [], length, slice_index_or, slice_set};
-ghost use Rattle.space_saving.specs.{step, total_count};
-ghost use Rattle.rank_table.specs.SlotOrder.{AreSlots, entries_of};
-ghost use Rattle.rank_table.specs.Steps.{IsTakenOver, fresh, raised};
-ghost use Rattle.rank_table.specs.RankTable.{AreTogether};
+ghost use Rattle.space_saving.specs.{table_after_step, table_total};
+ghost use Rattle.rank_table.specs.SlotOrder.{AreOrderedSlots, entries_in_slot_order};
+ghost use Rattle.rank_table.specs.TableSteps.{IsTakenOverByStep, fresh_by_step, raised_by_step};
+ghost use Rattle.rank_table.specs.RankTable.{AreRankTableParts};
 ghost use Rattle.rank_table.specs.declared.slot.Slot.{Slot};
 
 use crate::ranked_slots::RankedSlots;
@@ -21,16 +21,16 @@ pub(crate) fn add_weight(
     weight: u64,
     now: u64,
 )
-    requires together { AreTogether ranked.old.capacity index.old ranked.old }
-    requires slots { AreSlots now ranked.old.slots }
+    requires together { AreRankTableParts ranked.old.capacity index.old ranked.old }
+    requires slots { AreOrderedSlots now ranked.old.slots }
     requires weighs { 1 ≤ weight }
     requires early { now < 2 ^ 56 }
-    requires room { total_count (entries_of ranked.old.slots) + weight < 2 ^ 56 }
+    requires room { table_total (entries_in_slot_order ranked.old.slots) + weight < 2 ^ 56 }
     ensures capacity { ranked.new.capacity ≡ ranked.old.capacity }
-    ensures together { AreTogether ranked.new.capacity index.new ranked.new }
-    ensures slots { AreSlots (now + 1) ranked.new.slots }
-    ensures stepped { entries_of ranked.new.slots
-        ≡ step ranked.old.capacity (entries_of ranked.old.slots) (record { key = key; weight = weight }) }
+    ensures together { AreRankTableParts ranked.new.capacity index.new ranked.new }
+    ensures slots { AreOrderedSlots (now + 1) ranked.new.slots }
+    ensures stepped { entries_in_slot_order ranked.new.slots
+        ≡ table_after_step ranked.old.capacity (entries_in_slot_order ranked.old.slots) (record { key = key; weight = weight }) }
 {
     match index.find(key) {
         Some(place) => grow(ranked, place, weight, now),
@@ -42,11 +42,11 @@ pub(crate) fn add_weight(
 // Adds a weight to the entry at a place.
 fn grow(ranked: &mut RankedSlots, place: usize, weight: u64, now: u64)
     requires within { place < length ranked.old.slots }
-    requires slots { AreSlots now ranked.old.slots }
+    requires slots { AreOrderedSlots now ranked.old.slots }
     requires early { now < 2 ^ 56 }
-    requires room { total_count (entries_of ranked.old.slots) + weight < 2 ^ 56 }
+    requires room { table_total (entries_in_slot_order ranked.old.slots) + weight < 2 ^ 56 }
     ensures { (d : Slot) → ranked.new ≡ record ranked.old {
-      slots = slice_set ranked.old.slots place (raised weight now (slice_index_or ranked.old.slots place d));
+      slots = slice_set ranked.old.slots place (raised_by_step weight now (slice_index_or ranked.old.slots place d));
     } }
 {
     let slot = ranked.slots()[place];
@@ -61,9 +61,9 @@ fn grow(ranked: &mut RankedSlots, place: usize, weight: u64, now: u64)
 // Gives a new key a slot of its own.
 fn take_room(index: &mut KeyIndex, ranked: &mut RankedSlots, key: u64, weight: u64, now: u64)
     requires room { length ranked.old.slots < ranked.old.capacity }
-    requires together { AreTogether ranked.old.capacity index.old ranked.old }
+    requires together { AreRankTableParts ranked.old.capacity index.old ranked.old }
     ensures index { index.new ≡ record index.old { keys = index.old.keys ++ key ∷ [] } }
-    ensures ranked { ranked.new ≡ record ranked.old { slots = ranked.old.slots ++ fresh key weight now ∷ [] } }
+    ensures ranked { ranked.new ≡ record ranked.old { slots = ranked.old.slots ++ fresh_by_step key weight now ∷ [] } }
 {
     let entry = Entry {
         key,
@@ -77,11 +77,11 @@ fn take_room(index: &mut KeyIndex, ranked: &mut RankedSlots, key: u64, weight: u
 // Gives a new key the slot that comes first: its count becomes the error of the new entry.
 fn take_over(index: &mut KeyIndex, ranked: &mut RankedSlots, key: u64, weight: u64, now: u64)
     requires full { length ranked.old.slots ≡ ranked.old.capacity }
-    requires together { AreTogether ranked.old.capacity index.old ranked.old }
-    requires slots { AreSlots now ranked.old.slots }
+    requires together { AreRankTableParts ranked.old.capacity index.old ranked.old }
+    requires slots { AreOrderedSlots now ranked.old.slots }
     requires early { now < 2 ^ 56 }
-    requires room { total_count (entries_of ranked.old.slots) + weight < 2 ^ 56 }
-    ensures { IsTakenOver key weight now index.old ranked.old index.new ranked.new }
+    requires room { table_total (entries_in_slot_order ranked.old.slots) + weight < 2 ^ 56 }
+    ensures { IsTakenOverByStep key weight now index.old ranked.old index.new ranked.new }
 {
     let place = ranked.least();
     let least = ranked.slots()[place].entry.count;

@@ -1,6 +1,6 @@
-pub mod ListLemmas
-pub mod SlotLemmas
-pub mod DecisionLemmas
-pub mod OpeningLemmas
-pub mod BelongingLemmas
+pub mod ZippedListLemmas
+pub mod OpenSlotLemmas
+pub mod DecidedLemmas
+pub mod FoundStoreLemmas
+pub mod BelongingStoreLemmas
 pub mod ExamplesOfOpenings

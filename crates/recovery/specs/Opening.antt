@@ -2,91 +2,91 @@
 use Rattle.std.specs.Prelude.{ℕ, ◌≡◌, ◌≢◌, ◌-◌, ◌<◌, ◌≤◌, ◌⊎◌, ⊤, true, List, length, take, replicate, Option, Some, None, IfSome, option_map}
 use Rattle.std.specs.List.{AllZip}
 use Rattle.prefix_lattice.specs.{RecordValue, total_weight}
-use Rattle.shard_state.specs.{CutValue, SnapshotValue, HasShape, positions_of, total_of}
-use Rattle.slot_disk.specs.{front_bytes, header_of, is_open}
+use Rattle.shard_state.specs.{CutValue, SnapshotValue, HasCoreShape, cut_positions, snapshot_total}
+use Rattle.slot_disk.specs.{store_front_bytes, header_of, store_is_open}
 use Rattle.checkpoint.specs.declared.settings.StoreSettings.{StoreSettings}
-use Rattle.checkpoint.specs.{AreSettings, SavedValue, SlotHolds, HasNewest, Opens, digest_of_lists, header_bytes, last_sequence}
+use Rattle.checkpoint.specs.{AreHeaderSettings, SavedValue, StoreSlotHolds, StoreHasNewest, StoreOpensTo, digest_of_lists, header_of_settings, last_body_sequence}
 use Rattle.recovery.specs.declared.fault.OpenFault.{OpenFault}
 use Rattle.recovery.specs.declared.fault.OpenFault.TheVariants.{DiskFault, NotFormatted, OtherSettings, Damaged, OtherCapture, OutOfMemory}
 use Rattle.recovery.specs.declared.opened.Opened.{Opened}
 
 -- the bytes have a header, and it spells these settings
-pub record HasHeader (settings : StoreSettings) (image : List ℕ) : Type 0 where
-  pub long : front_bytes ≤ length image
-  pub are : AreSettings settings
-  pub spelled : header_of image ≡ header_bytes settings
+pub record HasOpeningHeader (settings : StoreSettings) (image : List ℕ) : Type 0 where
+  pub long : store_front_bytes ≤ length image
+  pub are : AreHeaderSettings settings
+  pub spelled : header_of image ≡ header_of_settings settings
 
 -- the gate of a slot is open, and under it is no body of these settings
-pub record IsDamaged (settings : StoreSettings) (slot : ℕ) (image : List ℕ) : Type 0 where
-  pub gate : is_open slot image ≡ true
-  pub no_body : (saved : SavedValue) → SlotHolds settings slot image (Some saved) → ⊥
+pub record IsDamagedAtOpening (settings : StoreSettings) (slot : ℕ) (image : List ℕ) : Type 0 where
+  pub gate : store_is_open slot image ≡ true
+  pub no_body : (saved : SavedValue) → StoreSlotHolds settings slot image (Some saved) → ⊥
 
 -- the slot is the first of two such
-pub record IsFirstDamaged (settings : StoreSettings) (slot : ℕ) (image : List ℕ) : Type 0 where
+pub record IsFirstDamagedAtOpening (settings : StoreSettings) (slot : ℕ) (image : List ℕ) : Type 0 where
   pub within : slot < 2
-  pub damaged : IsDamaged settings slot image
-  pub first : (earlier : ℕ) → earlier < slot → IsDamaged settings earlier image → ⊥
+  pub damaged : IsDamagedAtOpening settings slot image
+  pub first : (earlier : ℕ) → earlier < slot → IsDamagedAtOpening settings earlier image → ⊥
 
 -- the last sequence that is opened, which leaves room for as many saves as one run makes
 abbrev pub last_opened_sequence : ℕ
-last_opened_sequence = last_sequence - 64
+last_opened_sequence = last_body_sequence - 64
 
 -- a snapshot may be continued from over a list: its position isn't past the end, and its total is the weight of the
 -- records before it
-pub record ContinuesList (snapshot : SnapshotValue) (list : List RecordValue) : Type 0 where
+pub record OpeningContinuesList (snapshot : SnapshotValue) (list : List RecordValue) : Type 0 where
   pub within : snapshot.position ≤ length list
-  pub counted : total_of snapshot ≡ total_weight (take snapshot.position list)
+  pub counted : snapshot_total snapshot ≡ total_weight (take snapshot.position list)
 
 -- a cut may be continued from over the lists of its shards
-abbrev pub ContinuesLists : CutValue → List (List RecordValue) → Type 0
-ContinuesLists cut lists = AllZip ContinuesList cut.shards lists
+abbrev pub OpeningContinuesLists : CutValue → List (List RecordValue) → Type 0
+OpeningContinuesLists cut lists = AllZip OpeningContinuesList cut.shards lists
 
 -- what is saved may be continued from: its sequence isn't too late, and its cut continues over the lists
-pub record IsContinuable (saved : SavedValue) (lists : List (List RecordValue)) : Type 0 where
+pub record OpeningContinuesFrom (saved : SavedValue) (lists : List (List RecordValue)) : Type 0 where
   pub early : saved.sequence ≤ last_opened_sequence
-  pub continues : ContinuesLists saved.cut lists
+  pub continues : OpeningContinuesLists saved.cut lists
 
 -- the bytes are refused for this fault over dealt lists and settings. A fault of the disk, and that memory runs out, say
 -- nothing of them
-abbrev pub IsRefused : StoreSettings → List (List RecordValue) → List ℕ → OpenFault → Type 0
-IsRefused settings lists image DiskFault = ⊤
-IsRefused settings lists image NotFormatted = (spelled : StoreSettings) → HasHeader spelled image → ⊥
-IsRefused settings lists image (OtherSettings stored asked) = HasHeader stored image × (asked ≡ settings) × (stored ≢ settings)
-IsRefused settings lists image (Damaged slot) =
-    (HasHeader settings image × IsFirstDamaged settings slot image)
-    ⊎ ((saved : SavedValue) × HasNewest settings slot saved image × (saved.digest ≡ digest_of_lists settings lists)
-    × (IsContinuable saved lists → ⊥))
-IsRefused settings lists image (OtherCapture stored asked) =
-    (slot : ℕ) × (saved : SavedValue) × HasNewest settings slot saved image × (stored ≡ saved.digest)
+abbrev pub IsRefusedAtOpening : StoreSettings → List (List RecordValue) → List ℕ → OpenFault → Type 0
+IsRefusedAtOpening settings lists image DiskFault = ⊤
+IsRefusedAtOpening settings lists image NotFormatted = (spelled : StoreSettings) → HasOpeningHeader spelled image → ⊥
+IsRefusedAtOpening settings lists image (OtherSettings stored asked) = HasOpeningHeader stored image × (asked ≡ settings) × (stored ≢ settings)
+IsRefusedAtOpening settings lists image (Damaged slot) =
+    (HasOpeningHeader settings image × IsFirstDamagedAtOpening settings slot image)
+    ⊎ ((saved : SavedValue) × StoreHasNewest settings slot saved image × (saved.digest ≡ digest_of_lists settings lists)
+    × (OpeningContinuesFrom saved lists → ⊥))
+IsRefusedAtOpening settings lists image (OtherCapture stored asked) =
+    (slot : ℕ) × (saved : SavedValue) × StoreHasNewest settings slot saved image × (stored ≡ saved.digest)
     × (asked ≡ digest_of_lists settings lists) × (stored ≢ asked)
-IsRefused settings lists image OutOfMemory = ⊤
+IsRefusedAtOpening settings lists image OutOfMemory = ⊤
 
 -- what was saved has the digest of the lists, and may be continued from
-pub record IsSavedOf (settings : StoreSettings) (lists : List (List RecordValue)) (saved : SavedValue) : Type 0 where
+pub record IsSavedBeforeOpening (settings : StoreSettings) (lists : List (List RecordValue)) (saved : SavedValue) : Type 0 where
   pub digest : saved.digest ≡ digest_of_lists settings lists
-  pub continues : IsContinuable saved lists
+  pub continues : OpeningContinuesFrom saved lists
 
 -- the bytes open to this base: the cut of the newest slot, which was saved of these lists, or none where no gate is open
 abbrev pub OpensToBase : StoreSettings → List (List RecordValue) → List ℕ → Option CutValue → Type 0
 OpensToBase settings lists image base =
-    (opened : Option SavedValue) × Opens settings image opened × IfSome opened (IsSavedOf settings lists)
+    (opened : Option SavedValue) × StoreOpensTo settings image opened × IfSome opened (IsSavedBeforeOpening settings lists)
     × (base ≡ option_map (λ saved. saved.cut) opened)
 
 -- the positions of a base, each 0 where there is none
-abbrev pub base_positions : StoreSettings → Option CutValue → List ℕ
-base_positions settings None = replicate settings.shards 0
-base_positions settings (Some cut) = positions_of cut
+abbrev pub opening_base_positions : StoreSettings → Option CutValue → List ℕ
+opening_base_positions settings None = replicate settings.shards 0
+opening_base_positions settings (Some cut) = cut_positions cut
 
 -- a cut of the settings' shape that may be continued from over the lists
-pub record IsBase (settings : StoreSettings) (lists : List (List RecordValue)) (cut : CutValue) : Type 0 where
-  pub shape : HasShape settings.shards settings.capacity cut
-  pub continues : ContinuesLists cut lists
+pub record IsOpeningBase (settings : StoreSettings) (lists : List (List RecordValue)) (cut : CutValue) : Type 0 where
+  pub shape : HasCoreShape settings.shards settings.capacity cut
+  pub continues : OpeningContinuesLists cut lists
 
 -- what was opened can be gone on with, whether or not the disk's bytes are known: the base may be continued from, and
 -- the saver saves under these settings and the digest of these lists, from the positions of the base on
-pub record CanGoOn (settings : StoreSettings) (lists : List (List RecordValue)) (opened : Opened) : Type 0 where
-  pub base : IfSome opened.base (IsBase settings lists)
-  pub positions_are : opened.positions ≡ base_positions settings opened.base
+pub record OpeningCanGoOn (settings : StoreSettings) (lists : List (List RecordValue)) (opened : Opened) : Type 0 where
+  pub base : IfSome opened.base (IsOpeningBase settings lists)
+  pub positions_are : opened.positions ≡ opening_base_positions settings opened.base
   pub saver_positions : opened.saver.positions ≡ opened.positions
   pub saver_settings : opened.saver.settings ≡ settings
   pub saver_digest : opened.saver.digest ≡ digest_of_lists settings lists

@@ -1,7 +1,7 @@
 ghost use Rattle.std.specs.Prelude.{◌≡◌, ◌≤◌, ◌%◌, ◌^◌, [], ◌∷◌, length, IfOk};
-ghost use Rattle.deal_rules.specs.{IsAsked};
-ghost use Rattle.shard_state.specs.{positions_of};
-ghost use Rattle.checkpoint.specs.{AreSettings, last_sequence};
+ghost use Rattle.deal_rules.specs.{IsAskedOfRule};
+ghost use Rattle.shard_state.specs.{cut_positions};
+ghost use Rattle.checkpoint.specs.{AreHeaderSettings, last_body_sequence};
 
 use super::*;
 use checkpoint::{Saver, StoreSettings, digest_of, encode, header_of, read_header};
@@ -44,7 +44,7 @@ const LAST_OPENED: u64 = 0x3fff_ffff_ffff_ffc0;
 
 // The settings of one shard with tables of this capacity, by bytes and dealt in turn.
 fn settings_of(capacity: u16) -> Result<StoreSettings, Fail>
-    ensures { IfOk result AreSettings }
+    ensures { IfOk result AreHeaderSettings }
 {
     let [high, low] = capacity.to_be_bytes();
     let mut header = [0; 62];
@@ -67,7 +67,7 @@ fn records(alloc: Global, rec: Record, count: usize) -> Result<RecordList, Alloc
 }
 
 fn by_place(place: u64, rec: Record, shards: u32) -> u32
-    requires { IsAsked place rec shards }
+    requires { IsAskedOfRule place rec shards }
     ensures { result ≡ place % shards }
 {
     (place % u64::from(shards)) as u32
@@ -94,7 +94,7 @@ fn cut_of(alloc: Global, list: RecordList, capacity: u32) -> Result<Cut, AllocEr
     requires most { capacity ≤ 4096 }
     ensures shards { IfOk result (λ cut. length cut.shards ≡ 1) }
     ensures capacity { IfOk result (λ cut. cut.capacity ≡ capacity) }
-    ensures positions { IfOk result (λ cut. positions_of cut ≡ length list ∷ []) }
+    ensures positions { IfOk result (λ cut. cut_positions cut ≡ length list ∷ []) }
 {
     let mut shard = ShardState::start(alloc, list, capacity)?;
     shard.fold_block(u32::MAX);
@@ -112,7 +112,7 @@ fn body_of(
     count: usize,
 ) -> Result<Vec<u8>, AllocError>
     requires first { 1 ≤ sequence }
-    requires last { sequence ≤ last_sequence }
+    requires last { sequence ≤ last_body_sequence }
     requires few { count ≤ 2 ^ 24 }
 {
     let cut = cut_of(alloc, records(alloc, rec, count)?, 2)?;

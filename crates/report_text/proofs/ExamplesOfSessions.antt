@@ -4,14 +4,14 @@ use Rattle.std.proofs.lemmas.List.Elements.{All-nil, All-cons, All-from_recursio
 use Rattle.std.specs.Fmt.{digits}
 use Rattle.hhh_output.specs.declared.line.Line.{Line as LineValue}
 use Rattle.hhh_output.specs.declared.report.Report.{Report as ReportValue}
-use Rattle.report_text.specs.ReportText.{ArePositions, IsShowableLine}
-use Rattle.report_text.specs.SessionText.{IsLine, ArePositionsOf, IsReportedOf, IsSession}
-use Rattle.report_text.specs.SessionText.{HasTextFault, whole_lines}
+use Rattle.report_text.specs.ReportText.{ReportTextShowsPositions, ReportTextShowsLine}
+use Rattle.report_text.specs.SessionText.{IsSessionLine, AreSessionTextPositions, IsReportedInSession, IsSession}
+use Rattle.report_text.specs.SessionText.{HasTextFault, whole_lines_of_session}
 use Rattle.report_text.specs.SessionText.{session_text}
 use Rattle.report_text.specs.declared.session.Session.{Session}
 use Rattle.report_text.specs.declared.session_fault.TextFault.TheVariants.{BadLine}
 use Rattle.report_text.specs.declared.session_line.SessionLine.TheVariants.{At, Total, Threshold, Line}
-use Rattle.report_text.proofs.OrderedListLemmas.{no_line_in_order}
+use Rattle.report_text.proofs.ShortListLemmas.{short_list_of_no_line}
 use Rattle.report_text.proofs.Examples.{report}
 
 -- the session over one shard with that report, of one frame
@@ -32,7 +32,7 @@ text_of_a_session = refl
 
 -- the report of no record
 abbrev empty : ReportValue
-empty = record { positions = 0 ∷ []; total = 0; threshold = 1; lines = []; are_lines = no_line_in_order }
+empty = record { positions = 0 ∷ []; total = 0; threshold = 1; lines = []; are_lines = short_list_of_no_line }
 
 -- two reports, the second of which was saved
 abbrev saved_session : Session
@@ -50,32 +50,32 @@ pub text_of_saved_positions : session_text saved_session
 unfolding digits
 text_of_saved_positions = refl
 
-pub whole_lines_of_a_text : whole_lines (codes "opened 0\nreport\nat") ≡ codes "opened 0\n" ∷ codes "report\n" ∷ []
+pub whole_lines_of_a_text : whole_lines_of_session (codes "opened 0\nreport\nat") ≡ codes "opened 0\n" ∷ codes "report\n" ∷ []
 whole_lines_of_a_text = refl
 
-pub whole_lines_of_a_line_feed : whole_lines (codes "\n") ≡ codes "\n" ∷ []
+pub whole_lines_of_a_line_feed : whole_lines_of_session (codes "\n") ≡ codes "\n" ∷ []
 whole_lines_of_a_line_feed = refl
 
-pub whole_lines_without_a_line_feed : whole_lines (codes "end") ≡ []
+pub whole_lines_without_a_line_feed : whole_lines_of_session (codes "end") ≡ []
 whole_lines_without_a_line_feed = refl
 
-pub no_threshold_is_zero : ¬ IsLine (Threshold 0)
+pub no_threshold_is_zero : ¬ IsSessionLine (Threshold 0)
 no_threshold_is_zero is = let some : 1 ≤ 0 = is.0 in omega (arith, some)
 
-pub no_number_has_65_bits : ¬ IsLine (Total (2 ^ 64))
+pub no_number_has_65_bits : ¬ IsSessionLine (Total (2 ^ 64))
 no_number_has_65_bits is = let small : 2 ^ 64 < 2 ^ 64 = is in omega (arith, small)
 
-pub no_position_is_past_the_greatest : ¬ IsLine (At (16777217 ∷ []))
+pub no_position_is_past_the_greatest : ¬ IsSessionLine (At (16777217 ∷ []))
 no_position_is_past_the_greatest is =
     let most : 16777217 ≤ 16777216 = is.within 0 0 (omega arith) in omega (arith, most)
 
-pub no_low_is_above_its_high : (line : LineValue) → line.lo ≡ 101 → line.hi ≡ 100 → ¬ IsLine (Line line)
+pub no_low_is_above_its_high : (line : LineValue) → line.lo ≡ 101 → line.hi ≡ 100 → ¬ IsSessionLine (Line line)
 no_low_is_above_its_high line low high is = omega (arith, is.ordered, low, high)
 
 pub no_session_is_without_a_report : ¬ IsSession (record session { reports = [] })
 no_session_is_without_a_report is = omega (arith, is.some)
 
-pub no_positions_are_of_another_length : ¬ ArePositionsOf 2 (1 ∷ [])
+pub no_positions_are_of_another_length : ¬ AreSessionTextPositions 2 (1 ∷ [])
 no_positions_are_of_another_length are = omega (arith, are.as_many)
 
 -- the session of no record
@@ -89,7 +89,7 @@ empty_session = record {
   bad_header = 0;
 }
 
-first_position : ArePositions (0 ∷ [])
+first_position : ReportTextShowsPositions (0 ∷ [])
 first_position = record {
   some = omega arith;
   few = omega arith;
@@ -101,16 +101,16 @@ session_of_no_record = record {
   opened = first_position;
   some = omega arith;
   reports =
-      All-cons (IsReportedOf 1) (record { report = empty; saved = None }) []
+      All-cons (IsReportedInSession 1) (record { report = empty; saved = None }) []
       (record {
         positions = record { are_positions = first_position; as_many = refl };
         total = omega arith;
         some = omega arith;
         threshold = omega arith;
-        lines = All-nil IsShowableLine;
+        lines = All-nil ReportTextShowsLine;
         saved = tt;
       })
-      (All-nil (IsReportedOf 1));
+      (All-nil (IsReportedInSession 1));
   frames = omega arith;
   not_ipv4 = omega arith;
   short = omega arith;

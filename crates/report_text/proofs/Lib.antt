@@ -1,7 +1,7 @@
 pub mod TextPartLemmas
 pub mod TextWordLemmas
-pub mod OneTextLemmas
-pub mod OrderedListLemmas
+pub mod ReportApartLemmas
+pub mod ShortListLemmas
 pub mod ByteCutLemmas
 pub mod WordListLemmas
 pub mod NamedLineLemmas
@@ -14,9 +14,9 @@ pub mod SessionFaultLemmas
 pub mod PrintedSessionLemmas
 pub mod RefusedLineLemmas
 pub mod CursorLemmas
-pub mod ReadingLemmas
+pub mod LineReadingLemmas
 pub mod ListedLineLemmas
-pub mod ReportedLemmas
+pub mod ReadReportLemmas
 pub mod ReadSessionLemmas
 pub mod Examples
 pub mod ExamplesOfSessions

@@ -8,29 +8,29 @@ use Rattle.std.proofs.lemmas.Bool.Decides.{Decides-eqb}
 use Rattle.std.proofs.lemmas.Slice.Eq.{slice_eq-Decides}
 use Rattle.std.proofs.lemmas.List.Splits.{length-slice_split}
 use Rattle.std.proofs.lemmas.List.Elements.{recursion_from_All}
-use Rattle.report_text.specs.ReportText.{ArePositions}
-use Rattle.report_text.specs.SessionText.{words_of}
-use Rattle.report_text.specs.SessionStages.{words_in}
+use Rattle.report_text.specs.ReportText.{ReportTextShowsPositions}
+use Rattle.report_text.specs.SessionText.{session_line_words}
+use Rattle.report_text.specs.SessionStages.{stage_words_in}
 use Rattle.report_text.specs.declared.session_line.SessionLine.{SessionLine}
 use Rattle.report_text.specs.declared.session_line.SessionLine.TheVariants.{Opened, Report, At, Total, Threshold, Line}
 use Rattle.report_text.specs.declared.session_line.SessionLine.TheVariants.{Done, Saved, Frames, Skipped, End}
 
 -- texts whose test is false are unlike
-pub unlike_texts : (text other : List ℕ) (b : Bool) → b ≡ pointwise eqb text other → b ≡ false → text ≢ other
-unlike_texts text other b tested is_false same =
+pub named_line_texts_unlike : (text other : List ℕ) (b : Bool) → b ≡ pointwise eqb text other → b ≡ false → text ≢ other
+named_line_texts_unlike text other b tested is_false same =
     both_ways b is_false ((slice_eq-Decides Decides-eqb text other b tested).1 same)
 
 -- a text has a word
-pub some-words : (text : List ℕ) → 1 ≤ length (words_in text)
-some-words text = omega (arith, length-slice_split (λ b. eqb b 32) text)
+pub named_line_has_words : (text : List ℕ) → 1 ≤ length (stage_words_in text)
+named_line_has_words text = omega (arith, length-slice_split (λ b. eqb b 32) text)
 
 -- the first element of a list of texts
-abbrev first_text : List (List ℕ) → List ℕ
-first_text [] = []
-first_text (text ∷ texts) = text
+abbrev name_of_named_line : List (List ℕ) → List ℕ
+name_of_named_line [] = []
+name_of_named_line (text ∷ texts) = text
 
 -- no line has another name and more words
-pub record IsNoName (name : List ℕ) : Type 0 where
+pub record IsNoNamedLine (name : List ℕ) : Type 0 where
   pub line : name ≢ codes "line"
   pub at : name ≢ codes "at"
   pub opened : name ≢ codes "opened"
@@ -40,36 +40,36 @@ pub record IsNoName (name : List ℕ) : Type 0 where
   pub frames : name ≢ codes "frames"
   pub skipped : name ≢ codes "skipped"
 
-pub no-name : (name : List ℕ) (words : List (List ℕ)) → IsNoName name → 1 ≤ length words → (line : SessionLine)
-    → name ∷ words ≡ words_of line → ⊥
-no-name name words none some (Opened positions) same = none.opened (ap first_text same)
-no-name name words none some Report same = absurd (omega (arith, ap length same))
-no-name name words none some (At positions) same = none.at (ap first_text same)
-no-name name words none some (Total total) same = none.total (ap first_text same)
-no-name name words none some (Threshold threshold) same = none.threshold (ap first_text same)
-no-name name words none some (Line line) same = none.line (ap first_text same)
-no-name name words none some Done same = absurd (omega (arith, ap length same))
-no-name name words none some (Saved positions) same = none.saved (ap first_text same)
-no-name name words none some (Frames frames) same = none.frames (ap first_text same)
-no-name name words none some (Skipped skips) same = none.skipped (ap first_text same)
-no-name name words none some End same = absurd (omega (arith, ap length same))
+pub no_named_line_with_words : (name : List ℕ) (words : List (List ℕ)) → IsNoNamedLine name → 1 ≤ length words → (line : SessionLine)
+    → name ∷ words ≡ session_line_words line → ⊥
+no_named_line_with_words name words none some (Opened positions) same = none.opened (ap name_of_named_line same)
+no_named_line_with_words name words none some Report same = absurd (omega (arith, ap length same))
+no_named_line_with_words name words none some (At positions) same = none.at (ap name_of_named_line same)
+no_named_line_with_words name words none some (Total total) same = none.total (ap name_of_named_line same)
+no_named_line_with_words name words none some (Threshold threshold) same = none.threshold (ap name_of_named_line same)
+no_named_line_with_words name words none some (Line line) same = none.line (ap name_of_named_line same)
+no_named_line_with_words name words none some Done same = absurd (omega (arith, ap length same))
+no_named_line_with_words name words none some (Saved positions) same = none.saved (ap name_of_named_line same)
+no_named_line_with_words name words none some (Frames frames) same = none.frames (ap name_of_named_line same)
+no_named_line_with_words name words none some (Skipped skips) same = none.skipped (ap name_of_named_line same)
+no_named_line_with_words name words none some End same = absurd (omega (arith, ap length same))
 
 -- words that begin with some numbers, and have one more word, which is a position, since all are
-pub record IsPosition (word : List ℕ) : Type 0 where
+pub record IsNamedLinePosition (word : List ℕ) : Type 0 where
   pub position : ℕ
   pub within : position ≤ 16777216
   pub spelled : word ≡ decimal position
 
-pub next-position : (before : List ℕ) (word : List ℕ) (words : List (List ℕ)) (positions : List ℕ)
+pub named_line_next_position : (before : List ℕ) (word : List ℕ) (words : List (List ℕ)) (positions : List ℕ)
     → AllByRecursion (λ p. p ≤ 16777216) positions → map decimal before ++ word ∷ words ≡ map decimal positions
-    → IsPosition word
-next-position [] word words [] all same = cc
-next-position [] word words (position ∷ positions) all same =
-    record { position = position; within = all.0; spelled = ap first_text same }
-next-position (number ∷ before) word words [] all same = cc
-next-position (number ∷ before) word words (position ∷ positions) all same =
-    next-position before word words positions all.1 (ap (drop 1) same)
+    → IsNamedLinePosition word
+named_line_next_position [] word words [] all same = cc
+named_line_next_position [] word words (position ∷ positions) all same =
+    record { position = position; within = all.0; spelled = ap name_of_named_line same }
+named_line_next_position (number ∷ before) word words [] all same = cc
+named_line_next_position (number ∷ before) word words (position ∷ positions) all same =
+    named_line_next_position before word words positions all.1 (ap (drop 1) same)
 
 -- the positions that words spell
-pub positions-within : (positions : List ℕ) → ArePositions positions → AllByRecursion (λ p. p ≤ 16777216) positions
-positions-within positions are = recursion_from_All (λ (p : ℕ). p ≤ 16777216) positions are.within
+pub named_line_positions_within : (positions : List ℕ) → ReportTextShowsPositions positions → AllByRecursion (λ p. p ≤ 16777216) positions
+named_line_positions_within positions are = recursion_from_All (λ (p : ℕ). p ≤ 16777216) positions are.within

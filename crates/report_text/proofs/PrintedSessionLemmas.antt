@@ -7,88 +7,88 @@ use Rattle.prefix_lattice.specs.{side_text}
 use Rattle.hhh_output.specs.declared.line.Line.{Line as LineValue}
 use Rattle.hhh_output.specs.declared.report.Report.{Report as ReportValue}
 use Rattle.hhh_output.specs.declared.reports.Reported.{Reported}
-use Rattle.report_text.specs.ReportText.{line_text, lines_text, report_text}
-use Rattle.report_text.specs.SessionText.{text_of, report_lines, saved_lines, saved_text, reported_lines, reported_text}
-use Rattle.report_text.specs.SessionText.{session_lines, session_text, printed_text, whole_lines, IsSession, IsSessionText}
+use Rattle.report_text.specs.ReportText.{report_line_text, report_lines_text, report_text}
+use Rattle.report_text.specs.SessionText.{session_line_text, session_report_lines, session_saved_lines, session_saved_text, session_reported_lines, session_reported_text}
+use Rattle.report_text.specs.SessionText.{session_lines, session_text, printed_session_text, whole_lines_of_session, IsSession, IsSessionText}
 use Rattle.report_text.specs.SessionText.{AreSameSessions}
 use Rattle.report_text.specs.declared.session.Session.{Session}
 use Rattle.report_text.specs.declared.session_line.SessionLine.TheVariants.{Opened, Report, At, Total, Threshold, Line}
 use Rattle.report_text.specs.declared.session_line.SessionLine.TheVariants.{Done, Saved, Frames, Skipped, End}
-use Rattle.report_text.proofs.WholeLineLemmas.{whole_lines-lines}
-use Rattle.report_text.proofs.WholeSessionLemmas.{session-lines, sessions-apart, skips_of}
-use Rattle.report_text.proofs.FirstLineLemmas.{LatticeLaws, texts-apart}
+use Rattle.report_text.proofs.WholeLineLemmas.{whole_lines_of_session-lines}
+use Rattle.report_text.proofs.WholeSessionLemmas.{whole_session_lines, whole_sessions_apart, whole_session_skips}
+use Rattle.report_text.proofs.FirstLineLemmas.{FirstLineLaws, first_lines_told_by_texts}
 
 -- the text of a line of a report
-line-printed : (line : LineValue) → text_of (Line line) ≡ line_text line
-line-printed line =
+printed_session_line : (line : LineValue) → session_line_text (Line line) ≡ report_line_text line
+printed_session_line line =
     ap (λ l. (codes "line" ++ 32 ∷ l) ++ codes "\n")
     (sym (append_assoc (side_text line.prefix.source) (32 ∷ side_text line.prefix.dest)
     (32 ∷ (decimal line.lo ++ 32 ∷ decimal line.hi))))
 
-lines-printed : (lines : List LineValue) → flat_map text_of (map Line lines) ≡ lines_text lines
-lines-printed [] = refl
-lines-printed (line ∷ lines) = ap₂ (λ front behind. front ++ behind) (line-printed line) (lines-printed lines)
+printed_session_lines : (lines : List LineValue) → flat_map session_line_text (map Line lines) ≡ report_lines_text lines
+printed_session_lines [] = refl
+printed_session_lines (line ∷ lines) = ap₂ (λ front behind. front ++ behind) (printed_session_line line) (printed_session_lines lines)
 
-report_groups : (a b c d lines done : List ℕ)
+printed_session_report_groups : (a b c d lines done : List ℕ)
     → a ++ (b ++ (c ++ (d ++ (lines ++ (done ++ []))))) ≡ ((((a ++ b) ++ c) ++ d) ++ lines) ++ done
-report_groups a b c d lines done = simp (append_assoc, append-nil)
+printed_session_report_groups a b c d lines done = simp (append_assoc, append-nil)
 
 -- the text of a report is that of its lines
-pub report-printed : (report : ReportValue) → flat_map text_of (report_lines report) ≡ report_text report
-report-printed report =
+pub printed_session_report : (report : ReportValue) → flat_map session_line_text (session_report_lines report) ≡ report_text report
+printed_session_report report =
     ap
-    (λ l. text_of Report ++ (text_of (At report.positions) ++ (text_of (Total report.total)
-    ++ (text_of (Threshold report.threshold) ++ l))))
-    (flat_map-append text_of (map Line report.lines) (Done ∷ [])
-    ∙ ap (λ l. l ++ (text_of Done ++ [])) (lines-printed report.lines))
-    ∙ report_groups (text_of Report) (text_of (At report.positions)) (text_of (Total report.total))
-    (text_of (Threshold report.threshold)) (lines_text report.lines) (text_of Done)
+    (λ l. session_line_text Report ++ (session_line_text (At report.positions) ++ (session_line_text (Total report.total)
+    ++ (session_line_text (Threshold report.threshold) ++ l))))
+    (flat_map-append session_line_text (map Line report.lines) (Done ∷ [])
+    ∙ ap (λ l. l ++ (session_line_text Done ++ [])) (printed_session_lines report.lines))
+    ∙ printed_session_report_groups (session_line_text Report) (session_line_text (At report.positions)) (session_line_text (Total report.total))
+    (session_line_text (Threshold report.threshold)) (report_lines_text report.lines) (session_line_text Done)
 
-saved-printed : (positions : Option (List ℕ)) → flat_map text_of (saved_lines positions) ≡ saved_text positions
-saved-printed None = refl
-saved-printed (Some positions) = append-nil (text_of (Saved positions))
+printed_session_saved_line : (positions : Option (List ℕ)) → flat_map session_line_text (session_saved_lines positions) ≡ session_saved_text positions
+printed_session_saved_line None = refl
+printed_session_saved_line (Some positions) = append-nil (session_line_text (Saved positions))
 
-reported-printed : (reported : Reported) → flat_map text_of (reported_lines reported) ≡ reported_text reported
-reported-printed reported =
-    flat_map-append text_of (report_lines reported.report) (saved_lines reported.saved)
-    ∙ ap₂ (λ front behind. front ++ behind) (report-printed reported.report) (saved-printed reported.saved)
+printed_session_whole_report : (reported : Reported) → flat_map session_line_text (session_reported_lines reported) ≡ session_reported_text reported
+printed_session_whole_report reported =
+    flat_map-append session_line_text (session_report_lines reported.report) (session_saved_lines reported.saved)
+    ∙ ap₂ (λ front behind. front ++ behind) (printed_session_report reported.report) (printed_session_saved_line reported.saved)
 
-reports-printed : (reports : List Reported)
-    → flat_map text_of (flat_map reported_lines reports) ≡ flat_map reported_text reports
-reports-printed [] = refl
-reports-printed (reported ∷ reports) =
-    flat_map-append text_of (reported_lines reported) (flat_map reported_lines reports)
-    ∙ ap₂ (λ front behind. front ++ behind) (reported-printed reported) (reports-printed reports)
+printed_session_reports : (reports : List Reported)
+    → flat_map session_line_text (flat_map session_reported_lines reports) ≡ flat_map session_reported_text reports
+printed_session_reports [] = refl
+printed_session_reports (reported ∷ reports) =
+    flat_map-append session_line_text (session_reported_lines reported) (flat_map session_reported_lines reports)
+    ∙ ap₂ (λ front behind. front ++ behind) (printed_session_whole_report reported) (printed_session_reports reports)
 
-counts_groups : (a b c : List ℕ) → a ++ (b ++ (c ++ [])) ≡ (a ++ b) ++ c
-counts_groups a b c = simp (append_assoc, append-nil)
+printed_session_counts : (a b c : List ℕ) → a ++ (b ++ (c ++ [])) ≡ (a ++ b) ++ c
+printed_session_counts a b c = simp (append_assoc, append-nil)
 
 -- a session is printed as its text
-pub session-printed : (session : Session) → printed_text session ≡ session_text session
+pub session-printed : (session : Session) → printed_session_text session ≡ session_text session
 session-printed session =
-    let frames = text_of (Frames session.frames) in
-    let skipped_text = text_of (Skipped (skips_of session)) in
+    let frames = session_line_text (Frames session.frames) in
+    let skipped_text = session_line_text (Skipped (whole_session_skips session)) in
     sym
-    (ap (λ l. text_of (Opened session.opened) ++ l)
-    (flat_map-append text_of (flat_map reported_lines session.reports)
-    (Frames session.frames ∷ Skipped (skips_of session) ∷ End ∷ [])
-    ∙ ap₂ (λ front behind. front ++ behind) (reports-printed session.reports)
-    (counts_groups frames skipped_text (text_of End))))
+    (ap (λ l. session_line_text (Opened session.opened) ++ l)
+    (flat_map-append session_line_text (flat_map session_reported_lines session.reports)
+    (Frames session.frames ∷ Skipped (whole_session_skips session) ∷ End ∷ [])
+    ∙ ap₂ (λ front behind. front ++ behind) (printed_session_reports session.reports)
+    (printed_session_counts frames skipped_text (session_line_text End))))
 
 -- the whole lines of the text of a session are its lines
-pub session-whole-lines : (session : Session) → IsSession session
-    → whole_lines (session_text session) ≡ map text_of (session_lines session)
-session-whole-lines session is =
-    ap whole_lines (sym (append-nil (session_text session)))
-    ∙ whole_lines-lines (session_lines session) [] (session-lines session is)
-    ∙ append-nil (map text_of (session_lines session))
+pub printed_session_has_its_lines : (session : Session) → IsSession session
+    → whole_lines_of_session (session_text session) ≡ map session_line_text (session_lines session)
+printed_session_has_its_lines session is =
+    ap whole_lines_of_session (sym (append-nil (session_text session)))
+    ∙ whole_lines_of_session-lines (session_lines session) [] (whole_session_lines session is)
+    ∙ append-nil (map session_line_text (session_lines session))
 
 -- sessions with one text say the same
-pub sessions-of-text : LatticeLaws → (text : List ℕ) (session other : Session) → IsSessionText text session
+pub printed_sessions_told_apart : FirstLineLaws → (text : List ℕ) (session other : Session) → IsSessionText text session
     → IsSessionText text other → AreSameSessions session other
-sessions-of-text laws text session other is other_is =
-    sessions-apart session other
-    (texts-apart laws (session_lines session) (session_lines other) (session-lines session is.is_session)
-    (session-lines other other_is.is_session)
-    (sym (session-whole-lines session is.is_session) ∙ ap whole_lines (sym is.spelled ∙ other_is.spelled)
-    ∙ session-whole-lines other other_is.is_session))
+printed_sessions_told_apart laws text session other is other_is =
+    whole_sessions_apart session other
+    (first_lines_told_by_texts laws (session_lines session) (session_lines other) (whole_session_lines session is.is_session)
+    (whole_session_lines other other_is.is_session)
+    (sym (printed_session_has_its_lines session is.is_session) ∙ ap whole_lines_of_session (sym is.spelled ∙ other_is.spelled)
+    ∙ printed_session_has_its_lines other other_is.is_session))

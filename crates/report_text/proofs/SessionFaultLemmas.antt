@@ -5,112 +5,113 @@ use Rattle.std.specs.List.{flat_map, AllByRecursion}
 use Rattle.std.proofs.Math.Seq.{take-append_seam}
 use Rattle.std.proofs.lemmas.Bool.{cases_lt}
 use Rattle.std.proofs.lemmas.List.{length-map, take-take}
-use Rattle.report_text.specs.SessionText.{IsLine, IsSession, IsSessionText, AreFirstLines, text_of, session_lines}
-use Rattle.report_text.specs.SessionText.{session_text, whole_lines, IsWrongAfter, IsFollowedAfter, IsBadLine, HasTextFault}
-use Rattle.report_text.specs.SessionText.{longest_text}
-use Rattle.report_text.specs.SessionStages.{Stage, nothing, ended, IsOpen, Leads}
+use Rattle.report_text.specs.SessionText.{IsSessionLine, IsSession, IsSessionText, AreFirstSessionLines, session_line_text, session_lines}
+use Rattle.report_text.specs.SessionText.{session_text, whole_lines_of_session, SessionIsWrongAfter, SessionIsFollowedAfter, IsBadSessionLine, HasTextFault}
+use Rattle.report_text.specs.SessionText.{longest_session_text}
+use Rattle.report_text.specs.SessionStages.{Stage, nothing, ended, IsOpenStage, LeadsFromStage}
 use Rattle.report_text.specs.declared.session.Session.{Session}
 use Rattle.report_text.specs.declared.session_line.SessionLine.{SessionLine}
 use Rattle.report_text.specs.declared.session_fault.TextFault.{TextFault}
 use Rattle.report_text.specs.declared.session_fault.TextFault.TheVariants.{BadLine, MissingEnd, TooLong}
-use Rattle.report_text.proofs.WholeLineLemmas.{whole_lines-lines}
-use Rattle.report_text.proofs.StageLemmas.{leads-one, leads-split, ended-last}
-use Rattle.report_text.proofs.WholeSessionLemmas.{session-leads, session-lines}
-use Rattle.report_text.proofs.FirstLineLemmas.{LatticeLaws, texts-apart, part, all-first}
-use Rattle.report_text.proofs.FirstLineLemmas.{session-leads-on, leads-first, GoesOnWith, next-line, first-fewer}
+use Rattle.report_text.proofs.WholeLineLemmas.{whole_lines_of_session-lines}
+use Rattle.report_text.proofs.StageLemmas.{lines_lead_to_one_stage, stage_between_lines, ended_stage_is_last}
+use Rattle.report_text.proofs.WholeSessionLemmas.{whole_session_leads_to_end, whole_session_lines}
+use Rattle.report_text.proofs.FirstLineLemmas.{FirstLineLaws, first_lines_told_by_texts, first_lines_are_parted, first_lines_stay_lines}
+use Rattle.report_text.proofs.FirstLineLemmas.{session_first_lines_lead_on, first_lines_begin_session, FirstLinesGoOnWith, next_line_after_first_lines, fewer_first_lines}
 
 -- the first of joined lists
-take-front : (front behind : List (List ℕ)) (n : ℕ) → n ≡ length front → take n (front ++ behind) ≡ front
-take-front front behind n same =
+session_fault_takes_front : (front behind : List (List ℕ)) (n : ℕ) → n ≡ length front → take n (front ++ behind) ≡ front
+session_fault_takes_front front behind n same =
     ap (λ k. take k (front ++ behind)) same ∙ take-append_seam front behind
 
 -- the first of joined lists, and one element more
-take-one-more : (front : List (List ℕ)) (text : List ℕ) (behind : List (List ℕ)) (n : ℕ) → n ≡ length front
+session_fault_takes_one_more : (front : List (List ℕ)) (text : List ℕ) (behind : List (List ℕ)) (n : ℕ) → n ≡ length front
     → take (n + 1) (front ++ text ∷ behind) ≡ front ++ text ∷ []
-take-one-more front text behind n same =
+session_fault_takes_one_more front text behind n same =
     ap (take (n + 1)) (sym (append_assoc front (text ∷ []) behind))
-    ∙ take-front (front ++ text ∷ []) behind (n + 1) (omega (arith, length-append front (text ∷ []), same))
+    ∙ session_fault_takes_front (front ++ text ∷ []) behind (n + 1) (omega (arith, length-append front (text ∷ []), same))
 
 -- as many texts as lines
-texts-length : (lines : List SessionLine) → length (map text_of lines) ≡ length lines
-texts-length lines = length-map lines text_of
+session_fault_text_count : (lines : List SessionLine) → length (map session_line_text lines) ≡ length lines
+session_fault_text_count lines = length-map lines session_line_text
 
 -- a line that goes on with no beginning of a session
-pub bad-line : LatticeLaws → (text : List ℕ) (read : List SessionLine) (stage : Stage) (line : List ℕ)
-    (behind : List (List ℕ)) → length text ≤ longest_text → AllByRecursion IsLine read
-    → whole_lines text ≡ map text_of read ++ line ∷ behind → Leads nothing read stage → (GoesOnWith stage line → ⊥)
+pub session_fault_bad_line : FirstLineLaws → (text : List ℕ) (read : List SessionLine) (stage : Stage) (line : List ℕ)
+    (behind : List (List ℕ)) → length text ≤ longest_session_text → AllByRecursion IsSessionLine read
+    → whole_lines_of_session text ≡ map session_line_text read ++ line ∷ behind → LeadsFromStage nothing read stage → (FirstLinesGoOnWith stage line → ⊥)
     → HasTextFault text (BadLine (length read + 1))
-bad-line laws text read stage line behind limit all lines leads none =
-    let as_many = texts-length read in
-    let before : take (length read) (whole_lines text) ≡ map text_of read =
-    ap (take (length read)) lines ∙ take-front (map text_of read) (line ∷ behind) (length read) (sym as_many) in
-    let more : take (length read + 1) (whole_lines text) ≡ map text_of read ++ line ∷ [] =
+session_fault_bad_line laws text read stage line behind limit all lines leads none =
+    let as_many = session_fault_text_count read in
+    let before : take (length read) (whole_lines_of_session text) ≡ map session_line_text read =
+    ap (take (length read)) lines ∙ session_fault_takes_front (map session_line_text read) (line ∷ behind) (length read) (sym as_many) in
+    let more : take (length read + 1) (whole_lines_of_session text) ≡ map session_line_text read ++ line ∷ [] =
     ap (take (length read + 1)) lines
-    ∙ take-one-more (map text_of read) line behind (length read) (sym as_many) in (
+    ∙ session_fault_takes_one_more (map session_line_text read) line behind (length read) (sym as_many) in (
       limit,
       (
         length read,
         refl,
         inl (record {
-          whole = omega (arith, ap length lines, length-append (map text_of read) (line ∷ behind), as_many);
-          begun = subst AreFirstLines (sym before) (leads-first laws read stage all leads);
-          wrong = λ first. none (next-line laws read stage line all leads (subst AreFirstLines more first));
+          whole = omega (arith, ap length lines, length-append (map session_line_text read) (line ∷ behind), as_many);
+          begun = subst AreFirstSessionLines (sym before) (first_lines_begin_session laws read stage all leads);
+          wrong = λ first. none (next_line_after_first_lines laws read stage line all leads (subst AreFirstSessionLines more first));
         }),
       ),
     )
 
 -- lines that were read and don't end a session aren't those of a session and others
-open-lines : LatticeLaws → (read : List SessionLine) (stage : Stage) (session : Session) (behind : List (List ℕ))
-    → AllByRecursion IsLine read → Leads nothing read stage → IsOpen stage → IsSession session
-    → map text_of read ≡ map text_of (session_lines session) ++ behind → ⊥
-open-lines laws read stage session behind all leads is_open is same =
-    let parted = part read (map text_of (session_lines session)) behind same in
-    let lines = subst (AllByRecursion IsLine) parted.joined all in
-    let first = texts-apart laws parted.first (session_lines session) (all-first parted.first parted.second lines)
-    (session-lines session is) parted.front_is in
-    let split = leads-split nothing parted.first parted.second stage
-    (subst (λ l. Leads nothing l stage) parted.joined leads) in
+session_fault_open_lines : FirstLineLaws → (read : List SessionLine) (stage : Stage) (session : Session) (behind : List (List ℕ))
+    → AllByRecursion IsSessionLine read → LeadsFromStage nothing read stage → IsOpenStage stage → IsSession session
+    → map session_line_text read ≡ map session_line_text (session_lines session) ++ behind → ⊥
+session_fault_open_lines laws read stage session behind all leads is_open is same =
+    let parted = first_lines_are_parted read (map session_line_text (session_lines session)) behind same in
+    let lines = subst (AllByRecursion IsSessionLine) parted.joined all in
+    let first = first_lines_told_by_texts laws parted.first (session_lines session) (first_lines_stay_lines parted.first parted.second lines)
+    (whole_session_lines session is) parted.front_is in
+    let split = stage_between_lines nothing parted.first parted.second stage
+    (subst (λ l. LeadsFromStage nothing l stage) parted.joined leads) in
     let end : split.0 ≡ ended =
-    leads-one nothing (session_lines session) split.0 ended (subst (λ l. Leads nothing l split.0) first split.1)
-    (session-leads session is) in
-    none_after parted.second (subst (λ s. Leads s parted.second stage) end split.2)
+    lines_lead_to_one_stage nothing (session_lines session) split.0 ended (subst (λ l. LeadsFromStage nothing l split.0) first split.1)
+    (whole_session_leads_to_end session is) in
+    none_after parted.second (subst (λ s. LeadsFromStage s parted.second stage) end split.2)
   where
-    none_after : (lines : List SessionLine) → Leads ended lines stage → ⊥
-    none_after [] leads = subst IsOpen (sym leads) is_open
-    none_after (line ∷ lines) leads = ended-last line lines stage leads
+    none_after : (lines : List SessionLine) → LeadsFromStage ended lines stage → ⊥
+    none_after [] leads = subst IsOpenStage (sym leads) is_open
+    none_after (line ∷ lines) leads = ended_stage_is_last line lines stage leads
 
 -- all lines of a text that was read begin a session, so none is wrong
-pub missing-end : LatticeLaws → (text : List ℕ) (read : List SessionLine) (stage : Stage)
-    → length text ≤ longest_text → AllByRecursion IsLine read → whole_lines text ≡ map text_of read
-    → Leads nothing read stage → IsOpen stage → HasTextFault text (MissingEnd (length read + 1))
-missing-end laws text read stage limit all lines leads is_open =
-    (limit, omega (arith, ap length lines, texts-length read), none_bad, no_session)
+pub session_fault_unfinished : FirstLineLaws → (text : List ℕ) (read : List SessionLine) (stage : Stage)
+    → length text ≤ longest_session_text → AllByRecursion IsSessionLine read → whole_lines_of_session text ≡ map session_line_text read
+    → LeadsFromStage nothing read stage → IsOpenStage stage → HasTextFault text (MissingEnd (length read + 1))
+session_fault_unfinished laws text read stage limit all lines leads is_open =
+    (limit, omega (arith, ap length lines, session_fault_text_count read), none_bad, no_session)
   where
-    none_bad : (line : ℕ) → IsBadLine text line → ⊥
+    none_bad : (line : ℕ) → IsBadSessionLine text line → ⊥
     none_bad line (before, number, inl wrong) =
-        wrong.wrong (first-fewer (take (before + 1) (whole_lines text)) (drop (before + 1) (whole_lines text))
-        (subst AreFirstLines (sym lines ∙ sym (take-append-drop (before + 1) (whole_lines text)))
-        (leads-first laws read stage all leads)))
-    none_bad line (before, number, inr followed) =
-        open-lines laws read stage followed.session (whole_lines (followed.byte ∷ followed.others)) all leads is_open
-        followed.is_session
-        (sym lines ∙ ap whole_lines followed.spelled
-        ∙ whole_lines-lines (session_lines followed.session) (followed.byte ∷ followed.others)
-        (session-lines followed.session followed.is_session))
+        wrong.wrong (fewer_first_lines (take (before + 1) (whole_lines_of_session text)) (drop (before + 1) (whole_lines_of_session text))
+        (subst AreFirstSessionLines (sym lines ∙ sym (take-append-drop (before + 1) (whole_lines_of_session text)))
+        (first_lines_begin_session laws read stage all leads)))
+    none_bad line (before, number, inr session_fault_byte_follows) =
+        session_fault_open_lines laws read stage session_fault_byte_follows.session
+        (whole_lines_of_session (session_fault_byte_follows.byte ∷ session_fault_byte_follows.others)) all leads is_open
+        session_fault_byte_follows.is_session
+        (sym lines ∙ ap whole_lines_of_session session_fault_byte_follows.spelled
+        ∙ whole_lines_of_session-lines (session_lines session_fault_byte_follows.session) (session_fault_byte_follows.byte ∷ session_fault_byte_follows.others)
+        (whole_session_lines session_fault_byte_follows.session session_fault_byte_follows.is_session))
 
     no_session : (session : Session) → IsSessionText text session → ⊥
     no_session session is =
-        open-lines laws read stage session [] all leads is_open is.is_session
-        (sym lines ∙ ap whole_lines (is.spelled ∙ sym (append-nil (session_text session)))
-        ∙ whole_lines-lines (session_lines session) [] (session-lines session is.is_session))
+        session_fault_open_lines laws read stage session [] all leads is_open is.is_session
+        (sym lines ∙ ap whole_lines_of_session (is.spelled ∙ sym (append-nil (session_text session)))
+        ∙ whole_lines_of_session-lines (session_lines session) [] (whole_session_lines session is.is_session))
 
 -- a session and a byte after it
-pub followed : (text : List ℕ) (session : Session) (rest : List ℕ) → length text ≤ longest_text → IsSession session
+pub session_fault_byte_follows : (text : List ℕ) (session : Session) (rest : List ℕ) → length text ≤ longest_session_text → IsSession session
     → text ≡ session_text session ++ rest → length (session_text session) < length text
     → HasTextFault text (BadLine (length (session_lines session) + 1))
-followed text session [] limit is spelled more =
+session_fault_byte_follows text session [] limit is spelled more =
     absurd (omega (arith, ap length spelled, ap length (append-nil (session_text session))))
-followed text session (byte ∷ rest) limit is spelled more = (
+session_fault_byte_follows text session (byte ∷ rest) limit is spelled more = (
   limit,
   (
     length (session_lines session),
@@ -127,158 +128,162 @@ followed text session (byte ∷ rest) limit is spelled more = (
 )
 
 -- no line follows those of a session
-nothing-follows : LatticeLaws → (session : Session) (text : List ℕ) (behind : List (List ℕ)) → IsSession session
-    → AreFirstLines (map text_of (session_lines session) ++ text ∷ behind) → ⊥
-nothing-follows laws session text behind is first =
-    let on = session-leads-on laws first.session (session_lines session) (text ∷ (behind ++ first.others)) first.is_session
-    (session-lines session is)
-    (first.begun ∙ append_assoc (map text_of (session_lines session)) (text ∷ behind) first.others) in
-    let end = leads-one nothing (session_lines session) on.stage ended on.leads (session-leads session is) in
-    none_after on.others on.others_are (subst (λ s. Leads s on.others ended) end on.on)
+session_fault_no_line_follows : FirstLineLaws → (session : Session) (text : List ℕ) (behind : List (List ℕ)) → IsSession session
+    → AreFirstSessionLines (map session_line_text (session_lines session) ++ text ∷ behind) → ⊥
+session_fault_no_line_follows laws session text behind is first =
+    let on = session_first_lines_lead_on laws first.session (session_lines session) (text ∷ (behind ++ first.others)) first.is_session
+    (whole_session_lines session is)
+    (first.begun ∙ append_assoc (map session_line_text (session_lines session)) (text ∷ behind) first.others) in
+    let end = lines_lead_to_one_stage nothing (session_lines session) on.stage ended on.leads (whole_session_leads_to_end session is) in
+    none_after on.others on.others_are (subst (λ s. LeadsFromStage s on.others ended) end on.on)
   where
-    none_after : {more : List (List ℕ)} → (lines : List SessionLine) → map text_of lines ≡ text ∷ more
-        → Leads ended lines ended → ⊥
+    none_after : {more : List (List ℕ)} → (lines : List SessionLine) → map session_line_text lines ≡ text ∷ more
+        → LeadsFromStage ended lines ended → ⊥
     none_after [] same leads = cc
-    none_after (line ∷ lines) same leads = ended-last line lines ended leads
+    none_after (line ∷ lines) same leads = ended_stage_is_last line lines ended leads
 
 -- what is wrong after some lines
-abbrev IsBadAfter : List ℕ → ℕ → Type 0
-IsBadAfter text before = IsWrongAfter text before ⊎ IsFollowedAfter text before
+abbrev IsSessionFaultAfter : List ℕ → ℕ → Type 0
+IsSessionFaultAfter text before = SessionIsWrongAfter text before ⊎ SessionIsFollowedAfter text before
 
 -- the whole lines of a session and what follows
-session-whole : (session : Session) (text rest : List ℕ) → IsSession session → text ≡ session_text session ++ rest
-    → whole_lines text ≡ map text_of (session_lines session) ++ whole_lines rest
-session-whole session text rest is spelled =
-    ap whole_lines spelled ∙ whole_lines-lines (session_lines session) rest (session-lines session is)
+session_fault_all_lines : (session : Session) (text rest : List ℕ) → IsSession session → text ≡ session_text session ++ rest
+    → whole_lines_of_session text ≡ map session_line_text (session_lines session) ++ whole_lines_of_session rest
+session_fault_all_lines session text rest is spelled =
+    ap whole_lines_of_session spelled ∙ whole_lines_of_session-lines (session_lines session) rest (whole_session_lines session is)
 
 -- where a line is wrong, no session begins with it and those before
-bad-wrong : LatticeLaws → (text : List ℕ) (before : ℕ) → IsBadAfter text before → before < length (whole_lines text)
-    → AreFirstLines (take (before + 1) (whole_lines text)) → ⊥
-bad-wrong laws text before (inl wrong) within first = wrong.wrong first
-bad-wrong laws text before (inr followed) within first =
-    let session = followed.session in
-    let lines = session-whole session text (followed.byte ∷ followed.others) followed.is_session followed.spelled in
-    one_more session (whole_lines (followed.byte ∷ followed.others)) followed.is_session lines followed.ends
+session_fault_line_is_wrong : FirstLineLaws → (text : List ℕ) (before : ℕ) → IsSessionFaultAfter text before → before < length (whole_lines_of_session text)
+    → AreFirstSessionLines (take (before + 1) (whole_lines_of_session text)) → ⊥
+session_fault_line_is_wrong laws text before (inl wrong) within first = wrong.wrong first
+session_fault_line_is_wrong laws text before (inr session_fault_byte_follows) within first =
+    let session = session_fault_byte_follows.session in
+    let lines = session_fault_all_lines session text (session_fault_byte_follows.byte ∷ session_fault_byte_follows.others)
+    session_fault_byte_follows.is_session session_fault_byte_follows.spelled in
+    one_more session (whole_lines_of_session (session_fault_byte_follows.byte ∷ session_fault_byte_follows.others)) session_fault_byte_follows.is_session lines
+    session_fault_byte_follows.ends
   where
     one_more : (session : Session) (behind : List (List ℕ)) → IsSession session
-        → whole_lines text ≡ map text_of (session_lines session) ++ behind → length (session_lines session) ≡ before → ⊥
+        → whole_lines_of_session text ≡ map session_line_text (session_lines session) ++ behind → length (session_lines session) ≡ before → ⊥
     one_more session [] is lines ends =
         absurd (omega (
           arith,
           ap length lines,
-          length-append (map text_of (session_lines session)) [],
-          texts-length (session_lines session),
+          length-append (map session_line_text (session_lines session)) [],
+          session_fault_text_count (session_lines session),
           ends,
           within,
         ))
     one_more session (line ∷ behind) is lines ends =
-        nothing-follows laws session line [] is
-        (subst AreFirstLines
+        session_fault_no_line_follows laws session line [] is
+        (subst AreFirstSessionLines
         (ap (take (before + 1)) lines
-        ∙ take-one-more (map text_of (session_lines session)) line behind before
-        (sym ends ∙ sym (texts-length (session_lines session)))) first)
+        ∙ session_fault_takes_one_more (map session_line_text (session_lines session)) line behind before
+        (sym ends ∙ sym (session_fault_text_count (session_lines session)))) first)
 
 -- the lines before a wrong one begin a session
-bad-begun : (text : List ℕ) (before : ℕ) → IsBadAfter text before
-    → AreFirstLines (take before (whole_lines text)) × (before ≤ length (whole_lines text))
-bad-begun text before (inl wrong) = (wrong.begun, let within = wrong.whole in omega arith)
-bad-begun text before (inr followed) =
-    let session = followed.session in
-    let behind = whole_lines (followed.byte ∷ followed.others) in
-    let lines = session-whole session text (followed.byte ∷ followed.others) followed.is_session followed.spelled in
-    let as_many = sym followed.ends ∙ sym (texts-length (session_lines session)) in
-    let same : take before (whole_lines text) ≡ map text_of (session_lines session) =
-    ap (take before) lines ∙ take-front (map text_of (session_lines session)) behind before as_many in (
+session_fault_lines_begun : (text : List ℕ) (before : ℕ) → IsSessionFaultAfter text before
+    → AreFirstSessionLines (take before (whole_lines_of_session text)) × (before ≤ length (whole_lines_of_session text))
+session_fault_lines_begun text before (inl wrong) = (wrong.begun, let within = wrong.whole in omega arith)
+session_fault_lines_begun text before (inr session_fault_byte_follows) =
+    let session = session_fault_byte_follows.session in
+    let behind = whole_lines_of_session (session_fault_byte_follows.byte ∷ session_fault_byte_follows.others) in
+    let lines = session_fault_all_lines session text (session_fault_byte_follows.byte ∷ session_fault_byte_follows.others)
+    session_fault_byte_follows.is_session session_fault_byte_follows.spelled in
+    let as_many = sym session_fault_byte_follows.ends ∙ sym (session_fault_text_count (session_lines session)) in
+    let same : take before (whole_lines_of_session text) ≡ map session_line_text (session_lines session) =
+    ap (take before) lines ∙ session_fault_takes_front (map session_line_text (session_lines session)) behind before as_many in (
       record {
         session = session;
-        is_session = followed.is_session;
+        is_session = session_fault_byte_follows.is_session;
         others = [];
-        begun = sym (append-nil (map text_of (session_lines session))) ∙ ap (λ l. l ++ []) (sym same);
+        begun = sym (append-nil (map session_line_text (session_lines session))) ∙ ap (λ l. l ++ []) (sym same);
       },
-      omega (arith, ap length lines, length-append (map text_of (session_lines session)) behind, as_many),
+      omega (arith, ap length lines, length-append (map session_line_text (session_lines session)) behind, as_many),
     )
 
 -- no wrong line comes before another
-not-before : LatticeLaws → (text : List ℕ) (before later : ℕ) → IsBadAfter text before → IsBadAfter text later
+session_fault_not_before : FirstLineLaws → (text : List ℕ) (before later : ℕ) → IsSessionFaultAfter text before → IsSessionFaultAfter text later
     → before < later → ⊥
-not-before laws text before later bad other less =
-    let begun = bad-begun text later other in
-    let front = take later (whole_lines text) in
-    let fewer : take (before + 1) front ≡ take (before + 1) (whole_lines text) =
-    take-take (before + 1) later (whole_lines text) (omega arith) in
-    let within : later ≤ length (whole_lines text) = begun.1 in
-    bad-wrong laws text before bad (omega arith)
-    (subst AreFirstLines fewer (first-fewer (take (before + 1) front) (drop (before + 1) front)
-    (subst AreFirstLines (sym (take-append-drop (before + 1) front)) begun.0)))
+session_fault_not_before laws text before later bad other less =
+    let begun = session_fault_lines_begun text later other in
+    let front = take later (whole_lines_of_session text) in
+    let fewer : take (before + 1) front ≡ take (before + 1) (whole_lines_of_session text) =
+    take-take (before + 1) later (whole_lines_of_session text) (omega arith) in
+    let within : later ≤ length (whole_lines_of_session text) = begun.1 in
+    session_fault_line_is_wrong laws text before bad (omega arith)
+    (subst AreFirstSessionLines fewer (fewer_first_lines (take (before + 1) front) (drop (before + 1) front)
+    (subst AreFirstSessionLines (sym (take-append-drop (before + 1) front)) begun.0)))
 
 -- a text has one wrong line
-one-bad-line : LatticeLaws → (text : List ℕ) (line other : ℕ) → IsBadLine text line → IsBadLine text other → line ≡ other
-one-bad-line laws text line other (before, number, bad) (later, other_number, other_bad) =
+session_fault_one_bad_line : FirstLineLaws → (text : List ℕ) (line other : ℕ) → IsBadSessionLine text line → IsBadSessionLine text other → line ≡ other
+session_fault_one_bad_line laws text line other (before, number, bad) (later, other_number, other_bad) =
     elim (cases_lt before later) [
-      | inl less ↦ absurd (not-before laws text before later bad other_bad less)
+      | inl less ↦ absurd (session_fault_not_before laws text before later bad other_bad less)
       | inr most ↦ elim (cases_lt later before) [
-        | inl less ↦ absurd (not-before laws text later before other_bad bad less)
+        | inl less ↦ absurd (session_fault_not_before laws text later before other_bad bad less)
         | inr least ↦ omega arith
       ]
     ]
 
 -- a text of a session has no wrong line
-session-not-bad : LatticeLaws → (text : List ℕ) (session : Session) (line : ℕ) → IsSessionText text session
-    → IsBadLine text line → ⊥
-session-not-bad laws text session line is (before, number, bad) =
+no_line_fault_in_session : FirstLineLaws → (text : List ℕ) (session : Session) (line : ℕ) → IsSessionText text session
+    → IsBadSessionLine text line → ⊥
+no_line_fault_in_session laws text session line is (before, number, bad) =
     of_bad bad
   where
-    lines : whole_lines text ≡ map text_of (session_lines session)
-    lines = session-whole session text [] is.is_session (is.spelled ∙ sym (append-nil (session_text session)))
-        ∙ append-nil (map text_of (session_lines session))
+    lines : whole_lines_of_session text ≡ map session_line_text (session_lines session)
+    lines = session_fault_all_lines session text [] is.is_session (is.spelled ∙ sym (append-nil (session_text session)))
+        ∙ append-nil (map session_line_text (session_lines session))
 
-    all_first : AreFirstLines (whole_lines text)
+    all_first : AreFirstSessionLines (whole_lines_of_session text)
     all_first = record {
       session = session;
       is_session = is.is_session;
       others = [];
-      begun = sym lines ∙ sym (append-nil (whole_lines text));
+      begun = sym lines ∙ sym (append-nil (whole_lines_of_session text));
     }
 
     no_more : (other : Session) (behind : List (List ℕ)) (rest : List ℕ) → IsSession other
-        → whole_lines text ≡ map text_of (session_lines other) ++ behind
+        → whole_lines_of_session text ≡ map session_line_text (session_lines other) ++ behind
         → text ≡ session_text other ++ rest → 1 ≤ length rest → ⊥
     no_more other [] rest other_is same spelled some =
-        let texts : map text_of (session_lines session) ≡ map text_of (session_lines other) =
-        sym lines ∙ same ∙ append-nil (map text_of (session_lines other)) in
-        let one = texts-apart laws (session_lines session) (session_lines other)
-        (session-lines session is.is_session) (session-lines other other_is) texts in
-        let again : session_text session ≡ session_text other = ap (flat_map text_of) one in
+        let texts : map session_line_text (session_lines session) ≡ map session_line_text (session_lines other) =
+        sym lines ∙ same ∙ append-nil (map session_line_text (session_lines other)) in
+        let one = first_lines_told_by_texts laws (session_lines session) (session_lines other)
+        (whole_session_lines session is.is_session) (whole_session_lines other other_is) texts in
+        let again : session_text session ≡ session_text other = ap (flat_map session_line_text) one in
         absurd (omega (arith, ap length spelled, ap length (is.spelled ∙ again), length-append (session_text other) rest))
     no_more other (next ∷ behind) rest other_is same spelled some =
-        nothing-follows laws other next behind other_is (subst AreFirstLines same all_first)
+        session_fault_no_line_follows laws other next behind other_is (subst AreFirstSessionLines same all_first)
 
-    of_bad : IsBadAfter text before → ⊥
+    of_bad : IsSessionFaultAfter text before → ⊥
     of_bad (inl wrong) =
-        wrong.wrong (first-fewer (take (before + 1) (whole_lines text)) (drop (before + 1) (whole_lines text))
-        (subst AreFirstLines (sym (take-append-drop (before + 1) (whole_lines text))) all_first))
-    of_bad (inr followed) =
-        let rest = followed.byte ∷ followed.others in
-        no_more followed.session (whole_lines rest) rest followed.is_session
-        (session-whole followed.session text rest followed.is_session followed.spelled) followed.spelled (omega arith)
+        wrong.wrong (fewer_first_lines (take (before + 1) (whole_lines_of_session text)) (drop (before + 1) (whole_lines_of_session text))
+        (subst AreFirstSessionLines (sym (take-append-drop (before + 1) (whole_lines_of_session text))) all_first))
+    of_bad (inr session_fault_byte_follows) =
+        let rest = session_fault_byte_follows.byte ∷ session_fault_byte_follows.others in
+        no_more session_fault_byte_follows.session (whole_lines_of_session rest) rest session_fault_byte_follows.is_session
+        (session_fault_all_lines session_fault_byte_follows.session text rest session_fault_byte_follows.is_session session_fault_byte_follows.spelled)
+        session_fault_byte_follows.spelled (omega arith)
 
 -- the text of a session has no fault
-pub session-no-fault : LatticeLaws → (text : List ℕ) (session : Session) (fault : TextFault) → IsSessionText text session
-    → length text ≤ longest_text → HasTextFault text fault → ⊥
-session-no-fault laws text session (BadLine line) is limit has = session-not-bad laws text session line is has.1
+pub session-no-fault : FirstLineLaws → (text : List ℕ) (session : Session) (fault : TextFault) → IsSessionText text session
+    → length text ≤ longest_session_text → HasTextFault text fault → ⊥
+session-no-fault laws text session (BadLine line) is limit has = no_line_fault_in_session laws text session line is has.1
 session-no-fault laws text session (MissingEnd line) is limit has = has.3 session is
 session-no-fault laws text session TooLong is limit has = absurd (omega arith)
 
 -- a text has one fault
-pub one-fault : LatticeLaws → (text : List ℕ) (fault other : TextFault) → HasTextFault text fault
+pub session_fault_is_unique : FirstLineLaws → (text : List ℕ) (fault other : TextFault) → HasTextFault text fault
     → HasTextFault text other → fault ≡ other
-one-fault laws text (BadLine line) (BadLine other) has other_has =
-    ap BadLine (one-bad-line laws text line other has.1 other_has.1)
-one-fault laws text (BadLine line) (MissingEnd other) has other_has = absurd (other_has.2 line has.1)
-one-fault laws text (BadLine line) TooLong has other_has = absurd (omega arith)
-one-fault laws text (MissingEnd line) (BadLine other) has other_has = absurd (has.2 other other_has.1)
-one-fault laws text (MissingEnd line) (MissingEnd other) has other_has = ap MissingEnd (has.1 ∙ sym other_has.1)
-one-fault laws text (MissingEnd line) TooLong has other_has = absurd (omega arith)
-one-fault laws text TooLong (BadLine other) has other_has = absurd (omega arith)
-one-fault laws text TooLong (MissingEnd other) has other_has = absurd (omega arith)
-one-fault laws text TooLong TooLong has other_has = refl
+session_fault_is_unique laws text (BadLine line) (BadLine other) has other_has =
+    ap BadLine (session_fault_one_bad_line laws text line other has.1 other_has.1)
+session_fault_is_unique laws text (BadLine line) (MissingEnd other) has other_has = absurd (other_has.2 line has.1)
+session_fault_is_unique laws text (BadLine line) TooLong has other_has = absurd (omega arith)
+session_fault_is_unique laws text (MissingEnd line) (BadLine other) has other_has = absurd (has.2 other other_has.1)
+session_fault_is_unique laws text (MissingEnd line) (MissingEnd other) has other_has = ap MissingEnd (has.1 ∙ sym other_has.1)
+session_fault_is_unique laws text (MissingEnd line) TooLong has other_has = absurd (omega arith)
+session_fault_is_unique laws text TooLong (BadLine other) has other_has = absurd (omega arith)
+session_fault_is_unique laws text TooLong (MissingEnd other) has other_has = absurd (omega arith)
+session_fault_is_unique laws text TooLong TooLong has other_has = refl

@@ -7,16 +7,16 @@ use Rattle.std.specs.declared.cmp.Ordering.TheVariants.{Less}
 use Rattle.std.proofs.lemmas.List.Elements.{All-from_recursion}
 use Rattle.std.proofs.lemmas.List.Kept.{AllPairs-cons}
 use Rattle.prefix_lattice.specs.{PrefixValue, report_order}
-use Rattle.prefix_lattice.proofs.ListLemmas.{AllPairs-tail}
-use Rattle.hhh_output.specs.{AreLines}
+use Rattle.prefix_lattice.proofs.ListLemmas.{AllPairs-list_tail}
+use Rattle.hhh_output.specs.{AreReportLines}
 use Rattle.hhh_output.specs.declared.line.Line.{Line as LineValue}
 use Rattle.hhh_output.specs.declared.report.Report.{Report as ReportValue}
 use Rattle.hhh_output.specs.declared.reports.Reported.{Reported}
-use Rattle.report_text.specs.ReportText.{ArePositions, IsShowableLine}
-use Rattle.report_text.specs.SessionText.{IsLine, IsReportLine, AreSkips, ArePositionsOf, IsReportedOf, IsSession}
-use Rattle.report_text.specs.SessionText.{reported_lines, saved_lines, session_lines}
+use Rattle.report_text.specs.ReportText.{ReportTextShowsPositions, ReportTextShowsLine}
+use Rattle.report_text.specs.SessionText.{IsSessionLine, IsSessionReportLine, AreSessionSkips, AreSessionTextPositions, IsReportedInSession, IsSession}
+use Rattle.report_text.specs.SessionText.{session_reported_lines, session_saved_lines, session_lines}
 use Rattle.report_text.specs.SessionStages.{Stage, nothing, opened, begun, placed, weighed, listing, done, saved, counted}
-use Rattle.report_text.specs.SessionStages.{skipped, ended, Follows, Leads, ComesAfter, body_lines}
+use Rattle.report_text.specs.SessionStages.{skipped, ended, FollowsStage, LeadsFromStage, ComesAfterInStage, stage_body_lines}
 use Rattle.report_text.specs.declared.session.Session.{Session}
 use Rattle.report_text.specs.declared.session_line.Skips.{Skips}
 use Rattle.report_text.specs.declared.session_line.SessionLine.{SessionLine}
@@ -24,22 +24,22 @@ use Rattle.report_text.specs.declared.session_line.SessionLine.TheVariants.{Open
 use Rattle.report_text.specs.declared.session_line.SessionLine.TheVariants.{Done, Saved, Frames, Skipped, End}
 
 -- lines of a report that rise from the last one on
-abbrev pub Rises : Option PrefixValue → List LineValue → Type 0
-Rises last [] = Unit {0}
-Rises last (line ∷ lines) = ComesAfter last line.prefix × Rises (Some line.prefix) lines
+abbrev pub SessionPartRises : Option PrefixValue → List LineValue → Type 0
+SessionPartRises last [] = Unit {0}
+SessionPartRises last (line ∷ lines) = ComesAfterInStage last line.prefix × SessionPartRises (Some line.prefix) lines
 
 -- a line comes before another in a report
-abbrev pub Precedes : LineValue → LineValue → Type 0
-Precedes line later = report_order line.prefix later.prefix ≡ Less
+abbrev pub PrecedesInSessionPart : LineValue → LineValue → Type 0
+PrecedesInSessionPart line later = report_order line.prefix later.prefix ≡ Less
 
 -- a line has its low at most at its high
-abbrev pub IsOrdered : LineValue → Type 0
-IsOrdered line = line.lo ≤ line.hi
+abbrev pub IsOrderedSessionPart : LineValue → Type 0
+IsOrderedSessionPart line = line.lo ≤ line.hi
 
 -- lines that rise from a prefix on all come after it
-rises-after : IsTotalOrder report_order → (last : PrefixValue) (lines : List LineValue) → Rises (Some last) lines
+SessionPartRises-after : IsTotalOrder report_order → (last : PrefixValue) (lines : List LineValue) → SessionPartRises (Some last) lines
     → All (λ line. report_order last line.prefix ≡ Less) lines
-rises-after order last lines rises = All-from_recursion (λ line. report_order last line.prefix ≡ Less) lines
+SessionPartRises-after order last lines rises = All-from_recursion (λ line. report_order last line.prefix ≡ Less) lines
     (by_recursion order last lines rises)
   where
     weaken : IsTotalOrder report_order → (last next : PrefixValue) (lines : List LineValue)
@@ -49,142 +49,142 @@ rises-after order last lines rises = All-from_recursion (λ line. report_order l
     weaken order last next (line ∷ lines) less all =
         (order.trans last next line.prefix less all.0, weaken order last next lines less all.1)
 
-    by_recursion : IsTotalOrder report_order → (last : PrefixValue) (lines : List LineValue) → Rises (Some last) lines
+    by_recursion : IsTotalOrder report_order → (last : PrefixValue) (lines : List LineValue) → SessionPartRises (Some last) lines
         → AllByRecursion (λ line. report_order last line.prefix ≡ Less) lines
     by_recursion order last [] rises = tt
     by_recursion order last (line ∷ lines) rises =
         (rises.0, weaken order last line.prefix lines rises.0 (by_recursion order line.prefix lines rises.1))
 
 -- lines that rise are in the strict order of a report
-pub rises-pairs : IsTotalOrder report_order → (last : Option PrefixValue) (lines : List LineValue) → Rises last lines
-    → AllPairs Precedes lines
-rises-pairs order last [] rises = λ place later other before within. absurd (omega arith)
-rises-pairs order last (line ∷ lines) rises =
-    AllPairs-cons Precedes line lines (rises-after order line.prefix lines rises.1)
-    (rises-pairs order (Some line.prefix) lines rises.1)
+pub SessionPartRises-pairs : IsTotalOrder report_order → (last : Option PrefixValue) (lines : List LineValue) → SessionPartRises last lines
+    → AllPairs PrecedesInSessionPart lines
+SessionPartRises-pairs order last [] rises = λ place later other before within. absurd (omega arith)
+SessionPartRises-pairs order last (line ∷ lines) rises =
+    AllPairs-cons PrecedesInSessionPart line lines (SessionPartRises-after order line.prefix lines rises.1)
+    (SessionPartRises-pairs order (Some line.prefix) lines rises.1)
 
 -- and back
-pub pairs-rise : (last : Option PrefixValue) (lines : List LineValue)
-    → ((line : LineValue) (others : List LineValue) → lines ≡ line ∷ others → ComesAfter last line.prefix)
-    → AllPairs Precedes lines → Rises last lines
-pairs-rise last [] first pairs = tt
-pairs-rise last (line ∷ []) first pairs = (first line [] refl, tt)
-pairs-rise last (line ∷ second ∷ lines) first pairs = (
+pub session_part_pairs_rise : (last : Option PrefixValue) (lines : List LineValue)
+    → ((line : LineValue) (others : List LineValue) → lines ≡ line ∷ others → ComesAfterInStage last line.prefix)
+    → AllPairs PrecedesInSessionPart lines → SessionPartRises last lines
+session_part_pairs_rise last [] first pairs = tt
+session_part_pairs_rise last (line ∷ []) first pairs = (first line [] refl, tt)
+session_part_pairs_rise last (line ∷ second ∷ lines) first pairs = (
   first line (second ∷ lines) refl,
-  pairs-rise (Some line.prefix) (second ∷ lines)
+  session_part_pairs_rise (Some line.prefix) (second ∷ lines)
       (λ next others same.
       let heads : second ≡ next = cc in
       subst (λ l. report_order line.prefix l.prefix ≡ Less) heads (pairs 0 1 line (omega arith) (omega arith)))
-      (AllPairs-tail Precedes line (second ∷ lines) pairs),
+      (AllPairs-list_tail PrecedesInSessionPart line (second ∷ lines) pairs),
 )
 
 -- the counts and the end of a session over n shards, after some reports
-pub record Tail (n : ℕ) (lines : List SessionLine) : Type 0 where
+pub record SessionTailPart (n : ℕ) (lines : List SessionLine) : Type 0 where
   reports : List Reported
-  are : AllByRecursion (IsReportedOf n) reports
+  are : AllByRecursion (IsReportedInSession n) reports
   frames : ℕ
   small : frames < 2 ^ 64
   skips : Skips
-  are_skips : AreSkips skips
-  spelled : lines ≡ flat_map reported_lines reports ++ Frames frames ∷ Skipped skips ∷ End ∷ []
+  are_skips : AreSessionSkips skips
+  spelled : lines ≡ flat_map session_reported_lines reports ++ Frames frames ∷ Skipped skips ∷ End ∷ []
 
 -- what may follow a report
-pub record AfterDone (n : ℕ) (lines : List SessionLine) : Type 0 where
+pub record SessionPartAfterDone (n : ℕ) (lines : List SessionLine) : Type 0 where
   saved : Option (List ℕ)
-  are_saved : IfSome saved (ArePositionsOf n)
+  are_saved : IfSome saved (AreSessionTextPositions n)
   rest : List SessionLine
-  tail : Tail n rest
-  spelled : lines ≡ saved_lines saved ++ rest
+  tail : SessionTailPart n rest
+  spelled : lines ≡ session_saved_lines saved ++ rest
 
 -- the other lines of a report, after so many
-pub record Listed (n count : ℕ) (last : Option PrefixValue) (lines : List SessionLine) : Type 0 where
+pub record ListedSessionPart (n count : ℕ) (last : Option PrefixValue) (lines : List SessionLine) : Type 0 where
   listed : List LineValue
   few : count < 2 ^ 24 → count + length listed < 2 ^ 24
-  are : AllByRecursion IsReportLine listed
-  rising : Rises last listed
+  are : AllByRecursion IsSessionReportLine listed
+  rising : SessionPartRises last listed
   rest : List SessionLine
-  after : AfterDone n rest
+  after : SessionPartAfterDone n rest
   spelled : lines ≡ map Line listed ++ Done ∷ rest
 
 -- what follows the total of a report
-pub record Weighed (n : ℕ) (lines : List SessionLine) : Type 0 where
+pub record WeighedSessionPart (n : ℕ) (lines : List SessionLine) : Type 0 where
   threshold : ℕ
   some : 1 ≤ threshold
   small : threshold < 2 ^ 64
   rest : List SessionLine
-  listed : Listed n 0 None rest
+  listed : ListedSessionPart n 0 None rest
   spelled : lines ≡ Threshold threshold ∷ rest
 
 -- what follows the positions of a report
-pub record Placed (n : ℕ) (lines : List SessionLine) : Type 0 where
+pub record PlacedSessionPart (n : ℕ) (lines : List SessionLine) : Type 0 where
   total : ℕ
   small : total < 2 ^ 64
   rest : List SessionLine
-  weighed : Weighed n rest
+  weighed : WeighedSessionPart n rest
   spelled : lines ≡ Total total ∷ rest
 
 -- what a report of a session holds
-pub record IsReportOf (n : ℕ) (report : ReportValue) : Type 0 where
-  positions : ArePositionsOf n report.positions
+pub record IsSessionPartReport (n : ℕ) (report : ReportValue) : Type 0 where
+  positions : AreSessionTextPositions n report.positions
   total : report.total < 2 ^ 64
   some : 1 ≤ report.threshold
   threshold : report.threshold < 2 ^ 64
-  lines : AllByRecursion IsShowableLine report.lines
+  lines : AllByRecursion ReportTextShowsLine report.lines
 
 -- what follows the first line of a report
-pub record Begun (n : ℕ) (lines : List SessionLine) : Type 0 where
+pub record BegunSessionPart (n : ℕ) (lines : List SessionLine) : Type 0 where
   report : ReportValue
-  is_report : IsReportOf n report
+  is_report : IsSessionPartReport n report
   rest : List SessionLine
-  after : AfterDone n rest
-  spelled : lines ≡ body_lines report ++ rest
+  after : SessionPartAfterDone n rest
+  spelled : lines ≡ stage_body_lines report ++ rest
 
 -- lines that follow the first line of a report follow it
-pub record Started (n : ℕ) (lines : List SessionLine) : Type 0 where
+pub record StartedSessionPart (n : ℕ) (lines : List SessionLine) : Type 0 where
   rest : List SessionLine
-  begun : Begun n rest
+  begun : BegunSessionPart n rest
   spelled : lines ≡ Report ∷ rest
 
 -- all lines of a session
-pub record Whole (lines : List SessionLine) : Type 0 where
+pub record SessionFromParts (lines : List SessionLine) : Type 0 where
   pub session : Session
   pub is_session : IsSession session
   pub spelled : lines ≡ session_lines session
 
 -- what may follow each stage
-abbrev pub Rest : Stage → List SessionLine → Type 0
-Rest nothing lines = Whole lines
-Rest (opened n) lines = Started n lines
-Rest (begun n) lines = Begun n lines
-Rest (placed n) lines = Placed n lines
-Rest (weighed n) lines = Weighed n lines
-Rest (listing n count last) lines = Listed n count last lines
-Rest (done n) lines = AfterDone n lines
-Rest (saved n) lines = Tail n lines
-Rest counted lines = (skips : Skips) × AreSkips skips × (lines ≡ Skipped skips ∷ End ∷ [])
-Rest skipped lines = lines ≡ End ∷ []
-Rest ended lines = lines ≡ []
+abbrev pub SessionPartRest : Stage → List SessionLine → Type 0
+SessionPartRest nothing lines = SessionFromParts lines
+SessionPartRest (opened n) lines = StartedSessionPart n lines
+SessionPartRest (begun n) lines = BegunSessionPart n lines
+SessionPartRest (placed n) lines = PlacedSessionPart n lines
+SessionPartRest (weighed n) lines = WeighedSessionPart n lines
+SessionPartRest (listing n count last) lines = ListedSessionPart n count last lines
+SessionPartRest (done n) lines = SessionPartAfterDone n lines
+SessionPartRest (saved n) lines = SessionTailPart n lines
+SessionPartRest counted lines = (skips : Skips) × AreSessionSkips skips × (lines ≡ Skipped skips ∷ End ∷ [])
+SessionPartRest skipped lines = lines ≡ End ∷ []
+SessionPartRest ended lines = lines ≡ []
 
-showable : (lines : List LineValue) → AllByRecursion IsReportLine lines → AllByRecursion IsShowableLine lines
-showable [] all = tt
-showable (line ∷ lines) all = (all.0.showable, showable lines all.1)
+session_part_is_showable : (lines : List LineValue) → AllByRecursion IsSessionReportLine lines → AllByRecursion ReportTextShowsLine lines
+session_part_is_showable [] all = tt
+session_part_is_showable (line ∷ lines) all = (all.0.showable, session_part_is_showable lines all.1)
 
-ordered : (lines : List LineValue) → AllByRecursion IsReportLine lines → AllByRecursion IsOrdered lines
-ordered [] all = tt
-ordered (line ∷ lines) all = (all.0.ordered, ordered lines all.1)
+session_part_is_ordered : (lines : List LineValue) → AllByRecursion IsSessionReportLine lines → AllByRecursion IsOrderedSessionPart lines
+session_part_is_ordered [] all = tt
+session_part_is_ordered (line ∷ lines) all = (all.0.ordered, session_part_is_ordered lines all.1)
 
 -- the lines of a report are in order
-listed-lines : IsTotalOrder report_order → (n : ℕ) (lines : List SessionLine) (l : Listed n 0 None lines) → AreLines l.listed
-listed-lines order n lines l = record {
+session_part_lines_in_order : IsTotalOrder report_order → (n : ℕ) (lines : List SessionLine) (l : ListedSessionPart n 0 None lines) → AreReportLines l.listed
+session_part_lines_in_order order n lines l = record {
   few = let few : 0 + length l.listed < 2 ^ 24 = l.few (omega arith) in omega arith;
-  ordered = All-from_recursion IsOrdered l.listed (ordered l.listed l.are);
-  rising = rises-pairs order None l.listed l.rising;
+  ordered = All-from_recursion IsOrderedSessionPart l.listed (session_part_is_ordered l.listed l.are);
+  rising = SessionPartRises-pairs order None l.listed l.rising;
 }
 
 -- what follows the first line of a report, from its positions on
-begun-of : IsTotalOrder report_order → (n : ℕ) (positions : List ℕ) (lines : List SessionLine)
-    → ArePositionsOf n positions → Placed n lines → Begun n (At positions ∷ lines)
-begun-of order n positions lines are placed_lines =
+begun_session_part : IsTotalOrder report_order → (n : ℕ) (positions : List ℕ) (lines : List SessionLine)
+    → AreSessionTextPositions n positions → PlacedSessionPart n lines → BegunSessionPart n (At positions ∷ lines)
+begun_session_part order n positions lines are placed_lines =
     let weighed_lines = placed_lines.weighed in
     let listed_lines = weighed_lines.listed in
     record {
@@ -193,14 +193,14 @@ begun-of order n positions lines are placed_lines =
         total = placed_lines.total;
         threshold = weighed_lines.threshold;
         lines = listed_lines.listed;
-        are_lines = listed-lines order n weighed_lines.rest listed_lines;
+        are_lines = session_part_lines_in_order order n weighed_lines.rest listed_lines;
       };
       is_report = record {
         positions = are;
         total = placed_lines.small;
         some = weighed_lines.some;
         threshold = weighed_lines.small;
-        lines = showable listed_lines.listed listed_lines.are;
+        lines = session_part_is_showable listed_lines.listed listed_lines.are;
       };
       rest = listed_lines.rest;
       after = listed_lines.after;
@@ -213,13 +213,13 @@ begun-of order n positions lines are placed_lines =
           (listed_lines.spelled ∙ sym (append_assoc (map Line listed_lines.listed) (Done ∷ []) listed_lines.rest))));
     }
 
-report_groups : (body mark reports tail : List SessionLine)
+session_part_report_groups : (body mark reports tail : List SessionLine)
     → body ++ (mark ++ (reports ++ tail)) ≡ ((body ++ mark) ++ reports) ++ tail
-report_groups body mark reports tail = simp append_assoc
+session_part_report_groups body mark reports tail = simp append_assoc
 
 -- a report and the reports after it
-abbrev report-tail : (n : ℕ) (lines : List SessionLine) → Begun n lines → Tail n (Report ∷ lines)
-report-tail n lines begun_lines =
+abbrev session_part_report_tail : (n : ℕ) (lines : List SessionLine) → BegunSessionPart n lines → SessionTailPart n (Report ∷ lines)
+session_part_report_tail n lines begun_lines =
     let report = begun_lines.report in
     let is = begun_lines.is_report in
     let after = begun_lines.after in
@@ -232,7 +232,7 @@ report-tail n lines begun_lines =
           total = is.total;
           some = is.some;
           threshold = is.threshold;
-          lines = All-from_recursion IsShowableLine report.lines is.lines;
+          lines = All-from_recursion ReportTextShowsLine report.lines is.lines;
           saved = after.are_saved;
         },
         tail.are,
@@ -244,16 +244,16 @@ report-tail n lines begun_lines =
       spelled =
           ap (λ l. Report ∷ l)
           (begun_lines.spelled
-          ∙ ap (λ l. body_lines report ++ l)
-          (after.spelled ∙ ap (λ l. saved_lines after.saved ++ l) tail.spelled)
-          ∙ report_groups (body_lines report) (saved_lines after.saved) (flat_map reported_lines tail.reports)
+          ∙ ap (λ l. stage_body_lines report ++ l)
+          (after.spelled ∙ ap (λ l. session_saved_lines after.saved ++ l) tail.spelled)
+          ∙ session_part_report_groups (stage_body_lines report) (session_saved_lines after.saved) (flat_map session_reported_lines tail.reports)
           (Frames tail.frames ∷ Skipped tail.skips ∷ End ∷ []));
     }
 
 -- the counts right after a report
-counts-tail : (n frames : ℕ) (skips : Skips) (lines : List SessionLine) → frames < 2 ^ 64 → AreSkips skips
-    → lines ≡ Skipped skips ∷ End ∷ [] → Tail n (Frames frames ∷ lines)
-counts-tail n frames skips lines small are spelled = record {
+session_part_counts_tail : (n frames : ℕ) (skips : Skips) (lines : List SessionLine) → frames < 2 ^ 64 → AreSessionSkips skips
+    → lines ≡ Skipped skips ∷ End ∷ [] → SessionTailPart n (Frames frames ∷ lines)
+session_part_counts_tail n frames skips lines small are spelled = record {
   reports = [];
   are = tt;
   frames = frames;
@@ -264,14 +264,14 @@ counts-tail n frames skips lines small are spelled = record {
 }
 
 -- a report that was not saved
-unsaved : (n : ℕ) (lines : List SessionLine) → Tail n lines → AfterDone n lines
-unsaved n lines tail = record { saved = None; are_saved = tt; rest = lines; tail = tail; spelled = refl }
+unsaved_session_part : (n : ℕ) (lines : List SessionLine) → SessionTailPart n lines → SessionPartAfterDone n lines
+unsaved_session_part n lines tail = record { saved = None; are_saved = tt; rest = lines; tail = tail; spelled = refl }
 
 -- all lines of a session, from the positions at its start and what follows
-whole-of : (positions : List ℕ) (lines : List SessionLine) → ArePositions positions
-    → Started (length positions) lines → Whole (Opened positions ∷ lines)
-whole-of positions lines are started =
-    let tail = report-tail (length positions) started.rest started.begun in
+session_of_opened_parts : (positions : List ℕ) (lines : List SessionLine) → ReportTextShowsPositions positions
+    → StartedSessionPart (length positions) lines → SessionFromParts (Opened positions ∷ lines)
+session_of_opened_parts positions lines are started =
+    let tail = session_part_report_tail (length positions) started.rest started.begun in
     record {
       session = record {
         opened = positions;
@@ -284,7 +284,7 @@ whole-of positions lines are started =
       is_session = record {
         opened = are;
         some = omega arith;
-        reports = All-from_recursion (IsReportedOf (length positions)) tail.reports tail.are;
+        reports = All-from_recursion (IsReportedInSession (length positions)) tail.reports tail.are;
         frames = tail.small;
         not_ipv4 = tail.are_skips.not_ipv4;
         short = tail.are_skips.short;
@@ -294,27 +294,27 @@ whole-of positions lines are started =
     }
 
 -- one line more in front
-rest-step : IsTotalOrder report_order → (stage : Stage) (line : SessionLine) (next : Stage) (lines : List SessionLine)
-    → Follows stage line next → IsLine line → Rest next lines → Rest stage (line ∷ lines)
-rest-step order nothing (Opened positions) next lines follows is rest =
-    whole-of positions lines is (subst (λ s. Rest s lines) follows rest)
-rest-step order (opened n) Report next lines follows is rest =
-    record { rest = lines; begun = subst (λ s. Rest s lines) follows rest; spelled = refl }
-rest-step order (begun n) (At positions) next lines follows is rest =
-    begun-of order n positions lines (record { are_positions = is; as_many = follows.0 })
-    (subst (λ s. Rest s lines) follows.1 rest)
-rest-step order (placed n) (Total total) next lines follows is rest =
-    record { total = total; small = is; rest = lines; weighed = subst (λ s. Rest s lines) follows rest; spelled = refl }
-rest-step order (weighed n) (Threshold threshold) next lines follows is rest = record {
+session_part_one_line_more : IsTotalOrder report_order → (stage : Stage) (line : SessionLine) (next : Stage) (lines : List SessionLine)
+    → FollowsStage stage line next → IsSessionLine line → SessionPartRest next lines → SessionPartRest stage (line ∷ lines)
+session_part_one_line_more order nothing (Opened positions) next lines follows is rest =
+    session_of_opened_parts positions lines is (subst (λ s. SessionPartRest s lines) follows rest)
+session_part_one_line_more order (opened n) Report next lines follows is rest =
+    record { rest = lines; begun = subst (λ s. SessionPartRest s lines) follows rest; spelled = refl }
+session_part_one_line_more order (begun n) (At positions) next lines follows is rest =
+    begun_session_part order n positions lines (record { are_positions = is; as_many = follows.0 })
+    (subst (λ s. SessionPartRest s lines) follows.1 rest)
+session_part_one_line_more order (placed n) (Total total) next lines follows is rest =
+    record { total = total; small = is; rest = lines; weighed = subst (λ s. SessionPartRest s lines) follows rest; spelled = refl }
+session_part_one_line_more order (weighed n) (Threshold threshold) next lines follows is rest = record {
   threshold = threshold;
   some = is.0;
   small = is.1;
   rest = lines;
-  listed = subst (λ s. Rest s lines) follows rest;
+  listed = subst (λ s. SessionPartRest s lines) follows rest;
   spelled = refl;
 }
-rest-step order (listing n count last) (Line line) next lines follows is rest =
-    let others = subst (λ s. Rest s lines) follows.2 rest in
+session_part_one_line_more order (listing n count last) (Line line) next lines follows is rest =
+    let others = subst (λ s. SessionPartRest s lines) follows.2 rest in
     record {
       listed = line ∷ others.listed;
       few = λ small. let more : count + 1 + length others.listed < 2 ^ 24 = others.few follows.1 in omega arith;
@@ -324,45 +324,45 @@ rest-step order (listing n count last) (Line line) next lines follows is rest =
       after = others.after;
       spelled = ap (λ l. Line line ∷ l) others.spelled;
     }
-rest-step order (listing n count last) Done next lines follows is rest = record {
+session_part_one_line_more order (listing n count last) Done next lines follows is rest = record {
   listed = [];
   few = λ small. omega arith;
   are = tt;
   rising = tt;
   rest = lines;
-  after = subst (λ s. Rest s lines) follows rest;
+  after = subst (λ s. SessionPartRest s lines) follows rest;
   spelled = refl;
 }
-rest-step order (done n) Report next lines follows is rest =
-    unsaved n (Report ∷ lines) (report-tail n lines (subst (λ s. Rest s lines) follows rest))
-rest-step order (done n) (Saved positions) next lines follows is rest = record {
+session_part_one_line_more order (done n) Report next lines follows is rest =
+    unsaved_session_part n (Report ∷ lines) (session_part_report_tail n lines (subst (λ s. SessionPartRest s lines) follows rest))
+session_part_one_line_more order (done n) (Saved positions) next lines follows is rest = record {
   saved = Some positions;
   are_saved = record { are_positions = is; as_many = follows.0 };
   rest = lines;
-  tail = subst (λ s. Rest s lines) follows.1 rest;
+  tail = subst (λ s. SessionPartRest s lines) follows.1 rest;
   spelled = refl;
 }
-rest-step order (done n) (Frames frames) next lines follows is rest =
-    let counts = subst (λ s. Rest s lines) follows rest in
-    unsaved n (Frames frames ∷ lines) (counts-tail n frames counts.0 lines is counts.1 counts.2)
-rest-step order (saved n) Report next lines follows is rest =
-    report-tail n lines (subst (λ s. Rest s lines) follows rest)
-rest-step order (saved n) (Frames frames) next lines follows is rest =
-    let counts = subst (λ s. Rest s lines) follows rest in counts-tail n frames counts.0 lines is counts.1 counts.2
-rest-step order counted (Skipped skips) next lines follows is rest =
-    (skips, is, ap (λ l. Skipped skips ∷ l) (subst (λ s. Rest s lines) follows rest))
-rest-step order skipped End next lines follows is rest =
-    ap (λ l. End ∷ l) (subst (λ s. Rest s lines) follows rest)
-rest-step order _ _ next lines follows is rest = absurd follows
+session_part_one_line_more order (done n) (Frames frames) next lines follows is rest =
+    let counts = subst (λ s. SessionPartRest s lines) follows rest in
+    unsaved_session_part n (Frames frames ∷ lines) (session_part_counts_tail n frames counts.0 lines is counts.1 counts.2)
+session_part_one_line_more order (saved n) Report next lines follows is rest =
+    session_part_report_tail n lines (subst (λ s. SessionPartRest s lines) follows rest)
+session_part_one_line_more order (saved n) (Frames frames) next lines follows is rest =
+    let counts = subst (λ s. SessionPartRest s lines) follows rest in session_part_counts_tail n frames counts.0 lines is counts.1 counts.2
+session_part_one_line_more order counted (Skipped skips) next lines follows is rest =
+    (skips, is, ap (λ l. Skipped skips ∷ l) (subst (λ s. SessionPartRest s lines) follows rest))
+session_part_one_line_more order skipped End next lines follows is rest =
+    ap (λ l. End ∷ l) (subst (λ s. SessionPartRest s lines) follows rest)
+session_part_one_line_more order _ _ next lines follows is rest = absurd follows
 
 -- lines that lead to the end of a session are what may follow
-rest-of : IsTotalOrder report_order → (stage : Stage) (lines : List SessionLine) → Leads stage lines ended
-    → AllByRecursion IsLine lines → Rest stage lines
-rest-of order stage [] leads all = subst (λ s. Rest s []) (sym leads) refl
-rest-of order stage (line ∷ lines) leads all =
-    rest-step order stage line leads.0 lines leads.1 all.0 (rest-of order leads.0 lines leads.2 all.1)
+session_part_leads_to_end : IsTotalOrder report_order → (stage : Stage) (lines : List SessionLine) → LeadsFromStage stage lines ended
+    → AllByRecursion IsSessionLine lines → SessionPartRest stage lines
+session_part_leads_to_end order stage [] leads all = subst (λ s. SessionPartRest s []) (sym leads) refl
+session_part_leads_to_end order stage (line ∷ lines) leads all =
+    session_part_one_line_more order stage line leads.0 lines leads.1 all.0 (session_part_leads_to_end order leads.0 lines leads.2 all.1)
 
 -- lines that lead from the start to the end are those of a session
-pub whole-session : IsTotalOrder report_order → (lines : List SessionLine) → Leads nothing lines ended
-    → AllByRecursion IsLine lines → Whole lines
-whole-session order lines leads all = rest-of order nothing lines leads all
+pub session_parts_make_session : IsTotalOrder report_order → (lines : List SessionLine) → LeadsFromStage nothing lines ended
+    → AllByRecursion IsSessionLine lines → SessionFromParts lines
+session_parts_make_session order lines leads all = session_part_leads_to_end order nothing lines leads all

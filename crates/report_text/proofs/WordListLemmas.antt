@@ -8,163 +8,165 @@ use Rattle.std.proofs.lemmas.List.Elements.{All-from_recursion, recursion_from_A
 use Rattle.std.proofs.lemmas.List.Splits.{slice_split_at, slice_split_none, join_with_byte-slice_split}
 use Rattle.std.proofs.lemmas.Fmt.{decimal_injective}
 use Rattle.hhh_output.specs.declared.line.Line.{Line as LineValue}
-use Rattle.report_text.specs.ReportText.{ArePositions}
-use Rattle.report_text.specs.SessionText.{IsLine, words_of, text_of}
-use Rattle.report_text.specs.SessionStages.{words_in}
+use Rattle.report_text.specs.ReportText.{ReportTextShowsPositions}
+use Rattle.report_text.specs.SessionText.{IsSessionLine, session_line_words, session_line_text}
+use Rattle.report_text.specs.SessionStages.{stage_words_in}
 use Rattle.report_text.specs.declared.session_line.Skips.{Skips}
 use Rattle.report_text.specs.declared.session_line.SessionLine.{SessionLine}
 use Rattle.report_text.specs.declared.session_line.SessionLine.TheVariants.{Opened, Report, At, Total, Threshold, Line}
 use Rattle.report_text.specs.declared.session_line.SessionLine.TheVariants.{Done, Saved, Frames, Skipped, End}
 use Rattle.prefix_lattice.specs.{prefix_text, side_text}
-use Rattle.report_text.proofs.OneTextLemmas.{PrefixTextsAreApart}
-use Rattle.report_text.proofs.TextWordLemmas.{IsWord, decimal-word, side-word}
+use Rattle.report_text.proofs.ReportApartLemmas.{ReportPrefixesAreApart}
+use Rattle.report_text.proofs.TextWordLemmas.{IsTextWord, decimal_is_text_word, side_is_text_word}
 
 -- a word has no space
-no_space : (word : List ℕ) → IsWord word → AllByRecursion (λ byte. eqb byte 32 ≡ false) word
-no_space [] is = tt
-no_space (byte ∷ word) is = (ne_eqb byte 32 (λ same. let great : 46 ≤ byte = is.0 in omega arith), no_space word is.1)
+no_space_in_word_list : (word : List ℕ) → IsTextWord word → AllByRecursion (λ byte. eqb byte 32 ≡ false) word
+no_space_in_word_list [] is = tt
+no_space_in_word_list (byte ∷ word) is = (ne_eqb byte 32 (λ same. let great : 46 ≤ byte = is.0 in omega arith), no_space_in_word_list word is.1)
 
-without_space : (word : List ℕ) → IsWord word → All (λ byte. eqb byte 32 ≡ false) word
-without_space word is = All-from_recursion (λ byte. eqb byte 32 ≡ false) word (no_space word is)
+word_list_without_space : (word : List ℕ) → IsTextWord word → All (λ byte. eqb byte 32 ≡ false) word
+word_list_without_space word is = All-from_recursion (λ byte. eqb byte 32 ≡ false) word (no_space_in_word_list word is)
 
 -- a word is the only word in it
-pub words_in-word : (word : List ℕ) → IsWord word → words_in word ≡ word ∷ []
-words_in-word word is = slice_split_none (λ byte. eqb byte 32) word (without_space word is)
+pub word_list_of_word : (word : List ℕ) → IsTextWord word → stage_words_in word ≡ word ∷ []
+word_list_of_word word is = slice_split_none (λ byte. eqb byte 32) word (word_list_without_space word is)
 
 -- words that are joined by spaces are the words in the text
-pub words_in-join : (first : List ℕ) (others : List (List ℕ)) → IsWord first → AllByRecursion IsWord others
-    → words_in (join_with_byte 32 (first ∷ others)) ≡ first ∷ others
-words_in-join first [] is all = words_in-word first is
-words_in-join first (second ∷ others) is all =
-    slice_split_at (λ byte. eqb byte 32) first 32 (join_with_byte 32 (second ∷ others)) (without_space first is) refl
-    ∙ ap (λ l. first ∷ l) (words_in-join second others all.0 all.1)
+pub word_list_of_joined_words : (first : List ℕ) (others : List (List ℕ)) → IsTextWord first → AllByRecursion IsTextWord others
+    → stage_words_in (join_with_byte 32 (first ∷ others)) ≡ first ∷ others
+word_list_of_joined_words first [] is all = word_list_of_word first is
+word_list_of_joined_words first (second ∷ others) is all =
+    slice_split_at (λ byte. eqb byte 32) first 32 (join_with_byte 32 (second ∷ others)) (word_list_without_space first is) refl
+    ∙ ap (λ l. first ∷ l) (word_list_of_joined_words second others all.0 all.1)
 
 -- the words in a text, joined by spaces, are the text
-pub join-words_in : (text : List ℕ) → join_with_byte 32 (words_in text) ≡ text
-join-words_in text = join_with_byte-slice_split 32 text
+pub word_list_joins_to_text : (text : List ℕ) → join_with_byte 32 (stage_words_in text) ≡ text
+word_list_joins_to_text text = join_with_byte-slice_split 32 text
 
 -- numbers are words
-numbers-words : (numbers : List ℕ) → AllByRecursion (λ n. n < 2 ^ 64) numbers → AllByRecursion IsWord (map decimal numbers)
-numbers-words [] all = tt
-numbers-words (number ∷ numbers) all = (decimal-word number all.0, numbers-words numbers all.1)
+word_list_of_numbers : (numbers : List ℕ) → AllByRecursion (λ n. n < 2 ^ 64) numbers → AllByRecursion IsTextWord (map decimal numbers)
+word_list_of_numbers [] all = tt
+word_list_of_numbers (number ∷ numbers) all = (decimal_is_text_word number all.0, word_list_of_numbers numbers all.1)
 
 -- positions are numbers of 64 bits
-small : (positions : List ℕ) → AllByRecursion (λ n. n ≤ 16777216) positions → AllByRecursion (λ n. n < 2 ^ 64) positions
-small [] all = tt
-small (position ∷ positions) all = (let few : position ≤ 16777216 = all.0 in omega arith, small positions all.1)
+word_list_small_numbers : (positions : List ℕ) → AllByRecursion (λ n. n ≤ 16777216) positions → AllByRecursion (λ n. n < 2 ^ 64) positions
+word_list_small_numbers [] all = tt
+word_list_small_numbers (position ∷ positions) all = (let few : position ≤ 16777216 = all.0 in omega arith, word_list_small_numbers positions all.1)
 
-pub positions-small : (positions : List ℕ) → ArePositions positions → AllByRecursion (λ n. n < 2 ^ 64) positions
-positions-small positions are =
-    small positions (recursion_from_All (λ (n : ℕ). n ≤ 16777216) positions are.within)
+pub word_list_small_positions : (positions : List ℕ) → ReportTextShowsPositions positions → AllByRecursion (λ n. n < 2 ^ 64) positions
+word_list_small_positions positions are =
+    word_list_small_numbers positions (recursion_from_All (λ (n : ℕ). n ≤ 16777216) positions are.within)
 
-pub positions-words : (positions : List ℕ) → ArePositions positions → AllByRecursion IsWord (map decimal positions)
-positions-words positions are = numbers-words positions (positions-small positions are)
+pub word_list_of_positions : (positions : List ℕ) → ReportTextShowsPositions positions → AllByRecursion IsTextWord (map decimal positions)
+word_list_of_positions positions are = word_list_of_numbers positions (word_list_small_positions positions are)
 
 -- the words of a line
-pub words_of-words : (line : SessionLine) → IsLine line → AllByRecursion IsWord (words_of line)
-words_of-words (Opened positions) is = (search rules, positions-words positions is)
-words_of-words Report is = (search rules, tt)
-words_of-words (At positions) is = (search rules, positions-words positions is)
-words_of-words (Total total) is = (search rules, (decimal-word total is, tt))
-words_of-words (Threshold threshold) is = (search rules, (decimal-word threshold is.1, tt))
-words_of-words (Line line) is = (
+pub word_list_of_line : (line : SessionLine) → IsSessionLine line → AllByRecursion IsTextWord (session_line_words line)
+word_list_of_line (Opened positions) is = (search rules, word_list_of_positions positions is)
+word_list_of_line Report is = (search rules, tt)
+word_list_of_line (At positions) is = (search rules, word_list_of_positions positions is)
+word_list_of_line (Total total) is = (search rules, (decimal_is_text_word total is, tt))
+word_list_of_line (Threshold threshold) is = (search rules, (decimal_is_text_word threshold is.1, tt))
+word_list_of_line (Line line) is = (
   search rules,
   (
-    side-word line.prefix.source is.showable.is_prefix.source,
+    side_is_text_word line.prefix.source is.showable.is_prefix.source,
     (
-      side-word line.prefix.dest is.showable.is_prefix.dest,
-      (decimal-word line.lo is.showable.low, (decimal-word line.hi is.showable.high, tt)),
+      side_is_text_word line.prefix.dest is.showable.is_prefix.dest,
+      (decimal_is_text_word line.lo is.showable.low, (decimal_is_text_word line.hi is.showable.high, tt)),
     ),
   ),
 )
-words_of-words Done is = (search rules, tt)
-words_of-words (Saved positions) is = (search rules, positions-words positions is)
-words_of-words (Frames frames) is = (search rules, (decimal-word frames is, tt))
-words_of-words (Skipped skips) is = (
+word_list_of_line Done is = (search rules, tt)
+word_list_of_line (Saved positions) is = (search rules, word_list_of_positions positions is)
+word_list_of_line (Frames frames) is = (search rules, (decimal_is_text_word frames is, tt))
+word_list_of_line (Skipped skips) is = (
   search rules,
   (
-    decimal-word skips.not_ipv4 is.not_ipv4,
+    decimal_is_text_word skips.not_ipv4 is.not_ipv4,
     (
-      decimal-word skips.short is.short,
-      (decimal-word skips.bad_header is.bad_header, tt),
+      decimal_is_text_word skips.short is.short,
+      (decimal_is_text_word skips.bad_header is.bad_header, tt),
     ),
   ),
 )
-words_of-words End is = (search rules, tt)
+word_list_of_line End is = (search rules, tt)
 
 -- the words in joined words, of which there is one at least
-words_in-some : (words : List (List ℕ)) → 1 ≤ length words → AllByRecursion IsWord words
-    → words_in (join_with_byte 32 words) ≡ words
-words_in-some [] some all = absurd (omega arith)
-words_in-some (word ∷ words) some all = words_in-join word words all.0 all.1
+word_list_of_some_words : (words : List (List ℕ)) → 1 ≤ length words → AllByRecursion IsTextWord words
+    → stage_words_in (join_with_byte 32 words) ≡ words
+word_list_of_some_words [] some all = absurd (omega arith)
+word_list_of_some_words (word ∷ words) some all = word_list_of_joined_words word words all.0 all.1
 
 -- a line has at least one word
-some_word : (line : SessionLine) → 1 ≤ length (words_of line)
-some_word (Opened positions) = omega arith
-some_word (At positions) = omega arith
-some_word (Saved positions) = omega arith
-some_word _ = omega arith
+word_list_is_not_empty : (line : SessionLine) → 1 ≤ length (session_line_words line)
+word_list_is_not_empty (Opened positions) = omega arith
+word_list_is_not_empty (At positions) = omega arith
+word_list_is_not_empty (Saved positions) = omega arith
+word_list_is_not_empty _ = omega arith
 
 -- the words in the text of a line are its words
-pub words_in-line : (line : SessionLine) (text : List ℕ) → IsLine line → text_of line ≡ text ++ 10 ∷ []
-    → words_in text ≡ words_of line
-words_in-line line text is same =
-    ap words_in (sym (append_cancel_right (join_with_byte 32 (words_of line)) text (10 ∷ []) same))
-    ∙ words_in-some (words_of line) (some_word line) (words_of-words line is)
+pub word_list_in_line_text : (line : SessionLine) (text : List ℕ) → IsSessionLine line → session_line_text line ≡ text ++ 10 ∷ []
+    → stage_words_in text ≡ session_line_words line
+word_list_in_line_text line text is same =
+    ap stage_words_in (sym (append_cancel_right (join_with_byte 32 (session_line_words line)) text (10 ∷ []) same))
+    ∙ word_list_of_some_words (session_line_words line) (word_list_is_not_empty line) (word_list_of_line line is)
 
 -- a text that has the words of a line is its text, but for the line feed
-pub text_of-words : (line : SessionLine) (text : List ℕ) → words_in text ≡ words_of line → text_of line ≡ text ++ 10 ∷ []
-text_of-words line text same =
-    ap (λ words. join_with_byte 32 words ++ 10 ∷ []) (sym same) ∙ ap (λ l. l ++ 10 ∷ []) (join-words_in text)
+pub word_list_tells_line_text : (line : SessionLine) (text : List ℕ) → stage_words_in text ≡ session_line_words line
+    → session_line_text line ≡ text ++ 10 ∷ []
+word_list_tells_line_text line text same =
+    ap (λ words. join_with_byte 32 words ++ 10 ∷ []) (sym same) ∙ ap (λ l. l ++ 10 ∷ []) (word_list_joins_to_text text)
 
 -- lists of numbers with the same digits are the same
-numbers-same : (numbers others : List ℕ) → AllByRecursion (λ n. n < 2 ^ 64) numbers
+word_list_same_numbers : (numbers others : List ℕ) → AllByRecursion (λ n. n < 2 ^ 64) numbers
     → AllByRecursion (λ n. n < 2 ^ 64) others → map decimal numbers ≡ map decimal others → numbers ≡ others
-numbers-same [] [] small others_small same = refl
-numbers-same [] (other ∷ others) small others_small same = cc
-numbers-same (number ∷ numbers) [] small others_small same = cc
-numbers-same (number ∷ numbers) (other ∷ others) small others_small same =
+word_list_same_numbers [] [] word_list_small_numbers others_small same = refl
+word_list_same_numbers [] (other ∷ others) word_list_small_numbers others_small same = cc
+word_list_same_numbers (number ∷ numbers) [] word_list_small_numbers others_small same = cc
+word_list_same_numbers (number ∷ numbers) (other ∷ others) word_list_small_numbers others_small same =
     let head : decimal number ≡ decimal other = cc in
     let rest : map decimal numbers ≡ map decimal others = cc in
-    let first = decimal_injective number other small.0 others_small.0 head in
-    let behind = numbers-same numbers others small.1 others_small.1 rest in
+    let first = decimal_injective number other word_list_small_numbers.0 others_small.0 head in
+    let behind = word_list_same_numbers numbers others word_list_small_numbers.1 others_small.1 rest in
     cc
 
 -- the first two letters of the first word
-abbrev initials : List (List ℕ) → ℕ
-initials [] = 0
-initials (word ∷ words) = 256 * get_or word 0 0 + get_or word 1 0
+abbrev word_list_initials : List (List ℕ) → ℕ
+word_list_initials [] = 0
+word_list_initials (word ∷ words) = 256 * get_or word 0 0 + get_or word 1 0
 
-lines_same : (line other : LineValue) → line.prefix ≡ other.prefix → line.lo ≡ other.lo → line.hi ≡ other.hi
+word_list_same_lines : (line other : LineValue) → line.prefix ≡ other.prefix → line.lo ≡ other.lo → line.hi ≡ other.hi
     → line ≡ other
-lines_same line other one two three =
+word_list_same_lines line other one two three =
     ap (λ p. record { prefix = p; lo = line.lo; hi = line.hi }) one
     ∙ ap (λ n. record { prefix = other.prefix; lo = n; hi = line.hi }) two
     ∙ ap (λ n. record { prefix = other.prefix; lo = other.lo; hi = n }) three
 
-skips_same : (skips other : Skips) → skips.not_ipv4 ≡ other.not_ipv4 → skips.short ≡ other.short
+word_list_same_skips : (skips other : Skips) → skips.not_ipv4 ≡ other.not_ipv4 → skips.short ≡ other.short
     → skips.bad_header ≡ other.bad_header → skips ≡ other
-skips_same skips other one two three =
+word_list_same_skips skips other one two three =
     ap (λ n. record { not_ipv4 = n; short = skips.short; bad_header = skips.bad_header }) one
     ∙ ap (λ n. record { not_ipv4 = other.not_ipv4; short = n; bad_header = skips.bad_header }) two
     ∙ ap (λ n. record { not_ipv4 = other.not_ipv4; short = other.short; bad_header = n }) three
 
 -- lines with the same words are the same
-pub words_of-apart : PrefixTextsAreApart → (line other : SessionLine) → IsLine line → IsLine other → words_of line ≡ words_of other
+pub word_list_tells_line : ReportPrefixesAreApart → (line other : SessionLine) → IsSessionLine line → IsSessionLine other
+    → session_line_words line ≡ session_line_words other
     → line ≡ other
-words_of-apart law (Opened positions) (Opened others) is other_is same =
+word_list_tells_line law (Opened positions) (Opened others) is other_is same =
     let rest : map decimal positions ≡ map decimal others = cc in
-    ap Opened (numbers-same positions others (positions-small positions is) (positions-small others other_is) rest)
-words_of-apart law Report Report is other_is same = refl
-words_of-apart law (At positions) (At others) is other_is same =
+    ap Opened (word_list_same_numbers positions others (word_list_small_positions positions is) (word_list_small_positions others other_is) rest)
+word_list_tells_line law Report Report is other_is same = refl
+word_list_tells_line law (At positions) (At others) is other_is same =
     let rest : map decimal positions ≡ map decimal others = cc in
-    ap At (numbers-same positions others (positions-small positions is) (positions-small others other_is) rest)
-words_of-apart law (Total total) (Total other) is other_is same =
+    ap At (word_list_same_numbers positions others (word_list_small_positions positions is) (word_list_small_positions others other_is) rest)
+word_list_tells_line law (Total total) (Total other) is other_is same =
     let rest : decimal total ≡ decimal other = cc in ap Total (decimal_injective total other is other_is rest)
-words_of-apart law (Threshold threshold) (Threshold other) is other_is same =
+word_list_tells_line law (Threshold threshold) (Threshold other) is other_is same =
     let rest : decimal threshold ≡ decimal other = cc in
     ap Threshold (decimal_injective threshold other is.1 other_is.1 rest)
-words_of-apart law (Line line) (Line other) is other_is same =
+word_list_tells_line law (Line line) (Line other) is other_is same =
     let source : side_text line.prefix.source ≡ side_text other.prefix.source = cc in
     let dest : side_text line.prefix.dest ≡ side_text other.prefix.dest = cc in
     let low : decimal line.lo ≡ decimal other.lo = cc in
@@ -174,21 +176,22 @@ words_of-apart law (Line line) (Line other) is other_is same =
     let prefixes = law line.prefix other.prefix is.showable.is_prefix other_is.showable.is_prefix texts in
     let lows = decimal_injective line.lo other.lo is.showable.low other_is.showable.low low in
     let highs = decimal_injective line.hi other.hi is.showable.high other_is.showable.high high in
-    ap Line (lines_same line other prefixes lows highs)
-words_of-apart law Done Done is other_is same = refl
-words_of-apart law (Saved positions) (Saved others) is other_is same =
+    ap Line (word_list_same_lines line other prefixes lows highs)
+word_list_tells_line law Done Done is other_is same = refl
+word_list_tells_line law (Saved positions) (Saved others) is other_is same =
     let rest : map decimal positions ≡ map decimal others = cc in
-    ap Saved (numbers-same positions others (positions-small positions is) (positions-small others other_is) rest)
-words_of-apart law (Frames frames) (Frames other) is other_is same =
+    ap Saved (word_list_same_numbers positions others (word_list_small_positions positions is) (word_list_small_positions others other_is) rest)
+word_list_tells_line law (Frames frames) (Frames other) is other_is same =
     let rest : decimal frames ≡ decimal other = cc in ap Frames (decimal_injective frames other is other_is rest)
-words_of-apart law (Skipped skips) (Skipped other) is other_is same =
+word_list_tells_line law (Skipped skips) (Skipped other) is other_is same =
     let first : decimal skips.not_ipv4 ≡ decimal other.not_ipv4 = cc in
     let second : decimal skips.short ≡ decimal other.short = cc in
     let third : decimal skips.bad_header ≡ decimal other.bad_header = cc in
     let one = decimal_injective skips.not_ipv4 other.not_ipv4 is.not_ipv4 other_is.not_ipv4 first in
     let two = decimal_injective skips.short other.short is.short other_is.short second in
     let three = decimal_injective skips.bad_header other.bad_header is.bad_header other_is.bad_header third in
-    ap Skipped (skips_same skips other one two three)
-words_of-apart law End End is other_is same = refl
-words_of-apart law line other is other_is same =
-    let kinds : initials (words_of line) ≡ initials (words_of other) = ap initials same in absurd (omega arith)
+    ap Skipped (word_list_same_skips skips other one two three)
+word_list_tells_line law End End is other_is same = refl
+word_list_tells_line law line other is other_is same =
+    let kinds : word_list_initials (session_line_words line) ≡ word_list_initials (session_line_words other) = ap word_list_initials same in absurd
+    (omega arith)

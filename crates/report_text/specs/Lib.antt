@@ -2,8 +2,8 @@ pub mod ReportText
 pub mod SessionText
 -- within the crate
 pub mod SessionStages
-pub mod Reading
+pub mod LineReading
 -- the face: what contracts of other crates cite
-pub use Rattle.report_text.specs.ReportText.{ArePositions, mark_text, report_text, tail_text}
+pub use Rattle.report_text.specs.ReportText.{ReportTextShowsPositions, report_mark_text, report_text, report_tail_text}
 pub use Rattle.report_text.specs.SessionText.{AreSameSessions, HasSessionFault, HasTextFault, IsSession, IsSessionText}
-pub use Rattle.report_text.specs.SessionText.{longest_text, printed_text, session_text}
+pub use Rattle.report_text.specs.SessionText.{longest_session_text, printed_session_text, session_text}

@@ -9,78 +9,78 @@ use Rattle.report_text.specs.declared.mark.Mark.{Mark}
 use Rattle.report_text.specs.declared.mark.Mark.TheVariants.{Opened, Saved}
 
 -- one position for each of 1 to 16 shards, none above 16,777,216, the most frames that a capture can have
-pub record ArePositions (positions : List ℕ) : Type 0 where
+pub record ReportTextShowsPositions (positions : List ℕ) : Type 0 where
   pub some : 1 ≤ length positions
   pub few : length positions ≤ most_shards
   pub within : All (λ position. position ≤ most_records) positions
 
 -- a line of text: its words, joined by one space, and a line feed
-abbrev pub text_line : List (List ℕ) → List ℕ
-text_line words = join_with_byte space words ++ codes "\n"
+abbrev pub report_text_line : List (List ℕ) → List ℕ
+report_text_line words = join_with_byte space words ++ codes "\n"
 
 -- a line with a name and a number
-abbrev pub number_line : List ℕ → ℕ → List ℕ
-number_line name number = text_line (name ∷ decimal number ∷ [])
+abbrev pub report_number_text : List ℕ → ℕ → List ℕ
+report_number_text name number = report_text_line (name ∷ decimal number ∷ [])
 
 -- a line with a name and some positions
-abbrev pub positions_line : List ℕ → List ℕ → List ℕ
-positions_line name positions = text_line (name ∷ map decimal positions)
+abbrev pub report_positions_text : List ℕ → List ℕ → List ℕ
+report_positions_text name positions = report_text_line (name ∷ map decimal positions)
 
 -- the most bytes of a number of 64 bits in decimal
-abbrev pub longest_number : ℕ
-longest_number = 20
+abbrev pub longest_report_number_text : ℕ
+longest_report_number_text = 20
 
 -- the most bytes of a line of a report: `line`, a prefix and two numbers, each with a space or a line feed
-abbrev pub longest_line : ℕ
-longest_line = 4 + 1 + longest_prefix_text + 2 * (1 + longest_number) + 1
+abbrev pub longest_report_line_text : ℕ
+longest_report_line_text = 4 + 1 + longest_prefix_text + 2 * (1 + longest_report_number_text) + 1
 
 -- a line of a report: `line`, the prefix, which is two words, its low and its high
-abbrev pub line_text : Line → List ℕ
-line_text line = text_line (codes "line" ∷ prefix_text line.prefix ∷ decimal line.lo ∷ decimal line.hi ∷ [])
+abbrev pub report_line_text : Line → List ℕ
+report_line_text line = report_text_line (codes "line" ∷ prefix_text line.prefix ∷ decimal line.lo ∷ decimal line.hi ∷ [])
 
 -- the lines of a report, one after the other
-abbrev pub lines_text : List Line → List ℕ
-lines_text lines = flat_map line_text lines
+abbrev pub report_lines_text : List Line → List ℕ
+report_lines_text lines = flat_map report_line_text lines
 
 -- the text of a report
 abbrev pub report_text : Report → List ℕ
 report_text report =
-    text_line (codes "report" ∷ [])
-    ++ positions_line (codes "at") report.positions
-    ++ number_line (codes "total") report.total
-    ++ number_line (codes "threshold") report.threshold
-    ++ lines_text report.lines
-    ++ text_line (codes "done" ∷ [])
+    report_text_line (codes "report" ∷ [])
+    ++ report_positions_text (codes "at") report.positions
+    ++ report_number_text (codes "total") report.total
+    ++ report_number_text (codes "threshold") report.threshold
+    ++ report_lines_text report.lines
+    ++ report_text_line (codes "done" ∷ [])
 
 -- the name of a line of positions
-abbrev pub mark_name : Mark → List ℕ
-mark_name Opened = codes "opened"
-mark_name Saved = codes "saved"
+abbrev pub report_mark_name_text : Mark → List ℕ
+report_mark_name_text Opened = codes "opened"
+report_mark_name_text Saved = codes "saved"
 
 -- the line of the positions at the start of a session, or of a saved cut
-abbrev pub mark_text : Mark → List ℕ → List ℕ
-mark_text mark positions = positions_line (mark_name mark) positions
+abbrev pub report_mark_text : Mark → List ℕ → List ℕ
+report_mark_text mark positions = report_positions_text (report_mark_name_text mark) positions
 
 -- the last three lines: how many frames were read, and how many were skipped as not IPv4, as short and for a bad header
-abbrev pub counts_text : ℕ → ℕ → ℕ → ℕ → List ℕ
-counts_text frames not_ipv4 short bad_header =
-    number_line (codes "frames") frames
-    ++ text_line (codes "skipped" ∷ decimal not_ipv4 ∷ decimal short ∷ decimal bad_header ∷ [])
-    ++ text_line (codes "end" ∷ [])
+abbrev pub report_counts_text : ℕ → ℕ → ℕ → ℕ → List ℕ
+report_counts_text frames not_ipv4 short bad_header =
+    report_number_text (codes "frames") frames
+    ++ report_text_line (codes "skipped" ∷ decimal not_ipv4 ∷ decimal short ∷ decimal bad_header ∷ [])
+    ++ report_text_line (codes "end" ∷ [])
 
 -- the last three lines, with the counts of some records
-abbrev pub tail_text : Records → List ℕ
-tail_text records = counts_text records.frames records.not_ipv4 records.short records.bad_header
+abbrev pub report_tail_text : Records → List ℕ
+report_tail_text records = report_counts_text records.frames records.not_ipv4 records.short records.bad_header
 
 -- the line shows a prefix, and its low and high are 64-bit numbers
-pub record IsShowableLine (line : Line) : Type 0 where
+pub record ReportTextShowsLine (line : Line) : Type 0 where
   pub is_prefix : IsPrefix line.prefix
   pub low : line.lo < 2 ^ 64
   pub high : line.hi < 2 ^ 64
 
 -- the numbers of the report are 64-bit numbers, and its lines show prefixes
-pub record IsShowable (report : Report) : Type 0 where
+pub record ReportTextShows (report : Report) : Type 0 where
   pub positions : All (λ position. position < 2 ^ 64) report.positions
   pub total : report.total < 2 ^ 64
   pub threshold : report.threshold < 2 ^ 64
-  pub lines : All IsShowableLine report.lines
+  pub lines : All ReportTextShowsLine report.lines

@@ -10,8 +10,8 @@ use Rattle.report_text.specs.declared.session_line.SessionLine.TheVariants.{Open
 use Rattle.report_text.specs.declared.session_line.SessionLine.TheVariants.{Done, Saved, Frames, Skipped, End}
 
 -- the words of a text that are separated by spaces
-abbrev pub words_in : List ℕ → List (List ℕ)
-words_in text = slice_split (λ byte. byte == space) text
+abbrev pub stage_words_in : List ℕ → List (List ℕ)
+stage_words_in text = slice_split (λ byte. byte == space) text
 
 -- the last line that was read: nothing yet; the line of a report, of a session over so many shards; its count of lines
 -- so far and the prefix of the last one; or one of the last three lines
@@ -29,48 +29,48 @@ pub data Stage : Type 0 where
   ended : Stage
 
 -- the prefix comes after the last one in the order of a report
-abbrev pub ComesAfter : Option PrefixValue → PrefixValue → Type 0
-ComesAfter None prefix = ⊤
-ComesAfter (Some last) prefix = report_order last prefix ≡ Less
+abbrev pub ComesAfterInStage : Option PrefixValue → PrefixValue → Type 0
+ComesAfterInStage None prefix = ⊤
+ComesAfterInStage (Some last) prefix = report_order last prefix ≡ Less
 
 -- the line may come at this stage, and leads to the other
-abbrev pub Follows : Stage → SessionLine → Stage → Type 0
-Follows nothing (Opened positions) next = next ≡ opened (length positions)
-Follows (opened shards) Report next = next ≡ begun shards
-Follows (begun shards) (At positions) next = (length positions ≡ shards) × (next ≡ placed shards)
-Follows (placed shards) (Total total) next = next ≡ weighed shards
-Follows (weighed shards) (Threshold threshold) next = next ≡ listing shards 0 None
-Follows (listing shards count last) (Line line) next =
-    ComesAfter last line.prefix × (count + 1 < 2 ^ 24) × (next ≡ listing shards (count + 1) (Some line.prefix))
-Follows (listing shards count last) Done next = next ≡ done shards
-Follows (done shards) Report next = next ≡ begun shards
-Follows (done shards) (Saved positions) next = (length positions ≡ shards) × (next ≡ saved shards)
-Follows (done shards) (Frames frames) next = next ≡ counted
-Follows (saved shards) Report next = next ≡ begun shards
-Follows (saved shards) (Frames frames) next = next ≡ counted
-Follows counted (Skipped skips) next = next ≡ skipped
-Follows skipped End next = next ≡ ended
-Follows _ _ _ = ⊥
+abbrev pub FollowsStage : Stage → SessionLine → Stage → Type 0
+FollowsStage nothing (Opened positions) next = next ≡ opened (length positions)
+FollowsStage (opened shards) Report next = next ≡ begun shards
+FollowsStage (begun shards) (At positions) next = (length positions ≡ shards) × (next ≡ placed shards)
+FollowsStage (placed shards) (Total total) next = next ≡ weighed shards
+FollowsStage (weighed shards) (Threshold threshold) next = next ≡ listing shards 0 None
+FollowsStage (listing shards count last) (Line line) next =
+    ComesAfterInStage last line.prefix × (count + 1 < 2 ^ 24) × (next ≡ listing shards (count + 1) (Some line.prefix))
+FollowsStage (listing shards count last) Done next = next ≡ done shards
+FollowsStage (done shards) Report next = next ≡ begun shards
+FollowsStage (done shards) (Saved positions) next = (length positions ≡ shards) × (next ≡ saved shards)
+FollowsStage (done shards) (Frames frames) next = next ≡ counted
+FollowsStage (saved shards) Report next = next ≡ begun shards
+FollowsStage (saved shards) (Frames frames) next = next ≡ counted
+FollowsStage counted (Skipped skips) next = next ≡ skipped
+FollowsStage skipped End next = next ≡ ended
+FollowsStage _ _ _ = ⊥
 
 -- lines lead from one stage to another
-abbrev pub Leads : Stage → List SessionLine → Stage → Type 0
-Leads stage [] last = stage ≡ last
-Leads stage (line ∷ lines) last = (next : Stage) × Follows stage line next × Leads next lines last
+abbrev pub LeadsFromStage : Stage → List SessionLine → Stage → Type 0
+LeadsFromStage stage [] last = stage ≡ last
+LeadsFromStage stage (line ∷ lines) last = (next : Stage) × FollowsStage stage line next × LeadsFromStage next lines last
 
 -- the session has not ended
-abbrev pub IsOpen : Stage → Type 0
-IsOpen ended = ⊥
-IsOpen _ = ⊤
+abbrev pub IsOpenStage : Stage → Type 0
+IsOpenStage ended = ⊥
+IsOpenStage _ = ⊤
 
 -- the lines of a report after its first
-abbrev pub body_lines : ReportValue → List SessionLine
-body_lines report =
+abbrev pub stage_body_lines : ReportValue → List SessionLine
+stage_body_lines report =
     At report.positions ∷ Total report.total ∷ Threshold report.threshold ∷ (map Line report.lines ++ Done ∷ [])
 
 -- what follows a report and its saved cut: another report, or the number of frames
-abbrev pub after_line : Option ℕ → SessionLine
-after_line None = Report
-after_line (Some frames) = Frames frames
+abbrev pub after_stage_line : Option ℕ → SessionLine
+after_stage_line None = Report
+after_stage_line (Some frames) = Frames frames
 
 -- where this leads to
 abbrev pub after_stage : ℕ → Option ℕ → Stage

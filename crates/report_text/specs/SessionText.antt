@@ -3,11 +3,11 @@ use Rattle.std.specs.Prelude.{⊤, ℕ, ◌≡◌, ◌+◌, ◌<◌, ◌≤◌, 
 use Rattle.std.specs.Prelude.{map, take, All, codes, decimal, Option, Some, None, IfSome}
 use Rattle.std.specs.List.{flat_map, AllZip}
 use Rattle.prefix_lattice.specs.{side_text}
-use Rattle.hhh_output.specs.{AreSame}
+use Rattle.hhh_output.specs.{IsSameReport}
 use Rattle.hhh_output.specs.declared.line.Line.{Line as LineValue}
 use Rattle.hhh_output.specs.declared.report.Report.{Report as ReportValue}
 use Rattle.hhh_output.specs.declared.reports.Reported.{Reported}
-use Rattle.report_text.specs.ReportText.{ArePositions, IsShowableLine, text_line, report_text, mark_text, counts_text}
+use Rattle.report_text.specs.ReportText.{ReportTextShowsPositions, ReportTextShowsLine, report_text_line, report_text, report_mark_text, report_counts_text}
 use Rattle.report_text.specs.declared.mark.Mark.TheVariants.{Opened as OpenedMark, Saved as SavedMark}
 use Rattle.report_text.specs.declared.session.Session.{Session}
 use Rattle.report_text.specs.declared.session_line.Skips.{Skips}
@@ -20,104 +20,104 @@ use Rattle.report_text.specs.declared.session_fault.SessionFault.{SessionFault}
 use Rattle.report_text.specs.declared.session_fault.SessionFault.TheVariants.{Text, OutOfMemory}
 
 -- the words of a line of a report after its first: source, destination, low and high
-abbrev pub line_words : LineValue → List (List ℕ)
-line_words line =
+abbrev pub session_report_words : LineValue → List (List ℕ)
+session_report_words line =
     side_text line.prefix.source ∷ side_text line.prefix.dest ∷ decimal line.lo ∷ decimal line.hi ∷ []
 
 -- how many frames were skipped as not IPv4, as short and for a bad header
-abbrev pub skipped_words : Skips → List (List ℕ)
-skipped_words skips = decimal skips.not_ipv4 ∷ decimal skips.short ∷ decimal skips.bad_header ∷ []
+abbrev pub session_skipped_words : Skips → List (List ℕ)
+session_skipped_words skips = decimal skips.not_ipv4 ∷ decimal skips.short ∷ decimal skips.bad_header ∷ []
 
 -- the words of each line of a session
-abbrev pub words_of : SessionLine → List (List ℕ)
-words_of (Opened positions) = codes "opened" ∷ map decimal positions
-words_of Report = codes "report" ∷ []
-words_of (At positions) = codes "at" ∷ map decimal positions
-words_of (Total total) = codes "total" ∷ decimal total ∷ []
-words_of (Threshold threshold) = codes "threshold" ∷ decimal threshold ∷ []
-words_of (Line line) = codes "line" ∷ line_words line
-words_of Done = codes "done" ∷ []
-words_of (Saved positions) = codes "saved" ∷ map decimal positions
-words_of (Frames frames) = codes "frames" ∷ decimal frames ∷ []
-words_of (Skipped skips) = codes "skipped" ∷ skipped_words skips
-words_of End = codes "end" ∷ []
+abbrev pub session_line_words : SessionLine → List (List ℕ)
+session_line_words (Opened positions) = codes "opened" ∷ map decimal positions
+session_line_words Report = codes "report" ∷ []
+session_line_words (At positions) = codes "at" ∷ map decimal positions
+session_line_words (Total total) = codes "total" ∷ decimal total ∷ []
+session_line_words (Threshold threshold) = codes "threshold" ∷ decimal threshold ∷ []
+session_line_words (Line line) = codes "line" ∷ session_report_words line
+session_line_words Done = codes "done" ∷ []
+session_line_words (Saved positions) = codes "saved" ∷ map decimal positions
+session_line_words (Frames frames) = codes "frames" ∷ decimal frames ∷ []
+session_line_words (Skipped skips) = codes "skipped" ∷ session_skipped_words skips
+session_line_words End = codes "end" ∷ []
 
 -- the text of a line of a session: its words, joined by one space, and a line feed
-abbrev pub text_of : SessionLine → List ℕ
-text_of line = text_line (words_of line)
+abbrev pub session_line_text : SessionLine → List ℕ
+session_line_text line = report_text_line (session_line_words line)
 
 -- a line of a report that can be shown: its prefix and its numbers, with its low at most its high
-pub record IsReportLine (line : LineValue) : Type 0 where
-  pub showable : IsShowableLine line
+pub record IsSessionReportLine (line : LineValue) : Type 0 where
+  pub showable : ReportTextShowsLine line
   pub ordered : line.lo ≤ line.hi
 
 -- numbers of 64 bits
-pub record AreSkips (skips : Skips) : Type 0 where
+pub record AreSessionSkips (skips : Skips) : Type 0 where
   pub not_ipv4 : skips.not_ipv4 < 2 ^ 64
   pub short : skips.short < 2 ^ 64
   pub bad_header : skips.bad_header < 2 ^ 64
 
 -- what a line may hold: one position, at most 16,777,216, for each of 1 to 16 shards; numbers of 64 bits; a threshold
 -- of at least 1; a prefix with its low at most its high
-abbrev pub IsLine : SessionLine → Type 0
-IsLine (Opened positions) = ArePositions positions
-IsLine Report = ⊤
-IsLine (At positions) = ArePositions positions
-IsLine (Total total) = total < 2 ^ 64
-IsLine (Threshold threshold) = (1 ≤ threshold) × (threshold < 2 ^ 64)
-IsLine (Line line) = IsReportLine line
-IsLine Done = ⊤
-IsLine (Saved positions) = ArePositions positions
-IsLine (Frames frames) = frames < 2 ^ 64
-IsLine (Skipped skips) = AreSkips skips
-IsLine End = ⊤
+abbrev pub IsSessionLine : SessionLine → Type 0
+IsSessionLine (Opened positions) = ReportTextShowsPositions positions
+IsSessionLine Report = ⊤
+IsSessionLine (At positions) = ReportTextShowsPositions positions
+IsSessionLine (Total total) = total < 2 ^ 64
+IsSessionLine (Threshold threshold) = (1 ≤ threshold) × (threshold < 2 ^ 64)
+IsSessionLine (Line line) = IsSessionReportLine line
+IsSessionLine Done = ⊤
+IsSessionLine (Saved positions) = ReportTextShowsPositions positions
+IsSessionLine (Frames frames) = frames < 2 ^ 64
+IsSessionLine (Skipped skips) = AreSessionSkips skips
+IsSessionLine End = ⊤
 
 -- the lines of a report
-abbrev pub report_lines : ReportValue → List SessionLine
-report_lines report =
+abbrev pub session_report_lines : ReportValue → List SessionLine
+session_report_lines report =
     Report ∷ At report.positions ∷ Total report.total ∷ Threshold report.threshold ∷ (map Line report.lines ++ Done ∷ [])
 
 -- the line after a report whose cut was saved
-abbrev pub saved_lines : Option (List ℕ) → List SessionLine
-saved_lines None = []
-saved_lines (Some positions) = Saved positions ∷ []
+abbrev pub session_saved_lines : Option (List ℕ) → List SessionLine
+session_saved_lines None = []
+session_saved_lines (Some positions) = Saved positions ∷ []
 
 -- the lines of a report of a session: those of the report itself, and at most one that says that its cut was saved
-abbrev pub reported_lines : Reported → List SessionLine
-reported_lines reported = report_lines reported.report ++ saved_lines reported.saved
+abbrev pub session_reported_lines : Reported → List SessionLine
+session_reported_lines reported = session_report_lines reported.report ++ session_saved_lines reported.saved
 
 -- the lines of a session: the positions at its start, its reports, and the four counts of frames
 abbrev pub session_lines : Session → List SessionLine
 session_lines session =
     Opened session.opened
-    ∷ (flat_map reported_lines session.reports
+    ∷ (flat_map session_reported_lines session.reports
     ++ Frames session.frames
     ∷ Skipped (record { not_ipv4 = session.not_ipv4; short = session.short; bad_header = session.bad_header }) ∷ End ∷ [])
 
 -- the text of a session: that of its lines, one after the other
 abbrev pub session_text : Session → List ℕ
-session_text session = flat_map text_of (session_lines session)
+session_text session = flat_map session_line_text (session_lines session)
 
 -- as many positions as the session has shards
-pub record ArePositionsOf (shards : ℕ) (positions : List ℕ) : Type 0 where
-  pub are_positions : ArePositions positions
+pub record AreSessionTextPositions (shards : ℕ) (positions : List ℕ) : Type 0 where
+  pub are_positions : ReportTextShowsPositions positions
   pub as_many : length positions ≡ shards
 
 -- a report of a session over so many shards. Of every report it holds that its lines are in the strict order of a
 -- report, each with its low at most its high, and fewer than 2^24
-pub record IsReportedOf (shards : ℕ) (reported : Reported) : Type 0 where
-  pub positions : ArePositionsOf shards reported.report.positions
+pub record IsReportedInSession (shards : ℕ) (reported : Reported) : Type 0 where
+  pub positions : AreSessionTextPositions shards reported.report.positions
   pub total : reported.report.total < 2 ^ 64
   pub some : 1 ≤ reported.report.threshold
   pub threshold : reported.report.threshold < 2 ^ 64
-  pub lines : All IsShowableLine reported.report.lines
-  pub saved : IfSome reported.saved (ArePositionsOf shards)
+  pub lines : All ReportTextShowsLine reported.report.lines
+  pub saved : IfSome reported.saved (AreSessionTextPositions shards)
 
 -- what a session text can show: one report or more, all lists of positions of one length, and numbers of 64 bits
 pub record IsSession (session : Session) : Type 0 where
-  pub opened : ArePositions session.opened
+  pub opened : ReportTextShowsPositions session.opened
   pub some : 1 ≤ length session.reports
-  pub reports : All (IsReportedOf (length session.opened)) session.reports
+  pub reports : All (IsReportedInSession (length session.opened)) session.reports
   pub frames : session.frames < 2 ^ 64
   pub not_ipv4 : session.not_ipv4 < 2 ^ 64
   pub short : session.short < 2 ^ 64
@@ -133,31 +133,31 @@ abbrev pub line_feed : ℕ
 line_feed = 10
 
 -- a byte in front of the first line, if there is one
-abbrev pub before_line : ℕ → List (List ℕ) → List (List ℕ)
-before_line byte [] = []
-before_line byte (line ∷ lines) = (byte ∷ line) ∷ lines
+abbrev pub before_session_line : ℕ → List (List ℕ) → List (List ℕ)
+before_session_line byte [] = []
+before_session_line byte (line ∷ lines) = (byte ∷ line) ∷ lines
 
 -- the whole lines of a text, each with its line feed; what follows the last line feed is no whole line
-abbrev pub whole_lines : List ℕ → List (List ℕ)
-whole_lines [] = []
-whole_lines (byte ∷ rest) =
-    if byte == line_feed then (byte ∷ []) ∷ whole_lines rest else before_line byte (whole_lines rest)
+abbrev pub whole_lines_of_session : List ℕ → List (List ℕ)
+whole_lines_of_session [] = []
+whole_lines_of_session (byte ∷ rest) =
+    if byte == line_feed then (byte ∷ []) ∷ whole_lines_of_session rest else before_session_line byte (whole_lines_of_session rest)
 
 -- some session begins with these lines
-pub record AreFirstLines (lines : List (List ℕ)) : Type 0 where
+pub record AreFirstSessionLines (lines : List (List ℕ)) : Type 0 where
   pub session : Session
   pub is_session : IsSession session
   pub others : List (List ℕ)
-  pub begun : map text_of (session_lines session) ≡ lines ++ others
+  pub begun : map session_line_text (session_lines session) ≡ lines ++ others
 
 -- the whole lines before line `before + 1` begin a session, this line is whole too, and no session begins with it as well
-pub record IsWrongAfter (text : List ℕ) (before : ℕ) : Type 0 where
-  pub whole : before < length (whole_lines text)
-  pub begun : AreFirstLines (take before (whole_lines text))
-  pub wrong : ¬ AreFirstLines (take (before + 1) (whole_lines text))
+pub record SessionIsWrongAfter (text : List ℕ) (before : ℕ) : Type 0 where
+  pub whole : before < length (whole_lines_of_session text)
+  pub begun : AreFirstSessionLines (take before (whole_lines_of_session text))
+  pub wrong : ¬ AreFirstSessionLines (take (before + 1) (whole_lines_of_session text))
 
 -- the text begins with that of a whole session, which has this many lines, and at least one byte follows
-pub record IsFollowedAfter (text : List ℕ) (before : ℕ) : Type 0 where
+pub record SessionIsFollowedAfter (text : List ℕ) (before : ℕ) : Type 0 where
   pub session : Session
   pub is_session : IsSession session
   pub byte : ℕ
@@ -166,22 +166,22 @@ pub record IsFollowedAfter (text : List ℕ) (before : ℕ) : Type 0 where
   pub ends : length (session_lines session) ≡ before
 
 -- the first wrong line of a text, by its number, counted from 1
-abbrev pub IsBadLine : List ℕ → ℕ → Type 0
-IsBadLine text number =
-    (before : ℕ) × (number ≡ before + 1) × (IsWrongAfter text before ⊎ IsFollowedAfter text before)
+abbrev pub IsBadSessionLine : List ℕ → ℕ → Type 0
+IsBadSessionLine text number =
+    (before : ℕ) × (number ≡ before + 1) × (SessionIsWrongAfter text before ⊎ SessionIsFollowedAfter text before)
 
 -- the most bytes of a session text that is read
-abbrev pub longest_text : ℕ
-longest_text = 268435456
+abbrev pub longest_session_text : ℕ
+longest_session_text = 268435456
 
 -- what is wrong with a text: it is too long, which is tested first; or a line is wrong; or no line is, and no session
 -- has this text, so that the next line is missing
 abbrev pub HasTextFault : List ℕ → TextFault → Type 0
-HasTextFault text TooLong = longest_text < length text
-HasTextFault text (BadLine number) = (length text ≤ longest_text) × IsBadLine text number
+HasTextFault text TooLong = longest_session_text < length text
+HasTextFault text (BadLine number) = (length text ≤ longest_session_text) × IsBadSessionLine text number
 HasTextFault text (MissingEnd number) =
-    (length text ≤ longest_text) × (number ≡ length (whole_lines text) + 1)
-    × ((line : ℕ) → ¬ IsBadLine text line) × ((session : Session) → ¬ IsSessionText text session)
+    (length text ≤ longest_session_text) × (number ≡ length (whole_lines_of_session text) + 1)
+    × ((line : ℕ) → ¬ IsBadSessionLine text line) × ((session : Session) → ¬ IsSessionText text session)
 
 -- why a text is not read: its fault, or that memory ran out
 abbrev pub HasSessionFault : List ℕ → SessionFault → Type 0
@@ -191,7 +191,7 @@ HasSessionFault text OutOfMemory = ⊤
 -- two sessions say the same
 pub record AreSameSessions (session other : Session) : Type 0 where
   pub opened : session.opened ≡ other.opened
-  pub reports : AllZip (λ reported another. AreSame reported.report another.report × (reported.saved ≡ another.saved))
+  pub reports : AllZip (λ reported another. IsSameReport reported.report another.report × (reported.saved ≡ another.saved))
       session.reports other.reports
   pub frames : session.frames ≡ other.frames
   pub not_ipv4 : session.not_ipv4 ≡ other.not_ipv4
@@ -199,17 +199,17 @@ pub record AreSameSessions (session other : Session) : Type 0 where
   pub bad_header : session.bad_header ≡ other.bad_header
 
 -- the line that says that a cut was saved, as it is printed
-abbrev pub saved_text : Option (List ℕ) → List ℕ
-saved_text None = []
-saved_text (Some positions) = mark_text SavedMark positions
+abbrev pub session_saved_text : Option (List ℕ) → List ℕ
+session_saved_text None = []
+session_saved_text (Some positions) = report_mark_text SavedMark positions
 
 -- a report of a session, as it is printed
-abbrev pub reported_text : Reported → List ℕ
-reported_text reported = report_text reported.report ++ saved_text reported.saved
+abbrev pub session_reported_text : Reported → List ℕ
+session_reported_text reported = report_text reported.report ++ session_saved_text reported.saved
 
 -- a session, as it is printed in parts: the line of the positions at its start, each report, and the last three lines
-abbrev pub printed_text : Session → List ℕ
-printed_text session =
-    mark_text OpenedMark session.opened
-    ++ (flat_map reported_text session.reports
-    ++ counts_text session.frames session.not_ipv4 session.short session.bad_header)
+abbrev pub printed_session_text : Session → List ℕ
+printed_session_text session =
+    report_mark_text OpenedMark session.opened
+    ++ (flat_map session_reported_text session.reports
+    ++ report_counts_text session.frames session.not_ipv4 session.short session.bad_header)

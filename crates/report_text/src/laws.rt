@@ -2,11 +2,11 @@
 
 ghost use Rattle.std.specs.Prelude.{◌≡◌, ◌≤◌, List, ℕ, length, map};
 ghost use Rattle.std.specs.List.{flat_map};
-ghost use Rattle.hhh_output.specs.{AreSame};
+ghost use Rattle.hhh_output.specs.{IsSameReport};
 ghost use Rattle.hhh_output.specs.declared.report.Report.{Report};
-ghost use Rattle.report_text.specs.ReportText.{report_text, IsShowable};
-ghost use Rattle.report_text.specs.SessionText.{AreSameSessions, HasTextFault, IsSession, IsSessionText, longest_text};
-ghost use Rattle.report_text.specs.SessionText.{printed_text, report_lines, session_lines, session_text, text_of, whole_lines};
+ghost use Rattle.report_text.specs.ReportText.{report_text, ReportTextShows};
+ghost use Rattle.report_text.specs.SessionText.{AreSameSessions, HasTextFault, IsSession, IsSessionText, longest_session_text};
+ghost use Rattle.report_text.specs.SessionText.{printed_session_text, session_report_lines, session_lines, session_text, session_line_text, whole_lines_of_session};
 ghost use Rattle.report_text.specs.declared.session.Session.{Session};
 ghost use Rattle.report_text.specs.declared.session_fault.TextFault.{TextFault};
 
@@ -14,23 +14,23 @@ use prefix_lattice::{prefix_texts_read_back, report_order_is_total};
 
 /// A law of reports: reports with the same text show the same.
 pub fn report_texts_are_apart()
-    ensures { (report other : Report) → IsShowable report → IsShowable other → report_text report ≡ report_text other → AreSame report other }
+    ensures { (report other : Report) → ReportTextShows report → ReportTextShows other → report_text report ≡ report_text other → IsSameReport report other }
 {
     prefix_texts_read_back();
 }
 
 /// A law of reports: reports that show the same have the same text.
 pub fn same_reports_have_one_text()
-    ensures { (report other : Report) → AreSame report other → report_text report ≡ report_text other }
+    ensures { (report other : Report) → IsSameReport report other → report_text report ≡ report_text other }
 {}
 
 /// A law of sessions: what is printed of a session, part by part, is its text, and is read back as that session. The text
 /// of a report is that of its lines, and the whole lines of the text of a session are its lines.
 pub fn printed_sessions_read_back()
-    ensures report { (report : Report) → flat_map text_of (report_lines report) ≡ report_text report }
-    ensures printed { (session : Session) → printed_text session ≡ session_text session }
-    ensures lines { (session : Session) → IsSession session → whole_lines (session_text session) ≡ map text_of (session_lines session) }
-    ensures read { (session other : Session) → IsSession session → IsSessionText (printed_text session) other → AreSameSessions session other }
+    ensures report { (report : Report) → flat_map session_line_text (session_report_lines report) ≡ report_text report }
+    ensures printed { (session : Session) → printed_session_text session ≡ session_text session }
+    ensures lines { (session : Session) → IsSession session → whole_lines_of_session (session_text session) ≡ map session_line_text (session_lines session) }
+    ensures read { (session other : Session) → IsSession session → IsSessionText (printed_session_text session) other → AreSameSessions session other }
 {
     prefix_texts_read_back();
     report_order_is_total();
@@ -41,7 +41,7 @@ pub fn printed_sessions_read_back()
 pub fn session_texts_have_one_reading()
     ensures apart { (text : List ℕ) (session other : Session) → IsSessionText text session → IsSessionText text other → AreSameSessions session other }
     ensures one_fault { (text : List ℕ) (fault other : TextFault) → HasTextFault text fault → HasTextFault text other → fault ≡ other }
-    ensures no_fault { (text : List ℕ) (session : Session) (fault : TextFault) → IsSessionText text session → length text ≤ longest_text → ¬ HasTextFault text fault }
+    ensures no_fault { (text : List ℕ) (session : Session) (fault : TextFault) → IsSessionText text session → length text ≤ longest_session_text → ¬ HasTextFault text fault }
 {
     prefix_texts_read_back();
     report_order_is_total();

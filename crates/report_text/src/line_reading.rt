@@ -2,9 +2,9 @@
 
 ghost use Rattle.std.specs.Prelude.{◌≡◌, ◌≢◌, ◌≤◌, ◌<◌, ◌^◌, ℕ, List, [], ◌∷◌, map, codes, decimal, IfOk, IfSome, IfNone};
 ghost use Rattle.hhh_output.specs.declared.line.Line.{Line as LineValue};
-ghost use Rattle.report_text.specs.ReportText.{ArePositions};
-ghost use Rattle.report_text.specs.SessionText.{AreSkips, IsLine, IsReportLine, line_words, skipped_words, words_of};
-ghost use Rattle.report_text.specs.SessionStages.{words_in};
+ghost use Rattle.report_text.specs.ReportText.{ReportTextShowsPositions};
+ghost use Rattle.report_text.specs.SessionText.{AreSessionSkips, IsSessionLine, IsSessionReportLine, session_report_words, session_skipped_words, session_line_words};
+ghost use Rattle.report_text.specs.SessionStages.{stage_words_in};
 ghost use Rattle.report_text.specs.declared.session_line.SessionLine.{SessionLine};
 ghost use Rattle.report_text.specs.declared.session_line.Skips.{Skips};
 
@@ -23,8 +23,8 @@ const GREATEST_POSITION: u64 = 16_777_216;
 
 /// Reads a line without its line feed. `None` exactly where no line of a session has this text.
 pub(crate) fn read_line(alloc: Global, text: &[u8]) -> Result<Option<SessionLine>, AllocError>
-    ensures read { IfOk result (λ read. IfSome read (λ line. IsLine line × (words_in text.now ≡ words_of line))) }
-    ensures refused { IfOk result (λ read. IfNone read ((line : SessionLine) → IsLine line → words_in text.now ≢ words_of line)) }
+    ensures read { IfOk result (λ read. IfSome read (λ line. IsSessionLine line × (stage_words_in text.now ≡ session_line_words line))) }
+    ensures refused { IfOk result (λ read. IfNone read ((line : SessionLine) → IsSessionLine line → stage_words_in text.now ≢ session_line_words line)) }
 {
     match cut_word(text) {
         Some(cut) => read_words(alloc, cut.word, cut.rest),
@@ -34,8 +34,8 @@ pub(crate) fn read_line(alloc: Global, text: &[u8]) -> Result<Option<SessionLine
 
 // Reads a line of one word.
 fn read_word(word: &[u8]) -> Option<SessionLine>
-    ensures read { IfSome result (λ line. IsLine line × (word.now ∷ [] ≡ words_of line)) }
-    ensures refused { IfNone result ((line : SessionLine) → IsLine line → word.now ∷ [] ≢ words_of line) }
+    ensures read { IfSome result (λ line. IsSessionLine line × (word.now ∷ [] ≡ session_line_words line)) }
+    ensures refused { IfNone result ((line : SessionLine) → IsSessionLine line → word.now ∷ [] ≢ session_line_words line) }
 {
     if word == b"report".as_slice() {
         return Some(SessionLine::Report);
@@ -51,8 +51,8 @@ fn read_word(word: &[u8]) -> Option<SessionLine>
 
 // Reads a line with this first word and this text after it.
 fn read_words(alloc: Global, name: &[u8], rest: &[u8]) -> Result<Option<SessionLine>, AllocError>
-    ensures read { IfOk result (λ read. IfSome read (λ line. IsLine line × (name.now ∷ words_in rest.now ≡ words_of line))) }
-    ensures refused { IfOk result (λ read. IfNone read ((line : SessionLine) → IsLine line → name.now ∷ words_in rest.now ≢ words_of line)) }
+    ensures read { IfOk result (λ read. IfSome read (λ line. IsSessionLine line × (name.now ∷ stage_words_in rest.now ≡ session_line_words line))) }
+    ensures refused { IfOk result (λ read. IfNone read ((line : SessionLine) → IsSessionLine line → name.now ∷ stage_words_in rest.now ≢ session_line_words line)) }
 {
     if name == b"line".as_slice() {
         return Ok(report_line_of(rest).map(SessionLine::Line));
@@ -75,8 +75,8 @@ fn read_numbers(name: &[u8], rest: &[u8]) -> Option<SessionLine>
     requires at { name.now ≢ codes "at" }
     requires opened { name.now ≢ codes "opened" }
     requires saved { name.now ≢ codes "saved" }
-    ensures read { IfSome result (λ line. IsLine line × (name.now ∷ words_in rest.now ≡ words_of line)) }
-    ensures refused { IfNone result ((line : SessionLine) → IsLine line → name.now ∷ words_in rest.now ≢ words_of line) }
+    ensures read { IfSome result (λ line. IsSessionLine line × (name.now ∷ stage_words_in rest.now ≡ session_line_words line)) }
+    ensures refused { IfNone result ((line : SessionLine) → IsSessionLine line → name.now ∷ stage_words_in rest.now ≢ session_line_words line) }
 {
     if name == b"total".as_slice() {
         return last_number(rest).map(SessionLine::Total);
@@ -95,8 +95,8 @@ fn read_numbers(name: &[u8], rest: &[u8]) -> Option<SessionLine>
 
 // The number that is the only word of a text.
 fn last_number(text: &[u8]) -> Option<u64>
-    ensures read { IfSome result (λ number. words_in text.now ≡ decimal number ∷ []) }
-    ensures refused { IfNone result ((number : ℕ) → number < 2 ^ 64 → words_in text.now ≢ decimal number ∷ []) }
+    ensures read { IfSome result (λ number. stage_words_in text.now ≡ decimal number ∷ []) }
+    ensures refused { IfNone result ((number : ℕ) → number < 2 ^ 64 → stage_words_in text.now ≢ decimal number ∷ []) }
 {
     let Some(number) = number_of(text) else {
         return None;
@@ -105,8 +105,8 @@ fn last_number(text: &[u8]) -> Option<u64>
 }
 
 fn threshold_of(text: &[u8]) -> Option<u64>
-    ensures read { IfSome result (λ threshold. (1 ≤ threshold) × (words_in text.now ≡ decimal threshold ∷ [])) }
-    ensures refused { IfNone result ((threshold : ℕ) → 1 ≤ threshold → threshold < 2 ^ 64 → words_in text.now ≢ decimal threshold ∷ []) }
+    ensures read { IfSome result (λ threshold. (1 ≤ threshold) × (stage_words_in text.now ≡ decimal threshold ∷ [])) }
+    ensures refused { IfNone result ((threshold : ℕ) → 1 ≤ threshold → threshold < 2 ^ 64 → stage_words_in text.now ≢ decimal threshold ∷ []) }
 {
     let Some(threshold) = last_number(text) else {
         return None;
@@ -118,8 +118,8 @@ fn threshold_of(text: &[u8]) -> Option<u64>
 }
 
 fn skips_of(text: &[u8]) -> Option<Skips>
-    ensures read { IfSome result (λ skips. words_in text.now ≡ skipped_words skips) }
-    ensures refused { IfNone result ((skips : Skips) → AreSkips skips → words_in text.now ≢ skipped_words skips) }
+    ensures read { IfSome result (λ skips. stage_words_in text.now ≡ session_skipped_words skips) }
+    ensures refused { IfNone result ((skips : Skips) → AreSessionSkips skips → stage_words_in text.now ≢ session_skipped_words skips) }
 {
     let Some(first) = cut_word(text) else {
         return None;
@@ -144,8 +144,8 @@ fn skips_of(text: &[u8]) -> Option<Skips>
 }
 
 fn report_line_of(text: &[u8]) -> Option<Line>
-    ensures read { IfSome result (λ line. IsReportLine line × (words_in text.now ≡ line_words line)) }
-    ensures refused { IfNone result ((line : LineValue) → IsReportLine line → words_in text.now ≢ line_words line) }
+    ensures read { IfSome result (λ line. IsSessionReportLine line × (stage_words_in text.now ≡ session_report_words line)) }
+    ensures refused { IfNone result ((line : LineValue) → IsSessionReportLine line → stage_words_in text.now ≢ session_report_words line) }
 {
     let Some(source) = cut_word(text) else {
         return None;
@@ -173,8 +173,8 @@ fn report_line_of(text: &[u8]) -> Option<Line>
 
 // Reads 1 to 16 positions.
 fn positions_of(alloc: Global, text: &[u8]) -> Result<Option<Positions>, AllocError>
-    ensures read { IfOk result (λ read. IfSome read (λ positions. ArePositions positions × (words_in text.now ≡ map decimal positions))) }
-    ensures refused { IfOk result (λ read. IfNone read ((positions : List ℕ) → ArePositions positions → words_in text.now ≢ map decimal positions)) }
+    ensures read { IfOk result (λ read. IfSome read (λ positions. ReportTextShowsPositions positions × (stage_words_in text.now ≡ map decimal positions))) }
+    ensures refused { IfOk result (λ read. IfNone read ((positions : List ℕ) → ReportTextShowsPositions positions → stage_words_in text.now ≢ map decimal positions)) }
 {
     let mut positions = Positions::new(alloc);
     let mut rest = text;

@@ -2,10 +2,10 @@
 
 ghost use Rattle.std.specs.Prelude.{◌≡◌, ◌≢◌, ◌≤◌, ◌<◌, ◌↔◌, ◌++◌, ℕ, [], ◌∷◌, length, map, Option, IfOk, IfErr, IfSome, IfNone, IsTrue};
 ghost use Rattle.std.specs.List.{flat_map};
-ghost use Rattle.hhh_output.specs.{AreLines};
-ghost use Rattle.report_text.specs.SessionText.{HasSessionFault, IsSessionText, longest_text, reported_lines, saved_lines, session_lines};
-ghost use Rattle.report_text.specs.SessionStages.{ComesAfter, after_line, after_stage, body_lines};
-ghost use Rattle.report_text.specs.Reading.{Reads, Stands};
+ghost use Rattle.hhh_output.specs.{AreReportLines};
+ghost use Rattle.report_text.specs.SessionText.{HasSessionFault, IsSessionText, longest_session_text, session_reported_lines, session_saved_lines, session_lines};
+ghost use Rattle.report_text.specs.SessionStages.{ComesAfterInStage, after_stage_line, after_stage, stage_body_lines};
+ghost use Rattle.report_text.specs.LineReading.{ReadsLines, HasReadLinesToStage};
 ghost use Rattle.report_text.specs.SessionStages.{nothing, opened, begun, listing, done, counted, ended};
 
 use crate::line_cursor::LineCursor;
@@ -28,9 +28,9 @@ const LONGEST_TEXT: usize = 268_435_456;
 /// what is printed of a session is read back. `OutOfMemory` means that memory ran out.
 pub fn read_session(alloc: Global, bytes: &[u8]) -> Result<Session, SessionFault>
     ensures read { IfOk result (IsSessionText bytes.now) }
-    ensures limit { IfOk result (λ _. length bytes.now ≤ longest_text) }
+    ensures limit { IfOk result (λ _. length bytes.now ≤ longest_session_text) }
     ensures fault { IfErr result (HasSessionFault bytes.now) }
-    ensures too_long { longest_text < length bytes.now → result ≡ Err (SessionFault.Text TextFault.TooLong) }
+    ensures too_long { longest_session_text < length bytes.now → result ≡ Err (SessionFault.Text TextFault.TooLong) }
 {
     if bytes.len() > LONGEST_TEXT {
         return Err(SessionFault::Text(TextFault::TooLong));
@@ -44,8 +44,8 @@ pub fn read_session(alloc: Global, bytes: &[u8]) -> Result<Session, SessionFault
 
 // Reads all lines of a session.
 fn read_all(alloc: Global, lines: &mut LineCursor<'_>) -> Result<Session, SessionFault>
-    requires { Stands lines.old nothing }
-    ensures read { IfOk result (λ session. Reads lines.old lines.new (session_lines session) nothing ended) }
+    requires { HasReadLinesToStage lines.old nothing }
+    ensures read { IfOk result (λ session. ReadsLines lines.old lines.new (session_lines session) nothing ended) }
     ensures fault { IfErr result (HasSessionFault lines.old.text.now) }
 {
     let SessionLine::Opened(opened) = lines.next(alloc)? else {
@@ -81,9 +81,9 @@ fn read_reports(
     lines: &mut LineCursor<'_>,
     shards: usize,
 ) -> Result<Listed, SessionFault>
-    requires { Stands lines.old (opened shards) }
-    ensures read { IfOk result (λ listed. Reads lines.old lines.new
-        (flat_map reported_lines listed.reports ++ SessionLine.Frames listed.frames ∷ []) (opened shards) counted) }
+    requires { HasReadLinesToStage lines.old (opened shards) }
+    ensures read { IfOk result (λ listed. ReadsLines lines.old lines.new
+        (flat_map session_reported_lines listed.reports ++ SessionLine.Frames listed.frames ∷ []) (opened shards) counted) }
     ensures fault { IfErr result (HasSessionFault lines.old.text.now) }
 {
     let SessionLine::Report = lines.next(alloc)? else {
@@ -109,8 +109,8 @@ fn read_report(
     lines: &mut LineCursor<'_>,
     shards: usize,
 ) -> Result<Report, SessionFault>
-    requires { Stands lines.old (begun shards) }
-    ensures read { IfOk result (λ report. Reads lines.old lines.new (body_lines report) (begun shards) (done shards)) }
+    requires { HasReadLinesToStage lines.old (begun shards) }
+    ensures read { IfOk result (λ report. ReadsLines lines.old lines.new (stage_body_lines report) (begun shards) (done shards)) }
     ensures fault { IfErr result (HasSessionFault lines.old.text.now) }
 {
     let SessionLine::At(positions) = lines.next(alloc)? else {
@@ -136,10 +136,10 @@ fn read_report(
 
 // The lines of a report, in the strict order of a report, and the line `done`.
 fn read_lines(alloc: Global, lines: &mut LineCursor<'_>) -> Result<Lines, SessionFault>
-    ensures read { IfOk result (λ listed. (shards : ℕ) → Reads lines.old lines.new
+    ensures read { IfOk result (λ listed. (shards : ℕ) → ReadsLines lines.old lines.new
         (map SessionLine.Line listed ++ SessionLine.Done ∷ []) (listing shards 0 None) (done shards)) }
-    ensures lines { IfOk result AreLines }
-    ensures fault { IfErr result (λ fault. (shards : ℕ) → Stands lines.old (listing shards 0 None)
+    ensures lines { IfOk result AreReportLines }
+    ensures fault { IfErr result (λ fault. (shards : ℕ) → HasReadLinesToStage lines.old (listing shards 0 None)
         → HasSessionFault lines.old.text.now fault) }
 {
     report_order_is_total();
@@ -163,7 +163,7 @@ fn read_lines(alloc: Global, lines: &mut LineCursor<'_>) -> Result<Lines, Sessio
 
 // Whether a prefix comes after the last one in the order of a report.
 fn comes_after(last: &Option<Prefix>, prefix: &Prefix) -> bool
-    ensures { IsTrue result ↔ ComesAfter last.now prefix.now }
+    ensures { IsTrue result ↔ ComesAfterInStage last.now prefix.now }
 {
     match last {
         None => true,
@@ -184,9 +184,9 @@ fn read_after_report(
     lines: &mut LineCursor<'_>,
     shards: usize,
 ) -> Result<AfterReport, SessionFault>
-    requires { Stands lines.old (done shards) }
-    ensures read { IfOk result (λ after. Reads lines.old lines.new
-        (saved_lines after.saved ++ after_line after.frames ∷ []) (done shards) (after_stage shards after.frames)) }
+    requires { HasReadLinesToStage lines.old (done shards) }
+    ensures read { IfOk result (λ after. ReadsLines lines.old lines.new
+        (session_saved_lines after.saved ++ after_stage_line after.frames ∷ []) (done shards) (after_stage shards after.frames)) }
     ensures fault { IfErr result (HasSessionFault lines.old.text.now) }
 {
     let line = lines.next(alloc)?;
@@ -213,8 +213,8 @@ fn read_after_report(
 
 // What may follow a report and its saved positions: another report, or the number of frames.
 fn after_saved(line: SessionLine) -> Option<Option<u64>>
-    ensures some { IfSome result (λ frames. line ≡ after_line frames) }
-    ensures none { IfNone result ((frames : Option ℕ) → line ≢ after_line frames) }
+    ensures some { IfSome result (λ frames. line ≡ after_stage_line frames) }
+    ensures none { IfNone result ((frames : Option ℕ) → line ≢ after_stage_line frames) }
 {
     match line {
         SessionLine::Report => Some(None),

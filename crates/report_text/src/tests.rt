@@ -1,5 +1,5 @@
 ghost use Rattle.std.specs.Prelude.{◌≤◌, IfOk};
-ghost use Rattle.report_text.specs.ReportText.{ArePositions};
+ghost use Rattle.report_text.specs.ReportText.{ReportTextShowsPositions};
 
 use crate::{
     Mark, Session, SessionFault, TextFault, print, print_positions, print_tail, read_session,
@@ -20,11 +20,11 @@ fn line_of(source: &str, dest: &str, lo: u64, hi: u64) -> Result<Line, Fail> {
 }
 
 // The positions of two shards.
-#[tactic(auto, using(crate::proofs::OrderedListLemmas::two_positions))]
+#[tactic(auto, using(crate::proofs::ShortListLemmas::short_list_of_positions))]
 fn positions_of(alloc: Global, first: u64, second: u64) -> Result<Positions, AllocError>
     requires first { first ≤ 16777216 }
     requires second { second ≤ 16777216 }
-    ensures { IfOk result ArePositions }
+    ensures { IfOk result ReportTextShowsPositions }
 {
     let mut positions = Positions::new(alloc);
     positions.push(first)?;
@@ -33,10 +33,10 @@ fn positions_of(alloc: Global, first: u64, second: u64) -> Result<Positions, All
 }
 
 // A report of two lines in their order.
-#[tactic(auto, using(crate::proofs::OrderedListLemmas::two_lines_in_order))]
+#[tactic(auto, using(crate::proofs::ShortListLemmas::short_list_of_two_lines))]
 fn report_of(alloc: Global, positions: Positions, first: Line, second: Line) -> Result<Report, Fail>
-    requires { ArePositions positions }
-    ensures positions { IfOk result (λ report. ArePositions report.positions) }
+    requires { ReportTextShowsPositions positions }
+    ensures positions { IfOk result (λ report. ReportTextShowsPositions report.positions) }
     ensures threshold { IfOk result (λ report. 1 ≤ report.threshold) }
 {
     if first.lo > first.hi {

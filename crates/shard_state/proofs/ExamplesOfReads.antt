@@ -2,40 +2,44 @@
 use Rattle.std.proofs.Common.{◌≡◌, zero, suc, ◌+◌, List, [], ◌∷◌, None, Some, refl, arith, ◌*◌}
 use Rattle.std.proofs.lemmas.List.Elements.{All-from_recursion}
 use Rattle.shard_state.specs.Snapshot.{empty_snapshot, SnapshotRepresents}
-use Rattle.shard_state.specs.Cut.{empty_cut, most_snapshots}
-use Rattle.shard_state.specs.ShardState.{ShardValue, IsShard, folded, snapshot_of}
-use Rattle.shard_state.specs.ShardCore.{CoreValue, changed, with_read, after, run, capacity_of, AreShards, IsCore}
-use Rattle.shard_state.specs.ShardCore.{HasShape, IsEventFor, position_in, met, reads_of, last_of, NeverFall}
-use Rattle.shard_state.specs.ShardCore.{latest, shard_in, snapshot_in, lists_of, BasesRepresent, ReadsEach}
+use Rattle.shard_state.specs.Cut.{empty_cut, most_cut_snapshots}
+use Rattle.shard_state.specs.ShardState.{ShardValue, IsShard, folded_shard, snapshot_of_shard}
+use Rattle.shard_state.specs.ShardCore.{CoreValue, changed_in_core, core_cut_with_shard, core_after, run, core_capacity, AreCoreShards, IsCore}
+use Rattle.shard_state.specs.ShardCore.{HasCoreShape, IsCoreEvent, position_in_core, met_in_core, core_reads_of, last_core_read, CorePositionsNeverFall}
+use Rattle.shard_state.specs.ShardCore.{latest_core_snapshot, shard_in_core_cut, snapshot_in_core, core_lists, CoreBasesRepresent, ReadsEachCoreShard}
 use Rattle.shard_state.specs.declared.event.Event.{Event}
 use Rattle.shard_state.specs.declared.event.Event.TheVariants.{Fold, Read}
-use Rattle.shard_state.proofs.RepresentationLemmas.{stands-empty}
+use Rattle.shard_state.proofs.RepresentationLemmas.{representation_when_empty}
 use Rattle.shard_state.proofs.Examples.{first, shard, begun_shard}
 use Rattle.prefix_lattice.specs.{most_shards}
 
-pub second_changed : changed (λ n. n + 10) 1 (1 ∷ 2 ∷ 3 ∷ []) ≡ 1 ∷ 12 ∷ 3 ∷ []
+pub second_changed : changed_in_core (λ n. n + 10) 1 (1 ∷ 2 ∷ 3 ∷ []) ≡ 1 ∷ 12 ∷ 3 ∷ []
 second_changed = refl
 
-pub nothing_changed_past_the_end : changed (λ n. n + 10) 3 (1 ∷ 2 ∷ 3 ∷ []) ≡ 1 ∷ 2 ∷ 3 ∷ []
+pub nothing_changed_past_the_end : changed_in_core (λ n. n + 10) 3 (1 ∷ 2 ∷ 3 ∷ []) ≡ 1 ∷ 2 ∷ 3 ∷ []
 nothing_changed_past_the_end = refl
 
 -- one shard of six packets, and the cuts of two callers
 abbrev core : CoreValue
 core = record { shards = shard ∷ []; cuts = empty_cut 1 4 ∷ empty_cut 1 4 ∷ [] }
 
-pub read_puts_its_snapshot : with_read 0 (Some (folded 4 shard)) (empty_cut 1 4) ≡ record { capacity = 4; shards = snapshot_of (folded 4 shard) ∷ [] }
+pub read_puts_its_snapshot : core_cut_with_shard 0 (Some (folded_shard 4 shard)) (empty_cut 1 4) ≡ record {
+  capacity = 4;
+  shards = snapshot_of_shard (folded_shard 4 shard)
+      ∷ [];
+}
 read_puts_its_snapshot = refl
 
-pub read_of_no_shard : with_read 1 None (empty_cut 1 4) ≡ empty_cut 1 4
+pub read_of_no_shard : core_cut_with_shard 1 None (empty_cut 1 4) ≡ empty_cut 1 4
 read_of_no_shard = refl
 
 -- a fold moves its shard and no cut
-pub fold_moves : after core (Fold 0 4) ≡ record core { shards = folded 4 shard ∷ [] }
+pub fold_moves : core_after core (Fold 0 4) ≡ record core { shards = folded_shard 4 shard ∷ [] }
 fold_moves = refl
 
 -- a read changes its caller's cut alone
-pub read_leaves : after (record core { shards = folded 4 shard ∷ [] }) (Read 1 0)
-    ≡ record { shards = folded 4 shard ∷ []; cuts = empty_cut 1 4 ∷ record { capacity = 4; shards = snapshot_of (folded 4 shard) ∷ [] } ∷ [] }
+pub read_leaves : core_after (record core { shards = folded_shard 4 shard ∷ [] }) (Read 1 0)
+    ≡ record { shards = folded_shard 4 shard ∷ []; cuts = empty_cut 1 4 ∷ record { capacity = 4; shards = snapshot_of_shard (folded_shard 4 shard) ∷ [] } ∷ [] }
 read_leaves = refl
 
 -- the first caller reads between two folds and behind them, the other behind them
@@ -43,15 +47,19 @@ abbrev events : List Event
 events = Fold 0 4 ∷ Read 0 0 ∷ Fold 0 4 ∷ Read 1 0 ∷ Read 0 0 ∷ []
 
 pub run_leaves : run core events ≡ record {
-  shards = folded 4 (folded 4 shard) ∷ [];
-  cuts = record { capacity = 4; shards = snapshot_of (folded 9 shard) ∷ [] } ∷ record { capacity = 4; shards = snapshot_of (folded 9 shard) ∷ [] } ∷ [];
+  shards = folded_shard 4 (folded_shard 4 shard) ∷ [];
+  cuts = record { capacity = 4; shards = snapshot_of_shard (folded_shard 9 shard) ∷ [] } ∷ record {
+    capacity = 4;
+    shards = snapshot_of_shard (folded_shard 9 shard) ∷
+        [];
+  } ∷ [];
 }
 run_leaves = refl
 
-pub capacity_of_the_core : capacity_of core.shards ≡ 4
+pub capacity_of_the_core : core_capacity core.shards ≡ 4
 capacity_of_the_core = refl
 
-pub one_shard_is_some : AreShards core.shards
+pub one_shard_is_some : AreCoreShards core.shards
 one_shard_is_some = record {
   some = omega arith;
   few = omega arith;
@@ -64,87 +72,87 @@ core_of_one_shard = record { are_shards = one_shard_is_some; kept = All-from_rec
 pub core_of_no_shard : IsCore [] → ⊥
 core_of_no_shard kept = omega (arith, kept.are_shards.some)
 
-pub cut_for_the_core : HasShape 1 4 (empty_cut 1 4)
+pub cut_for_the_core : HasCoreShape 1 4 (empty_cut 1 4)
 cut_for_the_core = record { as_many = refl; alike = refl }
 
-pub cut_of_two_shards : HasShape 1 4 (empty_cut 2 4) → ⊥
+pub cut_of_two_shards : HasCoreShape 1 4 (empty_cut 2 4) → ⊥
 cut_of_two_shards shape = omega (arith, shape.as_many)
 
-pub fold_for_the_core : IsEventFor 1 2 (Fold 0 4)
+pub fold_for_the_core : IsCoreEvent 1 2 (Fold 0 4)
 fold_for_the_core = (omega arith, omega arith)
 
 -- a block has a record at least
-pub fold_of_no_record : IsEventFor 1 2 (Fold 0 0) → ⊥
+pub fold_of_no_record : IsCoreEvent 1 2 (Fold 0 0) → ⊥
 fold_of_no_record event = omega (arith, event.1)
 
-pub read_by_a_third_caller : IsEventFor 1 2 (Read 2 0) → ⊥
+pub read_by_a_third_caller : IsCoreEvent 1 2 (Read 2 0) → ⊥
 read_by_a_third_caller event = omega (arith, event.0)
 
-pub position_of_a_shard : position_in (Some (folded 4 shard)) ≡ 4 ∷ []
+pub position_of_a_shard : position_in_core (Some (folded_shard 4 shard)) ≡ 4 ∷ []
 position_of_a_shard = refl
 
-pub position_of_no_shard : position_in None ≡ []
+pub position_of_no_shard : position_in_core None ≡ []
 position_of_no_shard = refl
 
-pub read_meets_its_shard : met 0 0 core.shards (Read 0 0) ≡ 0 ∷ []
+pub read_meets_its_shard : met_in_core 0 0 core.shards (Read 0 0) ≡ 0 ∷ []
 read_meets_its_shard = refl
 
-pub read_by_another_meets_nothing : met 0 0 core.shards (Read 1 0) ≡ []
+pub read_by_another_meets_nothing : met_in_core 0 0 core.shards (Read 1 0) ≡ []
 read_by_another_meets_nothing = refl
 
-pub fold_meets_nothing : met 0 0 core.shards (Fold 0 4) ≡ []
+pub fold_meets_nothing : met_in_core 0 0 core.shards (Fold 0 4) ≡ []
 fold_meets_nothing = refl
 
-pub reads_meet : reads_of 0 0 core events ≡ 4 ∷ 6 ∷ []
+pub reads_meet : core_reads_of 0 0 core events ≡ 4 ∷ 6 ∷ []
 reads_meet = refl
 
-pub another_caller_reads : reads_of 1 0 core events ≡ 6 ∷ []
+pub another_caller_reads : core_reads_of 1 0 core events ≡ 6 ∷ []
 another_caller_reads = refl
 
-pub last_of_two_reads : last_of (reads_of 0 0 core events) ≡ Some 6
+pub last_of_two_reads : last_core_read (core_reads_of 0 0 core events) ≡ Some 6
 last_of_two_reads = refl
 
-pub last_of_no_read : last_of [] ≡ None
+pub last_of_no_read : last_core_read [] ≡ None
 last_of_no_read = refl
 
-pub reads_never_fall : NeverFall 0 (reads_of 0 0 core events)
+pub reads_never_fall : CorePositionsNeverFall 0 (core_reads_of 0 0 core events)
 reads_never_fall = (omega arith, (omega arith, tt))
 
-pub reads_that_fall : NeverFall 0 (6 ∷ 4 ∷ []) → ⊥
+pub reads_that_fall : CorePositionsNeverFall 0 (6 ∷ 4 ∷ []) → ⊥
 reads_that_fall never = omega (arith, never.1.0)
 
 -- the snapshot at the last read, or what was there before
-pub latest_of_two_reads : latest shard (empty_snapshot 4) (4 ∷ 6 ∷ []) ≡ snapshot_of (folded 9 shard)
+pub latest_of_two_reads : latest_core_snapshot shard (empty_snapshot 4) (4 ∷ 6 ∷ []) ≡ snapshot_of_shard (folded_shard 9 shard)
 latest_of_two_reads = refl
 
-pub latest_of_no_read : latest shard (empty_snapshot 4) [] ≡ empty_snapshot 4
+pub latest_of_no_read : latest_core_snapshot shard (empty_snapshot 4) [] ≡ empty_snapshot 4
 latest_of_no_read = refl
 
-pub snapshot_of_a_shard : shard_in 0 (Some (empty_cut 1 4)) ≡ Some (empty_snapshot 4)
+pub snapshot_of_a_shard : shard_in_core_cut 0 (Some (empty_cut 1 4)) ≡ Some (empty_snapshot 4)
 snapshot_of_a_shard = refl
 
-pub snapshot_in_no_cut : shard_in 0 None ≡ None
+pub snapshot_in_no_cut : shard_in_core_cut 0 None ≡ None
 snapshot_in_no_cut = refl
 
-pub snapshot_of_the_other_caller : snapshot_in 1 0 (run core events).cuts ≡ Some (snapshot_of (folded 9 shard))
+pub snapshot_of_the_other_caller : snapshot_in_core 1 0 (run core events).cuts ≡ Some (snapshot_of_shard (folded_shard 9 shard))
 snapshot_of_the_other_caller = refl
 
-pub snapshot_of_a_third_caller : snapshot_in 2 0 core.cuts ≡ None
+pub snapshot_of_a_third_caller : snapshot_in_core 2 0 core.cuts ≡ None
 snapshot_of_a_third_caller = refl
 
-pub one_list : lists_of core.shards ≡ first ∷ []
+pub one_list : core_lists core.shards ≡ first ∷ []
 one_list = refl
 
 -- no record is counted at the start
-pub base_stands : BasesRepresent core.shards
-base_stands = All-from_recursion (λ (s : ShardValue). SnapshotRepresents s.base s.list) core.shards (stands-empty 4 first, tt)
+pub base_stands : CoreBasesRepresent core.shards
+base_stands = All-from_recursion (λ (s : ShardValue). SnapshotRepresents s.base s.list) core.shards (representation_when_empty 4 first, tt)
 
-pub both_callers_read_each : ReadsEach 1 core events
+pub both_callers_read_each : ReadsEachCoreShard 1 core events
 both_callers_read_each zero below = omega arith
 both_callers_read_each (suc place) below = absurd (omega (arith, below))
 
-pub third_caller_reads_none : ReadsEach 2 core events → ⊥
+pub third_caller_reads_none : ReadsEachCoreShard 2 core events → ⊥
 third_caller_reads_none each = let one = each 0 (omega arith) in omega (arith, one)
 
-pub snapshots_of_eight_times_the_shards : most_snapshots ≡ 8 * most_shards
+pub snapshots_of_eight_times_the_shards : most_cut_snapshots ≡ 8 * most_shards
 snapshots_of_eight_times_the_shards = refl

@@ -1,12 +1,12 @@
 pub mod EmptyTableLemmas
 pub mod SnapshotPartLemmas
-pub mod NodeKeyLemmas
+pub mod KeyPropertyLemmas
 pub mod TableFoldLemmas
 pub mod ShardStateLemmas
-pub mod CutLemmas
-pub mod WeightLemmas
+pub mod CutSnapshotLemmas
+pub mod PrefixWeightLemmas
 pub mod RepresentationLemmas
-pub mod ChangedListLemmas
+pub mod ChangedElementLemmas
 pub mod EventLemmas
 pub mod EventRunLemmas
 pub mod ShardCoreLemmas

@@ -5,40 +5,40 @@ use Rattle.std.proofs.Math.Seq.{take-add}
 use Rattle.std.proofs.lemmas.List.{drop-drop, get_or-drop, length-take-le}
 use Rattle.std.proofs.lemmas.List.Sums.{sum_by-append, sum_by-le}
 use Rattle.std.proofs.lemmas.List.Elements.{All-take, All-drop, All-weaker, All-map, All-from_get_or}
-use Rattle.prefix_lattice.specs.{RecordValue, index_of, node_at, total_weight}
+use Rattle.prefix_lattice.specs.{RecordValue, node_index, node_at, total_weight}
 use Rattle.space_saving.specs.declared.entry.Entry.{Entry}
-use Rattle.space_saving.specs.{TableValue, total_count}
-use Rattle.shard_state.specs.Snapshot.{fold_from, SnapshotValue, IsSnapshot, total_of, tables_of, copied_from, fold_tables}
-use Rattle.shard_state.specs.ShardState.{ShardValue, IsShard, snapshot_of}
-use Rattle.prefix_lattice.proofs.NodePlaceLemmas.{IsNode-node_at, index_of-node_at}
-use Rattle.shard_state.proofs.SnapshotPartLemmas.{with_entries, entries_in}
-use Rattle.shard_state.proofs.TableFoldLemmas.{StepsKeep, Advances, advances, fold_from-append, fold_from-none, fold_tables-entries}
+use Rattle.space_saving.specs.{TableValue, table_total}
+use Rattle.shard_state.specs.Snapshot.{fold_snapshot_from, SnapshotValue, IsSnapshot, snapshot_total, tables_of_snapshot, snapshot_copied_from, fold_snapshot_tables}
+use Rattle.shard_state.specs.ShardState.{ShardValue, IsShard, snapshot_of_shard}
+use Rattle.prefix_lattice.proofs.NodePlaceLemmas.{IsNode-node_at_place, node_index-node_at_place}
+use Rattle.shard_state.proofs.SnapshotPartLemmas.{snapshot_part_with_entries, snapshot_part_entries}
+use Rattle.shard_state.proofs.TableFoldLemmas.{TableFoldKeeps, TableFoldAdvances, table_fold_advances, fold_snapshot_from-append_in_tables, fold_snapshot_from-none_in_tables, fold_snapshot_tables-entries}
 
 -- what stands at a place, where the rest from there is the same
-pub here_of_rest : {X : Type 0} → (xs ys : List X) (n : ℕ) (d : X) → drop n xs ≡ drop n ys → get_or xs n d ≡ get_or ys n d
-here_of_rest xs ys n d same =
+pub shard_state_place_in_rest : {X : Type 0} → (xs ys : List X) (n : ℕ) (d : X) → drop n xs ≡ drop n ys → get_or xs n d ≡ get_or ys n d
+shard_state_place_in_rest xs ys n d same =
     let at : n + 0 ≡ n = omega arith in
     ap (λ k. get_or xs k d) (sym at) ∙ sym (get_or-drop n xs 0 d) ∙ ap (λ l. get_or l 0 d) same ∙ get_or-drop n ys 0 d ∙ ap (λ k. get_or ys k d) at
 
 -- records up to a later position
-pub range_further : (list : List RecordValue) (from middle to : ℕ) → from ≤ middle → middle ≤ to
+pub shard_state_range_further : (list : List RecordValue) (from middle to : ℕ) → from ≤ middle → middle ≤ to
     → slice_range list from to ≡ slice_range list from middle ++ slice_range list middle to
-range_further list from middle to early late =
+shard_state_range_further list from middle to early late =
     let whole : to - from ≡ (middle - from) + (to - middle) = omega arith in
     let behind : from + (middle - from) ≡ middle = omega arith in
     ap (λ n. take n (drop from list)) whole
     ∙ take-add (middle - from) (to - middle) (drop from list)
     ∙ ap (λ l. slice_range list from middle ++ take (to - middle) l) (drop-drop (middle - from) from list ∙ ap (λ n. drop n list) behind)
 
-pub take_further : (list : List RecordValue) (middle to : ℕ) → middle ≤ to → take to list ≡ take middle list ++ slice_range list middle to
-take_further list middle to late =
+pub shard_state_take_further : (list : List RecordValue) (middle to : ℕ) → middle ≤ to → take to list ≡ take middle list ++ slice_range list middle to
+shard_state_take_further list middle to late =
     let whole : to ≡ middle + (to - middle) = omega arith in
     ap (λ n. take n list) whole ∙ take-add middle (to - middle) list
 
 -- so many records weigh less than 2^56
-pub light : (list : List RecordValue) (to : ℕ) → length list ≤ 2 ^ 24 → to ≤ length list → All (λ (r : RecordValue). r.weight < 2 ^ 32) list
+pub shard_state_is_light : (list : List RecordValue) (to : ℕ) → length list ≤ 2 ^ 24 → to ≤ length list → All (λ (r : RecordValue). r.weight < 2 ^ 32) list
     → total_weight (take to list) < 2 ^ 56
-light list to few within bounded =
+shard_state_is_light list to few within bounded =
     let each : All (λ (r : RecordValue). r.weight ≤ 4294967295) (take to list) =
     All-weaker (λ (r : RecordValue). r.weight < 2 ^ 32) (λ (r : RecordValue). r.weight ≤ 4294967295) (λ r below. omega arith) (take to list)
     (All-take (λ (r : RecordValue). r.weight < 2 ^ 32) to list bounded) in
@@ -47,38 +47,41 @@ light list to few within bounded =
     omega arith
 
 -- a shard at a later position
-pub record FoldedOn (shard : ShardValue) (to : ℕ) : Type 0 where
+pub record ShardStateFoldedOn (shard : ShardValue) (to : ℕ) : Type 0 where
   pub is_shard : IsShard (record shard { position = to })
-  pub tables : fold_from 0 shard.base.capacity shard.base.tables (slice_range shard.list shard.base.position to)
-      ≡ fold_from 0 shard.base.capacity (snapshot_of shard).tables (slice_range shard.list shard.position to)
+  pub tables : fold_snapshot_from 0 shard.base.capacity shard.base.tables (slice_range shard.list shard.base.position to)
+      ≡ fold_snapshot_from 0 shard.base.capacity (snapshot_of_shard shard).tables (slice_range shard.list shard.position to)
 
-further_tables : (shard : ShardValue) (to : ℕ) → IsShard shard → shard.position ≤ to
-    → fold_from 0 shard.base.capacity shard.base.tables (slice_range shard.list shard.base.position to)
-    ≡ fold_from 0 shard.base.capacity (snapshot_of shard).tables (slice_range shard.list shard.position to)
-further_tables shard to is later =
-    ap (fold_from 0 shard.base.capacity shard.base.tables) (range_further shard.list shard.base.position shard.position to is.begun later)
-    ∙ fold_from-append 0 shard.base.capacity shard.base.tables
+shard_state_tables_further : (shard : ShardValue) (to : ℕ) → IsShard shard → shard.position ≤ to
+    → fold_snapshot_from 0 shard.base.capacity shard.base.tables (slice_range shard.list shard.base.position to)
+    ≡ fold_snapshot_from 0 shard.base.capacity (snapshot_of_shard shard).tables (slice_range shard.list shard.position to)
+shard_state_tables_further shard to is later =
+    ap (fold_snapshot_from 0 shard.base.capacity shard.base.tables) (shard_state_range_further shard.list shard.base.position shard.position to is.begun later)
+    ∙ fold_snapshot_from-append_in_tables 0 shard.base.capacity shard.base.tables
     (slice_range shard.list shard.base.position shard.position) (slice_range shard.list shard.position to)
 
 -- the weight up to a later position
-further_weight : (shard : ShardValue) (to : ℕ) → IsShard shard → shard.position ≤ to
-    → total_of (snapshot_of shard) + total_weight (slice_range shard.list shard.position to) ≡ total_weight (take to shard.list)
-further_weight shard to is later =
+shard_state_weight_further : (shard : ShardValue) (to : ℕ) → IsShard shard → shard.position ≤ to
+    → snapshot_total (snapshot_of_shard shard) + total_weight (slice_range shard.list shard.position to) ≡ total_weight (take to shard.list)
+shard_state_weight_further shard to is later =
     ap (λ n. n + total_weight (slice_range shard.list shard.position to)) is.counted
     ∙ sym (sum_by-append (λ (r : RecordValue). r.weight) (take shard.position shard.list) (slice_range shard.list shard.position to))
-    ∙ ap total_weight (sym (take_further shard.list shard.position to later))
+    ∙ ap total_weight (sym (shard_state_take_further shard.list shard.position to later))
 
-pub folded_on : (shard : ShardValue) (to : ℕ) → StepsKeep → IsShard shard → shard.position ≤ to → to ≤ length shard.list → FoldedOn shard to
-folded_on shard to keep is later within =
+pub shard_state_folds_on : (shard : ShardValue) (to : ℕ) → TableFoldKeeps → IsShard shard → shard.position ≤ to → to ≤ length shard.list
+    → ShardStateFoldedOn shard to
+shard_state_folds_on shard to keep is later within =
     let records = slice_range shard.list shard.position to in
     let weighed : All (λ (r : RecordValue). 1 ≤ r.weight) records =
     All-take (λ (r : RecordValue). 1 ≤ r.weight) (to - shard.position) (drop shard.position shard.list)
     (All-drop (λ (r : RecordValue). 1 ≤ r.weight) shard.position shard.list is.weighed) in
-    let weight : total_of (snapshot_of shard) + total_weight records ≡ total_weight (take to shard.list) = further_weight shard to is later in
-    let small : total_weight (take to shard.list) < 2 ^ 56 = light shard.list to is.few within is.bounded in
+    let weight : snapshot_total (snapshot_of_shard shard) + total_weight records ≡ total_weight (take to shard.list) = shard_state_weight_further shard to
+    is later in
+    let small : total_weight (take to shard.list) < 2 ^ 56 = shard_state_is_light shard.list to is.few within is.bounded in
     let placed : to ≤ 2 ^ 24 = omega (arith, is.few) in
-    let more : Advances (snapshot_of shard) to records = advances (snapshot_of shard) to records keep is.tables placed weighed (omega arith) in
-    let same = further_tables shard to is later in
+    let more : TableFoldAdvances (snapshot_of_shard shard) to records = table_fold_advances (snapshot_of_shard shard) to records keep is.tables placed weighed
+    (omega arith) in
+    let same = shard_state_tables_further shard to is later in
     let with_tables : List (List Entry) → SnapshotValue = λ ts. record { capacity = shard.base.capacity; position = to; tables = ts } in
     record {
       is_shard = record {
@@ -87,56 +90,61 @@ folded_on shard to keep is later within =
         within = within;
         weighed = is.weighed;
         bounded = is.bounded;
-        counted = ap (λ ts. total_of (with_tables ts)) same ∙ more.total ∙ weight;
+        counted = ap (λ ts. snapshot_total (with_tables ts)) same ∙ more.total ∙ weight;
         tables = subst (λ ts. IsSnapshot (with_tables ts)) (sym same) more.is_snapshot;
       };
       tables = same;
     }
 
 -- each table of a shard has room for the records up to a later position
-pub has_room : (shard : ShardValue) (to : ℕ) → IsShard shard → shard.position ≤ to → to ≤ length shard.list
-    → All (λ (t : TableValue). total_count t.entries + total_weight (slice_range shard.list shard.position to) < 2 ^ 56) (tables_of (snapshot_of shard))
-has_room shard to is later within =
+pub shard_state_has_room : (shard : ShardValue) (to : ℕ) → IsShard shard → shard.position ≤ to → to ≤ length shard.list
+    → All (λ (t : TableValue). table_total t.entries + total_weight (slice_range shard.list shard.position to) < 2 ^ 56)
+    (tables_of_snapshot (snapshot_of_shard shard))
+shard_state_has_room shard to is later within =
     let records = slice_range shard.list shard.position to in
-    let tables = (snapshot_of shard).tables in
-    let weight : total_of (snapshot_of shard) + total_weight records ≡ total_weight (take to shard.list) = further_weight shard to is later in
-    let small : total_weight (take to shard.list) < 2 ^ 56 = light shard.list to is.few within is.bounded in
-    All-map (λ (t : TableValue). total_count t.entries + total_weight records < 2 ^ 56) (with_entries shard.base.capacity) tables
-    (All-from_get_or (λ (es : List Entry). total_count es + total_weight records < 2 ^ 56) tables []
+    let tables = (snapshot_of_shard shard).tables in
+    let weight : snapshot_total (snapshot_of_shard shard) + total_weight records ≡ total_weight (take to shard.list) = shard_state_weight_further shard to
+    is later in
+    let small : total_weight (take to shard.list) < 2 ^ 56 = shard_state_is_light shard.list to is.few within is.bounded in
+    All-map (λ (t : TableValue). table_total t.entries + total_weight records < 2 ^ 56) (snapshot_part_with_entries shard.base.capacity) tables
+    (All-from_get_or (λ (es : List Entry). table_total es + total_weight records < 2 ^ 56) tables []
     (λ k in_tables.
     let place : k < 25 = omega (arith, is.tables.shape) in
-    let at : total_count (get_or tables (index_of (node_at k)) []) ≡ total_of (snapshot_of shard) =
-    (is.tables.tables (node_at k) (IsNode-node_at k place)).counted in
-    let here : total_count (get_or tables k []) ≡ total_of (snapshot_of shard) =
-    subst (λ n. total_count (get_or tables n []) ≡ total_of (snapshot_of shard)) (index_of-node_at k) at in
+    let at : table_total (get_or tables (node_index (node_at k)) []) ≡ snapshot_total (snapshot_of_shard shard) =
+    (is.tables.tables (node_at k) (IsNode-node_at_place k place)).counted in
+    let here : table_total (get_or tables k []) ≡ snapshot_total (snapshot_of_shard shard) =
+    subst (λ n. table_total (get_or tables n []) ≡ snapshot_total (snapshot_of_shard shard)) (node_index-node_at_place k) at in
     omega arith))
 
 -- the tables of a shard at a later position
-pub tables_on : (shard : ShardValue) (to : ℕ) (tables : List TableValue) → FoldedOn shard to → tables ≡ tables_of (snapshot_of shard)
-    → fold_tables 0 tables (slice_range shard.list shard.position to) ≡ tables_of (snapshot_of (record shard { position = to }))
-tables_on shard to tables on are =
-    ap (λ ts. fold_tables 0 ts (slice_range shard.list shard.position to)) are
-    ∙ fold_tables-entries 0 shard.base.capacity (snapshot_of shard).tables (slice_range shard.list shard.position to)
-    ∙ ap (map (with_entries shard.base.capacity)) (sym on.tables)
+pub shard_state_folded_tables : (shard : ShardValue) (to : ℕ) (tables : List TableValue) → ShardStateFoldedOn shard to
+    → tables ≡ tables_of_snapshot (snapshot_of_shard shard)
+    → fold_snapshot_tables 0 tables (slice_range shard.list shard.position to) ≡ tables_of_snapshot (snapshot_of_shard (record shard { position = to }))
+shard_state_folded_tables shard to tables on are =
+    ap (λ ts. fold_snapshot_tables 0 ts (slice_range shard.list shard.position to)) are
+    ∙ fold_snapshot_tables-entries 0 shard.base.capacity (snapshot_of_shard shard).tables (slice_range shard.list shard.position to)
+    ∙ ap (map (snapshot_part_with_entries shard.base.capacity)) (sym on.tables)
 
 -- a shard that goes on from a snapshot
-pub record Begun (list : List RecordValue) (base : SnapshotValue) (position : ℕ) : Type 0 where
-  pub snapshot : snapshot_of (record { list = list; base = base; position = position }) ≡ base
+pub record BegunShardState (list : List RecordValue) (base : SnapshotValue) (position : ℕ) : Type 0 where
+  pub snapshot : snapshot_of_shard (record { list = list; base = base; position = position }) ≡ base
   pub is_shard : IsShard (record { list = list; base = base; position = position })
 
-pub begun : (list : List RecordValue) (base : SnapshotValue) (position : ℕ) → position ≡ base.position
+pub shard_state_is_begun : (list : List RecordValue) (base : SnapshotValue) (position : ℕ) → position ≡ base.position
     → IsSnapshot base → length list ≤ 2 ^ 24 → base.position ≤ length list
-    → All (λ (r : RecordValue). 1 ≤ r.weight) list → All (λ (r : RecordValue). r.weight < 2 ^ 32) list → total_of base ≡ total_weight (take base.position list)
-    → Begun list base position
-begun list base position at_base is few within weighed bounded counted =
+    → All (λ (r : RecordValue). 1 ≤ r.weight) list → All (λ (r : RecordValue). r.weight < 2 ^ 32) list
+    → snapshot_total base ≡ total_weight (take base.position list)
+    → BegunShardState list base position
+shard_state_is_begun list base position at_base is few within weighed bounded counted =
     let shard : ShardValue = record { list = list; base = base; position = position } in
     let none : slice_range list base.position position ≡ [] =
     let nothing : position - base.position ≡ 0 = omega arith in
     ap (λ n. take n (drop base.position list)) nothing in
-    let tables : (snapshot_of shard).tables ≡ base.tables = ap (fold_from 0 base.capacity base.tables) none ∙ fold_from-none 0 base.capacity base.tables in
+    let tables : (snapshot_of_shard shard).tables ≡ base.tables = ap (fold_snapshot_from 0 base.capacity base.tables) none
+    ∙ fold_snapshot_from-none_in_tables 0 base.capacity base.tables in
     let with_tables : List (List Entry) → SnapshotValue = λ ts. record { capacity = base.capacity; position = position; tables = ts } in
     let with_position : ℕ → SnapshotValue = λ p. record { capacity = base.capacity; position = p; tables = base.tables } in
-    let same : snapshot_of shard ≡ base = ap with_tables tables ∙ ap with_position at_base in
+    let same : snapshot_of_shard shard ≡ base = ap with_tables tables ∙ ap with_position at_base in
     record {
       snapshot = same;
       is_shard = record {
@@ -145,21 +153,21 @@ begun list base position at_base is few within weighed bounded counted =
         within = omega arith;
         weighed = weighed;
         bounded = bounded;
-        counted = ap total_of same ∙ counted ∙ ap (λ n. total_weight (take n list)) (sym at_base);
+        counted = ap snapshot_total same ∙ counted ∙ ap (λ n. total_weight (take n list)) (sym at_base);
         tables = subst IsSnapshot (sym same) is;
       };
     }
 
 -- a copy of the tables of a snapshot is that snapshot
-pub copied_is : (snapshot : SnapshotValue) (capacity position : ℕ) (tables : List TableValue)
-    → tables ≡ tables_of snapshot → capacity ≡ snapshot.capacity → position ≡ snapshot.position
-    → copied_from capacity position tables ≡ snapshot
-copied_is snapshot capacity position tables are same_capacity same_position =
+pub shard_state_copy_is_same : (snapshot : SnapshotValue) (capacity position : ℕ) (tables : List TableValue)
+    → tables ≡ tables_of_snapshot snapshot → capacity ≡ snapshot.capacity → position ≡ snapshot.position
+    → snapshot_copied_from capacity position tables ≡ snapshot
+shard_state_copy_is_same snapshot capacity position tables are same_capacity same_position =
     let made : ℕ → ℕ → List (List Entry) → SnapshotValue = λ c p ts. record { capacity = c; position = p; tables = ts } in
-    ap (λ c. made c position (map entries_in tables)) same_capacity
-    ∙ ap (λ p. made snapshot.capacity p (map entries_in tables)) same_position
-    ∙ ap (made snapshot.capacity snapshot.position) (ap (map entries_in) are ∙ entries_back snapshot.tables)
+    ap (λ c. made c position (map snapshot_part_entries tables)) same_capacity
+    ∙ ap (λ p. made snapshot.capacity p (map snapshot_part_entries tables)) same_position
+    ∙ ap (made snapshot.capacity snapshot.position) (ap (map snapshot_part_entries) are ∙ entries_back snapshot.tables)
   where
-    entries_back : (tables : List (List Entry)) → map entries_in (map (with_entries snapshot.capacity) tables) ≡ tables
+    entries_back : (tables : List (List Entry)) → map snapshot_part_entries (map (snapshot_part_with_entries snapshot.capacity) tables) ≡ tables
     entries_back [] = refl
     entries_back (entries ∷ tables) = ap (λ ts. entries ∷ ts) (entries_back tables)

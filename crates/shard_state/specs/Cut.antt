@@ -1,10 +1,10 @@
 -- A cut, as contracts see it.
 use Rattle.std.specs.Prelude.{ℕ, ◌≡◌, ◌≤◌, List, length, map, sum_by, All, [], ◌∷◌, ◌++◌, take}
 use Rattle.std.proofs.Math.ListN.{replicate}
-use Rattle.shard_state.specs.Snapshot.{SnapshotValue, IsSnapshot, empty_snapshot, total_of, SnapshotRepresents}
+use Rattle.shard_state.specs.Snapshot.{SnapshotValue, IsSnapshot, empty_snapshot, snapshot_total, SnapshotRepresents}
 use Rattle.std.specs.List.{AllZip}
 use Rattle.prefix_lattice.specs.{RecordValue}
-use Rattle.space_saving.specs.{least_capacity, most_capacity}
+use Rattle.space_saving.specs.{least_table_capacity, most_table_capacity}
 
 -- one snapshot for each shard, all of one capacity
 pub record CutValue : Type 0 where
@@ -12,27 +12,27 @@ pub record CutValue : Type 0 where
   pub shards : List SnapshotValue
 
 -- the positions of a cut, one for each shard
-abbrev pub positions_of : CutValue → List ℕ
-positions_of cut = map (λ snapshot. snapshot.position) cut.shards
+abbrev pub cut_positions : CutValue → List ℕ
+cut_positions cut = map (λ snapshot. snapshot.position) cut.shards
 
 -- positions that aren't past others, shard by shard
-abbrev pub AreNotPast : List ℕ → List ℕ → Type 0
-AreNotPast earlier later = AllZip (λ one other. one ≤ other) earlier later
+abbrev pub AreCutPositionsNotPast : List ℕ → List ℕ → Type 0
+AreCutPositionsNotPast earlier later = AllZip (λ one other. one ≤ other) earlier later
 
 -- the weight that the shards of a cut counted together
 abbrev pub total_of_cut : CutValue → ℕ
-total_of_cut cut = sum_by total_of cut.shards
+total_of_cut cut = sum_by snapshot_total cut.shards
 
 -- the most snapshots of a cut, eight times as many as a command has shards
-abbrev pub most_snapshots : ℕ
-most_snapshots = 128
+abbrev pub most_cut_snapshots : ℕ
+most_cut_snapshots = 128
 
 -- what always holds of a cut: 1 to 128 snapshots, each of its capacity
 pub record IsCut (cut : CutValue) : Type 0 where
-  pub least : least_capacity ≤ cut.capacity
-  pub most : cut.capacity ≤ most_capacity
+  pub least : least_table_capacity ≤ cut.capacity
+  pub most : cut.capacity ≤ most_table_capacity
   pub some : 1 ≤ length cut.shards
-  pub few : length cut.shards ≤ most_snapshots
+  pub few : length cut.shards ≤ most_cut_snapshots
   pub alike : All (λ snapshot. snapshot.capacity ≡ cut.capacity) cut.shards
   pub kept : All IsSnapshot cut.shards
 
@@ -46,7 +46,7 @@ pub record CutRepresents (cut : CutValue) (lists : List (List RecordValue)) : Ty
   pub shards : AllZip SnapshotRepresents cut.shards lists
 
 -- the records before positions: the first n records of each list, n being its position, one list after the other
-abbrev pub records_before : List (List RecordValue) → List ℕ → List RecordValue
-records_before [] positions = []
-records_before (list ∷ lists) [] = []
-records_before (list ∷ lists) (position ∷ positions) = take position list ++ records_before lists positions
+abbrev pub records_before_cut : List (List RecordValue) → List ℕ → List RecordValue
+records_before_cut [] positions = []
+records_before_cut (list ∷ lists) [] = []
+records_before_cut (list ∷ lists) (position ∷ positions) = take position list ++ records_before_cut lists positions

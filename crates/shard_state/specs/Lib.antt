@@ -4,14 +4,14 @@ pub mod ShardState
 pub mod Weights
 pub mod ShardCore
 -- passed on: the limits of the tables of a shard
-pub use Rattle.space_saving.specs.{least_capacity, most_capacity}
+pub use Rattle.space_saving.specs.{least_table_capacity, most_table_capacity}
 -- the face: what contracts of other crates cite
-pub use Rattle.shard_state.specs.Cut.{AreNotPast, CutRepresents, CutValue, IsCut, empty_cut, most_snapshots, positions_of}
-pub use Rattle.shard_state.specs.Cut.{records_before, total_of_cut}
-pub use Rattle.shard_state.specs.ShardCore.{AreShards, BasesRepresent, CoreValue, HasShape, IsCore, MovedOn}
-pub use Rattle.shard_state.specs.ShardCore.{ReadsEach, capacity_of, changed, lists_of, run, with_read}
-pub use Rattle.shard_state.specs.ShardState.{IsShard, ShardValue, folded, snapshot_of, state_at}
-pub use Rattle.shard_state.specs.Snapshot.{AreParts, AreTables, IsLike, IsSnapshot, SnapshotRepresents, SnapshotValue}
-pub use Rattle.shard_state.specs.Snapshot.{empty_snapshot, entries_at, fold_from, records_table, table_at, tables_of, total_of}
-unfoldable pub use Rattle.shard_state.specs.Snapshot.{no_entries}
-pub use Rattle.shard_state.specs.Weights.{HoldsNarrowly, HoldsWeightOver, interval_of, interval_over}
+pub use Rattle.shard_state.specs.Cut.{AreCutPositionsNotPast, CutRepresents, CutValue, IsCut, empty_cut, most_cut_snapshots, cut_positions}
+pub use Rattle.shard_state.specs.Cut.{records_before_cut, total_of_cut}
+pub use Rattle.shard_state.specs.ShardCore.{AreCoreShards, CoreBasesRepresent, CoreValue, HasCoreShape, IsCore, CoreShardMovedOn}
+pub use Rattle.shard_state.specs.ShardCore.{ReadsEachCoreShard, core_capacity, changed_in_core, core_lists, run, core_cut_with_shard}
+pub use Rattle.shard_state.specs.ShardState.{IsShard, ShardValue, folded_shard, snapshot_of_shard, shard_state_at}
+pub use Rattle.shard_state.specs.Snapshot.{AreSnapshotParts, AreTablesOfSnapshot, IsLikeSnapshotTable, IsSnapshot, SnapshotRepresents, SnapshotValue}
+pub use Rattle.shard_state.specs.Snapshot.{empty_snapshot, snapshot_entries_at, fold_snapshot_from, snapshot_records_table, snapshot_table_at, tables_of_snapshot, snapshot_total}
+unfoldable pub use Rattle.shard_state.specs.Snapshot.{no_snapshot_entries}
+pub use Rattle.shard_state.specs.Weights.{HoldsWeightNarrowly, HoldsWeightOver, weight_interval_of, weight_interval_over}

@@ -2,8 +2,8 @@
 
 ghost use Rattle.std.specs.Prelude.{◌≡◌, ◌+◌, ◌^◌, ◌<◌, ℕ, length, map, slice_get, Some, All, IfOk};
 ghost use Rattle.prefix_lattice.specs.{total_weight};
-ghost use Rattle.space_saving.specs.{TableValue, total_count};
-ghost use Rattle.shard_state.specs.Snapshot.{fold_table, fold_tables};
+ghost use Rattle.space_saving.specs.{TableValue, table_total};
+ghost use Rattle.shard_state.specs.Snapshot.{fold_snapshot_table, fold_snapshot_tables};
 
 use crate::snapshot_parts::NODES;
 use crate::table::Table;
@@ -15,8 +15,8 @@ use std::alloc::{AllocError, Global};
 /// nearest cache.
 pub(crate) fn count_in_tables(tables: &mut [Table], records: &[Record])
     requires shape { length tables.old ≡ 25 }
-    requires room { All (λ table. total_count table.entries + total_weight records.now < 2 ^ 56) tables.old }
-    ensures { tables.new ≡ fold_tables 0 tables.old records.now }
+    requires room { All (λ table. table_total table.entries + total_weight records.now < 2 ^ 56) tables.old }
+    ensures { tables.new ≡ fold_snapshot_tables 0 tables.old records.now }
 {
     for place in 0..NODES {
         let node = Node::from_index(place).unwrap();
@@ -26,8 +26,8 @@ pub(crate) fn count_in_tables(tables: &mut [Table], records: &[Record])
 
 // Counts records in the table of a node.
 fn count_in_table(table: &mut Table, node: Node, records: &[Record])
-    requires { total_count table.old.entries + total_weight records.now < 2 ^ 56 }
-    ensures { table.new ≡ fold_table node records.now table.old }
+    requires { table_total table.old.entries + total_weight records.now < 2 ^ 56 }
+    ensures { table.new ≡ fold_snapshot_table node records.now table.old }
 {
     for rec in records {
         table.add(Prefix::of(rec, node).key(), rec.weight);

@@ -1,13 +1,13 @@
 //! What the tables of shards say of weights, each law the contract of a function that does nothing.
 
 ghost use Rattle.std.specs.Prelude.{◌≡◌, ◌≤◌, ℕ, List, All, Some, length, slice_get, take};
-ghost use Rattle.prefix_lattice.specs.{RecordValue, NodeValue, PrefixValue, IsPrefix, weight_of, total_weight};
-ghost use Rattle.space_saving.specs.{total_count};
-ghost use Rattle.shard_state.specs.Snapshot.{records_table, SnapshotValue, empty_snapshot, total_of, SnapshotRepresents};
-ghost use Rattle.shard_state.specs.Cut.{CutValue, IsCut, positions_of, total_of_cut, CutRepresents, records_before};
-ghost use Rattle.shard_state.specs.ShardState.{ShardValue, snapshot_of};
-ghost use Rattle.shard_state.specs.Weights.{HoldsNarrowly, HoldsWeightOver, interval_of};
-ghost use Rattle.shard_state.specs.ShardCore.{CoreValue, HasShape, IsCore, capacity_of, run, BasesRepresent, ReadsEach, lists_of};
+ghost use Rattle.prefix_lattice.specs.{RecordValue, NodeValue, PrefixValue, IsPrefix, prefix_weight, total_weight};
+ghost use Rattle.space_saving.specs.{table_total};
+ghost use Rattle.shard_state.specs.Snapshot.{snapshot_records_table, SnapshotValue, empty_snapshot, snapshot_total, SnapshotRepresents};
+ghost use Rattle.shard_state.specs.Cut.{CutValue, IsCut, cut_positions, total_of_cut, CutRepresents, records_before_cut};
+ghost use Rattle.shard_state.specs.ShardState.{ShardValue, snapshot_of_shard};
+ghost use Rattle.shard_state.specs.Weights.{HoldsWeightNarrowly, HoldsWeightOver, weight_interval_of};
+ghost use Rattle.shard_state.specs.ShardCore.{CoreValue, HasCoreShape, IsCore, core_capacity, run, CoreBasesRepresent, ReadsEachCoreShard, core_lists};
 ghost use Rattle.shard_state.specs.declared.event.Event.{Event};
 
 use prefix_lattice::keys_tell_covering;
@@ -20,7 +20,7 @@ pub fn tables_hold_weights()
     ensures weight { (capacity : ℕ) (prefix : PrefixValue) (records : List RecordValue) → 1 ≤ capacity → IsPrefix prefix
         → All (λ rec. 1 ≤ rec.weight) records → HoldsWeightOver capacity prefix records }
     ensures total { (capacity : ℕ) (node : NodeValue) (records : List RecordValue) → 1 ≤ capacity
-        → total_count (records_table capacity node records) ≡ total_weight records }
+        → table_total (snapshot_records_table capacity node records) ≡ total_weight records }
 {
     keys_tell_covering();
     intervals_hold();
@@ -31,11 +31,11 @@ pub fn tables_hold_weights()
 pub fn snapshots_hold_weights()
     ensures weight { (snapshot : SnapshotValue) (list : List RecordValue) (prefix : PrefixValue) → SnapshotRepresents snapshot list → 1 ≤ snapshot.capacity
         → IsPrefix prefix → All (λ rec. 1 ≤ rec.weight) list
-        → HoldsNarrowly (interval_of prefix snapshot) snapshot.capacity (weight_of prefix (take snapshot.position list)) (total_of snapshot) }
+        → HoldsWeightNarrowly (weight_interval_of prefix snapshot) snapshot.capacity (prefix_weight prefix (take snapshot.position list)) (snapshot_total snapshot) }
     ensures total { (snapshot : SnapshotValue) (list : List RecordValue) → SnapshotRepresents snapshot list → 1 ≤ snapshot.capacity
-        → total_of snapshot ≡ total_weight (take snapshot.position list) }
+        → snapshot_total snapshot ≡ total_weight (take snapshot.position list) }
     ensures cut_total { (cut : CutValue) (lists : List (List RecordValue)) → IsCut cut → CutRepresents cut lists
-        → total_of_cut cut ≡ total_weight (records_before lists (positions_of cut)) }
+        → total_of_cut cut ≡ total_weight (records_before_cut lists (cut_positions cut)) }
 {
     tables_hold_weights();
 }
@@ -45,18 +45,18 @@ pub fn snapshots_hold_weights()
 pub fn shards_stand()
     ensures begins { (capacity : ℕ) (list : List RecordValue) → SnapshotRepresents (empty_snapshot capacity) list }
     ensures goes_on { (shard : ShardValue) → SnapshotRepresents shard.base shard.list → shard.base.position ≤ shard.position
-        → shard.position ≤ length shard.list → SnapshotRepresents (snapshot_of shard) shard.list }
+        → shard.position ≤ length shard.list → SnapshotRepresents (snapshot_of_shard shard) shard.list }
 {}
 
 /// Two cuts of one capacity, at the same positions, that represent the same lists are equal.
 pub fn standing_cuts_are_equal()
-    ensures { (cut other : CutValue) (lists : List (List RecordValue)) → cut.capacity ≡ other.capacity → positions_of cut ≡ positions_of other
+    ensures { (cut other : CutValue) (lists : List (List RecordValue)) → cut.capacity ≡ other.capacity → cut_positions cut ≡ cut_positions other
         → CutRepresents cut lists → CutRepresents other lists → cut ≡ other }
 {}
 
 /// After a run of events, the cut of a caller that read every shard represents the lists, if the bases do.
 pub fn runs_stand()
     ensures { (core : CoreValue) (events : List Event) (caller : ℕ) (cut : CutValue) → IsCore core.shards
-        → All (HasShape (length core.shards) (capacity_of core.shards)) core.cuts → BasesRepresent core.shards
-        → slice_get (run core events).cuts caller ≡ Some cut → ReadsEach caller core events → CutRepresents cut (lists_of core.shards) }
+        → All (HasCoreShape (length core.shards) (core_capacity core.shards)) core.cuts → CoreBasesRepresent core.shards
+        → slice_get (run core events).cuts caller ≡ Some cut → ReadsEachCoreShard caller core events → CutRepresents cut (core_lists core.shards) }
 {}

@@ -2,10 +2,10 @@
 
 ghost use Rattle.std.specs.Prelude.{◌≡◌, ◌<◌, ◌≤◌, ℕ, length, slice_get, Some, All};
 ghost use Rattle.shard_state.specs.Snapshot.{SnapshotValue};
-ghost use Rattle.shard_state.specs.Cut.{CutValue, positions_of, CutRepresents};
-ghost use Rattle.shard_state.specs.ShardState.{ShardValue, IsShard, folded};
-ghost use Rattle.shard_state.specs.ShardCore.{AreShards, HasShape, IsCore, IsEventFor, after, capacity_of, changed, run, with_read};
-ghost use Rattle.shard_state.specs.ShardCore.{BasesRepresent, MovedOn, NeverFall, ReadsEach, last_of, latest, lists_of, reads_of, snapshot_in};
+ghost use Rattle.shard_state.specs.Cut.{CutValue, cut_positions, CutRepresents};
+ghost use Rattle.shard_state.specs.ShardState.{ShardValue, IsShard, folded_shard};
+ghost use Rattle.shard_state.specs.ShardCore.{AreCoreShards, HasCoreShape, IsCore, IsCoreEvent, core_after, core_capacity, changed_in_core, run, core_cut_with_shard};
+ghost use Rattle.shard_state.specs.ShardCore.{CoreBasesRepresent, CoreShardMovedOn, CorePositionsNeverFall, ReadsEachCoreShard, last_core_read, latest_core_snapshot, core_lists, core_reads_of, snapshot_in_core};
 
 use crate::{Cut, Event, ShardState};
 use std::marker::Model;
@@ -31,7 +31,7 @@ impl Model for Core {
 impl Core {
     /// The core with these states.
     pub fn new(states: Vec<ShardState>) -> Core
-        requires { AreShards states.items }
+        requires { AreCoreShards states.items }
         ensures { result ≡ states.items }
     {
         states_are_kept(&states);
@@ -41,18 +41,18 @@ impl Core {
     /// Performs one event: a fold of a shard, or a read of a shard into its caller's cut. All else is unchanged. It
     /// allocates no memory.
     pub fn step(&mut self, event: Event, cuts: &mut Vec<Cut>)
-        requires event { IsEventFor (length self.old) (length cuts.old.items) event }
-        requires cuts { All (HasShape (length self.old) (capacity_of self.old)) cuts.old.items }
-        ensures shards { self.new ≡ (after (record { shards = self.old; cuts = cuts.old.items }) event).shards }
-        ensures cuts { cuts.new.items ≡ (after (record { shards = self.old; cuts = cuts.old.items }) event).cuts }
+        requires event { IsCoreEvent (length self.old) (length cuts.old.items) event }
+        requires cuts { All (HasCoreShape (length self.old) (core_capacity self.old)) cuts.old.items }
+        ensures shards { self.new ≡ (core_after (record { shards = self.old; cuts = cuts.old.items }) event).shards }
+        ensures cuts { cuts.new.items ≡ (core_after (record { shards = self.old; cuts = cuts.old.items }) event).cuts }
 
         // Each shard has its list and base, at a position from the one before to the end of its list.
-        ensures moved_on { (shard : ℕ) (state : ShardValue) → slice_get self.old shard ≡ Some state → MovedOn self.new shard state }
+        ensures moved_on { (shard : ℕ) (state : ShardValue) → slice_get self.old shard ≡ Some state → CoreShardMovedOn self.new shard state }
 
         // The numbers of shards and callers are unchanged, and the cuts still have the core's shape.
         ensures shards_stay { length self.new ≡ length self.old }
         ensures callers_stay { length cuts.new.items ≡ length cuts.old.items }
-        ensures shapes { All (HasShape (length self.new) (capacity_of self.new)) cuts.new.items }
+        ensures shapes { All (HasCoreShape (length self.new) (core_capacity self.new)) cuts.new.items }
     {
         self.keeps();
         self.act(event, cuts);
@@ -60,31 +60,31 @@ impl Core {
 
     /// Performs a run of events, in order. It allocates no memory.
     pub fn run_events(&mut self, events: &[Event], cuts: &mut Vec<Cut>)
-        requires events { All (IsEventFor (length self.old) (length cuts.old.items)) events.now }
-        requires cuts { All (HasShape (length self.old) (capacity_of self.old)) cuts.old.items }
+        requires events { All (IsCoreEvent (length self.old) (length cuts.old.items)) events.now }
+        requires cuts { All (HasCoreShape (length self.old) (core_capacity self.old)) cuts.old.items }
         ensures shards { self.new ≡ (run (record { shards = self.old; cuts = cuts.old.items }) events.now).shards }
         ensures cuts { cuts.new.items ≡ (run (record { shards = self.old; cuts = cuts.old.items }) events.now).cuts }
 
         // For each shard, a caller's cut has the snapshot at the position that the caller's last read of it met.
         ensures latest { (caller shard : ℕ) (state : ShardValue) (before : SnapshotValue) → slice_get self.old shard ≡ Some state
-            → snapshot_in caller shard cuts.old.items ≡ Some before → snapshot_in caller shard cuts.new.items
-            ≡ Some (latest state before (reads_of caller shard (record { shards = self.old; cuts = cuts.old.items }) events.now)) }
+            → snapshot_in_core caller shard cuts.old.items ≡ Some before → snapshot_in_core caller shard cuts.new.items
+            ≡ Some (latest_core_snapshot state before (core_reads_of caller shard (record { shards = self.old; cuts = cuts.old.items }) events.now)) }
         ensures last_reads { (caller shard position : ℕ) (cut : CutValue) → shard < length self.old → slice_get cuts.new.items caller ≡ Some cut
-            → last_of (reads_of caller shard (record { shards = self.old; cuts = cuts.old.items }) events.now) ≡ Some position
-            → slice_get (positions_of cut) shard ≡ Some position }
+            → last_core_read (core_reads_of caller shard (record { shards = self.old; cuts = cuts.old.items }) events.now) ≡ Some position
+            → slice_get (cut_positions cut) shard ≡ Some position }
 
         // A later read of a shard by the same caller never meets a smaller position.
         ensures never_fall { (caller shard : ℕ) (state : ShardValue) → slice_get self.old shard ≡ Some state
-            → NeverFall state.position (reads_of caller shard (record { shards = self.old; cuts = cuts.old.items }) events.now) }
+            → CorePositionsNeverFall state.position (core_reads_of caller shard (record { shards = self.old; cuts = cuts.old.items }) events.now) }
 
         // If the bases represent the lists, so does each cut in which every shard was read.
-        ensures stands { BasesRepresent self.old → (caller : ℕ) (cut : CutValue) → slice_get cuts.new.items caller ≡ Some cut
-            → ReadsEach caller (record { shards = self.old; cuts = cuts.old.items }) events.now → CutRepresents cut (lists_of self.old) }
+        ensures stands { CoreBasesRepresent self.old → (caller : ℕ) (cut : CutValue) → slice_get cuts.new.items caller ≡ Some cut
+            → ReadsEachCoreShard caller (record { shards = self.old; cuts = cuts.old.items }) events.now → CutRepresents cut (core_lists self.old) }
 
         // The numbers of shards and callers are unchanged, and the cuts still have the core's shape.
         ensures shards_stay { length self.new ≡ length self.old }
         ensures callers_stay { length cuts.new.items ≡ length cuts.old.items }
-        ensures shapes { All (HasShape (length self.new) (capacity_of self.new)) cuts.new.items }
+        ensures shapes { All (HasCoreShape (length self.new) (core_capacity self.new)) cuts.new.items }
     {
         self.keeps();
         self.run_in_order(events, cuts);
@@ -98,8 +98,8 @@ impl Core {
     }
 
     fn run_in_order(&mut self, events: &[Event], cuts: &mut Vec<Cut>)
-        requires events { All (IsEventFor (length self.old) (length cuts.old.items)) events.now }
-        requires cuts { All (HasShape (length self.old) (capacity_of self.old)) cuts.old.items }
+        requires events { All (IsCoreEvent (length self.old) (length cuts.old.items)) events.now }
+        requires cuts { All (HasCoreShape (length self.old) (core_capacity self.old)) cuts.old.items }
         ensures shards { self.new ≡ (run (record { shards = self.old; cuts = cuts.old.items }) events.now).shards }
         ensures cuts { cuts.new.items ≡ (run (record { shards = self.old; cuts = cuts.old.items }) events.now).cuts }
     {
@@ -110,10 +110,10 @@ impl Core {
 
     // Performs one event.
     fn act(&mut self, event: Event, cuts: &mut Vec<Cut>)
-        requires event { IsEventFor (length self.old) (length cuts.old.items) event }
-        requires cuts { All (HasShape (length self.old) (capacity_of self.old)) cuts.old.items }
-        ensures shards { self.new ≡ (after (record { shards = self.old; cuts = cuts.old.items }) event).shards }
-        ensures cuts { cuts.new.items ≡ (after (record { shards = self.old; cuts = cuts.old.items }) event).cuts }
+        requires event { IsCoreEvent (length self.old) (length cuts.old.items) event }
+        requires cuts { All (HasCoreShape (length self.old) (core_capacity self.old)) cuts.old.items }
+        ensures shards { self.new ≡ (core_after (record { shards = self.old; cuts = cuts.old.items }) event).shards }
+        ensures cuts { cuts.new.items ≡ (core_after (record { shards = self.old; cuts = cuts.old.items }) event).cuts }
     {
         match event {
             Event::Fold { shard, block } => self.fold(shard, block),
@@ -125,7 +125,7 @@ impl Core {
     fn fold(&mut self, shard: u32, block: u32)
         requires within { shard < length self.old }
         requires block { 1 ≤ block }
-        ensures { self.new ≡ changed (folded block) shard self.old }
+        ensures { self.new ≡ changed_in_core (folded_shard block) shard self.old }
     {
         self.states[shard as usize].fold_block(block);
     }
@@ -134,8 +134,8 @@ impl Core {
     fn read(&self, caller: u32, shard: u32, cuts: &mut Vec<Cut>)
         requires caller { caller < length cuts.old.items }
         requires shard { shard < length self.now }
-        requires cuts { All (HasShape (length self.now) (capacity_of self.now)) cuts.old.items }
-        ensures { cuts.new.items ≡ changed (with_read shard (slice_get self.now shard)) caller cuts.old.items }
+        requires cuts { All (HasCoreShape (length self.now) (core_capacity self.now)) cuts.old.items }
+        ensures { cuts.new.items ≡ changed_in_core (core_cut_with_shard shard (slice_get self.now shard)) caller cuts.old.items }
     {
         cuts[caller as usize].copy_shard(shard, &self.states[shard as usize]);
     }

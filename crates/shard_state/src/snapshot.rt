@@ -1,8 +1,8 @@
 //! The tables of a shard at one position.
 
 ghost use Rattle.std.specs.Prelude.{◌≡◌, ◌<◌, ◌≤◌, ◌↔◌, All, IfOk, IfSome, IsSome};
-ghost use Rattle.shard_state.specs.Snapshot.{IsSnapshot, empty_snapshot, table_at, tables_of, total_of, AreParts, copied_from};
-ghost use Rattle.space_saving.specs.{least_capacity, most_capacity, table_limit};
+ghost use Rattle.shard_state.specs.Snapshot.{IsSnapshot, empty_snapshot, snapshot_table_at, tables_of_snapshot, snapshot_total, AreSnapshotParts, snapshot_copied_from};
+ghost use Rattle.space_saving.specs.{least_table_capacity, most_table_capacity, table_limit};
 
 use crate::folding::copy_tables;
 use crate::snapshot_parts::{are_tables, empty_tables};
@@ -42,8 +42,8 @@ impl Model for Snapshot {
 impl Snapshot {
     /// Empty tables at position 0, each with memory for `capacity` entries, 2 to 4096.
     pub fn with_room(alloc: Global, capacity: u32) -> Result<Snapshot, AllocError>
-        requires least { least_capacity ≤ capacity }
-        requires most { capacity ≤ most_capacity }
+        requires least { least_table_capacity ≤ capacity }
+        requires most { capacity ≤ most_table_capacity }
         ensures { IfOk result (λ snapshot. snapshot ≡ empty_snapshot capacity) }
     {
         Ok(Snapshot {
@@ -57,9 +57,9 @@ impl Snapshot {
     /// exactly where they are not a snapshot: a position above 16,777,216, not 25 tables, capacities or totals
     /// that differ, or a key with a bit set that its node doesn't keep.
     pub fn from_tables(position: u64, tables: Vec<Flat>) -> Option<Snapshot>
-        ensures accepted { IsSome result ↔ AreParts position tables.items }
+        ensures accepted { IsSome result ↔ AreSnapshotParts position tables.items }
         ensures position { IfSome result (λ snapshot. snapshot.position ≡ position) }
-        ensures tables { IfSome result (λ snapshot. tables_of snapshot ≡ tables.items) }
+        ensures tables { IfSome result (λ snapshot. tables_of_snapshot snapshot ≡ tables.items) }
     {
         if position > MOST_RECORDS {
             return None;
@@ -85,15 +85,15 @@ impl Snapshot {
     /// The most entries of each table, 2 to 4096.
     pub fn capacity(&self) -> u32
         ensures capacity { result ≡ self.now.capacity }
-        ensures least { least_capacity ≤ result }
-        ensures most { result ≤ most_capacity }
+        ensures least { least_table_capacity ≤ result }
+        ensures most { result ≤ most_table_capacity }
     {
         self.capacity
     }
 
     /// The table at a node.
     pub fn table(&self, node: Node) -> &Flat
-        ensures table { result.now ≡ table_at node self.now }
+        ensures table { result.now ≡ snapshot_table_at node self.now }
         ensures kept { IsSnapshot self.now }
     {
         &self.tables[usize::from(node.index())]
@@ -101,7 +101,7 @@ impl Snapshot {
 
     /// The total weight of the counted records, which is also what each table counted.
     pub fn total(&self) -> u64
-        ensures total { result ≡ total_of self.now }
+        ensures total { result ≡ snapshot_total self.now }
         ensures bounded { result < table_limit }
         ensures kept { IsSnapshot self.now }
     {
@@ -110,7 +110,7 @@ impl Snapshot {
 
     /// All tables, in the order of their nodes' indexes.
     pub(crate) fn tables(&self) -> &[Flat]
-        ensures tables { result.now ≡ tables_of self.now }
+        ensures tables { result.now ≡ tables_of_snapshot self.now }
         ensures kept { IsSnapshot self.now }
     {
         self.tables.as_slice()
@@ -119,8 +119,8 @@ impl Snapshot {
     /// Takes the position, and the contents of tables of the snapshot's capacity.
     pub(crate) fn copy_from(&mut self, position: u64, tables: &[Table])
         requires alike { All (λ table. table.capacity ≡ self.old.capacity) tables.now }
-        requires snapshot { IsSnapshot (copied_from self.old.capacity position tables.now) }
-        ensures { self.new ≡ copied_from self.old.capacity position tables.now }
+        requires snapshot { IsSnapshot (snapshot_copied_from self.old.capacity position tables.now) }
+        ensures { self.new ≡ snapshot_copied_from self.old.capacity position tables.now }
     {
         copy_tables(tables, &mut self.tables);
         self.position = position;

@@ -1,5 +1,5 @@
 ghost use Rattle.std.specs.Prelude.{◌≡◌, ◌^◌, ◌≤◌, length, All, IfOk};
-ghost use Rattle.shard_state.specs.ShardCore.{HasShape, capacity_of};
+ghost use Rattle.shard_state.specs.ShardCore.{HasCoreShape, core_capacity};
 
 use super::*;
 use prefix_lattice::{Node, Record, RecordList};
@@ -259,7 +259,7 @@ fn core_with_cut(
     requires second { second.base.capacity ≡ 4 }
     ensures two { IfOk result (λ m. length m.core ≡ 2) }
     ensures one { IfOk result (λ m. length m.cuts.items ≡ 1) }
-    ensures shapes { IfOk result (λ m. All (HasShape (length m.core) (capacity_of m.core)) m.cuts.items) }
+    ensures shapes { IfOk result (λ m. All (HasCoreShape (length m.core) (core_capacity m.core)) m.cuts.items) }
 {
     let mut states = Vec::new(alloc);
     states.push(first)?;
@@ -276,7 +276,7 @@ fn core_with_cut(
 fn run_worked_events(core: &mut Core, cuts: &mut Vec<Cut>)
     requires two { length core.old ≡ 2 }
     requires one { length cuts.old.items ≡ 1 }
-    requires shapes { All (HasShape (length core.old) (capacity_of core.old)) cuts.old.items }
+    requires shapes { All (HasCoreShape (length core.old) (core_capacity core.old)) cuts.old.items }
 {
     let events = [
         Event::Fold { shard: 0, block: 4 },

@@ -1,11 +1,11 @@
 -- Worked examples of stores of two slots, most by computing.
 use Rattle.std.proofs.Common.{◌≡◌, ◌⊎◌, ℕ, List, [], ◌∷◌, ◌++◌, length, Some, None, true, false, refl, sym, ap, ◌∙◌, inl, inr, arith}
-use Rattle.slot_disk.specs.Recorded.{zeros}
-use Rattle.slot_disk.specs.StoreLayout.{is_open, header_of, body_place, number_at, IsNumber}
-use Rattle.slot_disk.specs.StoreLayout.{stored_body, Closed, Broken, Whole, content}
-use Rattle.slot_disk.specs.KnownSlots.{SlotsState, known_open, with_open, slots_of, closed_slots, StandsAs}
-use Rattle.slot_disk.specs.Puts.{closing, IsWhole, IsReady, FitsSlot}
-use Rattle.slot_disk.specs.Puts.{CanClose, CanWrite, CanOpen, MayBeClosed, IsStored, MayBeOpen, MayLeave, IsPut, HoldsNewest}
+use Rattle.slot_disk.specs.Recorded.{recorded_zeros}
+use Rattle.slot_disk.specs.StoreLayout.{store_is_open, header_of, store_body_place, store_number_at, IsStoreNumber}
+use Rattle.slot_disk.specs.StoreLayout.{stored_body, Closed, Broken, Whole, store_content}
+use Rattle.slot_disk.specs.KnownSlots.{SlotsState, known_slot_open, with_open_slot, slots_of, closed_slots, SlotsStandAs}
+use Rattle.slot_disk.specs.Puts.{closing_put, IsWholeForPut, IsReadyForPut, FitsPutSlot}
+use Rattle.slot_disk.specs.Puts.{PutCanClose, PutCanWrite, PutCanOpen, MayBeClosedByPut, IsStoredByPut, MayBeOpenByPut, PutMayLeave, IsPut, PutHoldsNewest}
 
 -- a body of 9 bytes: its length, and a byte 5
 abbrev body : List ℕ
@@ -13,77 +13,77 @@ body = 0 ∷ 0 ∷ 0 ∷ 0 ∷ 0 ∷ 0 ∷ 0 ∷ 9 ∷ 5 ∷ []
 
 -- a store with a header of zero bytes and these gates, in which the body stands in slot 0
 abbrev store : ℕ → ℕ → List ℕ
-store first second = first ∷ second ∷ (zeros 62 ++ body)
+store first second = first ∷ second ∷ (recorded_zeros 62 ++ body)
 
-pub body_says_its_length : number_at 0 body ≡ 9
-unfolding number_at
+pub body_says_its_length : store_number_at 0 body ≡ 9
+unfolding store_number_at
 body_says_its_length = refl
 
-pub body_fits_a_span_of_9 : FitsSlot 9 body
-unfolding number_at
+pub body_fits_a_span_of_9 : FitsPutSlot 9 body
+unfolding store_number_at
 body_fits_a_span_of_9 = record { least = omega arith; most = omega arith; says = refl }
 
-pub body_is_too_long_for_a_span_of_8 : FitsSlot 8 body → ⊥
+pub body_is_too_long_for_a_span_of_8 : FitsPutSlot 8 body → ⊥
 body_is_too_long_for_a_span_of_8 is = omega (arith, is.most)
 
-pub gate_is_open : is_open 0 (store 1 0) ≡ true
+pub gate_is_open : store_is_open 0 (store 1 0) ≡ true
 gate_is_open = refl
 
-pub gate_is_closed : is_open 1 (store 1 0) ≡ false
+pub gate_is_closed : store_is_open 1 (store 1 0) ≡ false
 gate_is_closed = refl
 
 -- any byte but 1 is a closed gate
-pub torn_gate_is_closed : is_open 0 (store 255 0) ≡ false
+pub torn_gate_is_closed : store_is_open 0 (store 255 0) ≡ false
 torn_gate_is_closed = refl
 
-pub header_follows_the_gates : header_of (store 1 0) ≡ zeros 62
+pub header_follows_the_gates : header_of (store 1 0) ≡ recorded_zeros 62
 header_follows_the_gates = refl
 
-pub second_body_comes_a_span_later : body_place 16 1 ≡ 80
+pub second_body_comes_a_span_later : store_body_place 16 1 ≡ 80
 second_body_comes_a_span_later = refl
 
 pub body_is_stored : stored_body 16 0 (store 1 0) ≡ Some body
-unfolding number_at
+unfolding store_number_at
 body_is_stored = refl
 
 -- whether the gate is open or closed
 pub body_is_stored_under_a_closed_gate : stored_body 16 0 (store 0 0) ≡ Some body
-unfolding number_at
+unfolding store_number_at
 body_is_stored_under_a_closed_gate = refl
 
 pub body_past_the_span_is_damaged : stored_body 8 0 (store 1 0) ≡ None
-unfolding number_at
+unfolding store_number_at
 body_past_the_span_is_damaged = refl
 
 pub body_past_the_end_is_damaged : stored_body 16 1 (store 0 1) ≡ None
-unfolding number_at
+unfolding store_number_at
 body_past_the_end_is_damaged = refl
 
-pub slot_is_whole : content 16 0 (store 1 0) ≡ Whole body
-unfolding number_at
+pub slot_is_whole : store_content 16 0 (store 1 0) ≡ Whole body
+unfolding store_number_at
 slot_is_whole = refl
 
-pub slot_is_closed : content 16 0 (store 0 0) ≡ Closed
+pub slot_is_closed : store_content 16 0 (store 0 0) ≡ Closed
 slot_is_closed = refl
 
-pub slot_is_broken : content 16 1 (store 0 1) ≡ Broken
-unfolding number_at
+pub slot_is_broken : store_content 16 1 (store 0 1) ≡ Broken
+unfolding store_number_at
 slot_is_broken = refl
 
 -- what is known of the store
-pub first_is_known_open : known_open (slots_of (store 1 0)) 0 ≡ true
+pub first_is_known_open : known_slot_open (slots_of (store 1 0)) 0 ≡ true
 first_is_known_open = refl
 
-pub second_is_known_closed : known_open (slots_of (store 1 0)) 1 ≡ false
+pub second_is_known_closed : known_slot_open (slots_of (store 1 0)) 1 ≡ false
 second_is_known_closed = refl
 
-pub second_was_opened : with_open (slots_of (store 1 0)) 1 ≡ slots_of (store 1 1)
+pub second_was_opened : with_open_slot (slots_of (store 1 0)) 1 ≡ slots_of (store 1 1)
 second_was_opened = refl
 
-pub no_gate_is_open : slots_of (store 0 0) ≡ closed_slots (zeros 62)
+pub no_gate_is_open : slots_of (store 0 0) ≡ closed_slots (recorded_zeros 62)
 no_gate_is_open = refl
 
-pub stands_as_it_is : StandsAs (Some (store 1 0)) (λ image. image ≡ store 1 0) (slots_of (store 1 0))
+pub stands_as_it_is : SlotsStandAs (Some (store 1 0)) (λ image. image ≡ store 1 0) (slots_of (store 1 0))
 stands_as_it_is bytes is =
     let same : store 1 0 ≡ bytes = cc is in
     record {
@@ -92,84 +92,84 @@ stands_as_it_is bytes is =
       only = λ image was. was ∙ same;
     }
 
-pub store_is_not_otherwise : StandsAs (Some (store 1 0)) (λ image. image ≡ store 1 0) (slots_of (store 0 0)) → ⊥
+pub store_is_not_otherwise : SlotsStandAs (Some (store 1 0)) (λ image. image ≡ store 1 0) (slots_of (store 0 0)) → ⊥
 store_is_not_otherwise stands = cc (ap (λ (s : SlotsState). s.first_open) (stands (store 1 0) refl).slots_are)
 
 -- a put into slot 1 loses nothing, as slot 0 is whole
-pub slot_1_may_be_put : IsReady 16 1 (store 1 0)
-unfolding number_at
+pub slot_1_may_be_put : IsReadyForPut 16 1 (store 1 0)
+unfolding store_number_at
 slot_1_may_be_put = record { other_holds = inl (body, refl); slot_holds = inr refl }
 
 -- a put into slot 0 would lose the newest body
-pub newest_may_not_be_put : IsReady 16 0 (store 1 0) → ⊥
-unfolding number_at
+pub newest_may_not_be_put : IsReadyForPut 16 0 (store 1 0) → ⊥
+unfolding store_number_at
 newest_may_not_be_put ready = lost ready.other_holds
   where
-    lost : IsWhole (content 16 1 (store 1 0)) ⊎ ((content 16 1 (store 1 0) ≡ Closed) × (content 16 0 (store 1 0) ≡ Closed)) → ⊥
+    lost : IsWholeForPut (store_content 16 1 (store 1 0)) ⊎ ((store_content 16 1 (store 1 0) ≡ Closed) × (store_content 16 0 (store 1 0) ≡ Closed)) → ⊥
     lost (inl whole) = let shut : Closed ≡ Whole whole.0 = whole.1 in cc shut
     lost (inr closed) = let open_slot : Whole body ≡ Closed = closed.1 in cc open_slot
 
 -- a gate that is open is closed by a byte, a closed one by nothing
-pub byte_closes : closing true ≡ 0 ∷ []
+pub byte_closes : closing_put true ≡ 0 ∷ []
 byte_closes = refl
 
-pub nothing_keeps_closed : closing false ≡ []
+pub nothing_keeps_closed : closing_put false ≡ []
 nothing_keeps_closed = refl
 
 -- the put of the body into slot 0 of the store with closed gates: before it, and after it
-pub before_the_put : MayLeave 16 0 body (store 0 0) (store 0 0)
+pub before_the_put : PutMayLeave 16 0 body (store 0 0) (store 0 0)
 before_the_put = record { beside = record { long = omega arith; header = refl; other_slot = refl }; slot_holds = inl refl }
 
 pub after_the_put : IsPut 16 0 body (store 0 0) (store 1 0)
-unfolding number_at
+unfolding store_number_at
 after_the_put = record { beside = record { long = omega arith; header = refl; other_slot = refl }; slot_holds = refl }
 
 -- an image in which the other gate came open is none that the put may leave
-pub other_gate_stays : MayLeave 16 0 body (store 0 0) (store 1 1) → ⊥
-unfolding number_at
+pub other_gate_stays : PutMayLeave 16 0 body (store 0 0) (store 1 1) → ⊥
+unfolding store_number_at
 other_gate_stays may = let broken : Broken ≡ Closed = may.beside.other_slot in cc broken
 
-pub number_is_read : IsNumber 64 (Some 9) (store 1 0)
-unfolding number_at
+pub number_is_read : IsStoreNumber 64 (Some 9) (store 1 0)
+unfolding store_number_at
 number_is_read = (omega arith, refl)
 
-pub number_past_the_end : IsNumber 80 None (store 1 0)
+pub number_past_the_end : IsStoreNumber 80 None (store 1 0)
 number_past_the_end = omega arith
 
 -- the parts of that put: a gate that is closed already, a body that was written, a gate that is opened
-pub closed_gate_may_be_closed : CanClose 16 0 false (store 0 0)
+pub closed_gate_may_be_closed : PutCanClose 16 0 false (store 0 0)
 closed_gate_may_be_closed = record { long = omega arith; gate = refl; slot_holds = inr refl; other_holds = inr refl }
 
-pub gate_stays_closed : MayBeClosed 16 0 (store 0 0) (store 0 0)
+pub gate_stays_closed : MayBeClosedByPut 16 0 (store 0 0) (store 0 0)
 gate_stays_closed = record { beside = record { long = omega arith; header = refl; other_slot = refl }; slot_holds = inr refl }
 
-pub body_may_be_written : CanWrite 16 0 (store 0 0)
+pub body_may_be_written : PutCanWrite 16 0 (store 0 0)
 body_may_be_written = record { long = omega arith; slot_holds = refl; other_holds = inr refl }
 
-pub body_may_not_be_written_under_an_open_gate : CanWrite 16 0 (store 1 0) → ⊥
-unfolding number_at
+pub body_may_not_be_written_under_an_open_gate : PutCanWrite 16 0 (store 1 0) → ⊥
+unfolding store_number_at
 body_may_not_be_written_under_an_open_gate can = let whole : Whole body ≡ Closed = can.slot_holds in cc whole
 
-pub body_was_stored : IsStored 16 0 body (store 0 0) (store 0 0)
-unfolding number_at
+pub body_was_stored : IsStoredByPut 16 0 body (store 0 0) (store 0 0)
+unfolding store_number_at
 body_was_stored = record {
   closed = record { beside = record { long = omega arith; header = refl; other_slot = refl }; slot_holds = refl };
   stored = refl;
 }
 
-pub gate_may_be_opened : CanOpen 16 0 body (store 0 0)
-unfolding number_at
+pub gate_may_be_opened : PutCanOpen 16 0 body (store 0 0)
+unfolding store_number_at
 gate_may_be_opened = record { long = omega arith; slot_holds = refl; stored = refl; other_holds = inr refl }
 
-pub gate_came_open : MayBeOpen 16 0 body (store 0 0) (store 1 0)
-unfolding number_at
+pub gate_came_open : MayBeOpenByPut 16 0 body (store 0 0) (store 1 0)
+unfolding store_number_at
 gate_came_open = record { beside = record { long = omega arith; header = refl; other_slot = refl }; slot_holds = inr refl }
 
 -- of a store with no open gate a put may leave nothing, or the new body
-pub new_body_stands : HoldsNewest 16 0 body (store 0 0) (store 1 0)
-unfolding number_at
+pub new_body_stands : PutHoldsNewest 16 0 body (store 0 0) (store 1 0)
+unfolding store_number_at
 new_body_stands = inr (refl, inr refl)
 
-pub old_body_stands : HoldsNewest 16 1 body (store 1 0) (store 1 0)
-unfolding number_at
+pub old_body_stands : PutHoldsNewest 16 1 body (store 1 0) (store 1 0)
+unfolding store_number_at
 old_body_stands = inl (body, refl, refl)

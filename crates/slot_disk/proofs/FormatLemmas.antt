@@ -1,16 +1,16 @@
 -- The front of a store that was made.
 use Rattle.std.proofs.Common.{◌≡◌, ℕ, ◌+◌, ◌<◌, ◌≤◌, List, ◌∷◌, length, drop, false, sym, ap, ◌∙◌, arith, get_or, eqb}
 use Rattle.std.proofs.lemmas.List.{length-drop, length-take, get_or-take, get_or-drop, ext_get_or}
-use Rattle.slot_disk.specs.Images.{Written, Only}
-use Rattle.slot_disk.specs.StoreLayout.{is_open, header_of}
-use Rattle.slot_disk.specs.KnownSlots.{IsStore, closed_slots}
+use Rattle.slot_disk.specs.Images.{IsWrittenImage, IsOnlyImage}
+use Rattle.slot_disk.specs.StoreLayout.{store_is_open, header_of}
+use Rattle.slot_disk.specs.KnownSlots.{IsStoreOfSlots, closed_slots}
 
-pub store_formatted : (header old new : List ℕ) (possible : List ℕ → Type 0) → length header ≡ 62
-    → Written 0 (0 ∷ 0 ∷ header) old new → Only new possible → IsStore new possible (closed_slots header)
-store_formatted header old new possible size written only =
+pub format_leaves_closed_slots : (header old new : List ℕ) (possible : List ℕ → Type 0) → length header ≡ 62
+    → IsWrittenImage 0 (0 ∷ 0 ∷ header) old new → IsOnlyImage new possible → IsStoreOfSlots new possible (closed_slots header)
+format_leaves_closed_slots header old new possible size written only =
     let long : 64 ≤ length new = omega (arith, written.fits 63 (omega (arith, size))) in
-    let first : is_open 0 new ≡ false = ap (λ (byte : ℕ). eqb byte 1) (written.range 0 (omega (arith, size))) in
-    let second : is_open 1 new ≡ false = ap (λ (byte : ℕ). eqb byte 1) (written.range 1 (omega (arith, size))) in
+    let first : store_is_open 0 new ≡ false = ap (λ (byte : ℕ). eqb byte 1) (written.range 0 (omega (arith, size))) in
+    let second : store_is_open 1 new ≡ false = ap (λ (byte : ℕ). eqb byte 1) (written.range 1 (omega (arith, size))) in
     let rest : header_of new ≡ header =
     ext_get_or 0 (header_of new) header (omega (arith, size, length-take 62 (drop 2 new), length-drop 2 new, long))
     (λ i lt.

@@ -1,10 +1,10 @@
 pub mod ImageLemmas
 pub mod CrashLemmas
-pub mod EntryLemmas
-pub mod BodyLemmas
+pub mod NewestEntryLemmas
+pub mod StoredBodyLemmas
 pub mod ContentLemmas
-pub mod PutLemmas
+pub mod DiskPutLemmas
 pub mod FormatLemmas
-pub mod NewestLemmas
+pub mod NewestBodyLemmas
 pub mod ExamplesOfDisks
 pub mod ExamplesOfStores

@@ -12,12 +12,12 @@ pub mod MemoryDisk
 pub mod OverLaws
 pub mod RecordedLaws
 -- the face: what contracts of other crates cite
-pub use Rattle.slot_disk.specs.Images.{IfKnown, IfBothKnown, Gives, Torn, Written, TornFrom, Only}
-pub use Rattle.slot_disk.specs.Moments.{TimeGoesOn, Leaves, Unchanged, Leaves-none, Leaves-call, Leaves-trans, Leaves-weaker}
-pub use Rattle.slot_disk.specs.StoreLayout.{front_bytes, is_open, header_of, stored_body, SlotContent, Closed, Broken, Whole, shown}
-pub use Rattle.slot_disk.specs.StoreLayout.{content}
-unfoldable pub use Rattle.slot_disk.specs.StoreLayout.{number_at}
-pub use Rattle.slot_disk.specs.KnownSlots.{SlotsState, known_open, with_open, slots_of, closed_slots, IsStore, StandsAs}
-pub use Rattle.slot_disk.specs.KnownSlots.{StandsAs-unchanged}
-pub use Rattle.slot_disk.specs.Puts.{other, IsWhole, IsReady, FitsSlot, IsSameBeside, MayLeave, IsPut, HoldsNewest}
+pub use Rattle.slot_disk.specs.Images.{IfImageKnown, IfBothImagesKnown, GivesImageRange, IsTornImage, IsWrittenImage, IsTornFromImage, IsOnlyImage}
+pub use Rattle.slot_disk.specs.Moments.{MomentsGoOn, Leaves, IsUnchangedAtMoment, Leaves-none, Leaves-call, Leaves-trans, Leaves-weaker}
+pub use Rattle.slot_disk.specs.StoreLayout.{store_front_bytes, store_is_open, header_of, stored_body, StoreSlotContent, Closed, Broken, Whole, shown_in_store}
+pub use Rattle.slot_disk.specs.StoreLayout.{store_content}
+unfoldable pub use Rattle.slot_disk.specs.StoreLayout.{store_number_at}
+pub use Rattle.slot_disk.specs.KnownSlots.{SlotsState, known_slot_open, with_open_slot, slots_of, closed_slots, IsStoreOfSlots, SlotsStandAs}
+pub use Rattle.slot_disk.specs.KnownSlots.{SlotsStandAs-unchanged}
+pub use Rattle.slot_disk.specs.Puts.{other_slot_of_put, IsWholeForPut, IsReadyForPut, FitsPutSlot, IsSameBesidePut, PutMayLeave, IsPut, PutHoldsNewest}
 pub use Rattle.slot_disk.specs.Puts.{PutsLoseNothing}

@@ -3,7 +3,7 @@ use Rattle.std.specs.Prelude.{ℕ, ◌≡◌, ◌≤◌, ◌⊎◌, ◌↔◌, O
 use Rattle.std.proofs.Common.{inl, inr, ⊎_elim, arith}
 
 -- Time goes on: an image since an earlier moment was one since that moment as the call began, or is one since its start.
-pub record TimeGoesOn {D : Type 0} (moment : D → ℕ) (image_since : D → ℕ → List ℕ → Type 0) (old new : D) : Type 0 where
+pub record MomentsGoOn {D : Type 0} (moment : D → ℕ) (image_since : D → ℕ → List ℕ → Type 0) (old new : D) : Type 0 where
   pub later : moment old ≤ moment new
   pub earlier : (t : ℕ) (image : List ℕ) → t ≤ moment old → image_since new t image
       → image_since old t image ⊎ image_since new (moment old) image
@@ -16,7 +16,7 @@ pub record Leaves {D : Type 0} (moment : D → ℕ) (image_since : D → ℕ →
   pub earlier : (t : ℕ) (image : List ℕ) → t ≤ moment old → image_since new t image → image_since old t image ⊎ P image
 
 -- a call changed neither what a read gives nor the images
-pub record Unchanged {D : Type 0} (reads : D → Option (List ℕ)) (image_now : D → List ℕ → Type 0) (old new : D) : Type 0
+pub record IsUnchangedAtMoment {D : Type 0} (reads : D → Option (List ℕ)) (image_now : D → List ℕ → Type 0) (old new : D) : Type 0
   where
     pub same_reads : reads new ≡ reads old
     pub same_images : (image : List ℕ) → image_now new image ↔ image_now old image
@@ -28,7 +28,7 @@ Leaves-none moment image_since disk P here = record { later = omega arith; each 
 
 -- one call of a disk
 pub Leaves-call : {D : Type 0} (moment : D → ℕ) (image_since : D → ℕ → List ℕ → Type 0) (old new : D) (P : List ℕ → Type 0)
-    → TimeGoesOn moment image_since old new → ((image : List ℕ) → image_since new (moment old) image → P image)
+    → MomentsGoOn moment image_since old new → ((image : List ℕ) → image_since new (moment old) image → P image)
     → Leaves moment image_since old new P
 Leaves-call moment image_since old new P time each = record {
   later = time.later;

@@ -3,14 +3,14 @@ use Rattle.std.specs.Prelude.{ℕ, ◌≡◌, ◌+◌, ◌-◌, ◌<◌, ◌≤�
 use Rattle.std.proofs.Common.{refl, ◌∙◌, ap, arith, get_or}
 use Rattle.std.proofs.lemmas.List.{length-take-le, length-drop, length-append, length-replicate}
 use Rattle.std.proofs.lemmas.List.{get_or_append_left, get_or-append_right, get_or-take, get_or-drop}
-use Rattle.slot_disk.specs.Images.{Torn, Written}
-use Rattle.slot_disk.specs.Recorded.{over, zeros, range_start, range_bytes, written_over}
+use Rattle.slot_disk.specs.Images.{IsTornImage, IsWrittenImage}
+use Rattle.slot_disk.specs.Recorded.{recorded_over, recorded_zeros, recorded_range_start, recorded_range, written_over}
 
 module _ (start : ℕ) (piece bytes : List ℕ) (within : start ≤ length bytes) where
   front_length : length (take start bytes) ≡ start
   front_length = length-take-le start bytes within
 
-  pub length-over : length (over start piece bytes) ≡ max (length bytes) (start + length piece)
+  pub length-over : length (recorded_over start piece bytes) ≡ max (length bytes) (start + length piece)
   length-over = omega (
     arith,
     front_length,
@@ -19,18 +19,18 @@ module _ (start : ℕ) (piece bytes : List ℕ) (within : start ≤ length bytes
     length-drop (start + length piece) bytes,
   )
 
-  pub over_before : (k : ℕ) → k < start → get_or (over start piece bytes) k 0 ≡ get_or bytes k 0
+  pub over_before : (k : ℕ) → k < start → get_or (recorded_over start piece bytes) k 0 ≡ get_or bytes k 0
   over_before k lt =
       get_or_append_left (take start bytes) (piece ++ drop (start + length piece) bytes) 0 k (omega (arith, front_length, lt))
       ∙ get_or-take start bytes k 0 lt
 
-  pub over_inside : (k : ℕ) → k < length piece → get_or (over start piece bytes) (start + k) 0 ≡ get_or piece k 0
+  pub over_inside : (k : ℕ) → k < length piece → get_or (recorded_over start piece bytes) (start + k) 0 ≡ get_or piece k 0
   over_inside k lt =
       get_or-append_right (take start bytes) (piece ++ drop (start + length piece) bytes) start (start + k) 0 front_length (omega arith)
       ∙ ap (λ n. get_or (piece ++ drop (start + length piece) bytes) n 0) (let e : start + k - start ≡ k = omega arith in e)
       ∙ get_or_append_left piece (drop (start + length piece) bytes) 0 k lt
 
-  pub over_after : (k : ℕ) → start + length piece ≤ k → get_or (over start piece bytes) k 0 ≡ get_or bytes k 0
+  pub over_after : (k : ℕ) → start + length piece ≤ k → get_or (recorded_over start piece bytes) k 0 ≡ get_or bytes k 0
   over_after k le =
       get_or-append_right (take start bytes) (piece ++ drop (start + length piece) bytes) start k 0 front_length (omega arith)
       ∙ get_or-append_right piece (drop (start + length piece) bytes) (length piece) (k - start) 0 refl (omega arith)
@@ -38,37 +38,37 @@ module _ (start : ℕ) (piece bytes : List ℕ) (within : start ≤ length bytes
       ∙ ap (λ n. get_or bytes n 0) (let e : start + length piece + (k - start - length piece) ≡ k = omega arith in e)
 
 -- bytes that were not touched
-pub torn_from_itself : (place count : ℕ) (bytes : List ℕ) → Torn place count bytes bytes
+pub torn_from_itself : (place count : ℕ) (bytes : List ℕ) → IsTornImage place count bytes bytes
 torn_from_itself place count bytes = record { no_shorter = omega arith; before = λ k lt within. refl; after = λ k le within. refl }
 
 -- a piece of any length over a range, or over a front of it
-pub over_is_torn : (place count : ℕ) (piece bytes : List ℕ) → range_start place bytes + length piece ≤ place + count
-    → Torn place count bytes (over (range_start place bytes) piece bytes)
+pub over_is_torn : (place count : ℕ) (piece bytes : List ℕ) → recorded_range_start place bytes + length piece ≤ place + count
+    → IsTornImage place count bytes (recorded_over (recorded_range_start place bytes) piece bytes)
 over_is_torn place count piece bytes fits =
-    let within : range_start place bytes ≤ length bytes = omega arith in
+    let within : recorded_range_start place bytes ≤ length bytes = omega arith in
     record {
-      no_shorter = omega (arith, length-over (range_start place bytes) piece bytes within);
-      before = λ k lt in_old. over_before (range_start place bytes) piece bytes within k (omega arith);
-      after = λ k le in_old. over_after (range_start place bytes) piece bytes within k (omega arith);
+      no_shorter = omega (arith, length-over (recorded_range_start place bytes) piece bytes within);
+      before = λ k lt in_old. over_before (recorded_range_start place bytes) piece bytes within k (omega arith);
+      after = λ k le in_old. over_after (recorded_range_start place bytes) piece bytes within k (omega arith);
     }
 
-pub length-zeros : (count : ℕ) → length (zeros count) ≡ count
+pub length-zeros : (count : ℕ) → length (recorded_zeros count) ≡ count
 length-zeros count = let zero_byte : ℕ = 0 in length-replicate count zero_byte
 
-pub length-range : (place : ℕ) (piece bytes : List ℕ) → range_start place bytes + length (range_bytes place piece bytes) ≡ place + length piece
+pub length-range : (place : ℕ) (piece bytes : List ℕ) → recorded_range_start place bytes + length (recorded_range place piece bytes) ≡ place + length piece
 length-range place piece bytes =
-    omega (arith, length-append (zeros (place - length bytes)) piece, length-zeros (place - length bytes))
+    omega (arith, length-append (recorded_zeros (place - length bytes)) piece, length-zeros (place - length bytes))
 
 -- a whole write
-pub written_is_torn : (place : ℕ) (piece bytes : List ℕ) → Torn place (length piece) bytes (written_over place piece bytes)
+pub written_is_torn : (place : ℕ) (piece bytes : List ℕ) → IsTornImage place (length piece) bytes (written_over place piece bytes)
 written_is_torn place piece bytes =
-    over_is_torn place (length piece) (range_bytes place piece bytes) bytes (omega (arith, length-range place piece bytes))
+    over_is_torn place (length piece) (recorded_range place piece bytes) bytes (omega (arith, length-range place piece bytes))
 
-pub written_is_written : (place : ℕ) (piece bytes : List ℕ) → Written place piece bytes (written_over place piece bytes)
+pub written_is_written : (place : ℕ) (piece bytes : List ℕ) → IsWrittenImage place piece bytes (written_over place piece bytes)
 written_is_written place piece bytes =
-    let start = range_start place bytes in
-    let range = range_bytes place piece bytes in
-    let gap = zeros (place - length bytes) in
+    let start = recorded_range_start place bytes in
+    let range = recorded_range place piece bytes in
+    let gap = recorded_zeros (place - length bytes) in
     let within : start ≤ length bytes = omega arith in
     let gap_length : length gap ≡ place - length bytes = length-zeros (place - length bytes) in
     let whole : length range ≡ length gap + length piece = length-append gap piece in

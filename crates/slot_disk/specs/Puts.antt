@@ -1,102 +1,103 @@
 -- What a put may leave of a store.
 use Rattle.std.specs.Prelude.{ℕ, zero, suc, ◌≡◌, ◌≤◌, ◌⊎◌, Bool, if◌then◌else◌, List, [], ◌∷◌, length, Some}
-use Rattle.slot_disk.specs.StoreLayout.{front_bytes, is_open, header_of, number_at, stored_body, content, SlotContent, Closed, Whole}
+use Rattle.slot_disk.specs.StoreLayout.{store_front_bytes, store_is_open, header_of, store_number_at, stored_body, store_content, StoreSlotContent, Closed, Whole}
 
 -- the number of the other slot
-abbrev pub other : ℕ → ℕ
-other zero = 1
-other (suc slot) = 0
+abbrev pub other_slot_of_put : ℕ → ℕ
+other_slot_of_put zero = 1
+other_slot_of_put (suc slot) = 0
 
 -- what is written at a gate to close it: the byte 0, or nothing where it is closed already
-abbrev pub closing : Bool → List ℕ
-closing gate = if gate then 0 ∷ [] else []
+abbrev pub closing_put : Bool → List ℕ
+closing_put gate = if gate then 0 ∷ [] else []
 
 -- an open gate with a whole body under it
-abbrev pub IsWhole : SlotContent → Type 0
-IsWhole held = (body : List ℕ) × (held ≡ Whole body)
+abbrev pub IsWholeForPut : StoreSlotContent → Type 0
+IsWholeForPut held = (body : List ℕ) × (held ≡ Whole body)
 
 -- a slot is whole or closed
-abbrev pub IsSound : SlotContent → Type 0
-IsSound held = IsWhole held ⊎ (held ≡ Closed)
+abbrev pub IsSoundForPut : StoreSlotContent → Type 0
+IsSoundForPut held = IsWholeForPut held ⊎ (held ≡ Closed)
 
 -- A put into a slot loses nothing: the other slot is whole, and is the newest one, or no slot is open; and where the
 -- slot is open itself, it is whole too.
-pub record IsReady (span slot : ℕ) (image : List ℕ) : Type 0 where
-  pub other_holds : IsWhole (content span (other slot) image)
-      ⊎ ((content span (other slot) image ≡ Closed) × (content span slot image ≡ Closed))
-  pub slot_holds : IsSound (content span slot image)
+pub record IsReadyForPut (span slot : ℕ) (image : List ℕ) : Type 0 where
+  pub other_holds : IsWholeForPut (store_content span (other_slot_of_put slot) image)
+      ⊎ ((store_content span (other_slot_of_put slot) image ≡ Closed) × (store_content span slot image ≡ Closed))
+  pub slot_holds : IsSoundForPut (store_content span slot image)
 
 -- the bytes fit a slot as a body: their first 8 bytes are their length, at most the span
-pub record FitsSlot (span : ℕ) (body : List ℕ) : Type 0 where
+pub record FitsPutSlot (span : ℕ) (body : List ℕ) : Type 0 where
   pub least : 8 ≤ length body
   pub most : length body ≤ span
-  pub says : number_at 0 body ≡ length body
+  pub says : store_number_at 0 body ≡ length body
 
 -- a gate may be closed, and stands as it is known
-pub record CanClose (span slot : ℕ) (known : Bool) (image : List ℕ) : Type 0 where
-  pub long : front_bytes ≤ length image
-  pub gate : is_open slot image ≡ known
-  pub slot_holds : IsSound (content span slot image)
-  pub other_holds : IsSound (content span (other slot) image)
+pub record PutCanClose (span slot : ℕ) (known : Bool) (image : List ℕ) : Type 0 where
+  pub long : store_front_bytes ≤ length image
+  pub gate : store_is_open slot image ≡ known
+  pub slot_holds : IsSoundForPut (store_content span slot image)
+  pub other_holds : IsSoundForPut (store_content span (other_slot_of_put slot) image)
 
 -- a body may be written: the slot is closed
-pub record CanWrite (span slot : ℕ) (image : List ℕ) : Type 0 where
-  pub long : front_bytes ≤ length image
-  pub slot_holds : content span slot image ≡ Closed
-  pub other_holds : IsSound (content span (other slot) image)
+pub record PutCanWrite (span slot : ℕ) (image : List ℕ) : Type 0 where
+  pub long : store_front_bytes ≤ length image
+  pub slot_holds : store_content span slot image ≡ Closed
+  pub other_holds : IsSoundForPut (store_content span (other_slot_of_put slot) image)
 
 -- a gate may be opened: it is closed, over this whole body
-pub record CanOpen (span slot : ℕ) (body image : List ℕ) : Type 0 where
-  pub long : front_bytes ≤ length image
-  pub slot_holds : content span slot image ≡ Closed
+pub record PutCanOpen (span slot : ℕ) (body image : List ℕ) : Type 0 where
+  pub long : store_front_bytes ≤ length image
+  pub slot_holds : store_content span slot image ≡ Closed
   pub stored : stored_body span slot image ≡ Some body
-  pub other_holds : IsSound (content span (other slot) image)
+  pub other_holds : IsSoundForPut (store_content span (other_slot_of_put slot) image)
 
 -- all of a store but one slot is as before
-pub record IsSameBeside (span slot : ℕ) (old image : List ℕ) : Type 0 where
-  pub long : front_bytes ≤ length image
+pub record IsSameBesidePut (span slot : ℕ) (old image : List ℕ) : Type 0 where
+  pub long : store_front_bytes ≤ length image
   pub header : header_of image ≡ header_of old
-  pub other_slot : content span (other slot) image ≡ content span (other slot) old
+  pub other_slot : store_content span (other_slot_of_put slot) image ≡ store_content span (other_slot_of_put slot) old
 
 -- beside it the slot is as before, or closed
-pub record MayBeClosed (span slot : ℕ) (old image : List ℕ) : Type 0 where
-  pub beside : IsSameBeside span slot old image
-  pub slot_holds : (content span slot image ≡ content span slot old) ⊎ (content span slot image ≡ Closed)
+pub record MayBeClosedByPut (span slot : ℕ) (old image : List ℕ) : Type 0 where
+  pub beside : IsSameBesidePut span slot old image
+  pub slot_holds : (store_content span slot image ≡ store_content span slot old) ⊎ (store_content span slot image ≡ Closed)
 
 -- beside it the slot is closed
-pub record IsClosed (span slot : ℕ) (old image : List ℕ) : Type 0 where
-  pub beside : IsSameBeside span slot old image
-  pub slot_holds : content span slot image ≡ Closed
+pub record IsClosedByPut (span slot : ℕ) (old image : List ℕ) : Type 0 where
+  pub beside : IsSameBesidePut span slot old image
+  pub slot_holds : store_content span slot image ≡ Closed
 
 -- beside it the slot is closed, over this whole body
-pub record IsStored (span slot : ℕ) (body old image : List ℕ) : Type 0 where
-  pub closed : IsClosed span slot old image
+pub record IsStoredByPut (span slot : ℕ) (body old image : List ℕ) : Type 0 where
+  pub closed : IsClosedByPut span slot old image
   pub stored : stored_body span slot image ≡ Some body
 
 -- beside it the slot is closed, or whole with this body
-pub record MayBeOpen (span slot : ℕ) (body old image : List ℕ) : Type 0 where
-  pub beside : IsSameBeside span slot old image
-  pub slot_holds : (content span slot image ≡ Closed) ⊎ (content span slot image ≡ Whole body)
+pub record MayBeOpenByPut (span slot : ℕ) (body old image : List ℕ) : Type 0 where
+  pub beside : IsSameBesidePut span slot old image
+  pub slot_holds : (store_content span slot image ≡ Closed) ⊎ (store_content span slot image ≡ Whole body)
 
 -- a put of this body may leave this image: beside the slot all is as before, and the slot is as before, closed, or whole
 -- with the new body
-pub record MayLeave (span slot : ℕ) (body old image : List ℕ) : Type 0 where
-  pub beside : IsSameBeside span slot old image
-  pub slot_holds : (content span slot image ≡ content span slot old) ⊎ ((content span slot image ≡ Closed) ⊎ (content span slot image ≡ Whole body))
+pub record PutMayLeave (span slot : ℕ) (body old image : List ℕ) : Type 0 where
+  pub beside : IsSameBesidePut span slot old image
+  pub slot_holds : (store_content span slot image ≡ store_content span slot old) ⊎
+      ((store_content span slot image ≡ Closed) ⊎ (store_content span slot image ≡ Whole body))
 
 -- the put is done: beside the slot all is as before, and the slot is whole with the new body
 pub record IsPut (span slot : ℕ) (body old image : List ℕ) : Type 0 where
-  pub beside : IsSameBeside span slot old image
-  pub slot_holds : content span slot image ≡ Whole body
+  pub beside : IsSameBesidePut span slot old image
+  pub slot_holds : store_content span slot image ≡ Whole body
 
 -- the newest body stands: the old one whole in the other slot, or where no slot was open, nothing or the new one
-abbrev pub HoldsNewest : ℕ → ℕ → List ℕ → List ℕ → List ℕ → Type 0
-HoldsNewest span slot body old image =
-    ((held : List ℕ) × (content span (other slot) old ≡ Whole held) × (content span (other slot) image ≡ Whole held))
-    ⊎ ((content span (other slot) image ≡ Closed) × ((content span slot image ≡ Closed) ⊎ (content span slot image ≡ Whole body)))
+abbrev pub PutHoldsNewest : ℕ → ℕ → List ℕ → List ℕ → List ℕ → Type 0
+PutHoldsNewest span slot body old image =
+    ((held : List ℕ) × (store_content span (other_slot_of_put slot) old ≡ Whole held) × (store_content span (other_slot_of_put slot) image ≡ Whole held))
+    ⊎ ((store_content span (other_slot_of_put slot) image ≡ Closed) × ((store_content span slot image ≡ Closed) ⊎ (store_content span slot image ≡ Whole body)))
 
 -- a put loses nothing: of a store that is ready for it, it may leave only what holds the newest body, the old or the new
 abbrev pub PutsLoseNothing : Type 0
 PutsLoseNothing =
-    (span slot : ℕ) (body old image : List ℕ) → IsReady span slot old → MayLeave span slot body old image
-    → HoldsNewest span slot body old image
+    (span slot : ℕ) (body old image : List ℕ) → IsReadyForPut span slot old → PutMayLeave span slot body old image
+    → PutHoldsNewest span slot body old image

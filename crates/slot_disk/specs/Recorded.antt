@@ -1,6 +1,6 @@
 -- The record of a disk in memory: what was done to its first bytes, and the images that a crash may leave of them.
 use Rattle.std.specs.Prelude.{ℕ, ◌≡◌, ◌+◌, ◌-◌, ◌/◌, ◌≤◌, ◌⊎◌, min, List, [], ◌∷◌, ◌++◌, length, take, drop, replicate, if◌then◌else◌, ◌==◌}
-use Rattle.slot_disk.specs.Images.{TornFrom}
+use Rattle.slot_disk.specs.Images.{IsTornFromImage}
 
 -- a whole write of these bytes at this offset, one that was begun only, or a sync that succeeded
 pub data DiskStep : Type 0 where
@@ -9,45 +9,45 @@ pub data DiskStep : Type 0 where
   Synced : DiskStep
 
 -- the bytes with a piece over those from this offset on, which is at most their end
-abbrev pub over : ℕ → List ℕ → List ℕ → List ℕ
-over start piece bytes = take start bytes ++ (piece ++ drop (start + length piece) bytes)
+abbrev pub recorded_over : ℕ → List ℕ → List ℕ → List ℕ
+recorded_over start piece bytes = take start bytes ++ (piece ++ drop (start + length piece) bytes)
 
 -- this many zero bytes
-abbrev pub zeros : ℕ → List ℕ
-zeros count = replicate count 0
+abbrev pub recorded_zeros : ℕ → List ℕ
+recorded_zeros count = replicate count 0
 
 -- the offset at which a write's range begins: its own, or the old end where that comes before it
-abbrev pub range_start : ℕ → List ℕ → ℕ
-range_start place bytes = min place (length bytes)
+abbrev pub recorded_range_start : ℕ → List ℕ → ℕ
+recorded_range_start place bytes = min place (length bytes)
 
 -- what a write puts into its range: zero bytes from the old end to its offset, and the piece
-abbrev pub range_bytes : ℕ → List ℕ → List ℕ → List ℕ
-range_bytes place piece bytes = zeros (place - length bytes) ++ piece
+abbrev pub recorded_range : ℕ → List ℕ → List ℕ → List ℕ
+recorded_range place piece bytes = recorded_zeros (place - length bytes) ++ piece
 
 -- the bytes after a whole write
 abbrev pub written_over : ℕ → List ℕ → List ℕ → List ℕ
-written_over place piece bytes = over (range_start place bytes) (range_bytes place piece bytes) bytes
+written_over place piece bytes = recorded_over (recorded_range_start place bytes) (recorded_range place piece bytes) bytes
 
 -- what a read gives after these steps, the newest of which comes first
-abbrev pub reading : List ℕ → List DiskStep → List ℕ
-reading first [] = first
-reading first (Wrote place piece ∷ earlier) = written_over place piece (reading first earlier)
-reading first (Began place piece ∷ earlier) = reading first earlier
-reading first (Synced ∷ earlier) = reading first earlier
+abbrev pub recorded_reading : List ℕ → List DiskStep → List ℕ
+recorded_reading first [] = first
+recorded_reading first (Wrote place piece ∷ earlier) = written_over place piece (recorded_reading first earlier)
+recorded_reading first (Began place piece ∷ earlier) = recorded_reading first earlier
+recorded_reading first (Synced ∷ earlier) = recorded_reading first earlier
 
 -- a crash after these steps may leave this image: after a sync what a read gives, and after a write, whole or begun,
 -- what such a write leaves where it is cut short
-abbrev pub IsImage : List ℕ → List DiskStep → List ℕ → Type 0
-IsImage first [] image = image ≡ first
-IsImage first (Wrote place piece ∷ earlier) image = TornFrom (IsImage first earlier) place (length piece) image
-IsImage first (Began place piece ∷ earlier) image = TornFrom (IsImage first earlier) place (length piece) image
-IsImage first (Synced ∷ earlier) image = image ≡ reading first earlier
+abbrev pub IsRecordedImage : List ℕ → List DiskStep → List ℕ → Type 0
+IsRecordedImage first [] image = image ≡ first
+IsRecordedImage first (Wrote place piece ∷ earlier) image = IsTornFromImage (IsRecordedImage first earlier) place (length piece) image
+IsRecordedImage first (Began place piece ∷ earlier) image = IsTornFromImage (IsRecordedImage first earlier) place (length piece) image
+IsRecordedImage first (Synced ∷ earlier) image = image ≡ recorded_reading first earlier
 
 -- a crash after the first t steps or later may have left this image
-abbrev pub WasImage : List ℕ → List DiskStep → ℕ → List ℕ → Type 0
-WasImage first [] t image = IsImage first [] image
-WasImage first (step ∷ earlier) t image =
-    IsImage first (step ∷ earlier) image ⊎ ((t ≤ length earlier) × WasImage first earlier t image)
+abbrev pub WasRecordedImage : List ℕ → List DiskStep → ℕ → List ℕ → Type 0
+WasRecordedImage first [] t image = IsRecordedImage first [] image
+WasRecordedImage first (step ∷ earlier) t image =
+    IsRecordedImage first (step ∷ earlier) image ⊎ ((t ≤ length earlier) × WasRecordedImage first earlier t image)
 
 -- how many bytes the writes have in all
 abbrev pub recorded_bytes : List DiskStep → ℕ
@@ -57,17 +57,18 @@ recorded_bytes (Began place piece ∷ earlier) = length piece + recorded_bytes e
 recorded_bytes (Synced ∷ earlier) = recorded_bytes earlier
 
 -- what a crash keeps of the bytes of a range: 0 none, 1 all, 2 as many bytes 0xFF, any other choice the first half
-abbrev pub kept : ℕ → List ℕ → List ℕ
-kept choice bytes =
+abbrev pub kept_of_recorded : ℕ → List ℕ → List ℕ
+kept_of_recorded choice bytes =
     if choice == 0 then [] else (if choice == 1 then bytes else (if choice == 2 then replicate (length bytes) 255 else take (length bytes / 2) bytes))
 
 -- the image with what a crash of this choice keeps of a write's range
-abbrev pub crash_range : ℕ → ℕ → List ℕ → List ℕ → List ℕ
-crash_range choice place piece image = over (range_start place image) (kept choice (range_bytes place piece image)) image
+abbrev pub recorded_crash_range : ℕ → ℕ → List ℕ → List ℕ → List ℕ
+recorded_crash_range choice place piece image = recorded_over (recorded_range_start place image)
+    (kept_of_recorded choice (recorded_range place piece image)) image
 
 -- the image that a crash of this choice leaves
-abbrev pub crashed : ℕ → List ℕ → List DiskStep → List ℕ
-crashed choice first [] = first
-crashed choice first (Wrote place piece ∷ earlier) = crash_range choice place piece (crashed choice first earlier)
-crashed choice first (Began place piece ∷ earlier) = crash_range choice place piece (crashed choice first earlier)
-crashed choice first (Synced ∷ earlier) = reading first earlier
+abbrev pub recorded_crash : ℕ → List ℕ → List DiskStep → List ℕ
+recorded_crash choice first [] = first
+recorded_crash choice first (Wrote place piece ∷ earlier) = recorded_crash_range choice place piece (recorded_crash choice first earlier)
+recorded_crash choice first (Began place piece ∷ earlier) = recorded_crash_range choice place piece (recorded_crash choice first earlier)
+recorded_crash choice first (Synced ∷ earlier) = recorded_reading first earlier

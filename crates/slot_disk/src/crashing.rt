@@ -1,7 +1,7 @@
 //! The bytes that a crash leaves of a record of writes and syncs.
 
 ghost use Rattle.std.specs.Prelude.{◌≡◌, length, IfOk, OnOk};
-ghost use Rattle.slot_disk.specs.Recorded.{zeros, reading, kept, crash_range, crashed};
+ghost use Rattle.slot_disk.specs.Recorded.{recorded_zeros, recorded_reading, kept_of_recorded, recorded_crash_range, recorded_crash};
 ghost use Rattle.slot_disk.specs.StepEntries.{recorded_steps};
 
 use crate::overwriting::put_over;
@@ -16,7 +16,7 @@ pub(crate) fn crashed(
     entries: &[StepEntry],
     written: &[u8],
 ) -> Result<Vec<u8>, AllocError>
-    ensures { IfOk result (λ image. image.items ≡ crashed choice first.now (recorded_steps entries.now written.now)) }
+    ensures { IfOk result (λ image. image.items ≡ recorded_crash choice first.now (recorded_steps entries.now written.now)) }
 {
     let Some(newest) = take_newest(entries, written) else {
         return first.to_vec(alloc);
@@ -38,7 +38,7 @@ fn reading(
     entries: &[StepEntry],
     written: &[u8],
 ) -> Result<Vec<u8>, AllocError>
-    ensures { IfOk result (λ bytes. bytes.items ≡ reading first.now (recorded_steps entries.now written.now)) }
+    ensures { IfOk result (λ bytes. bytes.items ≡ recorded_reading first.now (recorded_steps entries.now written.now)) }
 {
     let Some(newest) = take_newest(entries, written) else {
         return first.to_vec(alloc);
@@ -62,7 +62,7 @@ fn crash_range(
     piece: &[u8],
     image: &mut Vec<u8>,
 ) -> Result<(), AllocError>
-    ensures { OnOk result (image.new.items ≡ crash_range choice place piece.now image.old.items) }
+    ensures { OnOk result (image.new.items ≡ recorded_crash_range choice place piece.now image.old.items) }
 {
     let start = place.min(image.len());
     let mut range = zeros(alloc, place - start)?;
@@ -73,14 +73,14 @@ fn crash_range(
 
 // `count` zero bytes.
 fn zeros(alloc: Global, count: usize) -> Result<Vec<u8>, AllocError>
-    ensures { IfOk result (λ bytes. bytes.items ≡ zeros count) }
+    ensures { IfOk result (λ bytes. bytes.items ≡ recorded_zeros count) }
 {
     vec![in alloc; 0u8; count]
 }
 
 // What a crash of this choice keeps of a range.
 fn keep(choice: u8, range: &mut Vec<u8>)
-    ensures { range.new.items ≡ kept choice range.old.items }
+    ensures { range.new.items ≡ kept_of_recorded choice range.old.items }
 {
     match choice {
         0 => range.clear(),

@@ -2,14 +2,14 @@
 
 ghost use Rattle.std.specs.Prelude.{◌≡◌, ◌+◌, ◌<◌, ◌≤◌, ℕ, List, [], ◌||◌, ◌&&◌, not, nat_le, nat_lt, length, drop};
 ghost use Rattle.std.specs.Prelude.{is_err, is_some, true, IfOk, OnOk, OnErr, Some};
-ghost use Rattle.outside_io.specs.{FailsByFault};
-ghost use Rattle.slot_disk.specs.Images.{IfKnown, IfBothKnown, Gives, Torn, Written, TornFrom, Only};
-ghost use Rattle.slot_disk.specs.Moments.{TimeGoesOn, Unchanged};
-ghost use Rattle.slot_disk.specs.Recorded.{Wrote, Began, Synced, reading, crashed};
+ghost use Rattle.outside_io.specs.{FailsByFaultCount};
+ghost use Rattle.slot_disk.specs.Images.{IfImageKnown, IfBothImagesKnown, GivesImageRange, IsTornImage, IsWrittenImage, IsTornFromImage, IsOnlyImage};
+ghost use Rattle.slot_disk.specs.Moments.{MomentsGoOn, IsUnchangedAtMoment};
+ghost use Rattle.slot_disk.specs.Recorded.{Wrote, Began, Synced, recorded_reading, recorded_crash};
 ghost use Rattle.slot_disk.specs.RecordedLaws.{is_image-reading, now_is_since, only_now};
-ghost use Rattle.slot_disk.specs.MemoryDisk.{most_steps, blows_at, has_blown, call_fails, sync_fails, write_fits, write_fails};
-ghost use Rattle.slot_disk.specs.MemoryDisk.{after_call, after_fault, with_step, after_failed_write, disk_reads};
-ghost use Rattle.slot_disk.specs.MemoryDisk.{disk_image_now, disk_moment, disk_image_since};
+ghost use Rattle.slot_disk.specs.MemoryDisk.{most_memory_disk_steps, disk_fuse_blows_at, disk_fuse_has_blown, memory_disk_call_fails, memory_disk_sync_fails, memory_disk_write_fits, memory_disk_write_fails};
+ghost use Rattle.slot_disk.specs.MemoryDisk.{memory_disk_after_call, memory_disk_after_fault, memory_disk_with_step, memory_disk_after_failed_write, memory_disk_reads};
+ghost use Rattle.slot_disk.specs.MemoryDisk.{memory_disk_image_now, memory_disk_moment, memory_disk_image_since};
 
 use crate::Disk;
 use crate::crashing::crashed;
@@ -46,8 +46,8 @@ pub struct MemoryDisk {
 impl Model for MemoryDisk {
     ghost use Rattle.std.specs.Prelude.{◌≡◌, ◌≤◌, length, vec_len, vec_capacity};
     ghost use Rattle.slot_disk.specs.MemoryDisk.{MemoryDiskState};
-    ghost use Rattle.slot_disk.specs.Recorded.{reading, recorded_bytes};
-    ghost use Rattle.slot_disk.specs.StepEntries.{recorded_steps, IsRecorded};
+    ghost use Rattle.slot_disk.specs.Recorded.{recorded_reading, recorded_bytes};
+    ghost use Rattle.slot_disk.specs.StepEntries.{recorded_steps, HasStepEntries};
 
     ghost Value = { MemoryDiskState };
 
@@ -62,7 +62,7 @@ impl Model for MemoryDisk {
       faults = s.faults;
     } };
 
-    ghost invariant = { λ s. (IsRecorded s.room s.log s.first.items s.bytes.items s.entries.items s.written.items)
+    ghost invariant = { λ s. (HasStepEntries s.room s.log s.first.items s.bytes.items s.entries.items s.written.items)
         × (s.room ≤ vec_capacity s.bytes) × (1024 ≤ vec_capacity s.entries) × (s.log ≤ vec_capacity s.written) };
 }
 
@@ -109,8 +109,8 @@ impl MemoryDisk {
     /// all, and 1 keeps all, the begun write too. Choice 2 fills the written ranges with bytes 0xFF, and any other
     /// choice keeps the first half of each range. A range begins at the old end where its write begins past it.
     pub fn crash(&self, alloc: Global, choice: u8) -> Result<Vec<u8>, AllocError>
-        ensures exact { IfOk result (λ bytes. bytes.items ≡ crashed choice self.now.first self.now.steps) }
-        ensures possible { IfOk result (λ bytes. disk_image_now self.now bytes.items) }
+        ensures exact { IfOk result (λ bytes. bytes.items ≡ recorded_crash choice self.now.first self.now.steps) }
+        ensures possible { IfOk result (λ bytes. memory_disk_image_now self.now bytes.items) }
     {
         let image = crashed(alloc, choice, &self.first, &self.entries, &self.written)?;
         Ok(image)
@@ -119,10 +119,10 @@ impl MemoryDisk {
     // Counts a call. It fails where its number is one of those that fail, where the fuse has blown, or where it doesn't
     // fit.
     fn count_call(&mut self, fits: bool) -> Result<(), Failed>
-        ensures fails { is_err result ≡ (call_fails self.old || not fits) }
-        ensures failed { OnErr result (self.new ≡ after_fault self.old) }
-        ensures went { OnOk result (self.new ≡ after_call self.old) }
-        ensures cause { FailsByFault self.old.faults self.new.faults result }
+        ensures fails { is_err result ≡ (memory_disk_call_fails self.old || not fits) }
+        ensures failed { OnErr result (self.new ≡ memory_disk_after_fault self.old) }
+        ensures went { OnOk result (self.new ≡ memory_disk_after_call self.old) }
+        ensures cause { FailsByFaultCount self.old.faults self.new.faults result }
     {
         let fails = self.fails.contains(&self.calls) || has_blown(self.fuse, self.calls) || !fits;
         self.calls = self.calls.saturating_add(1);
@@ -135,7 +135,7 @@ impl MemoryDisk {
 
     // Whether a write of this many bytes at this offset fits the disk and its record.
     fn fits(&self, place: u64, count: usize) -> bool
-        ensures { result ≡ write_fits self.now place count }
+        ensures { result ≡ memory_disk_write_fits self.now place count }
     {
         fits_room(self.room, place, count)
             && fits_record(self.entries.len(), self.written.len(), self.log, count)
@@ -143,8 +143,8 @@ impl MemoryDisk {
 
     // Writes the piece, and records that.
     fn write_whole(&mut self, place: usize, piece: &[u8])
-        requires { write_fits self.old place (length piece.now) ≡ true }
-        ensures { self.new ≡ with_step self.old (Wrote place piece.now) }
+        requires { memory_disk_write_fits self.old place (length piece.now) ≡ true }
+        ensures { self.new ≡ memory_disk_with_step self.old (Wrote place piece.now) }
     {
         write_over(&mut self.bytes, place, piece);
         add_entry(
@@ -158,8 +158,8 @@ impl MemoryDisk {
 
     // Records that a write of the piece was begun.
     fn begin_write(&mut self, place: usize, piece: &[u8])
-        requires { write_fits self.old place (length piece.now) ≡ true }
-        ensures { self.new ≡ with_step self.old (Began place piece.now) }
+        requires { memory_disk_write_fits self.old place (length piece.now) ≡ true }
+        ensures { self.new ≡ memory_disk_with_step self.old (Began place piece.now) }
     {
         add_entry(
             &mut self.entries,
@@ -172,12 +172,12 @@ impl MemoryDisk {
 
     // Writes the piece, or fails. Where the fuse blows and the piece fits, the write was begun.
     fn write_or_begin(&mut self, place: u64, piece: &[u8]) -> Result<(), Failed>
-        ensures fails { is_err result ≡ write_fails self.old place (length piece.now) }
-        ensures failed { OnErr result (self.new ≡ after_failed_write self.old place piece.now) }
-        ensures went { OnOk result (self.new ≡ with_step (after_call self.old) (Wrote place piece.now)) }
-        ensures images { (image : List ℕ) → disk_image_since self.new (disk_moment self.old) image
-            → TornFrom (disk_image_now self.old) place (length piece.now) image }
-        ensures cause { FailsByFault self.old.faults self.new.faults result }
+        ensures fails { is_err result ≡ memory_disk_write_fails self.old place (length piece.now) }
+        ensures failed { OnErr result (self.new ≡ memory_disk_after_failed_write self.old place piece.now) }
+        ensures went { OnOk result (self.new ≡ memory_disk_with_step (memory_disk_after_call self.old) (Wrote place piece.now)) }
+        ensures images { (image : List ℕ) → memory_disk_image_since self.new (memory_disk_moment self.old) image
+            → IsTornFromImage (memory_disk_image_now self.old) place (length piece.now) image }
+        ensures cause { FailsByFaultCount self.old.faults self.new.faults result }
     {
         let fits = self.fits(place, piece.len());
         let blows = self.blows();
@@ -194,7 +194,7 @@ impl MemoryDisk {
 
     // Whether the fuse blows at the next call.
     fn blows(&self) -> bool
-        ensures { result ≡ blows_at self.now.fuse self.now.calls }
+        ensures { result ≡ disk_fuse_blows_at self.now.fuse self.now.calls }
     {
         match self.fuse {
             None => false,
@@ -204,8 +204,8 @@ impl MemoryDisk {
 
     // Records a sync.
     fn note_sync(&mut self)
-        requires { length self.old.steps < most_steps }
-        ensures { self.new ≡ with_step self.old Synced }
+        requires { length self.old.steps < most_memory_disk_steps }
+        ensures { self.new ≡ memory_disk_with_step self.old Synced }
     {
         add_entry(
             &mut self.entries,
@@ -231,7 +231,7 @@ fn fits_room(room: usize, place: u64, count: usize) -> bool
 // Whether a record of this many steps and bytes has room for one more step with `count` bytes.
 fn fits_record(steps: usize, bytes: usize, log: usize, count: usize) -> bool
     requires { bytes ≤ log }
-    ensures { result ≡ (nat_lt steps most_steps && nat_le (bytes + count) log) }
+    ensures { result ≡ (nat_lt steps most_memory_disk_steps && nat_le (bytes + count) log) }
 {
     if steps >= MOST_STEPS {
         return false;
@@ -241,7 +241,7 @@ fn fits_record(steps: usize, bytes: usize, log: usize, count: usize) -> bool
 
 // Whether the fuse has blown at this call, or before it.
 fn has_blown(fuse: Option<u64>, call: u64) -> bool
-    ensures { result ≡ has_blown fuse call }
+    ensures { result ≡ disk_fuse_has_blown fuse call }
 {
     match fuse {
         None => false,
@@ -250,13 +250,13 @@ fn has_blown(fuse: Option<u64>, call: u64) -> bool
 }
 
 impl Disk for MemoryDisk {
-    ghost reads = { disk_reads };
+    ghost reads = { memory_disk_reads };
 
-    ghost image_now = { disk_image_now };
+    ghost image_now = { memory_disk_image_now };
 
-    ghost moment = { disk_moment };
+    ghost moment = { memory_disk_moment };
 
-    ghost image_since = { disk_image_since };
+    ghost image_since = { memory_disk_image_since };
 
     ghost faults = { λ s. s.faults };
 
@@ -267,16 +267,16 @@ impl Disk for MemoryDisk {
     ghost only_now = { λ s image was. only_now s.first s.steps image was };
 
     fn len(&mut self) -> Result<u64, Failed>
-        ensures length { IfOk result (λ count. IfKnown (disk_reads self.old) (λ bytes. count ≡ length bytes)) }
-        ensures unchanged { Unchanged disk_reads disk_image_now self.old self.new }
-        ensures images { (image : List ℕ) → disk_image_since self.new (disk_moment self.old) image → disk_image_now self.old image }
-        ensures time { TimeGoesOn disk_moment disk_image_since self.old self.new }
-        ensures cause { FailsByFault self.old.faults self.new.faults result }
+        ensures length { IfOk result (λ count. IfImageKnown (memory_disk_reads self.old) (λ bytes. count ≡ length bytes)) }
+        ensures unchanged { IsUnchangedAtMoment memory_disk_reads memory_disk_image_now self.old self.new }
+        ensures images { (image : List ℕ) → memory_disk_image_since self.new (memory_disk_moment self.old) image → memory_disk_image_now self.old image }
+        ensures time { MomentsGoOn memory_disk_moment memory_disk_image_since self.old self.new }
+        ensures cause { FailsByFaultCount self.old.faults self.new.faults result }
 
-        ensures fails { is_err result ≡ call_fails self.old }
-        ensures failed { OnErr result (self.new ≡ after_fault self.old) }
-        ensures counted { IfOk result (λ count. count ≡ length (reading self.old.first self.old.steps)) }
-        ensures went { OnOk result (self.new ≡ after_call self.old) }
+        ensures fails { is_err result ≡ memory_disk_call_fails self.old }
+        ensures failed { OnErr result (self.new ≡ memory_disk_after_fault self.old) }
+        ensures counted { IfOk result (λ count. count ≡ length (recorded_reading self.old.first self.old.steps)) }
+        ensures went { OnOk result (self.new ≡ memory_disk_after_call self.old) }
     {
         self.count_call(true)?;
         Ok(self.bytes.len() as u64)
@@ -285,48 +285,48 @@ impl Disk for MemoryDisk {
     fn read_at(&mut self, place: u64, into: &mut [u8]) -> Result<usize, Failed>
         ensures fits { IfOk result (λ count. count ≤ length into.old) }
         ensures later_places { IfOk result (λ count. drop count into.new ≡ drop count into.old) }
-        ensures given { IfOk result (λ count. IfKnown (disk_reads self.old) (λ bytes. Gives place (length into.old) bytes into.new count)) }
-        ensures unchanged { Unchanged disk_reads disk_image_now self.old self.new }
-        ensures images { (image : List ℕ) → disk_image_since self.new (disk_moment self.old) image → disk_image_now self.old image }
-        ensures time { TimeGoesOn disk_moment disk_image_since self.old self.new }
-        ensures cause { FailsByFault self.old.faults self.new.faults result }
+        ensures given { IfOk result (λ count. IfImageKnown (memory_disk_reads self.old) (λ bytes. GivesImageRange place (length into.old) bytes into.new count)) }
+        ensures unchanged { IsUnchangedAtMoment memory_disk_reads memory_disk_image_now self.old self.new }
+        ensures images { (image : List ℕ) → memory_disk_image_since self.new (memory_disk_moment self.old) image → memory_disk_image_now self.old image }
+        ensures time { MomentsGoOn memory_disk_moment memory_disk_image_since self.old self.new }
+        ensures cause { FailsByFaultCount self.old.faults self.new.faults result }
 
-        ensures fails { is_err result ≡ call_fails self.old }
-        ensures failed { OnErr result (self.new ≡ after_fault self.old) }
+        ensures fails { is_err result ≡ memory_disk_call_fails self.old }
+        ensures failed { OnErr result (self.new ≡ memory_disk_after_fault self.old) }
         ensures untouched { OnErr result (into.new ≡ into.old) }
-        ensures gave { IfOk result (λ count. Gives place (length into.old) (reading self.old.first self.old.steps) into.new count) }
-        ensures went { OnOk result (self.new ≡ after_call self.old) }
+        ensures gave { IfOk result (λ count. GivesImageRange place (length into.old) (recorded_reading self.old.first self.old.steps) into.new count) }
+        ensures went { OnOk result (self.new ≡ memory_disk_after_call self.old) }
     {
         self.count_call(true)?;
         Ok(copy_from(&self.bytes, place, into))
     }
 
     fn write_at(&mut self, place: u64, bytes: &[u8]) -> Result<(), Failed>
-        ensures known { is_some (disk_reads self.new) ≡ is_some (disk_reads self.old) }
-        ensures torn { IfBothKnown (disk_reads self.old) (disk_reads self.new) (Torn place (length bytes.now)) }
-        ensures written { OnOk result (IfBothKnown (disk_reads self.old) (disk_reads self.new) (Written place bytes.now)) }
-        ensures images { (image : List ℕ) → disk_image_since self.new (disk_moment self.old) image
-            → TornFrom (disk_image_now self.old) place (length bytes.now) image }
-        ensures time { TimeGoesOn disk_moment disk_image_since self.old self.new }
-        ensures cause { FailsByFault self.old.faults self.new.faults result }
+        ensures known { is_some (memory_disk_reads self.new) ≡ is_some (memory_disk_reads self.old) }
+        ensures torn { IfBothImagesKnown (memory_disk_reads self.old) (memory_disk_reads self.new) (IsTornImage place (length bytes.now)) }
+        ensures written { OnOk result (IfBothImagesKnown (memory_disk_reads self.old) (memory_disk_reads self.new) (IsWrittenImage place bytes.now)) }
+        ensures images { (image : List ℕ) → memory_disk_image_since self.new (memory_disk_moment self.old) image
+            → IsTornFromImage (memory_disk_image_now self.old) place (length bytes.now) image }
+        ensures time { MomentsGoOn memory_disk_moment memory_disk_image_since self.old self.new }
+        ensures cause { FailsByFaultCount self.old.faults self.new.faults result }
 
-        ensures fails { is_err result ≡ write_fails self.old place (length bytes.now) }
-        ensures failed { OnErr result (self.new ≡ after_failed_write self.old place bytes.now) }
-        ensures went { OnOk result (self.new ≡ with_step (after_call self.old) (Wrote place bytes.now)) }
+        ensures fails { is_err result ≡ memory_disk_write_fails self.old place (length bytes.now) }
+        ensures failed { OnErr result (self.new ≡ memory_disk_after_failed_write self.old place bytes.now) }
+        ensures went { OnOk result (self.new ≡ memory_disk_with_step (memory_disk_after_call self.old) (Wrote place bytes.now)) }
     {
         self.write_or_begin(place, bytes)
     }
 
     fn sync(&mut self) -> Result<(), Failed>
-        ensures reads { disk_reads self.new ≡ disk_reads self.old }
-        ensures images { (image : List ℕ) → disk_image_since self.new (disk_moment self.old) image → disk_image_now self.old image }
-        ensures safe { OnOk result (IfKnown (disk_reads self.new) (λ bytes. Only bytes (disk_image_now self.new))) }
-        ensures time { TimeGoesOn disk_moment disk_image_since self.old self.new }
-        ensures cause { FailsByFault self.old.faults self.new.faults result }
+        ensures reads { memory_disk_reads self.new ≡ memory_disk_reads self.old }
+        ensures images { (image : List ℕ) → memory_disk_image_since self.new (memory_disk_moment self.old) image → memory_disk_image_now self.old image }
+        ensures safe { OnOk result (IfImageKnown (memory_disk_reads self.new) (λ bytes. IsOnlyImage bytes (memory_disk_image_now self.new))) }
+        ensures time { MomentsGoOn memory_disk_moment memory_disk_image_since self.old self.new }
+        ensures cause { FailsByFaultCount self.old.faults self.new.faults result }
 
-        ensures fails { is_err result ≡ sync_fails self.old }
-        ensures failed { OnErr result (self.new ≡ after_fault self.old) }
-        ensures went { OnOk result (self.new ≡ with_step (after_call self.old) Synced) }
+        ensures fails { is_err result ≡ memory_disk_sync_fails self.old }
+        ensures failed { OnErr result (self.new ≡ memory_disk_after_fault self.old) }
+        ensures went { OnOk result (self.new ≡ memory_disk_with_step (memory_disk_after_call self.old) Synced) }
     {
         let fits = self.entries.len() < MOST_STEPS;
         self.count_call(fits)?;
@@ -339,7 +339,7 @@ impl Disk for MemoryDisk {
 fn copy_from(bytes: &[u8], place: u64, into: &mut [u8]) -> usize
     ensures fits { result ≤ length into.old }
     ensures later_places { drop result into.new ≡ drop result into.old }
-    ensures gives { Gives place (length into.old) bytes.now into.new result }
+    ensures gives { GivesImageRange place (length into.old) bytes.now into.new result }
 {
     let (_, rest) = bytes.split_at(bytes.len().min(place as usize));
     let count = rest.len().min(into.len());

@@ -1,10 +1,10 @@
 //! The three parts of a put, of two disk calls each: the gate is closed, the body is written, the gate is opened.
 
 ghost use Rattle.std.specs.Prelude.{◌≡◌, ℕ, ◌<◌, ◌≤◌, ◌^◌, List, Some, length, is_some, OnOk};
-ghost use Rattle.outside_io.specs.{FailsByFault};
-ghost use Rattle.slot_disk.specs.Images.{IfKnown, IfBothKnown, Only};
+ghost use Rattle.outside_io.specs.{FailsByFaultCount};
+ghost use Rattle.slot_disk.specs.Images.{IfImageKnown, IfBothImagesKnown, IsOnlyImage};
 ghost use Rattle.slot_disk.specs.Moments.{Leaves};
-ghost use Rattle.slot_disk.specs.Puts.{closing, CanClose, MayBeClosed, IsClosed, CanWrite, FitsSlot, IsStored, CanOpen, MayBeOpen, IsPut};
+ghost use Rattle.slot_disk.specs.Puts.{closing_put, PutCanClose, MayBeClosedByPut, IsClosedByPut, PutCanWrite, FitsPutSlot, IsStoredByPut, PutCanOpen, MayBeOpenByPut, IsPut};
 
 use crate::Disk;
 use crate::safe_write::write_safely;
@@ -16,12 +16,12 @@ use outside_io::Failed;
 pub(crate) fn close_gate<D: Disk>(disk: &mut D, slot: u8, is_open: bool) -> Result<(), Failed>
     requires { slot < 2 }
     ensures known { is_some (D.reads disk.new) ≡ is_some (D.reads disk.old) }
-    ensures closed { OnOk result ((span : ℕ) → IfBothKnown (D.reads disk.old) (D.reads disk.new)
-        (λ old new. CanClose span slot is_open old → IsClosed span slot old new)) }
-    ensures safe { OnOk result (IfKnown (D.reads disk.new) (λ new. Only new (D.image_now disk.new))) }
-    ensures any_moment { (span : ℕ) → IfKnown (D.reads disk.old) (λ old. Only old (D.image_now disk.old) → CanClose span slot is_open old
-        → Leaves D.moment D.image_since disk.old disk.new (MayBeClosed span slot old)) }
-    ensures cause { FailsByFault (D.faults disk.old) (D.faults disk.new) result }
+    ensures closed { OnOk result ((span : ℕ) → IfBothImagesKnown (D.reads disk.old) (D.reads disk.new)
+        (λ old new. PutCanClose span slot is_open old → IsClosedByPut span slot old new)) }
+    ensures safe { OnOk result (IfImageKnown (D.reads disk.new) (λ new. IsOnlyImage new (D.image_now disk.new))) }
+    ensures any_moment { (span : ℕ) → IfImageKnown (D.reads disk.old) (λ old. IsOnlyImage old (D.image_now disk.old) → PutCanClose span slot is_open old
+        → Leaves D.moment D.image_since disk.old disk.new (MayBeClosedByPut span slot old)) }
+    ensures cause { FailsByFaultCount (D.faults disk.old) (D.faults disk.new) result }
 {
     write_safely(disk, slot as u64, closing(is_open))?;
     Ok(())
@@ -29,7 +29,7 @@ pub(crate) fn close_gate<D: Disk>(disk: &mut D, slot: u8, is_open: bool) -> Resu
 
 // What is written at a gate to close it.
 fn closing(is_open: bool) -> &'static [u8]
-    ensures { result.now ≡ closing is_open }
+    ensures { result.now ≡ closing_put is_open }
 {
     if is_open { &[0] } else { &[] }
 }
@@ -43,14 +43,14 @@ pub(crate) fn write_body<D: Disk>(
 ) -> Result<(), Failed>
     requires slot { slot < 2 }
     requires span { span < 2 ^ 32 }
-    requires body { FitsSlot span body.now }
+    requires body { FitsPutSlot span body.now }
     ensures known { is_some (D.reads disk.new) ≡ is_some (D.reads disk.old) }
-    ensures stored { OnOk result (IfBothKnown (D.reads disk.old) (D.reads disk.new)
-        (λ old new. CanWrite span slot old → IsStored span slot body.now old new)) }
-    ensures safe { OnOk result (IfKnown (D.reads disk.new) (λ new. Only new (D.image_now disk.new))) }
-    ensures any_moment { IfKnown (D.reads disk.old) (λ old. Only old (D.image_now disk.old) → CanWrite span slot old
-        → Leaves D.moment D.image_since disk.old disk.new (IsClosed span slot old)) }
-    ensures cause { FailsByFault (D.faults disk.old) (D.faults disk.new) result }
+    ensures stored { OnOk result (IfBothImagesKnown (D.reads disk.old) (D.reads disk.new)
+        (λ old new. PutCanWrite span slot old → IsStoredByPut span slot body.now old new)) }
+    ensures safe { OnOk result (IfImageKnown (D.reads disk.new) (λ new. IsOnlyImage new (D.image_now disk.new))) }
+    ensures any_moment { IfImageKnown (D.reads disk.old) (λ old. IsOnlyImage old (D.image_now disk.old) → PutCanWrite span slot old
+        → Leaves D.moment D.image_since disk.old disk.new (IsClosedByPut span slot old)) }
+    ensures cause { FailsByFaultCount (D.faults disk.old) (D.faults disk.new) result }
 {
     write_safely(disk, body_place(slot, span), body)?;
     Ok(())
@@ -60,12 +60,12 @@ pub(crate) fn write_body<D: Disk>(
 pub(crate) fn open_gate<D: Disk>(disk: &mut D, slot: u8) -> Result<(), Failed>
     requires { slot < 2 }
     ensures known { is_some (D.reads disk.new) ≡ is_some (D.reads disk.old) }
-    ensures opened { OnOk result ((span : ℕ) (body : List ℕ) → IfBothKnown (D.reads disk.old) (D.reads disk.new)
-        (λ old new. CanOpen span slot body old → IsPut span slot body old new)) }
-    ensures safe { OnOk result (IfKnown (D.reads disk.new) (λ new. Only new (D.image_now disk.new))) }
-    ensures any_moment { (span : ℕ) (body : List ℕ) → IfKnown (D.reads disk.old) (λ old. Only old (D.image_now disk.old) → CanOpen span slot body old
-        → Leaves D.moment D.image_since disk.old disk.new (MayBeOpen span slot body old)) }
-    ensures cause { FailsByFault (D.faults disk.old) (D.faults disk.new) result }
+    ensures opened { OnOk result ((span : ℕ) (body : List ℕ) → IfBothImagesKnown (D.reads disk.old) (D.reads disk.new)
+        (λ old new. PutCanOpen span slot body old → IsPut span slot body old new)) }
+    ensures safe { OnOk result (IfImageKnown (D.reads disk.new) (λ new. IsOnlyImage new (D.image_now disk.new))) }
+    ensures any_moment { (span : ℕ) (body : List ℕ) → IfImageKnown (D.reads disk.old) (λ old. IsOnlyImage old (D.image_now disk.old) → PutCanOpen span slot body old
+        → Leaves D.moment D.image_since disk.old disk.new (MayBeOpenByPut span slot body old)) }
+    ensures cause { FailsByFaultCount (D.faults disk.old) (D.faults disk.new) result }
 {
     write_safely(disk, slot as u64, &[1])?;
     Ok(())

@@ -1,12 +1,12 @@
 //! A store of two slots, as it is known: its gates and its header.
 
 ghost use Rattle.std.specs.Prelude.{◌≡◌, ℕ, ◌+◌, ◌<◌, ◌≤◌, ◌^◌, List, None, Some, true, false, length, vec_len, is_some, IfOk, OnOk, IsErrOf};
-ghost use Rattle.outside_io.specs.{FailsByFault, Rose};
-ghost use Rattle.slot_disk.specs.Images.{IfKnown, IfBothKnown};
-ghost use Rattle.slot_disk.specs.Moments.{Leaves, Unchanged};
-ghost use Rattle.slot_disk.specs.KnownSlots.{known_open, with_open, slots_of, StandsAs};
-ghost use Rattle.slot_disk.specs.Puts.{FitsSlot, IsReady, IsPut, MayLeave};
-ghost use Rattle.slot_disk.specs.StoreLayout.{front_bytes, body_place, stored_body, is_whole, number_at, IsNumber};
+ghost use Rattle.outside_io.specs.{FailsByFaultCount, FaultCountRose};
+ghost use Rattle.slot_disk.specs.Images.{IfImageKnown, IfBothImagesKnown};
+ghost use Rattle.slot_disk.specs.Moments.{Leaves, IsUnchangedAtMoment};
+ghost use Rattle.slot_disk.specs.KnownSlots.{known_slot_open, with_open_slot, slots_of, SlotsStandAs};
+ghost use Rattle.slot_disk.specs.Puts.{FitsPutSlot, IsReadyForPut, IsPut, PutMayLeave};
+ghost use Rattle.slot_disk.specs.StoreLayout.{store_front_bytes, store_body_place, stored_body, store_is_whole, store_number_at, IsStoreNumber};
 
 use crate::putting::{close_gate, open_gate, write_body};
 use crate::{BeginFault, BodyFault, Disk};
@@ -35,12 +35,12 @@ impl Model for Slots {
 impl Slots {
     /// Begins a store: syncs, and reads its gates and its header.
     pub fn begin<D: Disk>(disk: &mut D) -> Result<Slots, BeginFault>
-        ensures stands { IfOk result (λ slots. StandsAs (D.reads disk.new) (D.image_now disk.new) slots) }
-        ensures too_short { IsErrOf result BeginFault.TooShort → IfKnown (D.reads disk.old) (λ bytes. length bytes < front_bytes) }
+        ensures stands { IfOk result (λ slots. SlotsStandAs (D.reads disk.new) (D.image_now disk.new) slots) }
+        ensures too_short { IsErrOf result BeginFault.TooShort → IfImageKnown (D.reads disk.old) (λ bytes. length bytes < store_front_bytes) }
         ensures reads { D.reads disk.new ≡ D.reads disk.old }
         ensures any_moment { Leaves D.moment D.image_since disk.old disk.new (D.image_now disk.old) }
         ensures later { D.faults disk.old ≤ D.faults disk.new }
-        ensures fault { IsErrOf result BeginFault.DiskFault → Rose (D.faults disk.old) (D.faults disk.new) }
+        ensures fault { IsErrOf result BeginFault.DiskFault → FaultCountRose (D.faults disk.old) (D.faults disk.new) }
         ensures no_fault { (IsErrOf result BeginFault.DiskFault → ⊥) → D.faults disk.new ≡ D.faults disk.old }
     {
         disk.sync()?;
@@ -55,7 +55,7 @@ impl Slots {
     /// Whether the gate of a slot, 0 or 1, is open: its byte is 1.
     pub fn gate(&self, slot: u8) -> bool
         requires { slot < 2 }
-        ensures { result ≡ known_open self.now slot }
+        ensures { result ≡ known_slot_open self.now slot }
     {
         if slot == 0 {
             self.first_open
@@ -81,12 +81,12 @@ impl Slots {
     ) -> Result<Vec<u8>, BodyFault>
         requires slot { slot < 2 }
         requires span { span < 2 ^ 32 }
-        ensures body { IfOk result (λ body. IfKnown (D.reads disk.old) (λ bytes. stored_body span slot bytes ≡ Some body.items)) }
-        ensures damaged { IsErrOf result BodyFault.Damaged → IfKnown (D.reads disk.old) (λ bytes. stored_body span slot bytes ≡ None) }
-        ensures unchanged { Unchanged D.reads D.image_now disk.old disk.new }
+        ensures body { IfOk result (λ body. IfImageKnown (D.reads disk.old) (λ bytes. stored_body span slot bytes ≡ Some body.items)) }
+        ensures damaged { IsErrOf result BodyFault.Damaged → IfImageKnown (D.reads disk.old) (λ bytes. stored_body span slot bytes ≡ None) }
+        ensures unchanged { IsUnchangedAtMoment D.reads D.image_now disk.old disk.new }
         ensures any_moment { Leaves D.moment D.image_since disk.old disk.new (D.image_now disk.old) }
         ensures later { D.faults disk.old ≤ D.faults disk.new }
-        ensures fault { IsErrOf result BodyFault.DiskFault → Rose (D.faults disk.old) (D.faults disk.new) }
+        ensures fault { IsErrOf result BodyFault.DiskFault → FaultCountRose (D.faults disk.old) (D.faults disk.new) }
         ensures no_fault { (IsErrOf result BodyFault.DiskFault → ⊥) → D.faults disk.new ≡ D.faults disk.old }
     {
         let place = body_place(slot, span);
@@ -113,15 +113,15 @@ impl Slots {
     ) -> Result<Slots, Failed>
         requires slot { slot < 2 }
         requires span { span < 2 ^ 32 }
-        requires body { FitsSlot span body.now }
-        requires stands { StandsAs (D.reads disk.old) (D.image_now disk.old) self }
-        requires ready { IfKnown (D.reads disk.old) (IsReady span slot) }
+        requires body { FitsPutSlot span body.now }
+        requires stands { SlotsStandAs (D.reads disk.old) (D.image_now disk.old) self }
+        requires ready { IfImageKnown (D.reads disk.old) (IsReadyForPut span slot) }
         ensures known { is_some (D.reads disk.new) ≡ is_some (D.reads disk.old) }
-        ensures done { OnOk result (IfBothKnown (D.reads disk.old) (D.reads disk.new) (IsPut span slot body.now)) }
-        ensures stands { IfOk result (λ slots. StandsAs (D.reads disk.new) (D.image_now disk.new) slots) }
-        ensures opened { IfOk result (λ slots. slots ≡ with_open self slot) }
-        ensures any_moment { IfKnown (D.reads disk.old) (λ old. Leaves D.moment D.image_since disk.old disk.new (MayLeave span slot body.now old)) }
-        ensures cause { FailsByFault (D.faults disk.old) (D.faults disk.new) result }
+        ensures done { OnOk result (IfBothImagesKnown (D.reads disk.old) (D.reads disk.new) (IsPut span slot body.now)) }
+        ensures stands { IfOk result (λ slots. SlotsStandAs (D.reads disk.new) (D.image_now disk.new) slots) }
+        ensures opened { IfOk result (λ slots. slots ≡ with_open_slot self slot) }
+        ensures any_moment { IfImageKnown (D.reads disk.old) (λ old. Leaves D.moment D.image_since disk.old disk.new (PutMayLeave span slot body.now old)) }
+        ensures cause { FailsByFaultCount (D.faults disk.old) (D.faults disk.new) result }
     {
         let is_open = self.gate(slot);
         close_gate(disk, slot, is_open)?;
@@ -133,7 +133,7 @@ impl Slots {
     // The same slots, after the gate of a slot was opened.
     fn opened(self, slot: u8) -> Slots
         requires { slot < 2 }
-        ensures { result ≡ with_open self slot }
+        ensures { result ≡ with_open_slot self slot }
     {
         if slot == 0 {
             Slots {
@@ -166,7 +166,7 @@ fn read_front(front: &[u8; 64]) -> Slots
 pub(crate) fn body_place(slot: u8, span: u64) -> u64
     requires slot { slot < 2 }
     requires span { span < 2 ^ 32 }
-    ensures { result ≡ body_place span slot }
+    ensures { result ≡ store_body_place span slot }
 {
     if slot == 0 { 64 } else { 64 + span }
 }
@@ -175,13 +175,13 @@ pub(crate) fn body_place(slot: u8, span: u64) -> u64
 fn read_length<D: Disk>(disk: &mut D, place: u64, span: u64) -> Result<usize, BodyFault>
     requires place { place < 2 ^ 33 }
     requires span { span < 2 ^ 32 }
-    ensures whole { IfOk result (λ length. IfKnown (D.reads disk.old) (λ bytes. (is_whole span place bytes ≡ true) × (length ≡ number_at place bytes))) }
-    ensures damaged { IsErrOf result BodyFault.Damaged → IfKnown (D.reads disk.old) (λ bytes. is_whole span place bytes ≡ false) }
+    ensures whole { IfOk result (λ length. IfImageKnown (D.reads disk.old) (λ bytes. (store_is_whole span place bytes ≡ true) × (length ≡ store_number_at place bytes))) }
+    ensures damaged { IsErrOf result BodyFault.Damaged → IfImageKnown (D.reads disk.old) (λ bytes. store_is_whole span place bytes ≡ false) }
     ensures memory { IsErrOf result BodyFault.OutOfMemory → ⊥ }
-    ensures unchanged { Unchanged D.reads D.image_now disk.old disk.new }
+    ensures unchanged { IsUnchangedAtMoment D.reads D.image_now disk.old disk.new }
     ensures any_moment { Leaves D.moment D.image_since disk.old disk.new (D.image_now disk.old) }
     ensures later { D.faults disk.old ≤ D.faults disk.new }
-    ensures fault { IsErrOf result BodyFault.DiskFault → Rose (D.faults disk.old) (D.faults disk.new) }
+    ensures fault { IsErrOf result BodyFault.DiskFault → FaultCountRose (D.faults disk.old) (D.faults disk.new) }
     ensures no_fault { (IsErrOf result BodyFault.DiskFault → ⊥) → D.faults disk.new ≡ D.faults disk.old }
 {
     let end = disk.len()?;
@@ -202,10 +202,10 @@ fn read_length<D: Disk>(disk: &mut D, place: u64, span: u64) -> Result<usize, Bo
 
 // The number in the 8 bytes at an offset, unless the disk ends before or inside them.
 fn read_number<D: Disk>(disk: &mut D, place: u64) -> Result<Option<u64>, Failed>
-    ensures number { IfOk result (λ number. IfKnown (D.reads disk.old) (IsNumber place number)) }
-    ensures unchanged { Unchanged D.reads D.image_now disk.old disk.new }
+    ensures number { IfOk result (λ number. IfImageKnown (D.reads disk.old) (IsStoreNumber place number)) }
+    ensures unchanged { IsUnchangedAtMoment D.reads D.image_now disk.old disk.new }
     ensures any_moment { Leaves D.moment D.image_since disk.old disk.new (D.image_now disk.old) }
-    ensures cause { FailsByFault (D.faults disk.old) (D.faults disk.new) result }
+    ensures cause { FailsByFaultCount (D.faults disk.old) (D.faults disk.new) result }
 {
     let mut head = [0; 8];
     let count = disk.read_at(place, &mut head)?;

@@ -1,7 +1,7 @@
 //! The record of a disk's writes and syncs.
 
 ghost use Rattle.std.specs.Prelude.{◌≡◌, ◌+◌, ◌<◌, ◌≤◌, [], ◌∷◌, ◌++◌, length, vec_len, vec_capacity, MatchOption, IfSome};
-ghost use Rattle.slot_disk.specs.StepEntries.{recorded_steps, step_of};
+ghost use Rattle.slot_disk.specs.StepEntries.{recorded_steps, entry_step};
 
 /// What was done.
 #[derive(Clone, Copy, Debug, PartialEq, Eq)]
@@ -35,7 +35,7 @@ pub(crate) fn add_entry(
 )
     requires entry_fits { vec_len entries.old < vec_capacity entries.old }
     requires piece_fits { vec_len written.old + length piece.now ≤ vec_capacity written.old }
-    ensures added { recorded_steps entries.new.items written.new.items ≡ step_of kind place piece.now ∷ recorded_steps entries.old.items written.old.items }
+    ensures added { recorded_steps entries.new.items written.new.items ≡ entry_step kind place piece.now ∷ recorded_steps entries.old.items written.old.items }
     ensures one_more { vec_len entries.new ≡ vec_len entries.old + 1 }
     ensures bytes { written.new.items ≡ written.old.items ++ piece.now }
     ensures entry_room { vec_capacity entries.old ≤ vec_capacity entries.new }
@@ -65,7 +65,7 @@ pub(crate) struct NewestStep<'a> {
 pub(crate) fn take_newest<'a>(entries: &'a [StepEntry], written: &'a [u8]) -> Option<NewestStep<'a>>
     ensures step { MatchOption result (recorded_steps entries.now written.now ≡ [])
         (λ newest. recorded_steps entries.now written.now
-        ≡ step_of newest.kind newest.place newest.piece.now ∷ recorded_steps newest.entries.now newest.written.now) }
+        ≡ entry_step newest.kind newest.place newest.piece.now ∷ recorded_steps newest.entries.now newest.written.now) }
     ensures fewer { IfSome result (λ newest. length newest.entries.now < length entries.now) }
 {
     if entries.is_empty() {

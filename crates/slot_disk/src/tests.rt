@@ -1,7 +1,7 @@
 ghost use Rattle.std.specs.Prelude.{◌≡◌, ℕ, ◌<◌, List, Some, IfOk, OnOk};
-ghost use Rattle.slot_disk.specs.Images.{IfKnown};
-ghost use Rattle.slot_disk.specs.KnownSlots.{StandsAs};
-ghost use Rattle.slot_disk.specs.Puts.{IsReady};
+ghost use Rattle.slot_disk.specs.Images.{IfImageKnown};
+ghost use Rattle.slot_disk.specs.KnownSlots.{SlotsStandAs};
+ghost use Rattle.slot_disk.specs.Puts.{IsReadyForPut};
 
 use super::*;
 use outside_io::Failed;
@@ -24,8 +24,8 @@ fn disk_of(alloc: Global, bytes: Vec<u8>, fuse: Option<u64>) -> Result<MemoryDis
 
 // Makes a store, and puts a body into its slot 0: calls 0 to 9 of the disk.
 fn put_first<D: Disk>(disk: &mut D) -> Result<Slots, Failed>
-    ensures stands { IfOk result (λ slots. StandsAs (D.reads disk.new) (D.image_now disk.new) slots) }
-    ensures ready { OnOk result (IfKnown (D.reads disk.new) (IsReady 16 1)) }
+    ensures stands { IfOk result (λ slots. SlotsStandAs (D.reads disk.new) (D.image_now disk.new) slots) }
+    ensures ready { OnOk result (IfImageKnown (D.reads disk.new) (IsReadyForPut 16 1)) }
 {
     format(disk, &[0; 62])?;
     let Ok(slots) = Slots::begin(disk) else {

@@ -4,102 +4,102 @@ use Rattle.std.proofs.Common.{get_or, None, Some, refl, sym, ap, subst, arith}
 use Rattle.std.proofs.lemmas.Bool.{ltb-false, cond_both}
 use Rattle.std.proofs.lemmas.List.Elements.{recursion_from_All}
 use Rattle.space_saving.specs.declared.entry.Entry.{Entry}
-use Rattle.space_saving.specs.Table.{entry_of, total_count, least_count, Interval, interval_from, interval_in}
-use Rattle.space_saving.specs.Table.{HasSmallError, IsTable}
-use Rattle.space_saving.proofs.PutLemmas.{total_count-cons}
-use Rattle.space_saving.proofs.WithoutLemmas.{all-entry_of, count-entry_of}
-use Rattle.space_saving.proofs.StepLemmas.{least-times-length}
-use Rattle.space_saving.proofs.IntervalLemmas.{RisesFrom-least}
+use Rattle.space_saving.specs.Table.{table_entry, table_total, least_table_count, TableInterval, table_interval_from, interval_in_table}
+use Rattle.space_saving.specs.Table.{HasSmallTableError, IsTable}
+use Rattle.space_saving.proofs.PutEntryLemmas.{table_total-first_put_entry}
+use Rattle.space_saving.proofs.WithoutLemmas.{all-entry_before_without, count-entry_before_without}
+use Rattle.space_saving.proofs.TableStepLemmas.{table_step_counts_add_up}
+use Rattle.space_saving.proofs.IntervalLemmas.{TableRisesFrom-interval_least}
 
 -- what is so of every interval of a table with this capacity and total
-pub record IsNarrow (capacity total : ℕ) (interval : Interval) : Type 0 where
+pub record HasNarrowWidth (capacity total : ℕ) (interval : TableInterval) : Type 0 where
   pub ordered : interval.low ≤ interval.high
   pub within_total : interval.high ≤ total
   pub narrow : (interval.high - interval.low) * capacity ≤ total
 
 -- a count is at most the total
-pub count-le-total : (key : ℕ) (e : Entry) (es : List Entry) → entry_of key es ≡ Some e → e.count ≤ total_count es
-count-le-total key e [] found = cc
-count-le-total key e (f ∷ fs) found =
-    (elim (eqb f.key key) as (λ b. cond b (Some f) (entry_of key fs) ≡ Some e → e.count ≤ total_count (f ∷ fs)) [
+pub interval_width_count_in_total : (key : ℕ) (e : Entry) (es : List Entry) → table_entry key es ≡ Some e → e.count ≤ table_total es
+interval_width_count_in_total key e [] found = cc
+interval_width_count_in_total key e (f ∷ fs) found =
+    (elim (eqb f.key key) as (λ b. cond b (Some f) (table_entry key fs) ≡ Some e → e.count ≤ table_total (f ∷ fs)) [
       | true ↦ λ is.
           let same : f ≡ e = cc in
-          subst (λ (g : Entry). g.count ≤ total_count (f ∷ fs)) same (omega (arith, total_count-cons f fs))
-      | false ↦ λ is. omega (arith, total_count-cons f fs, count-le-total key e fs is)
+          subst (λ (g : Entry). g.count ≤ table_total (f ∷ fs)) same (omega (arith, table_total-first_put_entry f fs))
+      | false ↦ λ is. omega (arith, table_total-first_put_entry f fs, interval_width_count_in_total key e fs is)
     ]) found
 
-pub least_count-le-total : (es : List Entry) → least_count es ≤ total_count es
-least_count-le-total [] = omega arith
-least_count-le-total (f ∷ fs) = omega (arith, total_count-cons f fs)
+pub interval_width_least_in_total : (es : List Entry) → least_table_count es ≤ table_total es
+interval_width_least_in_total [] = omega arith
+interval_width_least_in_total (f ∷ fs) = omega (arith, table_total-first_put_entry f fs)
 
-narrow_found : (capacity : ℕ) (es : List Entry) (key : ℕ) (e : Entry) → IsTable capacity es → entry_of key es ≡ Some e
-    → IsNarrow capacity (total_count es) (record { low = e.count - e.error; high = e.count })
-narrow_found capacity es key e table found =
+interval_width_of_found_key : (capacity : ℕ) (es : List Entry) (key : ℕ) (e : Entry) → IsTable capacity es → table_entry key es ≡ Some e
+    → HasNarrowWidth capacity (table_total es) (record { low = e.count - e.error; high = e.count })
+interval_width_of_found_key capacity es key e table found =
     let small =
-    all-entry_of (HasSmallError capacity (total_count es)) key e es
-    (recursion_from_All (HasSmallError capacity (total_count es)) es table.small_errors) found in
+    all-entry_before_without (HasSmallTableError capacity (table_total es)) key e es
+    (recursion_from_All (HasSmallTableError capacity (table_total es)) es table.small_errors) found in
     let below : e.error < e.count = small.0 in
     let width : e.count - (e.count - e.error) ≡ e.error = omega arith in
     record {
       ordered = omega arith;
-      within_total = count-le-total key e es found;
-      narrow = subst (λ n. n * capacity ≤ total_count es) (sym width) small.1;
+      within_total = interval_width_count_in_total key e es found;
+      narrow = subst (λ n. n * capacity ≤ table_total es) (sym width) small.1;
     }
 
 -- the least count of a full table times the capacity is at most the total
-pub least_count-times-capacity : (capacity : ℕ) (es : List Entry) → IsTable capacity es → capacity ≤ length es
-    → least_count es * capacity ≤ total_count es
-least_count-times-capacity capacity es table full =
+pub interval_width_of_full_table : (capacity : ℕ) (es : List Entry) → IsTable capacity es → capacity ≤ length es
+    → least_table_count es * capacity ≤ table_total es
+interval_width_of_full_table capacity es table full =
     let same : length es ≡ capacity = omega (arith, table.fits) in
-    subst (λ n. least_count es * n ≤ total_count es) same
-    (least-times-length (least_count es) es (RisesFrom-least es table.ascending))
+    subst (λ n. least_table_count es * n ≤ table_total es) same
+    (table_step_counts_add_up (least_table_count es) es (TableRisesFrom-interval_least es table.ascending))
 
-narrow_missing : (capacity : ℕ) (es : List Entry) → IsTable capacity es
-    → IsNarrow capacity (total_count es) (record { low = 0; high = cond (ltb (length es) capacity) 0 (least_count es) })
-narrow_missing capacity es table =
-    cond_both (ltb (length es) capacity) 0 (least_count es)
-    (λ n. IsNarrow capacity (total_count es) (record { low = 0; high = n }))
+interval_width_of_missing_key : (capacity : ℕ) (es : List Entry) → IsTable capacity es
+    → HasNarrowWidth capacity (table_total es) (record { low = 0; high = cond (ltb (length es) capacity) 0 (least_table_count es) })
+interval_width_of_missing_key capacity es table =
+    cond_both (ltb (length es) capacity) 0 (least_table_count es)
+    (λ n. HasNarrowWidth capacity (table_total es) (record { low = 0; high = n }))
     (λ _. record { ordered = omega arith; within_total = omega arith; narrow = omega arith })
     (λ more. record {
       ordered = omega arith;
-      within_total = least_count-le-total es;
-      narrow = let all : least_count es ≡ least_count es - 0 = omega arith in
-          subst (λ n. n * capacity ≤ total_count es) all
-          (least_count-times-capacity capacity es table (ltb-false (length es) capacity more));
+      within_total = interval_width_least_in_total es;
+      narrow = let all : least_table_count es ≡ least_table_count es - 0 = omega arith in
+          subst (λ n. n * capacity ≤ table_total es) all
+          (interval_width_of_full_table capacity es table (ltb-false (length es) capacity more));
     })
 
 -- every interval of a table is narrow
-pub interval_is_narrow : (capacity : ℕ) (es : List Entry) (key : ℕ) → IsTable capacity es
-    → IsNarrow capacity (total_count es) (interval_in (record { capacity = capacity; entries = es }) key)
-interval_is_narrow capacity es key table =
-    (elim (entry_of key es) as
-    (λ o. entry_of key es ≡ o
-    → IsNarrow capacity (total_count es) (interval_from o (record { capacity = capacity; entries = es }))) [
-      | None ↦ λ _. narrow_missing capacity es table
-      | Some e ↦ λ found. narrow_found capacity es key e table found
+pub interval_width_is_narrow : (capacity : ℕ) (es : List Entry) (key : ℕ) → IsTable capacity es
+    → HasNarrowWidth capacity (table_total es) (interval_in_table (record { capacity = capacity; entries = es }) key)
+interval_width_is_narrow capacity es key table =
+    (elim (table_entry key es) as
+    (λ o. table_entry key es ≡ o
+    → HasNarrowWidth capacity (table_total es) (table_interval_from o (record { capacity = capacity; entries = es }))) [
+      | None ↦ λ _. interval_width_of_missing_key capacity es table
+      | Some e ↦ λ found. interval_width_of_found_key capacity es key e table found
     ]) refl
 
 -- no key has a lesser high than a missing one
-pub missing_high-le-high : (capacity : ℕ) (es : List Entry) (key : ℕ) → IsTable capacity es
-    → (interval_from None (record { capacity = capacity; entries = es })).high
-    ≤ (interval_in (record { capacity = capacity; entries = es }) key).high
-missing_high-le-high capacity es key table =
-    (elim (entry_of key es) as
-    (λ o. entry_of key es ≡ o → cond (ltb (length es) capacity) 0 (least_count es)
-    ≤ (interval_from o (record { capacity = capacity; entries = es })).high) [
+pub interval_width_over_missing_high : (capacity : ℕ) (es : List Entry) (key : ℕ) → IsTable capacity es
+    → (table_interval_from None (record { capacity = capacity; entries = es })).high
+    ≤ (interval_in_table (record { capacity = capacity; entries = es }) key).high
+interval_width_over_missing_high capacity es key table =
+    (elim (table_entry key es) as
+    (λ o. table_entry key es ≡ o → cond (ltb (length es) capacity) 0 (least_table_count es)
+    ≤ (table_interval_from o (record { capacity = capacity; entries = es })).high) [
       | None ↦ λ _. omega arith
       | Some e ↦ λ found.
-          let least : least_count es ≤ e.count =
-          count-entry_of (least_count es) key e es (RisesFrom-least es table.ascending) found in
-          cond_both (ltb (length es) capacity) 0 (least_count es) (λ n. n ≤ e.count) (λ _. omega arith) (λ _. least)
+          let least : least_table_count es ≤ e.count =
+          count-entry_before_without (least_table_count es) key e es (TableRisesFrom-interval_least es table.ascending) found in
+          cond_both (ltb (length es) capacity) 0 (least_table_count es) (λ n. n ≤ e.count) (λ _. omega arith) (λ _. least)
     ]) refl
 
 -- the width of a missing key in a full table, by the head
-pub narrow_of_head : (capacity : ℕ) (es : List Entry) (head : Entry) → IsTable capacity es → 1 ≤ capacity
+pub interval_width_by_head : (capacity : ℕ) (es : List Entry) (head : Entry) → IsTable capacity es → 1 ≤ capacity
     → capacity ≤ length es → head ≡ get_or es 0 head
-    → (head.count - 0) * capacity ≤ total_count es
-narrow_of_head capacity [] head table some full read = absurd (omega arith)
-narrow_of_head capacity (f ∷ fs) head table some full read =
+    → (head.count - 0) * capacity ≤ table_total es
+interval_width_by_head capacity [] head table some full read = absurd (omega arith)
+interval_width_by_head capacity (f ∷ fs) head table some full read =
     let same : f.count ≡ head.count - 0 =
     let e : f.count ≡ head.count = ap (λ (x : Entry). x.count) (sym read) in omega arith in
-    subst (λ n. n * capacity ≤ total_count (f ∷ fs)) same (least_count-times-capacity capacity (f ∷ fs) table full)
+    subst (λ n. n * capacity ≤ table_total (f ∷ fs)) same (interval_width_of_full_table capacity (f ∷ fs) table full)

@@ -1,10 +1,10 @@
-pub mod PutLemmas
+pub mod PutEntryLemmas
 pub mod WithoutLemmas
-pub mod StepLemmas
+pub mod TableStepLemmas
 pub mod IntervalLemmas
 pub mod IntervalWidthLemmas
-pub mod EntryLemmas
+pub mod TableEntryLemmas
 pub mod AddsLemmas
-pub mod PlaceLemmas
+pub mod EntryPlaceLemmas
 pub mod SortedKeyLemmas
 pub mod Examples

@@ -10,60 +10,60 @@ use Rattle.std.proofs.lemmas.Map.Keys.{IsDistinct-IsPermutation, IsDistinct-from
 use Rattle.std.proofs.lemmas.Map.Keys.{IsStrictlyIncreasing-from_distinct, sorted_from_strictly_increasing}
 use Rattle.std.proofs.lemmas.Map.Keys.{below_from_sorted}
 use Rattle.space_saving.specs.declared.entry.Entry.{Entry}
-use Rattle.space_saving.specs.Table.{entry_of, AreApart}
+use Rattle.space_saving.specs.Table.{table_entry, AreApartInTable}
 
 -- the keys of entries, in their order
-abbrev pub keys_of : List Entry → List ℕ
-keys_of es = map (λ (e : Entry). e.key) es
+abbrev pub keys_to_be_sorted : List Entry → List ℕ
+keys_to_be_sorted es = map (λ (e : Entry). e.key) es
 
 -- whether two keys are one does not depend on which comes first
-eqb-flip : (x y : ℕ) → eqb x y ≡ eqb y x
-eqb-flip x y = grind (arith, nat_tests)
+eqb-flip_of_sorted_keys : (x y : ℕ) → eqb x y ≡ eqb y x
+eqb-flip_of_sorted_keys x y = grind (arith, nat_tests)
 
 -- each key differs from one that has no entry
-others_from_missing : (key : ℕ) (es : List Entry) → entry_of key es ≡ None
-    → AllByRecursion (λ k. eqb key k ≡ false) (keys_of es)
-others_from_missing key [] missing = tt
-others_from_missing key (f ∷ fs) missing =
-    (elim (eqb f.key key) as (λ b. eqb f.key key ≡ b → cond b (Some f) (entry_of key fs) ≡ None
-    → (eqb key f.key ≡ false) × AllByRecursion (λ k. eqb key k ≡ false) (keys_of fs)) [
+sorted_keys_differ_from_missing : (key : ℕ) (es : List Entry) → table_entry key es ≡ None
+    → AllByRecursion (λ k. eqb key k ≡ false) (keys_to_be_sorted es)
+sorted_keys_differ_from_missing key [] missing = tt
+sorted_keys_differ_from_missing key (f ∷ fs) missing =
+    (elim (eqb f.key key) as (λ b. eqb f.key key ≡ b → cond b (Some f) (table_entry key fs) ≡ None
+    → (eqb key f.key ≡ false) × AllByRecursion (λ k. eqb key k ≡ false) (keys_to_be_sorted fs)) [
       | true ↦ λ _ found. cc
-      | false ↦ λ differs rest. (eqb-flip key f.key ∙ differs, others_from_missing key fs rest)
+      | false ↦ λ differs rest. (eqb-flip_of_sorted_keys key f.key ∙ differs, sorted_keys_differ_from_missing key fs rest)
     ]) refl missing
 
 -- and where each does, the key has no entry
-missing_from_others : (key : ℕ) (es : List Entry) → AllByRecursion (λ k. eqb key k ≡ false) (keys_of es)
-    → entry_of key es ≡ None
-missing_from_others key [] others = refl
-missing_from_others key (f ∷ fs) others =
-    ap (λ b. cond b (Some f) (entry_of key fs)) (eqb-flip f.key key ∙ others.0) ∙ missing_from_others key fs others.1
+missing_if_sorted_keys_differ : (key : ℕ) (es : List Entry) → AllByRecursion (λ k. eqb key k ≡ false) (keys_to_be_sorted es)
+    → table_entry key es ≡ None
+missing_if_sorted_keys_differ key [] others = refl
+missing_if_sorted_keys_differ key (f ∷ fs) others =
+    ap (λ b. cond b (Some f) (table_entry key fs)) (eqb-flip_of_sorted_keys f.key key ∙ others.0) ∙ missing_if_sorted_keys_differ key fs others.1
 
 -- keys are distinct where no two entries have one, and the other way round
-distinct_from_apart : (es : List Entry) → AreApart es → IsDistinct eqb (keys_of es)
+sorted_keys_distinct_if_apart : (es : List Entry) → AreApartInTable es → IsDistinct eqb (keys_to_be_sorted es)
 unfolding IsDistinct
-distinct_from_apart [] apart = tt
-distinct_from_apart (f ∷ fs) apart = (others_from_missing f.key fs apart.0, distinct_from_apart fs apart.1)
+sorted_keys_distinct_if_apart [] apart = tt
+sorted_keys_distinct_if_apart (f ∷ fs) apart = (sorted_keys_differ_from_missing f.key fs apart.0, sorted_keys_distinct_if_apart fs apart.1)
 
-apart_from_distinct_keys : (es : List Entry) → IsDistinct eqb (keys_of es) → AreApart es
+apart_if_sorted_keys_distinct : (es : List Entry) → IsDistinct eqb (keys_to_be_sorted es) → AreApartInTable es
 unfolding IsDistinct
-apart_from_distinct_keys [] distinct = tt
-apart_from_distinct_keys (f ∷ fs) distinct =
-    (missing_from_others f.key fs distinct.0, apart_from_distinct_keys fs distinct.1)
+apart_if_sorted_keys_distinct [] distinct = tt
+apart_if_sorted_keys_distinct (f ∷ fs) distinct =
+    (missing_if_sorted_keys_differ f.key fs distinct.0, apart_if_sorted_keys_distinct fs distinct.1)
 
 -- numbers that rise are distinct
-distinct_from_rising : (ks : List ℕ) → IsStrictlyIncreasing ks → IsDistinct eqb ks
-distinct_from_rising ks rise =
+sorted_keys_distinct_if_rising : (ks : List ℕ) → IsStrictlyIncreasing ks → IsDistinct eqb ks
+sorted_keys_distinct_if_rising ks rise =
     IsDistinct-from_apart eqb ks (λ i j d before within.
     ne_eqb _ _ (λ same. omega
     (arith, below_from_sorted ks i j d (sorted_from_strictly_increasing ks rise) before within)))
 
 -- the keys rise once they are sorted exactly where no two entries have one
-pub rise_where_apart : (es : List Entry) (sorted : List ℕ) → IsPermutation (keys_of es) sorted → IsSorted nat_cmp sorted
-    → IsStrictlyIncreasing sorted ↔ AreApart es
-rise_where_apart es sorted moved in_order = (
-  λ rise. apart_from_distinct_keys es
-      (IsDistinct-IsPermutation eqb eqb-flip sorted (keys_of es) (IsPermutation-sym (keys_of es) sorted moved)
-      (distinct_from_rising sorted rise)),
+pub sorted_keys_rise_if_apart : (es : List Entry) (sorted : List ℕ) → IsPermutation (keys_to_be_sorted es) sorted → IsSorted nat_cmp sorted
+    → IsStrictlyIncreasing sorted ↔ AreApartInTable es
+sorted_keys_rise_if_apart es sorted moved in_order = (
+  λ rise. apart_if_sorted_keys_distinct es
+      (IsDistinct-IsPermutation eqb eqb-flip_of_sorted_keys sorted (keys_to_be_sorted es) (IsPermutation-sym (keys_to_be_sorted es) sorted moved)
+      (sorted_keys_distinct_if_rising sorted rise)),
   λ apart. IsStrictlyIncreasing-from_distinct sorted (IsNonDecreasingBy-from_sort (λ k. k) sorted in_order)
-      (IsDistinct-IsPermutation eqb eqb-flip (keys_of es) sorted moved (distinct_from_apart es apart)),
+      (IsDistinct-IsPermutation eqb eqb-flip_of_sorted_keys (keys_to_be_sorted es) sorted moved (sorted_keys_distinct_if_apart es apart)),
 )

@@ -2,6 +2,6 @@ pub mod Table
 -- within the crate
 pub mod Places
 -- the face: what contracts of other crates cite
-pub use Rattle.space_saving.specs.Table.{Add, AreApart, AreEntries, AreWeighed, HasSmallError, Interval, IsTable, RisesFrom, TableValue, enter}
-pub use Rattle.space_saving.specs.Table.{entry_of, interval_after, interval_from, interval_in, least_capacity, least_count, most_capacity, put}
-pub use Rattle.space_saving.specs.Table.{replace_head, step, step_from, table_limit, table_of, total_added, total_count, weight_of_key, without}
+pub use Rattle.space_saving.specs.Table.{TableAdd, AreApartInTable, AreTableEntries, AreWeighedForTable, HasSmallTableError, TableInterval, IsTable, TableRisesFrom, TableValue, enter_in_table}
+pub use Rattle.space_saving.specs.Table.{table_entry, table_interval_after, table_interval_from, interval_in_table, least_table_capacity, least_table_count, most_table_capacity, put_in_table}
+pub use Rattle.space_saving.specs.Table.{replace_table_head, table_after_step, table_after_step_from, table_limit, table_of, total_added_to_table, table_total, table_weight_of_key, table_without}

@@ -5,7 +5,7 @@ use Rattle.std.specs.Prelude.{sum_by, Option, None, Some, ◌≡◌, ◌*◌, �
 use Rattle.space_saving.specs.declared.entry.Entry.{Entry}
 
 -- one weight that is added for one key
-pub record Add : Type 0 where
+pub record TableAdd : Type 0 where
   pub key : ℕ
   pub weight : ℕ
 
@@ -15,131 +15,131 @@ pub record TableValue : Type 0 where
   pub entries : List Entry
 
 -- the entries after one more is inserted: after every entry whose count is at most its own, so last in a tie
-abbrev pub put : Entry → List Entry → List Entry
-put entry [] = entry ∷ []
-put entry (first ∷ rest) = if nat_le first.count entry.count then first ∷ put entry rest else entry ∷ first ∷ rest
+abbrev pub put_in_table : Entry → List Entry → List Entry
+put_in_table entry [] = entry ∷ []
+put_in_table entry (first ∷ rest) = if nat_le first.count entry.count then first ∷ put_in_table entry rest else entry ∷ first ∷ rest
 
 -- the entry of a key
-abbrev pub entry_of : ℕ → List Entry → Option Entry
-entry_of key [] = None
-entry_of key (first ∷ rest) = if first.key == key then Some first else entry_of key rest
+abbrev pub table_entry : ℕ → List Entry → Option Entry
+table_entry key [] = None
+table_entry key (first ∷ rest) = if first.key == key then Some first else table_entry key rest
 
 -- the entries after the first one of a key is removed
-abbrev pub without : ℕ → List Entry → List Entry
-without key [] = []
-without key (first ∷ rest) = if first.key == key then rest else first ∷ without key rest
+abbrev pub table_without : ℕ → List Entry → List Entry
+table_without key [] = []
+table_without key (first ∷ rest) = if first.key == key then rest else first ∷ table_without key rest
 
 -- the entries after the head is replaced: its count becomes the error of the new entry
-abbrev pub replace_head : List Entry → Add → List Entry
-replace_head [] add = []
-replace_head (head ∷ rest) add =
-    put (record { key = add.key; count = head.count + add.weight; error = head.count }) rest
+abbrev pub replace_table_head : List Entry → TableAdd → List Entry
+replace_table_head [] add = []
+replace_table_head (head ∷ rest) add =
+    put_in_table (record { key = add.key; count = head.count + add.weight; error = head.count }) rest
 
 -- the entries after an add for a key that has no entry: the new entry takes free room, or replaces the head
-abbrev pub enter : ℕ → List Entry → Add → List Entry
-enter capacity entries add =
+abbrev pub enter_in_table : ℕ → List Entry → TableAdd → List Entry
+enter_in_table capacity entries add =
     if nat_lt (length entries) capacity
-    then put (record { key = add.key; count = add.weight; error = 0 }) entries
-    else replace_head entries add
+    then put_in_table (record { key = add.key; count = add.weight; error = 0 }) entries
+    else replace_table_head entries add
 
 -- the entries after an add, by the entry that its key has: that entry is removed, and inserted with the weight added
-abbrev pub step_from : Option Entry → ℕ → List Entry → Add → List Entry
-step_from None capacity entries add = enter capacity entries add
-step_from (Some entry) capacity entries add =
-    put (record entry { count = entry.count + add.weight }) (without add.key entries)
+abbrev pub table_after_step_from : Option Entry → ℕ → List Entry → TableAdd → List Entry
+table_after_step_from None capacity entries add = enter_in_table capacity entries add
+table_after_step_from (Some entry) capacity entries add =
+    put_in_table (record entry { count = entry.count + add.weight }) (table_without add.key entries)
 
 -- the entries of a table of this capacity after an add
-abbrev pub step : ℕ → List Entry → Add → List Entry
-step capacity entries add = step_from (entry_of add.key entries) capacity entries add
+abbrev pub table_after_step : ℕ → List Entry → TableAdd → List Entry
+table_after_step capacity entries add = table_after_step_from (table_entry add.key entries) capacity entries add
 
 -- the entries of a table of this capacity after these adds, started empty
-abbrev pub table_of : ℕ → List Add → List Entry
-table_of capacity adds = fold (step capacity) [] adds
+abbrev pub table_of : ℕ → List TableAdd → List Entry
+table_of capacity adds = fold (table_after_step capacity) [] adds
 
 -- the sum of the counts
-abbrev pub total_count : List Entry → ℕ
-total_count entries = sum_by (λ entry. entry.count) entries
+abbrev pub table_total : List Entry → ℕ
+table_total entries = sum_by (λ entry. entry.count) entries
 
 -- the least and the greatest weight that a key can have had
-pub record Interval : Type 0 where
+pub record TableInterval : Type 0 where
   pub low : ℕ
   pub high : ℕ
 
 -- the count of the head, or 0 if there is no entry
-abbrev pub least_count : List Entry → ℕ
-least_count [] = 0
-least_count (head ∷ rest) = head.count
+abbrev pub least_table_count : List Entry → ℕ
+least_table_count [] = 0
+least_table_count (head ∷ rest) = head.count
 
 -- the interval of a key by its entry; the high of a missing key is the least count if the table is full, else 0
-abbrev pub interval_from : Option Entry → TableValue → Interval
-interval_from None table = record {
+abbrev pub table_interval_from : Option Entry → TableValue → TableInterval
+table_interval_from None table = record {
   low = 0;
-  high = if nat_lt (length table.entries) table.capacity then 0 else least_count table.entries;
+  high = if nat_lt (length table.entries) table.capacity then 0 else least_table_count table.entries;
 }
-interval_from (Some entry) table = record { low = entry.count - entry.error; high = entry.count }
+table_interval_from (Some entry) table = record { low = entry.count - entry.error; high = entry.count }
 
 -- the interval of a key in a table
-abbrev pub interval_in : TableValue → ℕ → Interval
-interval_in table key = interval_from (entry_of key table.entries) table
+abbrev pub interval_in_table : TableValue → ℕ → TableInterval
+interval_in_table table key = table_interval_from (table_entry key table.entries) table
 
 -- the interval of a key in a table of this capacity after these adds
-abbrev pub interval_after : ℕ → List Add → ℕ → Interval
-interval_after capacity adds key = interval_in (record { capacity = capacity; entries = table_of capacity adds }) key
+abbrev pub table_interval_after : ℕ → List TableAdd → ℕ → TableInterval
+table_interval_after capacity adds key = interval_in_table (record { capacity = capacity; entries = table_of capacity adds }) key
 
 -- the weight that was added for a key
-abbrev pub weight_of_key : ℕ → List Add → ℕ
-weight_of_key key adds = sum_by (λ add. add.weight) (filter (λ add. add.key == key) adds)
+abbrev pub table_weight_of_key : ℕ → List TableAdd → ℕ
+table_weight_of_key key adds = sum_by (λ add. add.weight) (filter (λ add. add.key == key) adds)
 
 -- the weight that was added for all keys
-abbrev pub total_added : List Add → ℕ
-total_added adds = sum_by (λ add. add.weight) adds
+abbrev pub total_added_to_table : List TableAdd → ℕ
+total_added_to_table adds = sum_by (λ add. add.weight) adds
 
 -- the counts are at least this number and never fall
-abbrev pub RisesFrom : ℕ → List Entry → Type 0
-RisesFrom least [] = ⊤
-RisesFrom least (first ∷ rest) = (least ≤ first.count) × RisesFrom first.count rest
+abbrev pub TableRisesFrom : ℕ → List Entry → Type 0
+TableRisesFrom least [] = ⊤
+TableRisesFrom least (first ∷ rest) = (least ≤ first.count) × TableRisesFrom first.count rest
 
 -- no two entries have the same key
-abbrev pub AreApart : List Entry → Type 0
-AreApart [] = ⊤
-AreApart (first ∷ rest) = (entry_of first.key rest ≡ None) × AreApart rest
+abbrev pub AreApartInTable : List Entry → Type 0
+AreApartInTable [] = ⊤
+AreApartInTable (first ∷ rest) = (table_entry first.key rest ≡ None) × AreApartInTable rest
 
 -- the error is below the count, and the error times the capacity is at most the total
-abbrev pub HasSmallError : ℕ → ℕ → Entry → Type 0
-HasSmallError capacity total entry = (entry.error < entry.count) × (entry.error * capacity ≤ total)
+abbrev pub HasSmallTableError : ℕ → ℕ → Entry → Type 0
+HasSmallTableError capacity total entry = (entry.error < entry.count) × (entry.error * capacity ≤ total)
 
 -- at most as many entries as the capacity, counts ascending, keys distinct, errors small
 pub record IsTable (capacity : ℕ) (entries : List Entry) : Type 0 where
   pub fits : length entries ≤ capacity
-  pub ascending : RisesFrom 0 entries
-  pub distinct : AreApart entries
-  pub small_errors : All (HasSmallError capacity (total_count entries)) entries
+  pub ascending : TableRisesFrom 0 entries
+  pub distinct : AreApartInTable entries
+  pub small_errors : All (HasSmallTableError capacity (table_total entries)) entries
 
 -- the least capacity of a table
-abbrev pub least_capacity : ℕ
-least_capacity = 2
+abbrev pub least_table_capacity : ℕ
+least_table_capacity = 2
 
 -- the greatest capacity of a table
-abbrev pub most_capacity : ℕ
-most_capacity = 4096
+abbrev pub most_table_capacity : ℕ
+most_table_capacity = 4096
 
 -- no table's total reaches this: it counts at most 2^24 adds, and each weighs less than 2^32
 abbrev pub table_limit : ℕ
 table_limit = 2 ^ 56
 
 -- the entries of a table of this capacity whose counts add up to less than 2^56
-pub record AreEntries (capacity : ℕ) (entries : List Entry) : Type 0 where
+pub record AreTableEntries (capacity : ℕ) (entries : List Entry) : Type 0 where
   pub is_table : IsTable capacity entries
-  pub bounded : total_count entries < table_limit
+  pub bounded : table_total entries < table_limit
 
 -- what always holds of a table: its capacity is allowed, its memory has room for it, its total is the sum of the counts
-pub record IsKept (capacity room total : ℕ) (entries : List Entry) : Type 0 where
-  pub least : least_capacity ≤ capacity
-  pub most : capacity ≤ most_capacity
+pub record IsKeptTable (capacity room total : ℕ) (entries : List Entry) : Type 0 where
+  pub least : least_table_capacity ≤ capacity
+  pub most : capacity ≤ most_table_capacity
   pub has_room : capacity ≤ room
-  pub adds_up : total ≡ total_count entries
-  pub are_entries : AreEntries capacity entries
+  pub adds_up : total ≡ table_total entries
+  pub are_entries : AreTableEntries capacity entries
 
 -- each weight is at least 1
-abbrev pub AreWeighed : List Add → Type 0
-AreWeighed adds = All (λ add. 1 ≤ add.weight) adds
+abbrev pub AreWeighedForTable : List TableAdd → Type 0
+AreWeighedForTable adds = All (λ add. 1 ≤ add.weight) adds

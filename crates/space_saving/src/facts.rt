@@ -2,7 +2,7 @@
 
 ghost use Rattle.std.specs.Prelude.{◌≡◌, ◌<◌, ◌≤◌, ◌↔◌, IsTrue, All};
 ghost use Rattle.std.specs.Option.{SomeIff};
-ghost use Rattle.space_saving.specs.Table.{total_count, HasSmallError, IsTable, RisesFrom, most_capacity, table_limit};
+ghost use Rattle.space_saving.specs.Table.{table_total, HasSmallTableError, IsTable, TableRisesFrom, most_table_capacity, table_limit};
 
 use crate::Entry;
 use crate::keys::are_apart;
@@ -12,7 +12,7 @@ const TOTAL_LIMIT: u64 = 1 << 56;
 
 /// The sum of the counts, if it is below 2^56.
 pub(crate) fn total_of(entries: &[Entry]) -> Option<u64>
-    ensures { SomeIff result (total_count entries.now < table_limit) (total_count entries.now) }
+    ensures { SomeIff result (table_total entries.now < table_limit) (table_total entries.now) }
 {
     let mut total: u64 = 0;
     for entry in entries {
@@ -27,8 +27,8 @@ pub(crate) fn total_of(entries: &[Entry]) -> Option<u64>
 /// Whether these entries, whose counts add up to `total`, are those of a table of this capacity.
 pub(crate) fn is_table(capacity: u32, total: u64, entries: &[Entry]) -> bool
     requires some { 1 ≤ capacity }
-    requires most { capacity ≤ most_capacity }
-    requires total { total ≡ total_count entries.now }
+    requires most { capacity ≤ most_table_capacity }
+    requires total { total ≡ table_total entries.now }
     ensures { IsTrue result ↔ IsTable capacity entries.now }
 {
     entries.len() <= capacity as usize
@@ -39,7 +39,7 @@ pub(crate) fn is_table(capacity: u32, total: u64, entries: &[Entry]) -> bool
 
 /// Whether the counts never fall.
 fn rises(entries: &[Entry]) -> bool
-    ensures { IsTrue result ↔ RisesFrom 0 entries.now }
+    ensures { IsTrue result ↔ TableRisesFrom 0 entries.now }
 {
     let mut least = 0;
     for entry in entries {
@@ -54,7 +54,7 @@ fn rises(entries: &[Entry]) -> bool
 /// Whether each error is below its count and, times the capacity, at most the total.
 fn has_small_errors(capacity: u64, total: u64, entries: &[Entry]) -> bool
     requires { 1 ≤ capacity }
-    ensures { IsTrue result ↔ All (HasSmallError capacity total) entries.now }
+    ensures { IsTrue result ↔ All (HasSmallTableError capacity total) entries.now }
 {
     for entry in entries {
         if !has_small_error(capacity, total, entry) {
@@ -66,7 +66,7 @@ fn has_small_errors(capacity: u64, total: u64, entries: &[Entry]) -> bool
 
 fn has_small_error(capacity: u64, total: u64, entry: &Entry) -> bool
     requires { 1 ≤ capacity }
-    ensures { IsTrue result ↔ HasSmallError capacity total entry.now }
+    ensures { IsTrue result ↔ HasSmallTableError capacity total entry.now }
 {
     entry.error < entry.count && entry.error <= total / capacity
 }

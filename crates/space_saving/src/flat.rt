@@ -1,7 +1,7 @@
 //! A table as plain entries.
 
 ghost use Rattle.std.specs.Prelude.{◌≡◌, ◌+◌, ◌-◌, ◌*◌, ◌<◌, ◌≤◌, ◌↔◌, [], length, take, slice_get, vec_capacity, IfOk, IfSome, IsSome, None};
-ghost use Rattle.space_saving.specs.Table.{step, entry_of, total_count, least_count, interval_in, AreEntries, least_capacity, most_capacity, table_limit};
+ghost use Rattle.space_saving.specs.Table.{table_after_step, table_entry, table_total, least_table_count, interval_in_table, AreTableEntries, least_table_capacity, most_table_capacity, table_limit};
 
 use crate::facts::{is_table, total_of};
 use crate::places::place_of;
@@ -28,20 +28,20 @@ pub struct Flat {
 
 impl Model for Flat {
     ghost use Rattle.std.specs.Prelude.{vec_capacity};
-    ghost use Rattle.space_saving.specs.Table.{TableValue, IsKept};
+    ghost use Rattle.space_saving.specs.Table.{TableValue, IsKeptTable};
 
     ghost Value = { TableValue };
 
     ghost view = { λ t. record { capacity = t.capacity; entries = t.entries.items } };
 
-    ghost invariant = { λ t. IsKept t.capacity (vec_capacity t.entries) t.total t.entries.items };
+    ghost invariant = { λ t. IsKeptTable t.capacity (vec_capacity t.entries) t.total t.entries.items };
 }
 
 impl Flat {
     /// An empty table with memory for `capacity` entries, 2 to 4096.
     pub fn with_room(alloc: Global, capacity: u32) -> Result<Flat, AllocError>
-        requires least { least_capacity ≤ capacity }
-        requires most { capacity ≤ most_capacity }
+        requires least { least_table_capacity ≤ capacity }
+        requires most { capacity ≤ most_table_capacity }
         ensures { IfOk result (λ table. table ≡ record { capacity = capacity; entries = [] }) }
     {
         Ok(Flat {
@@ -57,10 +57,10 @@ impl Flat {
     /// the capacity, is above the total, or a total of 2^56 or more. It allocates no memory, and needs the time of
     /// a sort of the keys.
     pub fn from_entries(capacity: u32, entries: Vec<Entry>) -> Option<Flat>
-        requires least { least_capacity ≤ capacity }
-        requires most { capacity ≤ most_capacity }
+        requires least { least_table_capacity ≤ capacity }
+        requires most { capacity ≤ most_table_capacity }
         requires reserved { capacity ≤ vec_capacity entries }
-        ensures accepted { IsSome result ↔ AreEntries capacity entries.items }
+        ensures accepted { IsSome result ↔ AreTableEntries capacity entries.items }
         ensures content { IfSome result (λ table.
             table ≡ record { capacity = capacity; entries = entries.items }) }
     {
@@ -77,11 +77,11 @@ impl Flat {
 
     /// The least and the greatest weight that the key can have had.
     pub fn interval(&self, key: u64) -> (u64, u64)
-        ensures low { result.0 ≡ (interval_in self.now key).low }
-        ensures high { result.1 ≡ (interval_in self.now key).high }
+        ensures low { result.0 ≡ (interval_in_table self.now key).low }
+        ensures high { result.1 ≡ (interval_in_table self.now key).high }
         ensures ordered { result.0 ≤ result.1 }
-        ensures within_total { result.1 ≤ total_count self.now.entries }
-        ensures narrow { (result.1 - result.0) * self.now.capacity ≤ total_count self.now.entries }
+        ensures within_total { result.1 ≤ table_total self.now.entries }
+        ensures narrow { (result.1 - result.0) * self.now.capacity ≤ table_total self.now.entries }
     {
         match place_of(&self.entries, key) {
             Some(place) => {
@@ -97,10 +97,10 @@ impl Flat {
     pub fn entry(&self, place: usize) -> Entry
         requires { place < length self.now.entries }
         ensures entry { slice_get self.now.entries place ≡ Some result }
-        ensures apart { entry_of result.key (take place self.now.entries) ≡ None }
+        ensures apart { table_entry result.key (take place self.now.entries) ≡ None }
         ensures error { result.error < result.count }
-        ensures least { least_count self.now.entries ≤ result.count }
-        ensures within_total { result.count ≤ total_count self.now.entries }
+        ensures least { least_table_count self.now.entries ≤ result.count }
+        ensures within_total { result.count ≤ table_total self.now.entries }
     {
         self.entries[place]
     }
@@ -116,17 +116,17 @@ impl Flat {
     /// The most entries that the table can have, 2 to 4096.
     pub fn capacity(&self) -> u32
         ensures capacity { result ≡ self.now.capacity }
-        ensures least { least_capacity ≤ result }
-        ensures most { result ≤ most_capacity }
+        ensures least { least_table_capacity ≤ result }
+        ensures most { result ≤ most_table_capacity }
     {
         self.capacity
     }
 
     /// The sum of the counts, below 2^56, which equals the weight that was added.
     pub fn total(&self) -> u64
-        ensures total { result ≡ total_count self.now.entries }
+        ensures total { result ≡ table_total self.now.entries }
         ensures bounded { result < table_limit }
-        ensures kept { AreEntries self.now.capacity self.now.entries }
+        ensures kept { AreTableEntries self.now.capacity self.now.entries }
     {
         self.total
     }
@@ -134,7 +134,7 @@ impl Flat {
     /// Replaces the entries by those of a source, which are a table of this capacity. It allocates no memory, and needs
     /// the time of the source and of one pass over the entries.
     pub fn refill<S: EntrySource>(&mut self, source: &S)
-        requires table { AreEntries self.old.capacity (S.entries source.now) }
+        requires table { AreTableEntries self.old.capacity (S.entries source.now) }
         ensures { self.new ≡ record self.old { entries = S.entries source.now } }
     {
         self.entries.resize(source.entry_count(), BLANK).unwrap();
@@ -145,11 +145,11 @@ impl Flat {
     /// Adds a weight for a key, by one step of Space-Saving. It allocates no memory.
     pub(crate) fn add(&mut self, key: u64, weight: u32)
         requires weighs { 1 ≤ weight }
-        requires room { total_count self.old.entries + weight < table_limit }
+        requires room { table_total self.old.entries + weight < table_limit }
         ensures stepped { self.new ≡ record self.old {
-          entries = step self.old.capacity self.old.entries (record { key = key; weight = weight });
+          entries = table_after_step self.old.capacity self.old.entries (record { key = key; weight = weight });
         } }
-        ensures grew { total_count self.new.entries ≡ total_count self.old.entries + weight }
+        ensures grew { table_total self.new.entries ≡ table_total self.old.entries + weight }
     {
         let weight = u64::from(weight);
         add_weight(&mut self.entries, self.capacity as usize, key, weight);

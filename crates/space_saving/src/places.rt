@@ -2,13 +2,13 @@
 
 ghost use Rattle.std.specs.Prelude.{◌≡◌, ◌+◌, ◌<◌, ◌≤◌, ◌++◌, None, MatchOption, length, insert, take, drop};
 ghost use Rattle.space_saving.specs.Places.{IsPlaceOf};
-ghost use Rattle.space_saving.specs.Table.{put, entry_of};
+ghost use Rattle.space_saving.specs.Table.{put_in_table, table_entry};
 
 use crate::Entry;
 
 /// The index of the first entry of this key, if there is one.
 pub(crate) fn place_of(entries: &[Entry], key: u64) -> Option<usize>
-    ensures { MatchOption result (entry_of key entries.now ≡ None) (IsPlaceOf key entries.now) }
+    ensures { MatchOption result (table_entry key entries.now ≡ None) (IsPlaceOf key entries.now) }
 {
     for (place, entry) in entries.iter().enumerate() {
         if entry.key == key {
@@ -21,7 +21,7 @@ pub(crate) fn place_of(entries: &[Entry], key: u64) -> Option<usize>
 /// The index at which this entry is inserted: after every entry whose count is at most its own.
 pub(crate) fn place_for(entries: &[Entry], new: &Entry) -> usize
     ensures within { result ≤ length entries.now }
-    ensures place { put new.now entries.now ≡ insert entries.now result new.now }
+    ensures place { put_in_table new.now entries.now ≡ insert entries.now result new.now }
 {
     for (place, entry) in entries.iter().enumerate() {
         if new.count < entry.count {
@@ -35,7 +35,7 @@ pub(crate) fn place_for(entries: &[Entry], new: &Entry) -> usize
 /// the two indexes move down by one.
 pub(crate) fn settle(entries: &mut [Entry], from: usize, new: Entry)
     requires { from < length entries.old }
-    ensures { entries.new ≡ take from entries.old ++ put new (drop (from + 1) entries.old) }
+    ensures { entries.new ≡ take from entries.old ++ put_in_table new (drop (from + 1) entries.old) }
 {
     let mut place = from;
     while place + 1 < entries.len() && entries[place + 1].count <= new.count {

@@ -1,7 +1,7 @@
 //! One step of Space-Saving on a list of entries.
 
 ghost use Rattle.std.specs.Prelude.{◌≡◌, ◌+◌, ◌<◌, ◌≤◌, vec_capacity};
-ghost use Rattle.space_saving.specs.Table.{step, total_count, IsTable, table_limit};
+ghost use Rattle.space_saving.specs.Table.{table_after_step, table_total, IsTable, table_limit};
 
 use crate::Entry;
 use crate::places::{place_for, place_of, settle};
@@ -11,9 +11,9 @@ pub(crate) fn add_weight(entries: &mut Vec<Entry>, capacity: usize, key: u64, we
     requires some { 1 ≤ capacity }
     requires reserved { capacity ≤ vec_capacity entries.old }
     requires table { IsTable capacity entries.old.items }
-    requires room { total_count entries.old.items + weight < table_limit }
+    requires room { table_total entries.old.items + weight < table_limit }
     ensures stepped { entries.new.items
-        ≡ step capacity entries.old.items (record { key = key; weight = weight }) }
+        ≡ table_after_step capacity entries.old.items (record { key = key; weight = weight }) }
     ensures still_reserved { capacity ≤ vec_capacity entries.new }
 {
     match place_of(entries, key) {

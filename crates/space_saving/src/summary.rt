@@ -1,7 +1,7 @@
 //! A Space-Saving table, in whatever form it keeps its entries.
 
 ghost use Rattle.std.specs.Prelude.{◌≡◌, ◌+◌, ◌-◌, ◌*◌, ◌<◌, ◌≤◌, ◌↔◌, [], length, slice_get, IfOk, IsTrue, Some};
-ghost use Rattle.space_saving.specs.Table.{TableValue, step, total_count, interval_in, AreEntries, least_capacity, most_capacity, table_limit};
+ghost use Rattle.space_saving.specs.Table.{TableValue, table_after_step, table_total, interval_in_table, AreTableEntries, least_table_capacity, most_table_capacity, table_limit};
 
 use crate::{Entry, Flat};
 use std::alloc::{AllocError, Global};
@@ -14,8 +14,8 @@ pub trait Summary: Sized {
 
     /// An empty table of a capacity of 2 to 4096. All memory is reserved here.
     fn with_capacity(alloc: Global, capacity: u32) -> Result<Self, AllocError>
-        requires least { least_capacity ≤ capacity }
-        requires most { capacity ≤ most_capacity }
+        requires least { least_table_capacity ≤ capacity }
+        requires most { capacity ≤ most_table_capacity }
         ensures { IfOk result (λ table. content table ≡ record { capacity = capacity; entries = [] }) };
 
     /// A table with the capacity and the entries of this one. All memory is reserved here.
@@ -26,22 +26,22 @@ pub trait Summary: Sized {
     /// no memory.
     fn add(&mut self, key: u64, weight: u32)
         requires weighs { 1 ≤ weight }
-        requires room { total_count (content self.old).entries + weight < table_limit }
+        requires room { table_total (content self.old).entries + weight < table_limit }
         ensures stepped { content self.new ≡ record (content self.old) {
-          entries = step (content self.old).capacity (content self.old).entries
+          entries = table_after_step (content self.old).capacity (content self.old).entries
               (record { key = key; weight = weight });
         } }
-        ensures grew { total_count (content self.new).entries
-            ≡ total_count (content self.old).entries + weight };
+        ensures grew { table_total (content self.new).entries
+            ≡ table_total (content self.old).entries + weight };
 
     /// The least and the greatest weight that the key can have had.
     fn interval(&self, key: u64) -> (u64, u64)
-        ensures low { result.0 ≡ (interval_in (content self.now) key).low }
-        ensures high { result.1 ≡ (interval_in (content self.now) key).high }
+        ensures low { result.0 ≡ (interval_in_table (content self.now) key).low }
+        ensures high { result.1 ≡ (interval_in_table (content self.now) key).high }
         ensures ordered { result.0 ≤ result.1 }
-        ensures within_total { result.1 ≤ total_count (content self.now).entries }
+        ensures within_total { result.1 ≤ table_total (content self.now).entries }
         ensures narrow { (result.1 - result.0) * (content self.now).capacity
-            ≤ total_count (content self.now).entries };
+            ≤ table_total (content self.now).entries };
 
     /// The entry at this index, from 0 and below the length, in the order of rising counts.
     fn entry(&self, place: usize) -> Entry
@@ -56,14 +56,14 @@ pub trait Summary: Sized {
     /// The most entries that the table can have, 2 to 4096.
     fn capacity(&self) -> u32
         ensures capacity { result ≡ (content self.now).capacity }
-        ensures least { least_capacity ≤ result }
-        ensures most { result ≤ most_capacity };
+        ensures least { least_table_capacity ≤ result }
+        ensures most { result ≤ most_table_capacity };
 
     /// The sum of the counts, below 2^56, which equals the weight that was added.
     fn total(&self) -> u64
-        ensures total { result ≡ total_count (content self.now).entries }
+        ensures total { result ≡ table_total (content self.now).entries }
         ensures bounded { result < table_limit }
-        ensures kept { AreEntries (content self.now).capacity (content self.now).entries };
+        ensures kept { AreTableEntries (content self.now).capacity (content self.now).entries };
 
     /// Whether the table has as many entries as its capacity.
     fn full(&self) -> bool

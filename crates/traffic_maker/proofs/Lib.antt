@@ -1,3 +1,3 @@
-pub mod FrameLemmas
-pub mod PieceLemmas
+pub mod MadeFrameLemmas
+pub mod CapturePieceLemmas
 pub mod Examples

@@ -1,11 +1,11 @@
 //! The addresses of frames.
 
 ghost use Rattle.std.specs.Prelude.{◌≡◌};
-ghost use Rattle.traffic_maker.specs.Address.{address_of};
+ghost use Rattle.traffic_maker.specs.Address.{made_address};
 
 /// The address with this first byte that a number gives.
 pub(crate) fn address(first: u8, number: u32) -> [u8; 4]
-    ensures { result ≡ address_of first number }
+    ensures { result ≡ made_address first number }
 {
     let bytes = number.to_be_bytes();
     if bytes[0] < 64 {

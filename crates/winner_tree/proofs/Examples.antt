@@ -1,6 +1,6 @@
 -- Worked examples of the definitions.
 use Rattle.std.proofs.Common.{◌≡◌, ◌<◌, ◌≤◌, ℕ, List, [], ◌∷◌, zero, suc, drop, refl, arith}
-use Rattle.winner_tree.specs.Nodes.{IsLesser, IsTree}
+use Rattle.winner_tree.specs.TreeNodes.{TreeNodeHoldsLesserChild, AreTreeNodes}
 
 -- three leaves, 7, 3 and 5, behind an unused node, the root 3 and its child 3, whose children are the last two leaves
 abbrev nodes : List ℕ
@@ -9,17 +9,17 @@ nodes = 0 ∷ 3 ∷ 3 ∷ 7 ∷ 3 ∷ 5 ∷ []
 pub leaves_come_last : drop 3 nodes ≡ 7 ∷ 3 ∷ 5 ∷ []
 leaves_come_last = refl
 
-pub root_is_the_lesser : IsLesser nodes 1
+pub root_is_the_lesser : TreeNodeHoldsLesserChild nodes 1
 root_is_the_lesser = refl
 
-pub inner_node_is_the_lesser : IsLesser nodes 2
+pub inner_node_is_the_lesser : TreeNodeHoldsLesserChild nodes 2
 inner_node_is_the_lesser = refl
 
 -- a root that is the greater of its children
-pub greater_child_at_the_root : IsLesser (0 ∷ 7 ∷ 3 ∷ 7 ∷ 3 ∷ 5 ∷ []) 1 → ⊥
+pub greater_child_at_the_root : TreeNodeHoldsLesserChild (0 ∷ 7 ∷ 3 ∷ 7 ∷ 3 ∷ 5 ∷ []) 1 → ⊥
 greater_child_at_the_root lesser = omega (arith, lesser)
 
-pub tree_of_three_leaves : IsTree 3 nodes
+pub tree_of_three_leaves : AreTreeNodes 3 nodes
 tree_of_three_leaves = record {
   some = omega arith;
   few = omega arith;
@@ -27,16 +27,16 @@ tree_of_three_leaves = record {
   mended = mended;
 }
   where
-    mended : (node : ℕ) → 1 ≤ node → node < 3 → IsLesser nodes node
+    mended : (node : ℕ) → 1 ≤ node → node < 3 → TreeNodeHoldsLesserChild nodes node
     mended zero some below = absurd (omega arith)
     mended (suc zero) some below = refl
     mended (suc (suc zero)) some below = refl
     mended (suc (suc (suc node))) some below = absurd (omega arith)
 
 -- five nodes are no tree of three leaves
-pub node_is_missing : IsTree 3 (0 ∷ 3 ∷ 3 ∷ 7 ∷ 3 ∷ []) → ⊥
+pub node_is_missing : AreTreeNodes 3 (0 ∷ 3 ∷ 3 ∷ 7 ∷ 3 ∷ []) → ⊥
 node_is_missing tree = omega (arith, tree.shape)
 
 -- a leaf that was raised without mending what is above it
-pub leaf_raised_alone : IsTree 3 (0 ∷ 3 ∷ 3 ∷ 7 ∷ 9 ∷ 5 ∷ []) → ⊥
+pub leaf_raised_alone : AreTreeNodes 3 (0 ∷ 3 ∷ 3 ∷ 7 ∷ 9 ∷ 5 ∷ []) → ⊥
 leaf_raised_alone tree = omega (arith, tree.mended 2 (omega arith) (omega arith))

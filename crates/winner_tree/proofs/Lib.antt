@@ -1,2 +1,2 @@
-pub mod NodeLemmas
+pub mod TreeNodeLemmas
 pub mod Examples

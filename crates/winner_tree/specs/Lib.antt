@@ -1,2 +1,2 @@
 -- within the crate
-pub mod Nodes
+pub mod TreeNodes

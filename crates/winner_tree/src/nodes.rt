@@ -3,13 +3,13 @@
 
 ghost use Rattle.std.specs.Prelude.{◌≡◌, ◌+◌, ◌*◌, ◌^◌, ◌<◌, ◌≤◌, drop, length, min, slice_index, slice_set};
 ghost use Rattle.std.specs.List.{range_with_len};
-ghost use Rattle.winner_tree.specs.Nodes.{IsTree};
+ghost use Rattle.winner_tree.specs.TreeNodes.{AreTreeNodes};
 
 /// Writes a leaf, and mends the nodes above it from its parent up to the root.
 pub(crate) fn write_leaf(nodes: &mut [u64], leaves: usize, place: usize, word: u64)
-    requires tree { IsTree leaves nodes.old }
+    requires tree { AreTreeNodes leaves nodes.old }
     requires within { place < leaves }
-    ensures tree { IsTree leaves nodes.new }
+    ensures tree { AreTreeNodes leaves nodes.new }
     ensures written { drop leaves nodes.new ≡ slice_set (drop leaves nodes.old) place word }
 {
     let mut node = leaves + place;
@@ -29,7 +29,7 @@ pub(crate) fn number_leaves(nodes: &mut [u64], leaves: usize)
     requires some { 1 ≤ leaves }
     requires few { leaves < 2 ^ 32 }
     requires shape { length nodes.old ≡ 2 * leaves }
-    ensures tree { IsTree leaves nodes.new }
+    ensures tree { AreTreeNodes leaves nodes.new }
     ensures numbered { drop leaves nodes.new ≡ range_with_len 0 leaves }
 {
     for place in 0..leaves {

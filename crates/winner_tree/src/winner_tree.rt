@@ -17,13 +17,13 @@ pub struct WinnerTree {
 
 impl Model for WinnerTree {
     ghost use Rattle.std.specs.Prelude.{ℕ, List, drop};
-    ghost use Rattle.winner_tree.specs.Nodes.{IsTree};
+    ghost use Rattle.winner_tree.specs.TreeNodes.{AreTreeNodes};
 
     ghost Value = { List ℕ };
 
     ghost view = { λ t. drop t.leaves t.nodes.items };
 
-    ghost invariant = { λ t. IsTree t.leaves t.nodes.items };
+    ghost invariant = { λ t. AreTreeNodes t.leaves t.nodes.items };
 }
 
 impl WinnerTree {

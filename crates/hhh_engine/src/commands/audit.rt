@@ -4,12 +4,12 @@ ghost use Rattle.std.specs.Prelude.{⊤, ◌≡◌, ◌++◌, List, ℕ, All, Op
 ghost use Rattle.std.specs.Io.KnownBytes.{IsAtEnd};
 ghost use Rattle.deal_rules.specs.{dealer_of};
 ghost use Rattle.prefix_lattice.specs.{prefix_text};
-ghost use Rattle.command_words.specs.{AreLimited};
-ghost use Rattle.hhh_engine.specs.Audit.{IsAuditText, IsFirstUnsound, IsSoundOver, IsSoundSession, sound_text as text_of_sound, unsound_text as text_of_unsound, verdict_text};
-ghost use Rattle.hhh_engine.specs.Auditing.{AreInputsOf, HasNoAudit, IsAnswerOf};
-ghost use Rattle.hhh_engine.specs.Answer.{IsCutShort};
-ghost use Rattle.hhh_engine.specs.Ending.{AuditFinds, Ends, StopsInOrder, source_faults};
-ghost use Rattle.hhh_engine.specs.Inputs.{IsCapture, OfAudited, inputs};
+ghost use Rattle.command_words.specs.{AreLimitedSettings};
+ghost use Rattle.hhh_engine.specs.Audit.{IsAuditText, IsAuditedAsFirstUnsound, IsAuditedAsSound, IsSoundAudit, sound_audit_text as text_of_sound, unsound_audit_text as text_of_unsound, audit_verdict_text};
+ghost use Rattle.hhh_engine.specs.Auditing.{AreAuditingInputs, HasNoAudit, IsAuditingAnswer};
+ghost use Rattle.hhh_engine.specs.Answer.{IsUnfinishedAnswer};
+ghost use Rattle.hhh_engine.specs.Ending.{AuditEndsUnsound, Ends, EndsInOrder, ending_source_faults};
+ghost use Rattle.hhh_engine.specs.Inputs.{IsInputCapture, OfAuditInputs, inputs};
 
 use crate::commands::dealing::deal_records;
 use crate::commands::reading_text::read_text;
@@ -58,19 +58,19 @@ pub(crate) fn audit<S: Source, T: Source, K: Sink>(
     sink: &mut K,
     dealers: &Dealers,
 ) -> Status
-    requires { AreLimited settings.now }
+    requires { AreLimitedSettings settings.now }
     ensures ends { (store : Option (List ℕ)) → Ends
-        (λ answer. OfAudited (inputs (S.left capture.old) (S.left capture.new) (T.left text.old) (T.left text.new) store)
-        (λ file session. IsSoundSession settings.now (λ kind. ⟦<Dealer as Deals>⟧.may_answer (dealer_of kind dealers.now)) file session answer))
-        (λ front. OfAudited (inputs (S.left capture.old) (S.left capture.new) (T.left text.old) (T.left text.new) store)
-        (λ file session. IsCutShort (IsAuditText settings.now (λ kind. ⟦<Dealer as Deals>⟧.may_answer (dealer_of kind dealers.now)) file session) front))
-        (IsAtEnd (S.left capture.new) × IsAtEnd (T.left text.new)) (IfSome (S.left capture.old) IsCapture) ⊥ ⊤ ⊤ (λ fault. ⊥)
-        (AuditFinds settings.now (λ kind. ⟦<Dealer as Deals>⟧.may_answer (dealer_of kind dealers.now))
+        (λ answer. OfAuditInputs (inputs (S.left capture.old) (S.left capture.new) (T.left text.old) (T.left text.new) store)
+        (λ file session. IsSoundAudit settings.now (λ kind. ⟦<Dealer as Deals>⟧.may_answer (dealer_of kind dealers.now)) file session answer))
+        (λ front. OfAuditInputs (inputs (S.left capture.old) (S.left capture.new) (T.left text.old) (T.left text.new) store)
+        (λ file session. IsUnfinishedAnswer (IsAuditText settings.now (λ kind. ⟦<Dealer as Deals>⟧.may_answer (dealer_of kind dealers.now)) file session) front))
+        (IsAtEnd (S.left capture.new) × IsAtEnd (T.left text.new)) (IfSome (S.left capture.old) IsInputCapture) ⊥ ⊤ ⊤ (λ fault. ⊥)
+        (AuditEndsUnsound settings.now (λ kind. ⟦<Dealer as Deals>⟧.may_answer (dealer_of kind dealers.now))
         (inputs (S.left capture.old) (S.left capture.new) (T.left text.old) (T.left text.new) store) (K.taken sink.old) (K.taken sink.new))
-        (S.left capture.old) (source_faults (S.faults capture.old) (T.faults text.old)) (source_faults (S.faults capture.new) (T.faults text.new))
+        (S.left capture.old) (ending_source_faults (S.faults capture.old) (T.faults text.old)) (ending_source_faults (S.faults capture.new) (T.faults text.new))
         sink.old sink.new (K.taken sink.old) (K.taken sink.new) (K.faults sink.old) (K.faults sink.new) result }
-    ensures order { (store : Option (List ℕ)) → StopsInOrder ⊤ ⊤ (inputs (S.left capture.old) (S.left capture.new) (T.left text.old) (T.left text.new) store)
-        (source_faults (S.faults capture.old) (T.faults text.old)) (source_faults (S.faults capture.new) (T.faults text.new)) text.old text.new result }
+    ensures order { (store : Option (List ℕ)) → EndsInOrder ⊤ ⊤ (inputs (S.left capture.old) (S.left capture.new) (T.left text.old) (T.left text.new) store)
+        (ending_source_faults (S.faults capture.old) (T.faults text.old)) (ending_source_faults (S.faults capture.new) (T.faults text.new)) text.old text.new result }
 {
     let audited = match read_audited(alloc, settings, capture, text, dealers) {
         Ok(audited) => audited,
@@ -94,17 +94,17 @@ fn read_audited<S: Source, T: Source>(
     text: &mut T,
     dealers: &Dealers,
 ) -> Result<Audited, Status>
-    requires { AreLimited settings.now }
-    ensures audited { (store : Option (List ℕ)) → IfOk result (AreInputsOf settings.now (λ kind. ⟦<Dealer as Deals>⟧.may_answer (dealer_of kind dealers.now))
+    requires { AreLimitedSettings settings.now }
+    ensures audited { (store : Option (List ℕ)) → IfOk result (AreAuditingInputs settings.now (λ kind. ⟦<Dealer as Deals>⟧.may_answer (dealer_of kind dealers.now))
         (inputs (S.left capture.old) (S.left capture.new) (T.left text.old) (T.left text.new) store)) }
     ensures capture_at_end { OnOk result (IsAtEnd (S.left capture.new)) }
     ensures text_at_end { OnOk result (IsAtEnd (T.left text.new)) }
     ensures refused { (store : Option (List ℕ)) → IfErr result (HasNoAudit (inputs (S.left capture.old) (S.left capture.new) (T.left text.old) (T.left text.new) store)
-        (source_faults (S.faults capture.old) (T.faults text.old)) (source_faults (S.faults capture.new) (T.faults text.new))) }
-    ensures order { (store : Option (List ℕ)) → IfErr result (StopsInOrder ⊤ ⊤ (inputs (S.left capture.old) (S.left capture.new) (T.left text.old) (T.left text.new) store)
-        (source_faults (S.faults capture.old) (T.faults text.old)) (source_faults (S.faults capture.new) (T.faults text.new)) text.old text.new) }
+        (ending_source_faults (S.faults capture.old) (T.faults text.old)) (ending_source_faults (S.faults capture.new) (T.faults text.new))) }
+    ensures order { (store : Option (List ℕ)) → IfErr result (EndsInOrder ⊤ ⊤ (inputs (S.left capture.old) (S.left capture.new) (T.left text.old) (T.left text.new) store)
+        (ending_source_faults (S.faults capture.old) (T.faults text.old)) (ending_source_faults (S.faults capture.new) (T.faults text.new)) text.old text.new) }
     ensures told { (IsErrOf result Status.ReadFault → ⊥)
-        → source_faults (S.faults capture.new) (T.faults text.new) ≡ source_faults (S.faults capture.old) (T.faults text.old) }
+        → ending_source_faults (S.faults capture.new) (T.faults text.new) ≡ ending_source_faults (S.faults capture.old) (T.faults text.old) }
 {
     let records = read_records(alloc, capture, settings.weigh)?;
     let bytes = read_text(alloc, text)?;
@@ -115,8 +115,8 @@ fn read_audited<S: Source, T: Source>(
 
 // What the audit of a session says.
 fn answer_of(alloc: Global, settings: &Settings, audited: &Audited) -> Result<Answer, AllocError>
-    requires { AreLimited settings.now }
-    ensures { IfOk result (IsAnswerOf settings.now audited.now.dealt audited.now.session.reports) }
+    requires { AreLimitedSettings settings.now }
+    ensures { IfOk result (IsAuditingAnswer settings.now audited.now.dealt audited.now.session.reports) }
 {
     match first_unsound(alloc, settings, audited)? {
         None => Ok(Answer {
@@ -139,9 +139,9 @@ fn first_unsound(
     settings: &Settings,
     audited: &Audited,
 ) -> Result<Option<Unsound>, AllocError>
-    requires { AreLimited settings.now }
-    ensures none { IfOk result (λ found. IfNone found (All (IsSoundOver settings.now audited.now.dealt) audited.now.session.reports)) }
-    ensures some { IfOk result (λ found. IfSome found (λ unsound. IsFirstUnsound settings.now audited.now.dealt audited.now.session.reports
+    requires { AreLimitedSettings settings.now }
+    ensures none { IfOk result (λ found. IfNone found (All (IsAuditedAsSound settings.now audited.now.dealt) audited.now.session.reports)) }
+    ensures some { IfOk result (λ found. IfSome found (λ unsound. IsAuditedAsFirstUnsound settings.now audited.now.dealt audited.now.session.reports
         unsound.report unsound.verdict)) }
 {
     let reports = audited.session.reports.as_slice();
@@ -187,7 +187,7 @@ fn unsound_text(alloc: Global, unsound: &Unsound) -> Result<Vec<u8>, AllocError>
 }
 
 fn push_verdict(text: &mut Vec<u8>, verdict: &Verdict) -> Result<(), AllocError>
-    ensures { OnOk result (text.new.items ≡ text.old.items ++ verdict_text verdict.now) }
+    ensures { OnOk result (text.new.items ≡ text.old.items ++ audit_verdict_text verdict.now) }
 {
     match verdict {
         Verdict::Good => text.extend_from_slice(b"good"),

@@ -2,9 +2,9 @@
 
 ghost use Rattle.std.specs.Prelude.{◌≡◌, true, false, length, replicate, IfErr, IfOk, IfSome, OnOk};
 ghost use Rattle.slot_disk.specs.{Leaves};
-ghost use Rattle.checkpoint.specs.{AreSettings, StandsFor};
-ghost use Rattle.command_words.specs.{AreLimited};
-ghost use Rattle.hhh_engine.specs.Feed.{HasNoBase, IsBaseOf};
+ghost use Rattle.checkpoint.specs.{AreHeaderSettings, StandsForSaver};
+ghost use Rattle.command_words.specs.{AreLimitedSettings};
+ghost use Rattle.hhh_engine.specs.DealtFeed.{HasNoDealtFeedBase, IsDealtFeedBase};
 ghost use Rattle.hhh_engine.specs.Saves.{store_settings as settings_of_store};
 ghost use Rattle.hhh_engine.specs.declared.status.Status.TheVariants.{OutOfMemory};
 
@@ -34,11 +34,11 @@ pub(crate) fn open_base<D: Disk>(
     dealt: &Dealt,
     disk: &mut D,
 ) -> Result<Base, Status>
-    requires limited { AreLimited settings.now }
+    requires limited { AreLimitedSettings settings.now }
     requires shards { length dealt.now ≡ settings.now.shards }
-    ensures base { IfOk result (IsBaseOf settings.now dealt.now (D.reads disk.old)) }
-    ensures stands { IfOk result (λ base. IfSome base.saver (StandsFor (D.reads disk.new) (D.image_now disk.new))) }
-    ensures refused { IfErr result (HasNoBase settings.now dealt.now (D.reads disk.old) (D.faults disk.old) (D.faults disk.new)) }
+    ensures base { IfOk result (IsDealtFeedBase settings.now dealt.now (D.reads disk.old)) }
+    ensures stands { IfOk result (λ base. IfSome base.saver (StandsForSaver (D.reads disk.new) (D.image_now disk.new))) }
+    ensures refused { IfErr result (HasNoDealtFeedBase settings.now dealt.now (D.reads disk.old) (D.faults disk.old) (D.faults disk.new)) }
     ensures no_fault { OnOk result (D.faults disk.new ≡ D.faults disk.old) }
     ensures reads { D.reads disk.new ≡ D.reads disk.old }
     ensures any_moment { Leaves D.moment D.image_since disk.old disk.new (D.image_now disk.old) }
@@ -58,12 +58,12 @@ fn open_store<D: Disk>(
     dealt: &Dealt,
     disk: &mut D,
 ) -> Result<Base, Status>
-    requires limited { AreLimited settings.now }
+    requires limited { AreLimitedSettings settings.now }
     requires used { settings.now.store ≡ true }
     requires shards { length dealt.now ≡ settings.now.shards }
-    ensures base { IfOk result (IsBaseOf settings.now dealt.now (D.reads disk.old)) }
-    ensures stands { IfOk result (λ base. IfSome base.saver (StandsFor (D.reads disk.new) (D.image_now disk.new))) }
-    ensures refused { IfErr result (HasNoBase settings.now dealt.now (D.reads disk.old) (D.faults disk.old) (D.faults disk.new)) }
+    ensures base { IfOk result (IsDealtFeedBase settings.now dealt.now (D.reads disk.old)) }
+    ensures stands { IfOk result (λ base. IfSome base.saver (StandsForSaver (D.reads disk.new) (D.image_now disk.new))) }
+    ensures refused { IfErr result (HasNoDealtFeedBase settings.now dealt.now (D.reads disk.old) (D.faults disk.old) (D.faults disk.new)) }
     ensures no_fault { OnOk result (D.faults disk.new ≡ D.faults disk.old) }
     ensures reads { D.reads disk.new ≡ D.reads disk.old }
     ensures any_moment { Leaves D.moment D.image_since disk.old disk.new (D.image_now disk.old) }
@@ -116,9 +116,9 @@ fn zero_positions(alloc: Global, shards: u32) -> Result<Positions, AllocError>
 
 /// The settings of the store of a command.
 pub(crate) fn store_settings(settings: &Settings) -> StoreSettings
-    requires { AreLimited settings.now }
+    requires { AreLimitedSettings settings.now }
     ensures settings { result ≡ settings_of_store settings.now }
-    ensures allowed { AreSettings (settings_of_store settings.now) }
+    ensures allowed { AreHeaderSettings (settings_of_store settings.now) }
 {
     StoreSettings {
         shards: settings.shards,

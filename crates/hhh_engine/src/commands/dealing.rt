@@ -3,7 +3,7 @@
 ghost use Rattle.std.specs.Prelude.{◌≤◌, length, IfOk};
 ghost use Rattle.deal_rules.specs.{IsDealing, dealer_of};
 ghost use Rattle.prefix_lattice.specs.{most_records};
-ghost use Rattle.command_words.specs.{AreLimited};
+ghost use Rattle.command_words.specs.{AreLimitedSettings};
 
 use crate::Settings;
 use deal_rules::{Dealer, Dealers, Deals, Dealt, deal};
@@ -17,7 +17,7 @@ pub(crate) fn deal_records(
     settings: &Settings,
     dealers: &Dealers,
 ) -> Result<Dealt, AllocError>
-    requires limited { AreLimited settings.now }
+    requires limited { AreLimitedSettings settings.now }
     requires small { length list.now ≤ most_records }
     ensures { IfOk result (IsDealing settings.now.deal (⟦<Dealer as Deals>⟧.may_answer (dealer_of settings.now.deal dealers.now))
         settings.now.shards list.now) }

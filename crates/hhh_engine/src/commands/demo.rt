@@ -1,23 +1,23 @@
 //! The demonstration: made traffic is counted, reported and audited.
 
 ghost use Rattle.std.specs.Prelude.{⊤, ◌≡◌, ◌≤◌, ◌↔◌, ℕ, List, length, Option, None, IfErr, IfOk};
-ghost use Rattle.shard_state.specs.{capacity_of};
+ghost use Rattle.shard_state.specs.{core_capacity};
 ghost use Rattle.prefix_lattice.specs.{most_records};
 ghost use Rattle.pcap_frames.specs.{FrameValue};
-ghost use Rattle.frame_records.specs.{AreRecordsOf, HasFrames, HasRecords};
+ghost use Rattle.frame_records.specs.{AreRecordsOf, HasCaptureFrames, HasRecords};
 ghost use Rattle.deal_rules.specs.{dealer_of};
 ghost use Rattle.pcap_frames.specs.declared.fault.CaptureFault.{CaptureFault};
-ghost use Rattle.traffic_maker.specs.{made_capture, most_made};
+ghost use Rattle.traffic_maker.specs.{made_capture, most_made_capture_frames};
 ghost use Rattle.hhh_output.specs.{IsSound};
 ghost use Rattle.exact_audit.specs.{IsVerdict};
 ghost use Rattle.exact_audit.specs.declared.verdict.Verdict.TheVariants.{Good};
-ghost use Rattle.command_words.specs.{AreLimited, IsWide};
-ghost use Rattle.hhh_engine.specs.Answer.{IsCutShort};
-ghost use Rattle.hhh_engine.specs.Demo.{IsDemoText, IsWholeReport, demo_text as text_of_demo};
-ghost use Rattle.hhh_engine.specs.Ending.{Ends, SourceFaults};
-ghost use Rattle.hhh_engine.specs.Feed.{IsOpened};
+ghost use Rattle.command_words.specs.{AreLimitedSettings, AreWideSettings};
+ghost use Rattle.hhh_engine.specs.Answer.{IsUnfinishedAnswer};
+ghost use Rattle.hhh_engine.specs.Demo.{IsDemoText, IsDemoReport, demo_text as text_of_demo};
+ghost use Rattle.hhh_engine.specs.Ending.{Ends, EndingSourceFaults};
+ghost use Rattle.hhh_engine.specs.DealtFeed.{IsDealtFeedOpening};
 ghost use Rattle.hhh_engine.specs.NoText.{HasNoText};
-ghost use Rattle.hhh_engine.specs.Session.{IsShown, ends_of};
+ghost use Rattle.hhh_engine.specs.Session.{IsShownInSession, session_ends};
 ghost use Rattle.hhh_engine.specs.declared.status.Status.TheVariants.{BadCapture, ReadFault};
 
 use crate::commands::dealing::deal_records;
@@ -51,12 +51,12 @@ pub(crate) fn demo<R: Threads + Wait + Sync, K: Sink, G: Gate + Sync>(
     gate: &G,
     dealers: &Dealers,
 ) -> Status
-    requires frames { (1 ≤ frames) × (frames ≤ most_made) }
-    requires limited { AreLimited settings.now }
-    requires wide { IsWide settings.now }
-    ensures ends { (capture : Option (List ℕ)) (faults : SourceFaults) → Ends
+    requires frames { (1 ≤ frames) × (frames ≤ most_made_capture_frames) }
+    requires limited { AreLimitedSettings settings.now }
+    requires wide { AreWideSettings settings.now }
+    ensures ends { (capture : Option (List ℕ)) (faults : EndingSourceFaults) → Ends
         (IsDemoText settings.now (λ kind. ⟦<Dealer as Deals>⟧.may_answer (dealer_of kind dealers.now)) seed frames)
-        (IsCutShort (IsDemoText settings.now (λ kind. ⟦<Dealer as Deals>⟧.may_answer (dealer_of kind dealers.now)) seed frames))
+        (IsUnfinishedAnswer (IsDemoText settings.now (λ kind. ⟦<Dealer as Deals>⟧.may_answer (dealer_of kind dealers.now)) seed frames))
         ⊤ ⊤ ⊥ ⊤ ⊤ (λ fault. ⊥) (λ status. ⊥) capture faults faults
         sink.old sink.new (K.taken sink.old) (K.taken sink.new) (K.faults sink.old) (K.faults sink.new) result }
     ensures no_capture { (fault : CaptureFault) → result ≡ BadCapture fault → ⊥ }
@@ -82,9 +82,9 @@ fn demo_text<R: Threads + Wait + Sync, G: Gate + Sync>(
     gate: &G,
     dealers: &Dealers,
 ) -> Result<Vec<u8>, AllocError>
-    requires frames { (1 ≤ frames) × (frames ≤ most_made) }
-    requires limited { AreLimited settings.now }
-    requires wide { IsWide settings.now }
+    requires frames { (1 ≤ frames) × (frames ≤ most_made_capture_frames) }
+    requires limited { AreLimitedSettings settings.now }
+    requires wide { AreWideSettings settings.now }
     ensures { IfOk result (λ text. IsDemoText settings.now (λ kind. ⟦<Dealer as Deals>⟧.may_answer (dealer_of kind dealers.now)) seed frames text.items) }
 {
     let records = made_records(alloc, seed, frames, settings.weigh)?;
@@ -105,7 +105,7 @@ fn verdict_on(
     report: &Report,
     settings: &Settings,
 ) -> Result<Verdict, AllocError>
-    requires { AreLimited settings.now }
+    requires { AreLimitedSettings settings.now }
     ensures verdict { IfOk result (IsVerdict plain.now settings.now.capacity settings.now.phi report.now) }
     ensures good { IfOk result (λ verdict. (verdict ≡ Good) ↔ IsSound report.now plain.now settings.now.capacity settings.now.phi) }
 {
@@ -114,8 +114,8 @@ fn verdict_on(
 
 // The records of the capture that a seed and a number of frames determine.
 fn made_records(alloc: Global, seed: u64, frames: u32, weigh: Weigh) -> Result<Records, AllocError>
-    requires { (1 ≤ frames) × (frames ≤ most_made) }
-    ensures records { IfOk result (λ records. (made : List FrameValue) × HasFrames (made_capture seed frames) made × AreRecordsOf weigh made records) }
+    requires { (1 ≤ frames) × (frames ≤ most_made_capture_frames) }
+    ensures records { IfOk result (λ records. (made : List FrameValue) × HasCaptureFrames (made_capture seed frames) made × AreRecordsOf weigh made records) }
     ensures few { IfOk result (λ records. length records.list ≤ most_records) }
 {
     made_captures_are_captures();
@@ -149,10 +149,10 @@ fn report_all<R: Threads + Wait + Sync, G: Gate + Sync>(
     settings: &Settings,
     gate: &G,
 ) -> Result<Report, AllocError>
-    requires limited { AreLimited settings.now }
-    requires wide { IsWide settings.now }
+    requires limited { AreLimitedSettings settings.now }
+    requires wide { AreWideSettings settings.now }
     requires shards { length dealt ≡ settings.now.shards }
-    ensures { IfOk result (IsWholeReport settings.now dealt) }
+    ensures { IfOk result (IsDemoReport settings.now dealt) }
 {
     openings_stand(&dealt, &None, settings.capacity);
     let opened = open(alloc, dealt, None, settings.capacity)?;
@@ -168,12 +168,12 @@ fn report_opened<R: Threads + Wait + Sync, G: Gate + Sync>(
     settings: &Settings,
     gate: &G,
 ) -> Result<Report, AllocError>
-    requires limited { AreLimited settings.now }
-    requires wide { IsWide settings.now }
-    requires opened { IsOpened opened.board.opening opened }
-    requires alike { capacity_of opened.board.opening ≡ settings.now.capacity }
-    ensures shown { IfOk result (λ report. IsShown opened.board.opening settings.now (record { report = report; saved = None })) }
-    ensures at_ends { IfOk result (λ report. report.positions ≡ ends_of opened.board.opening) }
+    requires limited { AreLimitedSettings settings.now }
+    requires wide { AreWideSettings settings.now }
+    requires opened { IsDealtFeedOpening opened.board.opening opened }
+    requires alike { core_capacity opened.board.opening ≡ settings.now.capacity }
+    ensures shown { IfOk result (λ report. IsShownInSession opened.board.opening settings.now (record { report = report; saved = None })) }
+    ensures at_ends { IfOk result (λ report. report.positions ≡ session_ends opened.board.opening) }
 {
     let Opened { board, pass, cut } = opened;
     let mut cut = cut;

@@ -1,10 +1,10 @@
 //! The running feed: workers count records while the calling thread and the other callers make their rounds.
 
 ghost use Rattle.std.specs.Prelude.{◌≡◌, length, IfErr, IfOk, IfSome, None, OnErr, OnOk, is_some};
-ghost use Rattle.shard_state.specs.{HasShape, capacity_of};
-ghost use Rattle.pass_tokens.specs.{IsPassOf, first_view, view};
-ghost use Rattle.command_words.specs.{AreLimited, IsWide};
-ghost use Rattle.hhh_engine.specs.Feed.{IsFault, IsFed, IsGathered, WritesRoundsInPart};
+ghost use Rattle.shard_state.specs.{HasCoreShape, core_capacity};
+ghost use Rattle.pass_tokens.specs.{IsPassOfBoard, first_view, view};
+ghost use Rattle.command_words.specs.{AreLimitedSettings, AreWideSettings};
+ghost use Rattle.hhh_engine.specs.DealtFeed.{IsDealtFeedFault, IsDealtFeedResult, IsDealtFeedGathered, DealtFeedBreaksOffInRounds};
 ghost use Rattle.hhh_engine.specs.Saves.{CanSave, SavesInPart, SavesInTurn};
 
 use crate::commands::LiveRounds;
@@ -43,20 +43,20 @@ pub(crate) fn feed<'a, R: Threads + Wait + Sync, K: Sink, D: Disk, G: Gate + Syn
     saver: &'a mut Option<Saver>,
     gate: &'a G,
 ) -> Result<Fed, Status>
-    requires limited { AreLimited settings.now }
-    requires wide { IsWide settings.now }
-    requires pass { IsPassOf board.now pass }
+    requires limited { AreLimitedSettings settings.now }
+    requires wide { AreWideSettings settings.now }
+    requires pass { IsPassOfBoard board.now pass }
     requires view { view pass ≡ first_view board.now.opening }
-    requires shape { HasShape (length board.now.opening) (capacity_of board.now.opening) cut }
-    requires alike { capacity_of board.now.opening ≡ settings.now.capacity }
+    requires shape { HasCoreShape (length board.now.opening) (core_capacity board.now.opening) cut }
+    requires alike { core_capacity board.now.opening ≡ settings.now.capacity }
     requires used { is_some saver.old ≡ settings.now.store }
     requires can_save { IfSome saver.old (CanSave (D.reads disk.old) (D.image_now disk.old) board.now.opening (view pass) settings.now.rounds) }
-    ensures fed { IfOk result (IsFed board.now settings.now
+    ensures fed { IfOk result (IsDealtFeedResult board.now settings.now
         (SavesInTurn D.reads D.image_now D.moment D.image_since saver.old saver.new disk.old disk.new) (K.taken sink.old) (K.taken sink.new)) }
     ensures faults { OnOk result ((K.faults sink.new ≡ K.faults sink.old) × (D.faults disk.new ≡ D.faults disk.old)) }
-    ensures part { OnErr result (WritesRoundsInPart board.now.opening settings.now
+    ensures part { OnErr result (DealtFeedBreaksOffInRounds board.now.opening settings.now
         (SavesInPart D.reads D.image_now D.moment D.image_since saver.old disk.old disk.new) (K.taken sink.old) (K.taken sink.new)) }
-    ensures fault { IfErr result (IsFault (record { sink = K.faults sink.old; disk = D.faults disk.old })
+    ensures fault { IfErr result (IsDealtFeedFault (record { sink = K.faults sink.old; disk = D.faults disk.old })
         (record { sink = K.faults sink.new; disk = D.faults disk.new })) }
     ensures unused { saver.old ≡ None → (saver.new ≡ None) × (disk.new ≡ disk.old) }
 {
@@ -87,12 +87,12 @@ fn run_feed<R: Threads + Wait + Sync, K: Sink, D: Disk, G: Gate + Sync>(
     rounds: &mut LiveRounds<'_, K, D, G>,
     gate: &G,
 ) -> Result<Gathered, Status>
-    requires limited { AreLimited settings.now }
-    requires wide { IsWide settings.now }
-    requires pass { IsPassOf board.now pass }
+    requires limited { AreLimitedSettings settings.now }
+    requires wide { AreWideSettings settings.now }
+    requires pass { IsPassOfBoard board.now pass }
     requires view { view pass ≡ first_view board.now.opening }
-    requires alike { capacity_of board.now.opening ≡ settings.now.capacity }
-    requires shape { HasShape (length board.now.opening) (capacity_of board.now.opening) rounds.old.cut.now }
+    requires alike { core_capacity board.now.opening ≡ settings.now.capacity }
+    requires shape { HasCoreShape (length board.now.opening) (core_capacity board.now.opening) rounds.old.cut.now }
     requires share { rounds.old.phi ≡ settings.now.phi }
     requires count { rounds.old.rounds ≡ settings.now.rounds }
     requires begun { rounds.old.stop ≡ None }
@@ -103,16 +103,16 @@ fn run_feed<R: Threads + Wait + Sync, K: Sink, D: Disk, G: Gate + Sync>(
     ensures same_disk { rounds.new.disk.ghost_name ≡ rounds.old.disk.ghost_name }
     ensures same_saver { rounds.new.saver.ghost_name ≡ rounds.old.saver.ghost_name }
     ensures same_cut { rounds.new.cut.ghost_name ≡ rounds.old.cut.ghost_name }
-    ensures shape { HasShape (length board.now.opening) (capacity_of board.now.opening) rounds.new.cut.now }
-    ensures fed { IfOk result (IsGathered board.now settings.now
+    ensures shape { HasCoreShape (length board.now.opening) (core_capacity board.now.opening) rounds.new.cut.now }
+    ensures fed { IfOk result (IsDealtFeedGathered board.now settings.now
         (SavesInTurn D.reads D.image_now D.moment D.image_since rounds.old.saver.now rounds.new.saver.now rounds.old.disk.now rounds.new.disk.now)
         (K.taken rounds.old.sink.now) (K.taken rounds.new.sink.now)) }
     ensures faults { OnOk result ((K.faults rounds.new.sink.now ≡ K.faults rounds.old.sink.now)
         × (D.faults rounds.new.disk.now ≡ D.faults rounds.old.disk.now)) }
-    ensures part { OnErr result (WritesRoundsInPart board.now.opening settings.now
+    ensures part { OnErr result (DealtFeedBreaksOffInRounds board.now.opening settings.now
         (SavesInPart D.reads D.image_now D.moment D.image_since rounds.old.saver.now rounds.old.disk.now rounds.new.disk.now)
         (K.taken rounds.old.sink.now) (K.taken rounds.new.sink.now)) }
-    ensures fault { IfErr result (IsFault (record { sink = K.faults rounds.old.sink.now; disk = D.faults rounds.old.disk.now })
+    ensures fault { IfErr result (IsDealtFeedFault (record { sink = K.faults rounds.old.sink.now; disk = D.faults rounds.old.disk.now })
         (record { sink = K.faults rounds.new.sink.now; disk = D.faults rounds.new.disk.now })) }
     ensures unused { rounds.old.saver.now ≡ None → (rounds.new.saver.now ≡ None) × (rounds.new.disk.now ≡ rounds.old.disk.now) }
 {

@@ -1,11 +1,11 @@
 //! The making of a store.
 
 ghost use Rattle.std.specs.Prelude.{⊤, ℕ, ◌≡◌, List, Option};
-ghost use Rattle.outside_io.specs.{Rose};
+ghost use Rattle.outside_io.specs.{FaultCountRose};
 ghost use Rattle.pcap_frames.specs.declared.fault.CaptureFault.{CaptureFault};
-ghost use Rattle.command_words.specs.{AreLimited};
-ghost use Rattle.hhh_engine.specs.Answer.{IsCutShort, formatted_text};
-ghost use Rattle.hhh_engine.specs.Ending.{Ends, FormatEnds, SourceFaults};
+ghost use Rattle.command_words.specs.{AreLimitedSettings};
+ghost use Rattle.hhh_engine.specs.Answer.{IsUnfinishedAnswer, formatted_answer};
+ghost use Rattle.hhh_engine.specs.Ending.{Ends, FormatEnds, EndingSourceFaults};
 ghost use Rattle.hhh_engine.specs.Saves.{store_settings};
 ghost use Rattle.hhh_engine.specs.declared.status.Status.TheVariants.{BadCapture, ReadFault, DiskFault};
 
@@ -18,9 +18,9 @@ use slot_disk::Disk;
 /// Formats the store of these settings, and writes that it is formatted. What the disk held is lost. After `DiskFault`
 /// nothing was written, and the store is formatted again before it is used.
 pub(crate) fn format<K: Sink, D: Disk>(settings: &Settings, sink: &mut K, disk: &mut D) -> Status
-    requires { AreLimited settings.now }
-    ensures ends { (capture : Option (List ℕ)) (faults : SourceFaults) → Ends (λ text. text ≡ formatted_text) (IsCutShort (λ text. text ≡ formatted_text)) ⊤ ⊤
-        (Rose (D.faults disk.old) (D.faults disk.new)) (disk.new ≡ disk.old) ⊤ (λ fault. ⊥) (λ status. ⊥) capture faults faults
+    requires { AreLimitedSettings settings.now }
+    ensures ends { (capture : Option (List ℕ)) (faults : EndingSourceFaults) → Ends (λ text. text ≡ formatted_answer) (IsUnfinishedAnswer (λ text. text ≡ formatted_answer)) ⊤ ⊤
+        (FaultCountRose (D.faults disk.old) (D.faults disk.new)) (disk.new ≡ disk.old) ⊤ (λ fault. ⊥) (λ status. ⊥) capture faults faults
         sink.old sink.new (K.taken sink.old) (K.taken sink.new) (K.faults sink.old) (K.faults sink.new) result }
     ensures store { FormatEnds (store_settings settings.now) (D.reads disk.new) (D.image_now disk.new)
         sink.old sink.new disk.old disk.new result }

@@ -1,11 +1,11 @@
 //! The rounds of the calling thread: reports that are written, and cuts that are saved, while workers feed.
 
 ghost use Rattle.std.specs.Prelude.{◌≡◌, ◌≤◌, length, IfErr, IfSome, OnOk, None, is_some};
-ghost use Rattle.shard_state.specs.{HasShape, capacity_of};
-ghost use Rattle.hhh_output.specs.{IsWideShare, million};
-ghost use Rattle.pass_tokens.specs.{IsPassOf, view};
+ghost use Rattle.shard_state.specs.{HasCoreShape, core_capacity};
+ghost use Rattle.hhh_output.specs.{IsWideShare, threshold_million};
+ghost use Rattle.pass_tokens.specs.{IsPassOfBoard, view};
 ghost use Rattle.hhh_engine.specs.Rounds.{BreaksRound, EndRounds, WritesRounds};
-ghost use Rattle.hhh_engine.specs.Saves.{CanSave, FitsBoard, SavesInPart, SavesInTurn};
+ghost use Rattle.hhh_engine.specs.Saves.{CanSave, SavesFitBoard, SavesInPart, SavesInTurn};
 
 use crate::Status;
 use crate::commands::saving::{save_cut, saved_line};
@@ -47,13 +47,13 @@ pub struct LiveRounds<'a, K: Sink, D: Disk, G: Gate> {
 
 impl<K: Sink, D: Disk, G: Gate> Rounds for LiveRounds<'_, K, D, G> {
     ghost use Rattle.std.specs.Prelude.{◌≡◌, ◌≤◌, length, IfSome, None, is_some};
-    ghost use Rattle.shard_state.specs.{HasShape, capacity_of};
-    ghost use Rattle.hhh_output.specs.{IsWideShare, million};
+    ghost use Rattle.shard_state.specs.{HasCoreShape, core_capacity};
+    ghost use Rattle.hhh_output.specs.{IsWideShare, threshold_million};
     ghost use Rattle.hhh_engine.specs.Rounds.{EndRounds};
     ghost use Rattle.hhh_engine.specs.Saves.{CanSave, CanSave-later, SavesInPart, SavesInTurn};
 
-    ghost ready = { λ rounds board view. HasShape (length board.opening) (capacity_of board.opening) rounds.cut.now
-        × (1 ≤ rounds.phi) × (rounds.phi ≤ million) × IsWideShare rounds.phi (capacity_of board.opening)
+    ghost ready = { λ rounds board view. HasCoreShape (length board.opening) (core_capacity board.opening) rounds.cut.now
+        × (1 ≤ rounds.phi) × (rounds.phi ≤ threshold_million) × IsWideShare rounds.phi (core_capacity board.opening)
         × (rounds.stop ≡ None)
         × IfSome rounds.saver.now (CanSave (D.reads rounds.disk.now) (D.image_now rounds.disk.now) board.opening view rounds.rounds) };
 
@@ -71,7 +71,7 @@ impl<K: Sink, D: Disk, G: Gate> Rounds for LiveRounds<'_, K, D, G> {
         × (after.disk.ghost_name ≡ before.disk.ghost_name)
         × (after.saver.ghost_name ≡ before.saver.ghost_name)
         × (after.cut.ghost_name ≡ before.cut.ghost_name)
-        × HasShape (length view.opening) (capacity_of view.opening) after.cut.now
+        × HasCoreShape (length view.opening) (core_capacity view.opening) after.cut.now
         × EndRounds view.opening before.phi before.rounds view later (is_some before.saver.now)
         (SavesInTurn D.reads D.image_now D.moment D.image_since before.saver.now after.saver.now before.disk.now after.disk.now)
         (SavesInPart D.reads D.image_now D.moment D.image_since before.saver.now before.disk.now after.disk.now)
@@ -121,22 +121,22 @@ fn make_round<R: Wait, K: Sink, D: Disk, G: Gate>(
     phi: u32,
     gate: &G,
 ) -> Result<(), Status>
-    requires pass { IsPassOf board.now pass.old }
-    requires shape { HasShape (length board.now.opening) (capacity_of board.now.opening) cut.old }
+    requires pass { IsPassOfBoard board.now pass.old }
+    requires shape { HasCoreShape (length board.now.opening) (core_capacity board.now.opening) cut.old }
     requires some { 1 ≤ phi }
-    requires most { phi ≤ million }
-    requires wide { IsWideShare phi (capacity_of board.now.opening) }
+    requires most { phi ≤ threshold_million }
+    requires wide { IsWideShare phi (core_capacity board.now.opening) }
     requires can_save { IfSome saver.old (CanSave (D.reads disk.old) (D.image_now disk.old) board.now.opening (view pass.old) 1) }
     ensures whole { OnOk result (WritesRounds board.now.opening phi 1 (view pass.old) (view pass.new) (is_some saver.old)
         (SavesInTurn D.reads D.image_now D.moment D.image_since saver.old saver.new disk.old disk.new) (K.taken sink.old) (K.taken sink.new)) }
-    ensures fits { OnOk result (IfSome saver.new (FitsBoard board.now.opening (view pass.new))) }
+    ensures fits { OnOk result (IfSome saver.new (SavesFitBoard board.now.opening (view pass.new))) }
     ensures faults { OnOk result ((K.faults sink.new ≡ K.faults sink.old) × (D.faults disk.new ≡ D.faults disk.old)) }
     ensures broken { IfErr result (BreaksRound board.now.opening phi (view pass.old) (view pass.new) (is_some saver.old)
         (SavesInPart D.reads D.image_now D.moment D.image_since saver.old disk.old disk.new) (K.taken sink.old) (K.taken sink.new)
         (record { sink = K.faults sink.old; disk = D.faults disk.old }) (record { sink = K.faults sink.new; disk = D.faults disk.new })) }
     ensures unused { saver.old ≡ None → (saver.new ≡ None) × (disk.new ≡ disk.old) }
-    ensures shape { HasShape (length board.now.opening) (capacity_of board.now.opening) cut.new }
-    ensures pass { IsPassOf board.now pass.new }
+    ensures shape { HasCoreShape (length board.now.opening) (core_capacity board.now.opening) cut.new }
+    ensures pass { IsPassOfBoard board.now pass.new }
 {
     let _shards = board.shards();
     let report = report_once(rt, alloc, board, pass, caller, round, phi, cut, gate)?;

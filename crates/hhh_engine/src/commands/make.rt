@@ -2,9 +2,9 @@
 
 ghost use Rattle.std.specs.Prelude.{⊤, ◌≡◌, ◌≤◌, ℕ, List, Option};
 ghost use Rattle.pcap_frames.specs.declared.fault.CaptureFault.{CaptureFault};
-ghost use Rattle.traffic_maker.specs.{made_capture, most_made};
-ghost use Rattle.hhh_engine.specs.Answer.{IsCutShort};
-ghost use Rattle.hhh_engine.specs.Ending.{Ends, SourceFaults};
+ghost use Rattle.traffic_maker.specs.{made_capture, most_made_capture_frames};
+ghost use Rattle.hhh_engine.specs.Answer.{IsUnfinishedAnswer};
+ghost use Rattle.hhh_engine.specs.Ending.{Ends, EndingSourceFaults};
 ghost use Rattle.hhh_engine.specs.declared.status.Status.TheVariants.{BadCapture, ReadFault};
 
 use crate::Status;
@@ -12,9 +12,9 @@ use outside_io::Sink;
 
 /// Writes the capture that a seed and a number of frames determine.
 pub(crate) fn make<K: Sink>(seed: u64, frames: u32, sink: &mut K) -> Status
-    requires { (1 ≤ frames) × (frames ≤ most_made) }
-    ensures ends { (capture : Option (List ℕ)) (faults : SourceFaults) → Ends (λ text. text ≡ made_capture seed frames)
-        (IsCutShort (λ text. text ≡ made_capture seed frames)) ⊤ ⊤ ⊥ ⊤ ⊤ (λ fault. ⊥) (λ status. ⊥) capture faults faults
+    requires { (1 ≤ frames) × (frames ≤ most_made_capture_frames) }
+    ensures ends { (capture : Option (List ℕ)) (faults : EndingSourceFaults) → Ends (λ text. text ≡ made_capture seed frames)
+        (IsUnfinishedAnswer (λ text. text ≡ made_capture seed frames)) ⊤ ⊤ ⊥ ⊤ ⊤ (λ fault. ⊥) (λ status. ⊥) capture faults faults
         sink.old sink.new (K.taken sink.old) (K.taken sink.new) (K.faults sink.old) (K.faults sink.new) result }
     ensures no_capture { (fault : CaptureFault) → result ≡ BadCapture fault → ⊥ }
     ensures no_read_fault { result ≡ ReadFault → ⊥ }

@@ -3,13 +3,13 @@
 ghost use Rattle.std.specs.Prelude.{ℕ, ◌≡◌, ◌<◌, false, length, IfOk, IfErr, IfSome, OnOk, IsErrOf};
 ghost use Rattle.std.specs.Io.KnownBytes.{IsAtEnd};
 ghost use Rattle.deal_rules.specs.{dealer_of};
-ghost use Rattle.command_words.specs.{AreLimited, IsWide};
-ghost use Rattle.outside_io.specs.{Rose};
-ghost use Rattle.hhh_engine.specs.Ending.{Ends, RefusesStore, source_faults};
-ghost use Rattle.hhh_engine.specs.Feed.{EndsDealt, IsDealtCapture};
-ghost use Rattle.hhh_engine.specs.Inputs.{IsCapture};
+ghost use Rattle.command_words.specs.{AreLimitedSettings, AreWideSettings};
+ghost use Rattle.outside_io.specs.{FaultCountRose};
+ghost use Rattle.hhh_engine.specs.Ending.{Ends, RefusesStoreAtEnding, ending_source_faults};
+ghost use Rattle.hhh_engine.specs.DealtFeed.{DealtFeedEnds, IsDealtFeedCapture};
+ghost use Rattle.hhh_engine.specs.Inputs.{IsInputCapture};
 ghost use Rattle.hhh_engine.specs.NoText.{HasNoText};
-ghost use Rattle.hhh_engine.specs.Saves.{IsAsBefore, kept_in};
+ghost use Rattle.hhh_engine.specs.Saves.{IsAsBeforeSaves, saves_kept_in};
 ghost use Rattle.hhh_engine.specs.Session.{IsSession, IsSessionInPart};
 ghost use Rattle.hhh_engine.specs.declared.status.Status.TheVariants.{DiskFault};
 
@@ -48,18 +48,18 @@ pub(crate) fn report<R: Threads + Wait + Sync, S: Source, K: Sink, D: Disk, G: G
     gate: &G,
     dealers: &Dealers,
 ) -> Status
-    requires limited { AreLimited settings.now }
-    requires wide { IsWide settings.now }
+    requires limited { AreLimitedSettings settings.now }
+    requires wide { AreWideSettings settings.now }
     ensures ends { (other : ℕ) → Ends (λ text. IfSome (S.left capture.old) (λ file. IsSession settings.now
         (λ kind. ⟦<Dealer as Deals>⟧.may_answer (dealer_of kind dealers.now))
-        (kept_in D.reads D.image_now D.moment D.image_since disk.old disk.new) (D.reads disk.old) file text))
+        (saves_kept_in D.reads D.image_now D.moment D.image_since disk.old disk.new) (D.reads disk.old) file text))
         (λ front. IfSome (S.left capture.old) (λ file. IsSessionInPart settings.now
-        (λ kind. ⟦<Dealer as Deals>⟧.may_answer (dealer_of kind dealers.now)) (kept_in D.reads D.image_now D.moment D.image_since disk.old disk.new) (D.reads disk.old) file front))
-        (IsAtEnd (S.left capture.new)) (IfSome (S.left capture.old) IsCapture) (Rose (D.faults disk.old) (D.faults disk.new)) (disk.new ≡ disk.old)
-        (IsAsBefore D.reads D.image_now D.moment D.image_since disk.old disk.new)
-        (RefusesStore settings.now (λ kind. ⟦<Dealer as Deals>⟧.may_answer (dealer_of kind dealers.now)) (S.left capture.old) (D.reads disk.old)
-        (IsAsBefore D.reads D.image_now D.moment D.image_since disk.old disk.new))
-        (λ status. ⊥) (S.left capture.old) (source_faults (S.faults capture.old) other) (source_faults (S.faults capture.new) other)
+        (λ kind. ⟦<Dealer as Deals>⟧.may_answer (dealer_of kind dealers.now)) (saves_kept_in D.reads D.image_now D.moment D.image_since disk.old disk.new) (D.reads disk.old) file front))
+        (IsAtEnd (S.left capture.new)) (IfSome (S.left capture.old) IsInputCapture) (FaultCountRose (D.faults disk.old) (D.faults disk.new)) (disk.new ≡ disk.old)
+        (IsAsBeforeSaves D.reads D.image_now D.moment D.image_since disk.old disk.new)
+        (RefusesStoreAtEnding settings.now (λ kind. ⟦<Dealer as Deals>⟧.may_answer (dealer_of kind dealers.now)) (S.left capture.old) (D.reads disk.old)
+        (IsAsBeforeSaves D.reads D.image_now D.moment D.image_since disk.old disk.new))
+        (λ status. ⊥) (S.left capture.old) (ending_source_faults (S.faults capture.old) other) (ending_source_faults (S.faults capture.new) other)
         sink.old sink.new (K.taken sink.old) (K.taken sink.new) (K.faults sink.old) (K.faults sink.new) result }
     ensures told { (result ≡ DiskFault → ⊥) → D.faults disk.new ≡ D.faults disk.old }
     ensures unused { settings.now.store ≡ false → disk.new ≡ disk.old }
@@ -81,13 +81,13 @@ fn report_dealt<R: Threads + Wait + Sync, K: Sink, D: Disk, G: Gate + Sync>(
     disk: &mut D,
     gate: &G,
 ) -> Status
-    requires limited { AreLimited settings.now }
-    requires wide { IsWide settings.now }
+    requires limited { AreLimitedSettings settings.now }
+    requires wide { AreWideSettings settings.now }
     requires shards { length fed.dealt ≡ settings.now.shards }
     requires tail { 0 < length fed.tail.items }
-    ensures ends { EndsDealt settings.now fed.dealt fed.tail.items
-        (kept_in D.reads D.image_now D.moment D.image_since disk.old disk.new) (D.reads disk.old)
-        (IsAsBefore D.reads D.image_now D.moment D.image_since disk.old disk.new)
+    ensures ends { DealtFeedEnds settings.now fed.dealt fed.tail.items
+        (saves_kept_in D.reads D.image_now D.moment D.image_since disk.old disk.new) (D.reads disk.old)
+        (IsAsBeforeSaves D.reads D.image_now D.moment D.image_since disk.old disk.new)
         sink.old sink.new (K.taken sink.old) (K.taken sink.new) (record { sink = K.faults sink.old; disk = D.faults disk.old })
         (record { sink = K.faults sink.new; disk = D.faults disk.new }) result }
     ensures unused { settings.now.store ≡ false → disk.new ≡ disk.old }
@@ -111,9 +111,9 @@ fn read_dealt<S: Source>(
     capture: &mut S,
     dealers: &Dealers,
 ) -> Result<DealtCapture, Status>
-    requires limited { AreLimited settings.now }
+    requires limited { AreLimitedSettings settings.now }
     ensures dealt { IfOk result (λ fed. IfSome (S.left capture.old) (λ file.
-        IsDealtCapture settings.now (λ kind. ⟦<Dealer as Deals>⟧.may_answer (dealer_of kind dealers.now)) file fed.dealt fed.tail.items)) }
+        IsDealtFeedCapture settings.now (λ kind. ⟦<Dealer as Deals>⟧.may_answer (dealer_of kind dealers.now)) file fed.dealt fed.tail.items)) }
     ensures shards { IfOk result (λ fed. length fed.dealt ≡ settings.now.shards) }
     ensures tail { IfOk result (λ fed. 0 < length fed.tail.items) }
     ensures at_end { OnOk result (IsAtEnd (S.left capture.new)) }

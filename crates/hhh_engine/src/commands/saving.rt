@@ -1,11 +1,11 @@
 //! Saving the cuts of the calling thread.
 
 ghost use Rattle.std.specs.Prelude.{◌≡◌, ◌++◌, [], ◌∷◌, IfErr, IfOk, IfSome, None, OnErr, OnOk, is_some, true};
-ghost use Rattle.outside_io.specs.{Rose};
-ghost use Rattle.report_text.specs.{ArePositions};
-ghost use Rattle.hhh_engine.specs.Feed.{CanSaveCut, IsSaveFault};
+ghost use Rattle.outside_io.specs.{FaultCountRose};
+ghost use Rattle.report_text.specs.{ReportTextShowsPositions};
+ghost use Rattle.hhh_engine.specs.DealtFeed.{DealtFeedCanSaveCut, IsDealtFeedSaveFault};
 ghost use Rattle.hhh_engine.specs.Saves.{SavesInPart, SavesInTurn};
-ghost use Rattle.hhh_engine.specs.Session.{saved_text};
+ghost use Rattle.hhh_engine.specs.Session.{session_save_text};
 ghost use Rattle.hhh_engine.specs.declared.status.Status.TheVariants.{DiskFault, OutOfMemory};
 
 use crate::Status;
@@ -23,12 +23,12 @@ pub(crate) fn save_cut<D: Disk>(
     disk: &mut D,
     cut: &Cut,
 ) -> Result<(), Status>
-    requires { IfSome saver.old (CanSaveCut (D.reads disk.old) (D.image_now disk.old) cut.now) }
+    requires { IfSome saver.old (DealtFeedCanSaveCut (D.reads disk.old) (D.image_now disk.old) cut.now) }
     ensures saved { OnOk result (SavesInTurn D.reads D.image_now D.moment D.image_since saver.old saver.new disk.old disk.new (cut.now ∷ [])) }
     ensures in_part { OnErr result (SavesInPart D.reads D.image_now D.moment D.image_since saver.old disk.old disk.new [] (cut.now ∷ [])) }
     ensures ran_out { IfErr result (λ status. status ≡ OutOfMemory → disk.new ≡ disk.old) }
     ensures used { OnErr result (is_some saver.old ≡ true) }
-    ensures fault { IfErr result (IsSaveFault (D.faults disk.old) (D.faults disk.new)) }
+    ensures fault { IfErr result (IsDealtFeedSaveFault (D.faults disk.old) (D.faults disk.new)) }
     ensures no_fault { OnOk result (D.faults disk.new ≡ D.faults disk.old) }
     ensures unused { saver.old ≡ None → (saver.new ≡ None) × (disk.new ≡ disk.old) }
 {
@@ -56,8 +56,8 @@ pub(crate) fn saved_line(
     store: bool,
     positions: &Positions,
 ) -> Result<Vec<u8>, AllocError>
-    requires { ArePositions positions.now }
-    ensures { IfOk result (λ line. line.items ≡ saved_text store positions.now) }
+    requires { ReportTextShowsPositions positions.now }
+    ensures { IfOk result (λ line. line.items ≡ session_save_text store positions.now) }
 {
     let mut line = Vec::new(alloc);
     if store {

@@ -3,20 +3,20 @@
 ghost use Rattle.std.specs.Prelude.{◌≡◌, ◌≤◌, ◌<◌, ◌+◌, ◌⊎◌, ◌++◌, [], ◌∷◌, length, All, None, IfErr, IfOk, IfSome, OnErr, OnOk, false, is_some};
 ghost use Rattle.std.specs.List.{AllZip};
 ghost use Rattle.std.specs.Io.KnownBytes.{Appends};
-ghost use Rattle.deal_rules.specs.{AreShardLists};
-ghost use Rattle.space_saving.specs.{least_capacity, most_capacity};
-ghost use Rattle.shard_state.specs.{AreShards, HasShape, capacity_of};
-ghost use Rattle.pass_tokens.specs.{IsPassOf, first_view, view};
-ghost use Rattle.gate_workers.specs.{HasSeenEnds};
-ghost use Rattle.checkpoint.specs.{StandsFor};
-ghost use Rattle.recovery.specs.{ContinuesList};
-ghost use Rattle.report_text.specs.{ArePositions, mark_text};
+ghost use Rattle.deal_rules.specs.{AreDealingLists};
+ghost use Rattle.space_saving.specs.{least_table_capacity, most_table_capacity};
+ghost use Rattle.shard_state.specs.{AreCoreShards, HasCoreShape, core_capacity};
+ghost use Rattle.pass_tokens.specs.{IsPassOfBoard, first_view, view};
+ghost use Rattle.gate_workers.specs.{HasFeedSeenEnds};
+ghost use Rattle.checkpoint.specs.{StandsForSaver};
+ghost use Rattle.recovery.specs.{OpeningContinuesList};
+ghost use Rattle.report_text.specs.{ReportTextShowsPositions, report_mark_text};
 ghost use Rattle.report_text.specs.declared.mark.Mark.TheVariants.{Opened as OpenedMark};
-ghost use Rattle.command_words.specs.{AreLimited, IsWide};
+ghost use Rattle.command_words.specs.{AreLimitedSettings, AreWideSettings};
 ghost use Rattle.hhh_engine.specs.Answer.{Writes};
-ghost use Rattle.hhh_engine.specs.Feed.{CanSaveCut, GoesOn, IsBaseOf, IsFault, IsFed, IsOpened, IsRest, StartsBeforeEnds, reports_of};
+ghost use Rattle.hhh_engine.specs.DealtFeed.{DealtFeedCanSaveCut, DealtFeedGoesOn, IsDealtFeedBase, IsDealtFeedFault, IsDealtFeedResult, IsDealtFeedOpening, IsDealtFeedRest, DealtFeedStartsBeforeEnds, dealt_feed_other_reports};
 ghost use Rattle.hhh_engine.specs.Saves.{CanSave, Saves, SavesInPart, SavesInTurn};
-ghost use Rattle.hhh_engine.specs.Session.{AreReportsOf, BeginsSession, BreaksOffAround, RepresentsWhere, SpellsSession, callers_text, opening_of, parts_text, resumed_shards, new_shards, start_of};
+ghost use Rattle.hhh_engine.specs.Session.{AreSessionReportsOfCaller, BeginsSession, SessionBreaksOffAround, SessionBaseRepresents, SpellsSession, session_callers_text, session_opening, session_parts_text, resumed_session_shards, new_session_shards, session_start};
 
 use crate::commands::base::Base;
 use crate::commands::feed::{Fed, feed};
@@ -72,19 +72,19 @@ pub(crate) fn write_session<R: Threads + Wait + Sync, K: Sink, D: Disk, G: Gate 
     disk: &mut D,
     gate: &G,
 ) -> Result<(), Status>
-    requires limited { AreLimited settings.now }
-    requires wide { IsWide settings.now }
+    requires limited { AreLimitedSettings settings.now }
+    requires wide { AreWideSettings settings.now }
     requires shards { length dealt ≡ settings.now.shards }
-    requires base { IsBaseOf settings.now dealt (D.reads disk.old) base }
-    requires stands { IfSome base.saver (StandsFor (D.reads disk.old) (D.image_now disk.old)) }
+    requires base { IsDealtFeedBase settings.now dealt (D.reads disk.old) base }
+    requires stands { IfSome base.saver (StandsForSaver (D.reads disk.old) (D.image_now disk.old)) }
     requires tail { 0 < length tail.now }
-    ensures whole { OnOk result (Writes (SpellsSession (opening_of settings.now.capacity dealt base.cut) settings.now
+    ensures whole { OnOk result (Writes (SpellsSession (session_opening settings.now.capacity dealt base.cut) settings.now
         (λ cuts. Saves D.reads D.image_now D.moment D.image_since base.saver cuts disk.old disk.new) tail.now) (K.taken sink.old) (K.taken sink.new)) }
     ensures faults { OnOk result ((K.faults sink.new ≡ K.faults sink.old) × (D.faults disk.new ≡ D.faults disk.old)) }
     ensures part { OnErr result (((sink.new ≡ sink.old) × (disk.new ≡ disk.old))
-        ⊎ Writes (BeginsSession (opening_of settings.now.capacity dealt base.cut) settings.now
+        ⊎ Writes (BeginsSession (session_opening settings.now.capacity dealt base.cut) settings.now
         (SavesInPart D.reads D.image_now D.moment D.image_since base.saver disk.old disk.new) tail.now) (K.taken sink.old) (K.taken sink.new)) }
-    ensures fault { IfErr result (IsFault (record { sink = K.faults sink.old; disk = D.faults disk.old })
+    ensures fault { IfErr result (IsDealtFeedFault (record { sink = K.faults sink.old; disk = D.faults disk.old })
         (record { sink = K.faults sink.new; disk = D.faults disk.new })) }
     ensures unused { base.saver ≡ None → disk.new ≡ disk.old }
 {
@@ -108,10 +108,10 @@ pub(crate) fn open(
     base: Option<Cut>,
     capacity: u32,
 ) -> Result<Opened, AllocError>
-    requires least { least_capacity ≤ capacity }
-    requires most { capacity ≤ most_capacity }
-    requires fits { IfSome base (GoesOn capacity dealt) }
-    ensures { IfOk result (IsOpened (opening_of capacity dealt base)) }
+    requires least { least_table_capacity ≤ capacity }
+    requires most { capacity ≤ most_table_capacity }
+    requires fits { IfSome base (DealtFeedGoesOn capacity dealt) }
+    ensures { IfOk result (IsDealtFeedOpening (session_opening capacity dealt base)) }
 {
     openings_stand(&dealt, &base, capacity);
     let shards = dealt.shards();
@@ -124,13 +124,13 @@ pub(crate) fn open(
 /// Shards of dealt lists have the capacity asked for, and start before the ends of their lists. The tables of their base
 /// represent the lists, if they were saved of them or are empty.
 pub(crate) fn openings_stand(dealt: &Dealt, base: &Option<Cut>, capacity: u32)
-    requires { IfSome base.now (GoesOn capacity dealt.now) }
-    ensures shards { AreShards (opening_of capacity dealt.now base.now) }
-    ensures many { length (opening_of capacity dealt.now base.now) ≡ length dealt.now }
-    ensures alike { capacity_of (opening_of capacity dealt.now base.now) ≡ capacity }
-    ensures starts { StartsBeforeEnds (opening_of capacity dealt.now base.now) }
-    ensures positions { ArePositions (start_of (opening_of capacity dealt.now base.now)) }
-    ensures represents { RepresentsWhere dealt.now base.now (opening_of capacity dealt.now base.now) }
+    requires { IfSome base.now (DealtFeedGoesOn capacity dealt.now) }
+    ensures shards { AreCoreShards (session_opening capacity dealt.now base.now) }
+    ensures many { length (session_opening capacity dealt.now base.now) ≡ length dealt.now }
+    ensures alike { core_capacity (session_opening capacity dealt.now base.now) ≡ capacity }
+    ensures starts { DealtFeedStartsBeforeEnds (session_opening capacity dealt.now base.now) }
+    ensures positions { ReportTextShowsPositions (session_start (session_opening capacity dealt.now base.now)) }
+    ensures represents { SessionBaseRepresents dealt.now base.now (session_opening capacity dealt.now base.now) }
 {
     shards_stand();
     let _shards = dealt.shards();
@@ -149,10 +149,10 @@ fn states_of(
     base: Option<Cut>,
     capacity: u32,
 ) -> Result<Vec<ShardState>, AllocError>
-    requires least { least_capacity ≤ capacity }
-    requires most { capacity ≤ most_capacity }
-    requires fits { IfSome base (GoesOn capacity dealt) }
-    ensures { IfOk result (λ states. states.items ≡ opening_of capacity dealt base) }
+    requires least { least_table_capacity ≤ capacity }
+    requires most { capacity ≤ most_table_capacity }
+    requires fits { IfSome base (DealtFeedGoesOn capacity dealt) }
+    ensures { IfOk result (λ states. states.items ≡ session_opening capacity dealt base) }
 {
     match base {
         None => new_states(alloc, dealt, capacity),
@@ -162,10 +162,10 @@ fn states_of(
 
 // The states of shards, none of their records counted.
 fn new_states(alloc: Global, dealt: Dealt, capacity: u32) -> Result<Vec<ShardState>, AllocError>
-    requires least { least_capacity ≤ capacity }
-    requires most { capacity ≤ most_capacity }
-    ensures states { IfOk result (λ states. states.items ≡ new_shards capacity dealt) }
-    ensures shards { AreShardLists dealt }
+    requires least { least_table_capacity ≤ capacity }
+    requires most { capacity ≤ most_table_capacity }
+    ensures states { IfOk result (λ states. states.items ≡ new_session_shards capacity dealt) }
+    ensures shards { AreDealingLists dealt }
 {
     let mut states = Vec::new(alloc);
     for list in dealt.into_lists() {
@@ -176,8 +176,8 @@ fn new_states(alloc: Global, dealt: Dealt, capacity: u32) -> Result<Vec<ShardSta
 
 // The states of shards that go on from the snapshots of a cut.
 fn resumed_states(alloc: Global, dealt: Dealt, cut: Cut) -> Result<Vec<ShardState>, AllocError>
-    requires { AllZip ContinuesList cut.shards dealt }
-    ensures { IfOk result (λ states. states.items ≡ resumed_shards dealt cut.shards) }
+    requires { AllZip OpeningContinuesList cut.shards dealt }
+    ensures { IfOk result (λ states. states.items ≡ resumed_session_shards dealt cut.shards) }
 {
     let mut states = Vec::new(alloc);
     for (list, base) in dealt.into_lists().into_iter().zip(cut.into_shards()) {
@@ -188,8 +188,8 @@ fn resumed_states(alloc: Global, dealt: Dealt, cut: Cut) -> Result<Vec<ShardStat
 
 // The first line of a session.
 fn opened_line(alloc: Global, positions: &Positions) -> Result<Vec<u8>, AllocError>
-    requires { ArePositions positions.now }
-    ensures { IfOk result (λ line. line.items ≡ mark_text OpenedMark positions.now) }
+    requires { ReportTextShowsPositions positions.now }
+    ensures { IfOk result (λ line. line.items ≡ report_mark_text OpenedMark positions.now) }
 {
     let mut line = Vec::new(alloc);
     print_positions(Mark::Opened, positions, &mut line)?;
@@ -209,12 +209,12 @@ fn write_feed<R: Threads + Wait + Sync, K: Sink, D: Disk, G: Gate + Sync>(
     disk: &mut D,
     gate: &G,
 ) -> Result<(), Status>
-    requires limited { AreLimited settings.now }
-    requires wide { IsWide settings.now }
-    requires opened { IsOpened opened.board.opening opened }
-    requires alike { capacity_of opened.board.opening ≡ settings.now.capacity }
-    requires starts { StartsBeforeEnds opened.board.opening }
-    requires line { line.now ≡ mark_text OpenedMark (start_of opened.board.opening) }
+    requires limited { AreLimitedSettings settings.now }
+    requires wide { AreWideSettings settings.now }
+    requires opened { IsDealtFeedOpening opened.board.opening opened }
+    requires alike { core_capacity opened.board.opening ≡ settings.now.capacity }
+    requires starts { DealtFeedStartsBeforeEnds opened.board.opening }
+    requires line { line.now ≡ report_mark_text OpenedMark (session_start opened.board.opening) }
     requires tail { 0 < length tail.now }
     requires used { is_some saver ≡ settings.now.store }
     requires can_save { IfSome saver (CanSave (D.reads disk.old) (D.image_now disk.old) opened.board.opening
@@ -224,7 +224,7 @@ fn write_feed<R: Threads + Wait + Sync, K: Sink, D: Disk, G: Gate + Sync>(
     ensures faults { OnOk result ((K.faults sink.new ≡ K.faults sink.old) × (D.faults disk.new ≡ D.faults disk.old)) }
     ensures part { OnErr result (Writes (BeginsSession opened.board.opening settings.now
         (SavesInPart D.reads D.image_now D.moment D.image_since saver disk.old disk.new) tail.now) (K.taken sink.old) (K.taken sink.new)) }
-    ensures fault { IfErr result (IsFault (record { sink = K.faults sink.old; disk = D.faults disk.old })
+    ensures fault { IfErr result (IsDealtFeedFault (record { sink = K.faults sink.old; disk = D.faults disk.old })
         (record { sink = K.faults sink.new; disk = D.faults disk.new })) }
     ensures unused { saver ≡ None → disk.new ≡ disk.old }
 {
@@ -255,13 +255,13 @@ fn write_rest<K: Sink, D: Disk>(
     sink: &mut K,
     disk: &mut D,
 ) -> Result<(), Status>
-    requires { IfSome saver.old (CanSaveCut (D.reads disk.old) (D.image_now disk.old) rest.now.cut) }
+    requires { IfSome saver.old (DealtFeedCanSaveCut (D.reads disk.old) (D.image_now disk.old) rest.now.cut) }
     ensures whole { OnOk result (Appends (K.taken sink.old) (K.taken sink.new) (rest.now.front.items ++ rest.now.back.items)) }
     ensures saved { OnOk result (SavesInTurn D.reads D.image_now D.moment D.image_since saver.old saver.new disk.old disk.new (rest.now.cut ∷ [])) }
     ensures faults { OnOk result ((K.faults sink.new ≡ K.faults sink.old) × (D.faults disk.new ≡ D.faults disk.old)) }
-    ensures part { OnErr result (Writes (BreaksOffAround rest.now.front.items rest.now.back.items (rest.now.cut ∷ [])
+    ensures part { OnErr result (Writes (SessionBreaksOffAround rest.now.front.items rest.now.back.items (rest.now.cut ∷ [])
         (SavesInPart D.reads D.image_now D.moment D.image_since saver.old disk.old disk.new)) (K.taken sink.old) (K.taken sink.new)) }
-    ensures fault { IfErr result (IsFault (record { sink = K.faults sink.old; disk = D.faults disk.old })
+    ensures fault { IfErr result (IsDealtFeedFault (record { sink = K.faults sink.old; disk = D.faults disk.old })
         (record { sink = K.faults sink.new; disk = D.faults disk.new })) }
     ensures unused { saver.old ≡ None → disk.new ≡ disk.old }
 {
@@ -287,15 +287,15 @@ fn rest_of_session<R: Wait>(
     tail: &[u8],
     settings: &Settings,
 ) -> Result<Rest, AllocError>
-    requires limited { AreLimited settings.now }
-    requires wide { IsWide settings.now }
-    requires pass { IsPassOf board.now fed.gathered.pass }
-    requires ends { HasSeenEnds board.now.opening (view fed.gathered.pass) }
-    requires shape { HasShape (length board.now.opening) (capacity_of board.now.opening) fed.cut }
-    requires callers { All (AreReportsOf board.now.opening settings.now settings.now.rounds) (reports_of fed.gathered.called.items) }
-    requires alike { capacity_of board.now.opening ≡ settings.now.capacity }
-    ensures rest { IfOk result (IsRest board.now settings.now fed.gathered.called.items tail.now) }
-    ensures shape { IfOk result (λ rest. HasShape (length board.now.opening) (capacity_of board.now.opening) rest.cut) }
+    requires limited { AreLimitedSettings settings.now }
+    requires wide { AreWideSettings settings.now }
+    requires pass { IsPassOfBoard board.now fed.gathered.pass }
+    requires ends { HasFeedSeenEnds board.now.opening (view fed.gathered.pass) }
+    requires shape { HasCoreShape (length board.now.opening) (core_capacity board.now.opening) fed.cut }
+    requires callers { All (AreSessionReportsOfCaller board.now.opening settings.now settings.now.rounds) (dealt_feed_other_reports fed.gathered.called.items) }
+    requires alike { core_capacity board.now.opening ≡ settings.now.capacity }
+    ensures rest { IfOk result (IsDealtFeedRest board.now settings.now fed.gathered.called.items tail.now) }
+    ensures shape { IfOk result (λ rest. HasCoreShape (length board.now.opening) (core_capacity board.now.opening) rest.cut) }
 {
     let Fed { gathered, mut cut } = fed;
     let Gathered { mut pass, called } = gathered;
@@ -325,8 +325,8 @@ fn reports_text(
     settings: &Settings,
     called: &[Called],
 ) -> Result<Vec<u8>, AllocError>
-    requires { All (AreReportsOf board.now.opening settings.now settings.now.rounds) (reports_of called.now) }
-    ensures { IfOk result (λ text. text.items ≡ callers_text (reports_of called.now)) }
+    requires { All (AreSessionReportsOfCaller board.now.opening settings.now settings.now.rounds) (dealt_feed_other_reports called.now) }
+    ensures { IfOk result (λ text. text.items ≡ session_callers_text (dealt_feed_other_reports called.now)) }
 {
     let _shards = board.shards();
     let mut text = Vec::new(alloc);
@@ -343,8 +343,8 @@ fn put_reports(
     reports: &Reports,
     text: &mut Vec<u8>,
 ) -> Result<(), AllocError>
-    requires { AreReportsOf board.now.opening settings.now settings.now.rounds reports.now }
-    ensures { OnOk result (text.new.items ≡ text.old.items ++ parts_text false reports.now) }
+    requires { AreSessionReportsOfCaller board.now.opening settings.now settings.now.rounds reports.now }
+    ensures { OnOk result (text.new.items ≡ text.old.items ++ session_parts_text false reports.now) }
 {
     let _shards = board.shards();
     let all = reports.as_slice();

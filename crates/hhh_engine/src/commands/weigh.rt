@@ -3,12 +3,12 @@
 ghost use Rattle.std.specs.Prelude.{⊤, ℕ, ◌≡◌, ◌≤◌, List, length, All, IfOk, IfErr, IfSome, OnOk, IsErrOf};
 ghost use Rattle.std.specs.Io.KnownBytes.{IsAtEnd};
 ghost use Rattle.prefix_lattice.specs.{RecordValue, most_records};
-ghost use Rattle.shard_state.specs.{records_table, HoldsWeightOver};
-ghost use Rattle.hhh_engine.specs.Answer.{IsWeightTextInPart};
-ghost use Rattle.hhh_engine.specs.Ending.{Ends, source_faults};
-ghost use Rattle.hhh_engine.specs.Inputs.{IsCapture};
+ghost use Rattle.shard_state.specs.{snapshot_records_table, HoldsWeightOver};
+ghost use Rattle.hhh_engine.specs.Answer.{IsWeighAnswerInPart};
+ghost use Rattle.hhh_engine.specs.Ending.{Ends, ending_source_faults};
+ghost use Rattle.hhh_engine.specs.Inputs.{IsInputCapture};
 ghost use Rattle.hhh_engine.specs.NoText.{HasNoText};
-ghost use Rattle.hhh_engine.specs.WeightText.{text_for, weigh_capacity, weigh_text, IsWeightText};
+ghost use Rattle.hhh_engine.specs.WeightText.{weight_text_for, weight_text_capacity, weight_text, IsWeightText};
 
 use crate::decimal_text::push_number;
 use crate::{Settings, Status};
@@ -31,8 +31,8 @@ pub(crate) fn weigh<S: Source, K: Sink>(
     sink: &mut K,
 ) -> Status
     ensures { (other : ℕ) → Ends (λ text. IfSome (S.left capture.old) (λ file. IsWeightText prefix.now settings.now.weigh file text))
-        (λ front. IfSome (S.left capture.old) (λ file. IsWeightTextInPart prefix.now settings.now.weigh file front))
-        (IsAtEnd (S.left capture.new)) (IfSome (S.left capture.old) IsCapture) ⊥ ⊤ ⊤ (λ fault. ⊥) (λ status. ⊥) (S.left capture.old) (source_faults (S.faults capture.old) other) (source_faults (S.faults capture.new) other)
+        (λ front. IfSome (S.left capture.old) (λ file. IsWeighAnswerInPart prefix.now settings.now.weigh file front))
+        (IsAtEnd (S.left capture.new)) (IfSome (S.left capture.old) IsInputCapture) ⊥ ⊤ ⊤ (λ fault. ⊥) (λ status. ⊥) (S.left capture.old) (ending_source_faults (S.faults capture.old) other) (ending_source_faults (S.faults capture.new) other)
         sink.old sink.new (K.taken sink.old) (K.taken sink.new) (K.faults sink.old) (K.faults sink.new) result }
 {
     let text = match read_weight(alloc, prefix, settings, capture) {
@@ -65,8 +65,8 @@ fn read_weight<S: Source>(
 fn weigh_text(alloc: Global, prefix: &Prefix, records: &[Record]) -> Result<Vec<u8>, AllocError>
     requires few { length records.now ≤ most_records }
     requires weighed { All (λ rec. 1 ≤ rec.weight) records.now }
-    ensures text { IfOk result (λ text. text.items ≡ text_for prefix.now records.now) }
-    ensures holds { IfOk result (λ _. HoldsWeightOver weigh_capacity prefix.now records.now) }
+    ensures text { IfOk result (λ text. text.items ≡ weight_text_for prefix.now records.now) }
+    ensures holds { IfOk result (λ _. HoldsWeightOver weight_text_capacity prefix.now records.now) }
 {
     tables_hold_weights();
     let key = prefix.key();
@@ -78,7 +78,7 @@ fn weigh_text(alloc: Global, prefix: &Prefix, records: &[Record]) -> Result<Vec<
 // The table at a node after all records.
 fn fold_records(alloc: Global, node: Node, records: &[Record]) -> Result<PlainTable, AllocError>
     requires { length records.now ≤ most_records }
-    ensures { IfOk result (λ table. table ≡ record { capacity = weigh_capacity; entries = records_table weigh_capacity node records.now }) }
+    ensures { IfOk result (λ table. table ≡ record { capacity = weight_text_capacity; entries = snapshot_records_table weight_text_capacity node records.now }) }
 {
     let mut table = PlainTable::with_capacity(alloc, WEIGH_CAPACITY)?;
     for rec in records {
@@ -88,7 +88,7 @@ fn fold_records(alloc: Global, node: Node, records: &[Record]) -> Result<PlainTa
 }
 
 fn three_lines(alloc: Global, low: u64, high: u64, total: u64) -> Result<Vec<u8>, AllocError>
-    ensures { IfOk result (λ text. text.items ≡ weigh_text low high total) }
+    ensures { IfOk result (λ text. text.items ≡ weight_text low high total) }
 {
     let mut text = Vec::new(alloc);
     push_number(&mut text, b"low ", low)?;

@@ -1,7 +1,7 @@
 //! The line that reports how a command ended.
 
 ghost use Rattle.std.specs.Prelude.{◌≡◌, ◌++◌, codes, decimal, IfOk, OnOk};
-ghost use Rattle.hhh_engine.specs.Status.{line_of, status_text, words_text, fault_text, session_fault_text};
+ghost use Rattle.hhh_engine.specs.Status.{status_line, status_text, words_status_text, fault_status_text, session_status_text};
 
 use crate::decimal_text::push_number;
 use crate::{Status, WordsKind};
@@ -11,7 +11,7 @@ use std::alloc::{AllocError, Global};
 
 /// The line for standard error: `hhh: `, how the command ended, and a line feed.
 pub fn fault_line(alloc: Global, status: &Status) -> Result<Vec<u8>, AllocError>
-    ensures { IfOk result (λ line. line.items ≡ line_of status.now) }
+    ensures { IfOk result (λ line. line.items ≡ status_line status.now) }
 {
     let mut line = Vec::from_slice(alloc, b"hhh: ")?;
     push_status(&mut line, status)?;
@@ -40,7 +40,7 @@ fn push_status(line: &mut Vec<u8>, status: &Status) -> Result<(), AllocError>
 }
 
 fn push_words(line: &mut Vec<u8>, kind: &WordsKind) -> Result<(), AllocError>
-    ensures { OnOk result (line.new.items ≡ line.old.items ++ codes "bad words: " ++ words_text kind.now) }
+    ensures { OnOk result (line.new.items ≡ line.old.items ++ codes "bad words: " ++ words_status_text kind.now) }
 {
     line.extend_from_slice(b"bad words: ")?;
     match kind {
@@ -56,7 +56,7 @@ fn push_words(line: &mut Vec<u8>, kind: &WordsKind) -> Result<(), AllocError>
 }
 
 fn push_fault(line: &mut Vec<u8>, fault: &CaptureFault) -> Result<(), AllocError>
-    ensures { OnOk result (line.new.items ≡ line.old.items ++ codes "bad capture: " ++ fault_text fault.now.kind ++ codes " at " ++ decimal fault.now.place) }
+    ensures { OnOk result (line.new.items ≡ line.old.items ++ codes "bad capture: " ++ fault_status_text fault.now.kind ++ codes " at " ++ decimal fault.now.place) }
 {
     line.extend_from_slice(b"bad capture: ")?;
     line.extend_from_slice(kind_text(fault.kind))?;
@@ -64,7 +64,7 @@ fn push_fault(line: &mut Vec<u8>, fault: &CaptureFault) -> Result<(), AllocError
 }
 
 fn push_text_fault(line: &mut Vec<u8>, fault: &TextFault) -> Result<(), AllocError>
-    ensures { OnOk result (line.new.items ≡ line.old.items ++ codes "bad report: " ++ session_fault_text fault.now) }
+    ensures { OnOk result (line.new.items ≡ line.old.items ++ codes "bad report: " ++ session_status_text fault.now) }
 {
     line.extend_from_slice(b"bad report: ")?;
     match fault {
@@ -75,7 +75,7 @@ fn push_text_fault(line: &mut Vec<u8>, fault: &TextFault) -> Result<(), AllocErr
 }
 
 fn kind_text(kind: FaultKind) -> &'static [u8]
-    ensures { result.now ≡ fault_text kind }
+    ensures { result.now ≡ fault_status_text kind }
 {
     match kind {
         FaultKind::ShortHeader => b"short header",

@@ -1,11 +1,11 @@
 //! What the bytes at the front of a frame say.
 
 ghost use Rattle.std.specs.Prelude.{◌≡◌, ℕ, ◌+◌, ◌<◌, ◌≤◌, length, min, take, drop, slice_index, IfSome};
-ghost use Rattle.pcap_frames.specs.FileOrder.{number_at};
-ghost use Rattle.pcap_frames.specs.Frame.{content_of};
-ghost use Rattle.pcap_frames.specs.Frames.{frame_at, needed, frame_fault, IsFrame};
-ghost use Rattle.pcap_frames.specs.Steps.{SplitsFrame};
-ghost use Rattle.pcap_frames.specs.FileFormat.{frame_header_length, head_length, most_captured};
+ghost use Rattle.pcap_frames.specs.FileOrder.{number_in_file_order};
+ghost use Rattle.pcap_frames.specs.Frame.{frame_content};
+ghost use Rattle.pcap_frames.specs.Frames.{frame_at, frame_bytes_needed, frame_fault, IsFrame};
+ghost use Rattle.pcap_frames.specs.ReaderSteps.{StepSplitsFrame};
+ghost use Rattle.pcap_frames.specs.FileFormat.{frame_header_length, head_length, most_captured_length};
 
 use crate::file_order::FileOrder;
 use crate::header::fault_at;
@@ -19,10 +19,10 @@ pub(crate) const MOST_CAPTURED: u32 = 262_144;
 /// The frame whose header and head are at the front of the bytes.
 pub(crate) fn frame_at(order: FileOrder, bytes: &[u8]) -> Frame<'_>
     requires header { frame_header_length ≤ length bytes.now }
-    requires limit { number_at order 4 8 bytes.now ≤ most_captured }
-    requires head { frame_header_length + min head_length (number_at order 4 8 bytes.now) ≤ length bytes.now }
-    ensures content { content_of result ≡ frame_at order bytes.now }
-    ensures is_frame { IsFrame (content_of result) }
+    requires limit { number_in_file_order order 4 8 bytes.now ≤ most_captured_length }
+    requires head { frame_header_length + min head_length (number_in_file_order order 4 8 bytes.now) ≤ length bytes.now }
+    ensures content { frame_content result ≡ frame_at order bytes.now }
+    ensures is_frame { IsFrame (frame_content result) }
 {
     let captured = order.u32_at(bytes, 8);
     let original = order.u32_at(bytes, 12);
@@ -34,7 +34,7 @@ pub(crate) fn frame_at(order: FileOrder, bytes: &[u8]) -> Frame<'_>
 }
 
 /// The first 42 of this many captured bytes after the frame header.
-#[tactic(auto, using(crate::proofs::FrameHeadLemmas::take_of_take))]
+#[tactic(auto, using(crate::proofs::FrameHeadLemmas::frame_head_of_front))]
 fn head_of(bytes: &[u8], captured: u32) -> &[u8]
     requires header { frame_header_length ≤ length bytes.now }
     requires head { frame_header_length + min head_length captured ≤ length bytes.now }
@@ -49,8 +49,8 @@ fn head_of(bytes: &[u8], captured: u32) -> &[u8]
 
 /// The frame at the front of the bytes and the rest after it, if the whole frame is there.
 pub(crate) fn whole_at(order: FileOrder, bytes: &[u8]) -> Option<(Frame<'_>, &[u8])>
-    ensures splits { IfSome result (λ found. SplitsFrame order bytes.now found.1.now (content_of found.0)) }
-    ensures is_frame { IfSome result (λ found. IsFrame (content_of found.0)) }
+    ensures splits { IfSome result (λ found. StepSplitsFrame order bytes.now found.1.now (frame_content found.0)) }
+    ensures is_frame { IfSome result (λ found. IsFrame (frame_content found.0)) }
 {
     if bytes.len() < 16 {
         return None;
@@ -64,9 +64,9 @@ pub(crate) fn whole_at(order: FileOrder, bytes: &[u8]) -> Option<(Frame<'_>, &[u
 }
 
 /// The least number of bytes that the frame takes, as far as its header is known.
-#[tactic(auto, unfolding(crate::specs::Frames::needed))]
+#[tactic(auto, unfolding(crate::specs::Frames::frame_bytes_needed))]
 pub(crate) fn needed(order: FileOrder, bytes: &[u8]) -> u64
-    ensures { result ≡ needed order bytes.now }
+    ensures { result ≡ frame_bytes_needed order bytes.now }
 {
     if bytes.len() < 16 {
         return 16;

@@ -1,8 +1,8 @@
 //! A whole frame that arrived in more than one piece.
 
 ghost use Rattle.std.specs.Prelude.{◌≡◌, ◌+◌, ◌≤◌, length, min};
-ghost use Rattle.pcap_frames.specs.FileOrder.{number_at};
-ghost use Rattle.pcap_frames.specs.FileFormat.{frame_header_length, head_length, most_captured};
+ghost use Rattle.pcap_frames.specs.FileOrder.{number_in_file_order};
+ghost use Rattle.pcap_frames.specs.FileFormat.{frame_header_length, head_length, most_captured_length};
 
 use crate::Frame;
 use crate::file_order::FileOrder;
@@ -15,18 +15,18 @@ pub(crate) struct HeldFrame {
     pub(crate) order: FileOrder,
     pub(crate) kept: FrontBytes,
     pub ghost header: { frame_header_length ≤ length kept.first },
-    pub ghost limit: { number_at order 4 8 kept.first ≤ most_captured },
-    pub ghost head: { frame_header_length + min head_length (number_at order 4 8 kept.first) ≤ length kept.first },
+    pub ghost limit: { number_in_file_order order 4 8 kept.first ≤ most_captured_length },
+    pub ghost head: { frame_header_length + min head_length (number_in_file_order order 4 8 kept.first) ≤ length kept.first },
 }
 
 impl HeldFrame {
-    ghost use Rattle.pcap_frames.specs.Frame.{content_of};
+    ghost use Rattle.pcap_frames.specs.Frame.{frame_content};
     ghost use Rattle.pcap_frames.specs.Frames.{frame_at, IsFrame};
 
     /// The frame.
     pub(crate) fn frame(&self) -> Frame<'_>
-        ensures content { content_of result ≡ frame_at self.now.order self.now.kept.first }
-        ensures is_frame { IsFrame (content_of result) }
+        ensures content { frame_content result ≡ frame_at self.now.order self.now.kept.first }
+        ensures is_frame { IsFrame (frame_content result) }
     {
         frame_at(self.order, self.kept.first())
     }

@@ -24,7 +24,7 @@ impl Prefix {
     }
 
     /// Whether this prefix is under the other and not equal to it.
-    #[tactic(auto, using(crate::proofs::MeetLemmas::strictly_by_tests))]
+    #[tactic(auto, using(crate::proofs::UnderMeetLemmas::strictly_under_unless_back))]
     pub fn strictly_under(&self, other: &Prefix) -> bool
         ensures value { result ≡ strictly_under self.now other.now }
         ensures differs { IsTrue result ↔ (IsTrue (under self.now other.now) × (self.now ≢ other.now)) }

@@ -1,9 +1,9 @@
 //! Reading the lines of a text, one after the other.
 
 ghost use Rattle.std.specs.Prelude.{◌≡◌, ◌≤◌, [], length, IfOk, IfErr, OnOk};
-ghost use Rattle.report_text.specs.SessionText.{HasSessionFault, IsSession, longest_text, session_lines};
-ghost use Rattle.report_text.specs.SessionStages.{Follows, IsOpen, Stage};
-ghost use Rattle.report_text.specs.Reading.{HasRead, ReadsLine, Stands};
+ghost use Rattle.report_text.specs.SessionText.{HasSessionFault, IsSession, longest_session_text, session_lines};
+ghost use Rattle.report_text.specs.SessionStages.{FollowsStage, IsOpenStage, Stage};
+ghost use Rattle.report_text.specs.LineReading.{HasReadLines, ReadsLine, HasReadLinesToStage};
 ghost use Rattle.report_text.specs.declared.line_cursor.LineCursor.{LineCursor as CursorValue};
 ghost use Rattle.report_text.specs.declared.session.Session.{Session as SessionValue};
 ghost use Rattle.report_text.specs.declared.session_line.SessionLine.{SessionLine as LineValue};
@@ -19,9 +19,9 @@ use std::alloc::Global;
 impl<'a> LineCursor<'a> {
     /// The start of a text.
     pub(crate) fn new(text: &'a [u8]) -> LineCursor<'a>
-        requires { length text.now ≤ longest_text }
+        requires { length text.now ≤ longest_session_text }
         ensures text { result.text ≡ text.entry }
-        ensures start { HasRead result [] }
+        ensures start { HasReadLines result [] }
     {
         LineCursor {
             text,
@@ -33,7 +33,7 @@ impl<'a> LineCursor<'a> {
     /// Reads the next line.
     pub(crate) fn next(&mut self, alloc: Global) -> Result<SessionLine, SessionFault>
         ensures read { IfOk result (ReadsLine self.old self.new) }
-        ensures fault { IfErr result (λ fault. (stage : Stage) → IsOpen stage → Stands self.old stage → HasSessionFault self.old.text.now fault) }
+        ensures fault { IfErr result (λ fault. (stage : Stage) → IsOpenStage stage → HasReadLinesToStage self.old stage → HasSessionFault self.old.text.now fault) }
     {
         prefix_texts_read_back();
         report_order_is_total();
@@ -52,8 +52,8 @@ impl<'a> LineCursor<'a> {
 
     /// Refuses the line that was read last.
     pub(crate) fn refuse(&self) -> SessionFault
-        ensures { (old : CursorValue) (line : LineValue) (stage : Stage) → Stands old stage → ReadsLine old self.now line
-            → ((next : Stage) → ¬ Follows stage line next) → HasSessionFault self.now.text.now result }
+        ensures { (old : CursorValue) (line : LineValue) (stage : Stage) → HasReadLinesToStage old stage → ReadsLine old self.now line
+            → ((next : Stage) → ¬ FollowsStage stage line next) → HasSessionFault self.now.text.now result }
     {
         prefix_texts_read_back();
         report_order_is_total();
@@ -63,7 +63,7 @@ impl<'a> LineCursor<'a> {
     /// Refuses a byte after the last line of a session.
     pub(crate) fn finish(&self) -> Result<(), SessionFault>
         ensures ok { OnOk result (self.now.at ≡ length self.now.text.now) }
-        ensures err { IfErr result (λ fault. (session : SessionValue) → HasRead self.now (session_lines session)
+        ensures err { IfErr result (λ fault. (session : SessionValue) → HasReadLines self.now (session_lines session)
             → IsSession session → HasSessionFault self.now.text.now fault) }
     {
         if self.at < self.text.len() {

@@ -1,11 +1,11 @@
 use Rattle.std.proofs.Common.{◌≤◌}
 use Rattle.std.specs.Prelude.{vec_capacity}
 use Rattle.std.specs.List.{flat_map}
-use Rattle.checkpoint.specs.Body.{entry_bytes}
-use Rattle.checkpoint.specs.Reading.{AreMany, Begins, FitsEntry}
+use Rattle.checkpoint.specs.Body.{body_entry_bytes}
+use Rattle.checkpoint.specs.Spellings.{AreManyForSpelling, BeginsWithSpelling, EntryFitsSpelling}
 use Rattle.checkpoint.proofs.decoding.read_entries.Given as goal
 
 abbrev pub invariant-loop-place : goal.invariant-loop-place
 invariant-loop-place l =
     (l.capacity ≤ vec_capacity l.entries)
-    × Begins (flat_map entry_bytes) (AreMany FitsEntry l._place) l.bytes l.entries.items l.rest
+    × BeginsWithSpelling (flat_map body_entry_bytes) (AreManyForSpelling EntryFitsSpelling l._place) l.bytes l.entries.items l.rest

@@ -1,13 +1,13 @@
 use Rattle.std.proofs.Common.{◌≤◌, map, arith}
 use Rattle.std.proofs.lemmas.Result.{err_from_is_err_and}
 use Rattle.prefix_lattice.specs.{most_records}
-use Rattle.shard_state.specs.{total_of}
-use Rattle.checkpoint.specs.Body.{table_bytes}
-use Rattle.checkpoint.specs.Reading.{FitsTable}
-use Rattle.checkpoint.proofs.FaultLemmas.{same_fault}
-use Rattle.checkpoint.proofs.PartLemmas.{tables_are_apart}
-use Rattle.checkpoint.proofs.ReadLemmas.{begins_same}
-use Rattle.checkpoint.proofs.SnapshotLemmas.{entries_in, parts_of, snapshot_is_long, snapshot_parts, snapshot_read}
+use Rattle.shard_state.specs.{snapshot_total}
+use Rattle.checkpoint.specs.Body.{body_table_bytes}
+use Rattle.checkpoint.specs.Spellings.{TableFitsSpelling}
+use Rattle.checkpoint.proofs.DecodeFaultLemmas.{decode_fault_is_same}
+use Rattle.checkpoint.proofs.PrefixFreeLemmas.{tables_are_prefix_free}
+use Rattle.checkpoint.proofs.ReadListLemmas.{read_list_is_same}
+use Rattle.checkpoint.proofs.SnapshotLemmas.{entries_in_snapshot, snapshot_tables_are_alike, snapshot_is_long, snapshot_has_front, snapshot_was_decoded}
 use Rattle.checkpoint.proofs.decoding.read_snapshot.Goals as goal
 
 pub returns-then-bytes-lt8-clause-damaged : goal.returns-then-bytes-lt8-clause-damaged
@@ -18,24 +18,24 @@ pub returns-in_err-tables-clause-damaged : goal.returns-in_err-tables-clause-dam
 returns-in_err-tables-clause-damaged c =
     let p = err_from_is_err_and c.from_residual.result c.from_residual.ensures.1 in
     rw (p.1, p.2) (λ is snapshot rest begins.
-    let parts = snapshot_parts c.args.capacity c.args.bytes.now c.first_number-position.result.1.now rest
+    let parts = snapshot_has_front c.args.capacity c.args.bytes.now c.first_number-position.result.1.now rest
     c.first_number-position.result.0 snapshot (omega arith) c.first_number-position.ensures.spelled begins in
-    c.in_err-tables.ensures.damaged (same_fault _ _ is) snapshot.tables rest parts.tables_begin)
+    c.in_err-tables.ensures.damaged (decode_fault_is_same _ _ is) snapshot.tables rest parts.tables_begin)
 
 pub returns-in_default-clause-damaged : goal.returns-in_default-clause-damaged
 returns-in_default-clause-damaged c = λ is snapshot rest begins.
-    let parts = snapshot_parts c.args.capacity c.args.bytes.now c.first_number-position.result.1.now rest
+    let parts = snapshot_has_front c.args.capacity c.args.bytes.now c.first_number-position.result.1.now rest
     c.first_number-position.result.0 snapshot (omega arith) c.first_number-position.ensures.spelled begins in
-    let same = begins_same table_bytes (FitsTable c.args.capacity) (tables_are_apart c.args.capacity c.requires.most)
-    c.first_number-position.result.1.now c.in_ok-tables.rest.now rest 25 (map entries_in c.in_ok-tables.tables.items) snapshot.tables
+    let same = read_list_is_same body_table_bytes (TableFitsSpelling c.args.capacity) (tables_are_prefix_free c.args.capacity c.requires.most)
+    c.first_number-position.result.1.now c.in_ok-tables.rest.now rest 25 (map entries_in_snapshot c.in_ok-tables.tables.items) snapshot.tables
     c.in_ok-tables.ensures.read parts.tables_begin in
-    let are = parts_of c.args.capacity snapshot c.in_ok-tables.tables.items begins.fits c.in_ok-tables.ensures.capacity same.0 in
+    let are = snapshot_tables_are_alike c.args.capacity snapshot c.in_ok-tables.tables.items begins.fits c.in_ok-tables.ensures.capacity same.0 in
     let placed : c.first_number-position.result.0 ≤ most_records = omega (arith, parts.position_is, begins.fits.is_snapshot.placed) in
     cc (c.in_default.ensures.accepted.1 (record {
       placed = placed;
       are_tables = record {
         capacity = c.args.capacity;
-        total = total_of snapshot;
+        total = snapshot_total snapshot;
         shape = are.shape;
         alike = λ place table got. let one = are.alike place table got in
             record { same_capacity = one.same_capacity; same_total = one.same_total; keyed = one.keyed };
@@ -44,7 +44,7 @@ returns-in_default-clause-damaged c = λ is snapshot rest begins.
 
 pub returns-clause-read : goal.returns-clause-read
 returns-clause-read c =
-    snapshot_read c.args.capacity c.args.bytes.now c.first_number-position.result.1.now c.in_ok-tables.rest.now
+    snapshot_was_decoded c.args.capacity c.args.bytes.now c.first_number-position.result.1.now c.in_ok-tables.rest.now
     c.first_number-position.result.0 c.in_ok-tables.tables.items c.in-Some.snapshot c.position-kept.ensures.kept
     c.in-Some.ensures.position c.in-Some.ensures.tables c.in_ok-tables.ensures.capacity
     c.first_number-position.ensures.spelled c.in_ok-tables.ensures.read

@@ -1,10 +1,11 @@
 use Rattle.std.proofs.Common.{◌≡◌, length, take}
 use Rattle.std.specs.List.{flat_map}
-use Rattle.checkpoint.specs.Body.{snapshot_bytes}
-use Rattle.checkpoint.specs.Reading.{AreMany, Begins, FitsSnapshot}
+use Rattle.checkpoint.specs.Body.{body_snapshot_bytes}
+use Rattle.checkpoint.specs.Spellings.{AreManyForSpelling, BeginsWithSpelling, SnapshotFitsSpelling}
 use Rattle.checkpoint.proofs.decoding.read_snapshots.Given as goal
 
 abbrev pub invariant-loop-shard : goal.invariant-loop-shard
 invariant-loop-shard l =
     (length l.cut.shards ≡ l.settings.shards) × (l.cut.capacity ≡ l.settings.capacity)
-    × Begins (flat_map snapshot_bytes) (AreMany (FitsSnapshot l.settings.capacity) l.shard) l.bytes (take l.shard l.cut.shards) l.rest
+    × BeginsWithSpelling (flat_map body_snapshot_bytes) (AreManyForSpelling (SnapshotFitsSpelling l.settings.capacity) l.shard) l.bytes
+    (take l.shard l.cut.shards) l.rest

@@ -1,5 +1,5 @@
-use Rattle.checkpoint.proofs.BodyLawLemmas.{bodies_spell_one}
+use Rattle.checkpoint.proofs.OneBodyLemmas.{one_body_spells_one_value}
 use Rattle.checkpoint.proofs.laws.bodies_spell_one.Goals as goal
 
 pub returns : goal.returns
-returns c = bodies_spell_one
+returns c = one_body_spells_one_value

@@ -1,12 +1,12 @@
 use Rattle.std.proofs.Common.{◌≡◌, false, rules, subst, sym}
-use Rattle.checkpoint.specs.Saver.{SaverState, IsStoreFor}
-use Rattle.checkpoint.proofs.SaverLemmas.{closed_by_parts, new_saver_stands}
+use Rattle.checkpoint.specs.Saver.{SaverState, IsSafeForSaver}
+use Rattle.checkpoint.proofs.SaverLemmas.{saver_is_closed_by_parts, new_saver_stands}
 use Rattle.checkpoint.proofs.tests.make_store.Goals as goal
 
 pub returns-clause-stands : goal.returns-clause-stands
 returns-clause-stands g c = λ bytes is.
     let first : c.in_ok-slots.slots.first_open ≡ false = search rules in
     let second : c.in_ok-slots.slots.second_open ≡ false = search rules in
-    subst (λ (s : SaverState). IsStoreFor s (g.D.Disk.image_now c.begin.new.disk) bytes) (sym c.in_ok-new.ensures)
+    subst (λ (s : SaverState). IsSafeForSaver s (g.D.Disk.image_now c.begin.new.disk) bytes) (sym c.in_ok-new.ensures)
     (new_saver_stands _ c.in_ok-slots.slots _ (g.D.Disk.image_now c.begin.new.disk) bytes
-    (closed_by_parts c.in_ok-slots.slots _ first second (search rules)) (c.in_ok-slots.ensures.stands bytes is))
+    (saver_is_closed_by_parts c.in_ok-slots.slots _ first second (search rules)) (c.in_ok-slots.ensures.stands bytes is))

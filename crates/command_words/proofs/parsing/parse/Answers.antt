@@ -2,7 +2,7 @@ use Rattle.std.proofs.Common.{◌≡◌, ◌∙◌, true≢false, ap, sym}
 use Rattle.clap.specs.Words.{App, is_simple, matches_of, takes}
 use Rattle.clap.specs.declared.error.kind.ErrorKind.TheVariants.{OutOfMemory}
 use Rattle.command_words.specs.Words.{texts}
-use Rattle.command_words.proofs.ParserLemmas.{rows_tell, simple_parser, well_formed_found, well_formed_taken}
+use Rattle.command_words.proofs.ParserLemmas.{parser_found_tells_arguments, simple_parser, parser_finds_well_formed, parser_takes_well_formed}
 use Rattle.command_words.proofs.parsing.parse.Goals as goal
 
 -- the parser takes well-formed words, so that it fails for want of memory alone
@@ -11,7 +11,7 @@ unreachable-requires c =
     let words = texts c.args.behind.now in
     let taken =
     ap (λ (app : App). takes app words) c.in_ok-parser_of.ensures
-    ∙ well_formed_taken c.args.command words c.requires.0 c.requires.1 in
+    ∙ parser_takes_well_formed c.args.command words c.requires.0 c.requires.1 in
     let kind : c.kind.result ≡ OutOfMemory = c.kind.ensures ∙ c.in-Err.ensures.passes taken in
     true≢false (sym (rw kind at c.eq.ensures) ∙ c.if-eq.false)
 
@@ -22,5 +22,5 @@ returns-in-Ok c arguments well_formed =
     let simple = ap is_simple c.in_ok-parser_of.ensures ∙ simple_parser c.args.command in
     let found =
     ap (λ (app : App). matches_of app words) c.in_ok-parser_of.ensures
-    ∙ well_formed_found c.args.command words arguments well_formed in
-    rows_tell c.args.command arguments c.in-Ok.matches well_formed.of_form ((c.in-Ok.ensures.matches simple).0 ∙ found)
+    ∙ parser_finds_well_formed c.args.command words arguments well_formed in
+    parser_found_tells_arguments c.args.command arguments c.in-Ok.matches well_formed.of_form ((c.in-Ok.ensures.matches simple).0 ∙ found)

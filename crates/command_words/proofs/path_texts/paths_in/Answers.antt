@@ -1,15 +1,15 @@
 -- What `clap` found for the paths is what the words name.
 use Rattle.std.proofs.Common.{[], arith, codes, subst, sym}
 use Rattle.command_words.specs.Forms.{form_of}
-use Rattle.command_words.specs.Paths.{NamesPath}
-use Rattle.command_words.proofs.MatchLemmas.{told_names_path}
+use Rattle.command_words.specs.NamedPaths.{NamesPath}
+use Rattle.command_words.proofs.MatchLemmas.{matches_tell_named_path}
 use Rattle.command_words.proofs.path_texts.paths_in.Goals as goal
 
 pub returns-clause-ok : goal.returns-clause-ok
 returns-clause-ok c =
     let line = c.in_ok-line.line in
     let tells = c.in_ok-line.ensures.told in
-    let names = told_names_path line.word tells.arguments line.matches in
+    let names = matches_tell_named_path line.word tells.arguments line.matches in
     let is_named = NamesPath (form_of line.word) tells.arguments in
     record {
       command = line.word;

@@ -4,22 +4,22 @@ use Rattle.std.proofs.lemmas.Result.{err_from_is_err_and, IfErr-weaker, IfOk-wea
 use Rattle.command_words.specs.Matches.{values_in_matches, store_in_matches}
 use Rattle.command_words.specs.Words.{AskFor, HasWordsFault}
 use Rattle.command_words.specs.declared.command_word.CommandWord.TheVariants.{Demo}
-use Rattle.command_words.proofs.MatchLemmas.{told_demo, told_fault, told_narrow}
-use Rattle.command_words.proofs.OneValueFaultLemmas.{given_are_good}
+use Rattle.command_words.proofs.MatchLemmas.{matches_tell_demo, matches_tell_fault, matches_tell_narrow_settings}
+use Rattle.command_words.proofs.OneValueFaultLemmas.{given_values_have_no_fault}
 use Rattle.command_words.proofs.reading.demo_command.Goals as goal
 
 pub returns-in_err-given-clause-err : goal.returns-in_err-given-clause-err
 returns-in_err-given-clause-err c = λ words tells.
     let p = err_from_is_err_and c.from_residual.result c.from_residual.ensures.1 in
     rw (p.1, p.2)
-    (told_fault words Demo c.args.matches.now tells c.in_err-given.field-0.0 tt c.in_err-given.ensures.err)
+    (matches_tell_fault words Demo c.args.matches.now tells c.in_err-given.field-0.0 tt c.in_err-given.ensures.err)
 
 pub returns-clause-ok : goal.returns-clause-ok
 returns-clause-ok c = λ words tells.
     IfOk-weaker c.demo_of.result _ (AskFor words)
     (λ asked is.
     subst (λ command. AskFor words command) (sym is.0)
-    (told_demo words c.args.matches.now tells c.in_ok-given.given c.in_ok-given.ensures.ok is.1))
+    (matches_tell_demo words c.args.matches.now tells c.in_ok-given.given c.in_ok-given.ensures.ok is.1))
     c.demo_of.ensures.ok
 
 pub returns-clause-err : goal.returns-clause-err
@@ -29,7 +29,7 @@ returns-clause-err c = λ words tells.
     let gives = c.in_ok-given.ensures.ok in
     IfErr-weaker c.demo_of.result _ (HasWordsFault words)
     (λ kind bad.
-    told_narrow words Demo matches tells given.settings kind tt
-    (given_are_good (values_in_matches matches) (store_in_matches matches) given gives) gives.settings_set
+    matches_tell_narrow_settings words Demo matches tells given.settings kind tt
+    (given_values_have_no_fault (values_in_matches matches) (store_in_matches matches) given gives) gives.settings_set
     bad.0 bad.1)
     c.demo_of.ensures.err

@@ -2,34 +2,35 @@
 use Rattle.std.proofs.Common.{sym, ◌∙◌}
 use Rattle.std.proofs.lemmas.Bool.{false≢true}
 use Rattle.command_words.specs.Words.{texts}
-use Rattle.command_words.proofs.FirstWordLemmas.{unknown_first, refused_behind, tells_behind, told_as_bad, of_same_form}
+use Rattle.command_words.proofs.FirstWordLemmas.{unknown_first_word_is_fault, refused_behind_first_word, matches_behind_first_word, first_word_fault_is_told, same_form_by_first_word}
 use Rattle.command_words.proofs.reading.read_line.Goals as goal
 
 pub returns-in_default-of-clause-bad : goal.returns-in_default-of-clause-bad
 returns-in_default-of-clause-bad c = λ kind same.
-    told_as_bad _ _ kind
-    (unknown_first c.args.words.now c.in-Some.first.now c.in-Some.behind.now c.in-Some.ensures.cases.0
+    first_word_fault_is_told _ _ kind
+    (unknown_first_word_is_fault c.args.words.now c.in-Some.first.now c.in-Some.behind.now c.in-Some.ensures.cases.0
     c.in_default-of.ensures.none) same
 
 pub returns-then-not-are_well_formed-clause-bad : goal.returns-then-not-are_well_formed-clause-bad
 returns-then-not-are_well_formed-clause-bad c = λ kind same.
-    told_as_bad _ _ kind
-    (refused_behind c.args.words.now c.in-Some.first.now c.in-Some.behind.now c.in-Some-of.word
+    first_word_fault_is_told _ _ kind
+    (refused_behind_first_word c.args.words.now c.in-Some.first.now c.in-Some.behind.now c.in-Some-of.word
     c.in-Some.ensures.cases.0 c.in-Some-of.ensures.some
-    (λ arguments well. false≢true (sym c.if-not-are_well_formed.true ∙ (of_same_form _ _ _ _ c.form.ensures c.are_well_formed.ensures).1 (arguments, well))))
+    (λ arguments well. false≢true (sym c.if-not-are_well_formed.true ∙ (same_form_by_first_word _ _ _ _ c.form.ensures c.are_well_formed.ensures).1
+    (arguments, well))))
     same
 
 pub command_of-requires : goal.command_of-requires
 command_of-requires c = (
   texts c.args.words.now,
-  tells_behind c.args.words.now c.in-Some.first.now c.in-Some.behind.now c.in-Some-of.word
+  matches_behind_first_word c.args.words.now c.in-Some.first.now c.in-Some.behind.now c.in-Some-of.word
       c.in_ok-matches.matches c.in-Some.ensures.cases.0 c.in-Some-of.ensures.some
-      ((of_same_form _ _ _ _ c.form.ensures c.are_well_formed.ensures).0 c.if-not-are_well_formed.false) c.in_ok-matches.ensures,
+      ((same_form_by_first_word _ _ _ _ c.form.ensures c.are_well_formed.ensures).0 c.if-not-are_well_formed.false) c.in_ok-matches.ensures,
 )
 
 pub returns-clause-ok : goal.returns-clause-ok
 returns-clause-ok c =
     c.in_ok-command_of.ensures.ok (texts c.args.words.now)
-    (tells_behind c.args.words.now c.in-Some.first.now c.in-Some.behind.now c.in-Some-of.word
+    (matches_behind_first_word c.args.words.now c.in-Some.first.now c.in-Some.behind.now c.in-Some-of.word
     c.in_ok-matches.matches c.in-Some.ensures.cases.0 c.in-Some-of.ensures.some
-    ((of_same_form _ _ _ _ c.form.ensures c.are_well_formed.ensures).0 c.if-not-are_well_formed.false) c.in_ok-matches.ensures)
+    ((same_form_by_first_word _ _ _ _ c.form.ensures c.are_well_formed.ensures).0 c.if-not-are_well_formed.false) c.in_ok-matches.ensures)

@@ -1,22 +1,22 @@
 -- What `clap` found for SRC and DST are the two sides of the words.
 use Rattle.std.proofs.Common.{refl}
 use Rattle.std.proofs.lemmas.Result.{err_from_is_err_and}
-use Rattle.command_words.specs.Words.{HasSides}
+use Rattle.command_words.specs.Words.{WordsHaveSides}
 use Rattle.command_words.specs.declared.command_word.CommandWord.TheVariants.{Weigh}
-use Rattle.command_words.proofs.MatchLemmas.{told_sides, told_is_found, told_settings, told_fault, found_sides}
+use Rattle.command_words.proofs.MatchLemmas.{matches_tell_sides, match_told_is_found, matches_tell_settings, matches_tell_fault, matches_found_are_sides}
 use Rattle.command_words.proofs.reading.weigh_command.Goals as goal
 
 pub unwrap-source-requires : goal.unwrap-source-requires
 unwrap-source-requires c =
     let tells = c.requires.1 in
-    let told = told_sides tells.arguments c.args.matches.now tells.are_words.well_formed.of_form.as_many tells.told in
-    told_is_found c.get_str.result _ told.first c.get_str.ensures told.first_told
+    let told = matches_tell_sides tells.arguments c.args.matches.now tells.are_words.well_formed.of_form.as_many tells.told in
+    match_told_is_found c.get_str.result _ told.first c.get_str.ensures told.first_told
 
 pub unwrap-dest-requires : goal.unwrap-dest-requires
 unwrap-dest-requires c =
     let tells = c.requires.1 in
-    let told = told_sides tells.arguments c.args.matches.now tells.are_words.well_formed.of_form.as_many tells.told in
-    told_is_found c.get_str-2.result _ told.second c.get_str-2.ensures told.second_told
+    let told = matches_tell_sides tells.arguments c.args.matches.now tells.are_words.well_formed.of_form.as_many tells.told in
+    match_told_is_found c.get_str-2.result _ told.second c.get_str-2.ensures told.second_told
 
 pub returns-in-Err-clause-err : goal.returns-in-Err-clause-err
 returns-in-Err-clause-err c = λ words tells. record {
@@ -25,7 +25,7 @@ returns-in-Err-clause-err c = λ words tells. record {
   source = c.as_bytes.result.now;
   dest = c.as_bytes-2.result.now;
   sides =
-      found_sides words c.args.matches.now tells c.get_str.result c.get_str-2.result c.unwrap-source.result
+      matches_found_are_sides words c.args.matches.now tells c.get_str.result c.get_str-2.result c.unwrap-source.result
       c.unwrap-dest.result c.get_str.ensures c.get_str-2.ensures c.unwrap-source.ensures
       c.unwrap-dest.ensures _ _ c.as_bytes.ensures.value c.as_bytes-2.ensures.value;
   has_fault = (c.in-Err.ensures.fault c.in-Err.fault).0 refl;
@@ -33,13 +33,13 @@ returns-in-Err-clause-err c = λ words tells. record {
 
 pub returns-in_err-settings-clause-err : goal.returns-in_err-settings-clause-err
 returns-in_err-settings-clause-err c = λ words tells.
-    let sides : HasSides tells.arguments c.as_bytes.result.now c.as_bytes-2.result.now =
-    found_sides words c.args.matches.now tells c.get_str.result c.get_str-2.result c.unwrap-source.result
+    let sides : WordsHaveSides tells.arguments c.as_bytes.result.now c.as_bytes-2.result.now =
+    matches_found_are_sides words c.args.matches.now tells c.get_str.result c.get_str-2.result c.unwrap-source.result
     c.unwrap-dest.result c.get_str.ensures c.get_str-2.ensures
     c.unwrap-source.ensures c.unwrap-dest.ensures _ _ c.as_bytes.ensures.value c.as_bytes-2.ensures.value in
     let p = err_from_is_err_and c.from_residual.result c.from_residual.ensures.1 in
     rw (p.1, p.2)
-    (told_fault words Weigh c.args.matches.now tells c.in_err-settings.field-0.0 (
+    (matches_tell_fault words Weigh c.args.matches.now tells c.in_err-settings.field-0.0 (
       c.as_bytes.result.now,
       c.as_bytes-2.result.now,
       sides,
@@ -54,11 +54,11 @@ returns-clause-ok c = λ words tells. record {
   source = c.as_bytes.result.now;
   dest = c.as_bytes-2.result.now;
   sides =
-      found_sides words c.args.matches.now tells c.get_str.result c.get_str-2.result c.unwrap-source.result
+      matches_found_are_sides words c.args.matches.now tells c.get_str.result c.get_str-2.result c.unwrap-source.result
       c.unwrap-dest.result c.get_str.ensures c.get_str-2.ensures c.unwrap-source.ensures
       c.unwrap-dest.ensures _ _ c.as_bytes.ensures.value c.as_bytes-2.ensures.value;
   spelled = (c.in-Ok.ensures.ok c.in-Ok.prefix).0 refl;
   set =
-      told_settings Weigh tells.arguments c.args.matches.now c.in_ok-settings.settings tells.told
+      matches_tell_settings Weigh tells.arguments c.args.matches.now c.in_ok-settings.settings tells.told
       c.in_ok-settings.ensures.ok;
 }

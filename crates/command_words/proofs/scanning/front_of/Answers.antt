@@ -1,27 +1,27 @@
 use Rattle.std.proofs.Common.{refl, sym, ap, ◌∙◌, arith, subst, Some, None}
 use Rattle.std.proofs.lemmas.Str.Pattern.{split_parts}
-use Rattle.command_words.specs.Arguments.{positional, option, equals_sign, IsValue, long}
+use Rattle.command_words.specs.Arguments.{positional, option, argument_equals_sign, IsArgumentValue, long}
 use Rattle.command_words.specs.Words.{texts}
-use Rattle.command_words.proofs.WordFrontLemmas.{given_if, none_unless, none_given, none_behind, is_name, is_long}
-use Rattle.command_words.proofs.WordFrontLemmas.{begins_positional, begins_joined, begins_apart}
-use Rattle.command_words.proofs.WordFrontLemmas.{no_positional_begins, no_joined_begins, no_apart_begins}
-use Rattle.command_words.proofs.OneReadingLemmas.{same_head}
+use Rattle.command_words.proofs.WordFrontLemmas.{word_front_given_if_true, no_word_front_unless_true, no_word_front_if_none, nothing_behind_word_front, name_at_word_front, stripped_word_front_is_long}
+use Rattle.command_words.proofs.WordFrontLemmas.{positional_at_word_front, joined_option_at_word_front, apart_option_at_word_front}
+use Rattle.command_words.proofs.WordFrontLemmas.{no_positional_at_word_front, no_joined_word_front, no_apart_word_front}
+use Rattle.command_words.proofs.OneReadingLemmas.{one_reading_of_head}
 use Rattle.command_words.proofs.scanning.front_of.Goals as goal
 
 pub returns-in_default-clause-some : goal.returns-in_default-clause-some
 returns-in_default-clause-some c =
-    given_if _ _ _ _ c.then_some.ensures
+    word_front_given_if_true _ _ _ _ c.then_some.ensures
     (λ test. (
       positional c.in_ok-word.word.now.now,
-      begins_positional _ _ _ c.in_ok-word.ensures.cases.0 (c.is_value.ensures.0 test),
+      positional_at_word_front _ _ _ c.in_ok-word.ensures.cases.0 (c.is_value.ensures.0 test),
       refl,
     ))
 
 pub returns-in_default-clause-none : goal.returns-in_default-clause-none
 returns-in_default-clause-none c =
-    none_unless _ _ _ _ c.then_some.ensures
+    no_word_front_unless_true _ _ _ _ c.then_some.ensures
     (λ fails.
-    no_positional_begins _ _ _ c.in_ok-word.ensures.cases.0 c.in_default.ensures.cases
+    no_positional_at_word_front _ _ _ c.in_ok-word.ensures.cases.0 c.in_default.ensures.cases
     (λ is_value. fails (c.is_value.ensures.1 is_value)))
 
 pub returns-in-Some-split_once-clause-some : goal.returns-in-Some-split_once-clause-some
@@ -29,13 +29,13 @@ returns-in-Some-split_once-clause-some c =
     let name = c.in-Some-split_once.name.now in let value = c.in-Some-split_once.value.now in
     let stripped = c.in-Some.ensures.cases in
     let parts =
-    split_parts equals_sign c.in-Some.text.now (Some (c.in-Some-split_once.name, c.in-Some-split_once.value))
+    split_parts argument_equals_sign c.in-Some.text.now (Some (c.in-Some-split_once.name, c.in-Some-split_once.value))
     c.in-Some-split_once.ensures.cases (omega arith) in
-    given_if _ _ _ _ c.then_some-in-Some-split_once.ensures
+    word_front_given_if_true _ _ _ _ c.then_some-in-Some-split_once.ensures
     (λ test. (
       option name value,
-      begins_joined _ _ _ name value c.in_ok-word.ensures.cases.0
-          (is_long _ _ _ stripped.1.1 stripped.2 ∙ ap long parts.0) (is_name name parts.1)
+      joined_option_at_word_front _ _ _ name value c.in_ok-word.ensures.cases.0
+          (stripped_word_front_is_long _ _ _ stripped.1.1 stripped.2 ∙ ap long parts.0) (name_at_word_front name parts.1)
           (c.is_value-in-Some-split_once.ensures.0 test),
       refl,
     ))
@@ -45,41 +45,41 @@ returns-in-Some-split_once-clause-none c =
     let name = c.in-Some-split_once.name.now in let value = c.in-Some-split_once.value.now in
     let stripped = c.in-Some.ensures.cases in
     let parts =
-    split_parts equals_sign c.in-Some.text.now (Some (c.in-Some-split_once.name, c.in-Some-split_once.value))
+    split_parts argument_equals_sign c.in-Some.text.now (Some (c.in-Some-split_once.name, c.in-Some-split_once.value))
     c.in-Some-split_once.ensures.cases (omega arith) in
-    none_unless _ _ _ _ c.then_some-in-Some-split_once.ensures
-    (λ fails. no_joined_begins _ _ _ name value c.in_ok-word.ensures.cases.0
-    (is_long _ _ _ stripped.1.1 stripped.2 ∙ ap long parts.0) (is_name name parts.1)
+    no_word_front_unless_true _ _ _ _ c.then_some-in-Some-split_once.ensures
+    (λ fails. no_joined_word_front _ _ _ name value c.in_ok-word.ensures.cases.0
+    (stripped_word_front_is_long _ _ _ stripped.1.1 stripped.2 ∙ ap long parts.0) (name_at_word_front name parts.1)
     (λ is_value. fails (c.is_value-in-Some-split_once.ensures.1 is_value)))
 
 pub returns-in_err-value-clause-none : goal.returns-in_err-value-clause-none
 returns-in_err-value-clause-none c =
     let stripped = c.in-Some.ensures.cases in
-    let lacks = split_parts equals_sign c.in-Some.text.now None c.in_default-split_once.ensures.cases (omega arith) in
-    none_given _ _ c.from_residual-in_err-value.ensures
-    (no_apart_begins _ _ _ c.in-Some.text.now c.in_ok-word.ensures.cases.0 (is_long _ _ _ stripped.1.1 stripped.2)
-    (is_name _ lacks)
-    (λ value rest are is_value. none_behind _ c.in_err-value.ensures.cases value rest are))
+    let lacks = split_parts argument_equals_sign c.in-Some.text.now None c.in_default-split_once.ensures.cases (omega arith) in
+    no_word_front_if_none _ _ c.from_residual-in_err-value.ensures
+    (no_apart_word_front _ _ _ c.in-Some.text.now c.in_ok-word.ensures.cases.0 (stripped_word_front_is_long _ _ _ stripped.1.1 stripped.2)
+    (name_at_word_front _ lacks)
+    (λ value rest are is_value. nothing_behind_word_front _ c.in_err-value.ensures.cases value rest are))
 
 pub returns-clause-some : goal.returns-clause-some
 returns-clause-some c =
     let stripped = c.in-Some.ensures.cases in
-    let lacks = split_parts equals_sign c.in-Some.text.now None c.in_default-split_once.ensures.cases (omega arith) in
-    given_if _ _ _ _ c.then_some-2.ensures
+    let lacks = split_parts argument_equals_sign c.in-Some.text.now None c.in_default-split_once.ensures.cases (omega arith) in
+    word_front_given_if_true _ _ _ _ c.then_some-2.ensures
     (λ test. (
       option c.in-Some.text.now c.in_ok-value.value.now.now,
-      begins_apart _ _ _ _ _ c.in-Some.text.now c.in_ok-word.ensures.cases.0 c.in_ok-value.ensures.cases.0
-          (is_long _ _ _ stripped.1.1 stripped.2) (is_name _ lacks) (c.is_value-2.ensures.0 test),
+      apart_option_at_word_front _ _ _ _ _ c.in-Some.text.now c.in_ok-word.ensures.cases.0 c.in_ok-value.ensures.cases.0
+          (stripped_word_front_is_long _ _ _ stripped.1.1 stripped.2) (name_at_word_front _ lacks) (c.is_value-2.ensures.0 test),
       refl,
     ))
 
 pub returns-clause-none : goal.returns-clause-none
 returns-clause-none c =
     let stripped = c.in-Some.ensures.cases in
-    let lacks = split_parts equals_sign c.in-Some.text.now None c.in_default-split_once.ensures.cases (omega arith) in
-    none_unless _ _ _ _ c.then_some-2.ensures
-    (λ fails. no_apart_begins _ _ _ c.in-Some.text.now c.in_ok-word.ensures.cases.0
-    (is_long _ _ _ stripped.1.1 stripped.2) (is_name _ lacks)
+    let lacks = split_parts argument_equals_sign c.in-Some.text.now None c.in_default-split_once.ensures.cases (omega arith) in
+    no_word_front_unless_true _ _ _ _ c.then_some-2.ensures
+    (λ fails. no_apart_word_front _ _ _ c.in-Some.text.now c.in_ok-word.ensures.cases.0
+    (stripped_word_front_is_long _ _ _ stripped.1.1 stripped.2) (name_at_word_front _ lacks)
     (λ value rest are is_value. fails
     (c.is_value-2.ensures.1
-    (subst IsValue (sym (same_head _ _ _ _ (sym (ap texts c.in_ok-value.ensures.cases.0) ∙ are))) is_value))))
+    (subst IsArgumentValue (sym (one_reading_of_head _ _ _ _ (sym (ap texts c.in_ok-value.ensures.cases.0) ∙ are))) is_value))))

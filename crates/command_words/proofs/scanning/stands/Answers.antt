@@ -1,34 +1,34 @@
 use Rattle.std.proofs.Common.{◌≤◌, ◌-◌, refl, sym, ◌∙◌, length, arith}
 use Rattle.std.proofs.lemmas.Bool.{false≢true}
 use Rattle.std.proofs.lemmas.List.{length-drop, take_rest}
-use Rattle.command_words.proofs.ArgumentTailLemmas.{begins_from, none_from, leaves_others, stands_here, stands_nowhere}
+use Rattle.command_words.proofs.ArgumentTailLemmas.{argument_begins_tail_range, no_argument_begins_tail_range, next_argument_tail_keeps_name, name_stands_before_argument_tail, empty_argument_tail_lacks_name}
 use Rattle.command_words.proofs.scanning.stands.Goals as goal
 
 pub returns-then-names : goal.returns-then-names
 returns-then-names c =
-    let front = begins_from c.args.words.now c.fronts.from c.in-Some.front.words _ c.in-Some.ensures.some in
+    let front = argument_begins_tail_range c.args.words.now c.fronts.from c.in-Some.front.words _ c.in-Some.ensures.some in
     λ arguments spelled. (
       λ _.
-          stands_here _ _ front.0 arguments _ front.1 (sym front.2 ∙ c.if-names.ensures.0 refl)
+          name_stands_before_argument_tail _ _ front.0 arguments _ front.1 (sym front.2 ∙ c.if-names.ensures.0 refl)
           (c.fronts.invariant.1 arguments spelled),
       λ _. refl,
     )
 
 pub fronts-preserved : goal.fronts-preserved
 fronts-preserved c =
-    let front = begins_from c.args.words.now c.fronts.from c.in-Some.front.words _ c.in-Some.ensures.some in
+    let front = argument_begins_tail_range c.args.words.now c.fronts.from c.in-Some.front.words _ c.in-Some.ensures.some in
     let within : c.in-Some.front.words ≤ length c.args.words.now - c.fronts.from =
     simp (take_rest, length-drop) at c.in-Some.ensures.fits.1 in (
       omega arith,
       λ arguments spelled.
-          leaves_others _ _ front.0 arguments _ front.1 (λ is. false≢true (c.if-names.ensures.1 (front.2 ∙ is)))
+          next_argument_tail_keeps_name _ _ front.0 arguments _ front.1 (λ is. false≢true (c.if-names.ensures.1 (front.2 ∙ is)))
           (c.fronts.invariant.1 arguments spelled),
     )
 
 pub returns : goal.returns
 returns c =
-    let never = none_from c.args.words.now c.fronts.from c.in_default.ensures.none in
+    let never = no_argument_begins_tail_range c.args.words.now c.fronts.from c.in_default.ensures.none in
     λ arguments spelled. (
       λ yes. absurd (false≢true yes),
-      λ h. absurd (stands_nowhere _ arguments _ never (c.fronts.invariant.1 arguments spelled) h),
+      λ h. absurd (empty_argument_tail_lacks_name _ arguments _ never (c.fronts.invariant.1 arguments spelled) h),
     )

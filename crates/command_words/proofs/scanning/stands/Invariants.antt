@@ -1,15 +1,15 @@
 use Rattle.std.proofs.Common.{List, length, drop, ◌≤◌, ◌-◌}
-use Rattle.command_words.specs.Arguments.{Argument, SpellsAll}
+use Rattle.command_words.specs.Arguments.{Argument, SpellAllArguments}
 use Rattle.command_words.specs.Words.{texts}
-use Rattle.command_words.proofs.ArgumentTailLemmas.{LeavesNames}
+use Rattle.command_words.proofs.ArgumentTailLemmas.{ArgumentTailKeepsName}
 use Rattle.command_words.proofs.scanning.stands.Given as goal
 
 -- whatever arguments the words spell, the name stands among them just where it stands among those left
 abbrev pub invariant-fronts : goal.invariant-fronts
 invariant-fronts l =
     (l.from ≤ length l.words)
-    × ((arguments : List Argument) → SpellsAll (texts l.words) arguments
-    → LeavesNames (texts (drop l.from l.words)) arguments l.name)
+    × ((arguments : List Argument) → SpellAllArguments (texts l.words) arguments
+    → ArgumentTailKeepsName (texts (drop l.from l.words)) arguments l.name)
 
 abbrev pub decreases-fronts : goal.decreases-fronts
 decreases-fronts l = length l.words - l.from

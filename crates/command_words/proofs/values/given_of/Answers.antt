@@ -3,7 +3,7 @@ use Rattle.std.proofs.Common.{sym}
 use Rattle.std.proofs.lemmas.Result.{err_from_is_err_and}
 use Rattle.command_words.specs.Matches.{values_in_matches}
 use Rattle.command_words.specs.declared.opt.Opt.TheVariants.{Seed, Frames}
-use Rattle.command_words.proofs.ValueLemmas.{good_before_first, good_before_next, number_is_good, number_is_first}
+use Rattle.command_words.proofs.ValueLemmas.{values_before_first_are_good, values_before_next_are_good, numeric_value_is_good, bad_numeric_value_is_first}
 use Rattle.command_words.proofs.values.given_of.Goals as goal
 
 pub returns-in_err-seed-clause-err : goal.returns-in_err-seed-clause-err
@@ -11,14 +11,14 @@ returns-in_err-seed-clause-err c =
     let values = values_in_matches c.args.matches.now in
     let p = err_from_is_err_and c.from_residual.result c.from_residual.ensures.1 in
     rw (p.1, p.2)
-    (number_is_first values Seed _ _ (sym c.text_of.ensures) (good_before_first values) c.in_err-seed.ensures.err)
+    (bad_numeric_value_is_first values Seed _ _ (sym c.text_of.ensures) (values_before_first_are_good values) c.in_err-seed.ensures.err)
 
 pub returns-in_err-frames-clause-err : goal.returns-in_err-frames-clause-err
 returns-in_err-frames-clause-err c =
     let values = values_in_matches c.args.matches.now in
     let before_frames =
-    good_before_next values Seed _ (sym c.text_of.ensures) (good_before_first values)
-    (number_is_good Seed 0 _ _ c.in_ok-seed.ensures.ok) in
+    values_before_next_are_good values Seed _ (sym c.text_of.ensures) (values_before_first_are_good values)
+    (numeric_value_is_good Seed 0 _ _ c.in_ok-seed.ensures.ok) in
     let p = err_from_is_err_and c.from_residual-in_err-frames.result c.from_residual-in_err-frames.ensures.1 in
     rw (p.1, p.2)
-    (number_is_first values Frames _ _ (sym c.text_of-2.ensures) before_frames c.in_err-frames.ensures.err)
+    (bad_numeric_value_is_first values Frames _ _ (sym c.text_of-2.ensures) before_frames c.in_err-frames.ensures.err)

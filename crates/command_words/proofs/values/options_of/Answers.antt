@@ -3,8 +3,8 @@ use Rattle.std.proofs.Common.{sym}
 use Rattle.std.proofs.lemmas.Result.{err_from_is_err_and}
 use Rattle.command_words.specs.Matches.{values_in_matches}
 use Rattle.command_words.specs.declared.opt.Opt.TheVariants.{Weigh, Shards, Capacity, Phi, Deal}
-use Rattle.command_words.proofs.ValueLemmas.{good_before_next, weigh_is_good, number_is_good, deal_is_good}
-use Rattle.command_words.proofs.ValueLemmas.{number_is_first, choice_is_first}
+use Rattle.command_words.proofs.ValueLemmas.{values_before_next_are_good, weigh_value_is_good, numeric_value_is_good, deal_value_is_good}
+use Rattle.command_words.proofs.ValueLemmas.{bad_numeric_value_is_first, bad_choice_value_is_first}
 use Rattle.command_words.proofs.values.options_of.Goals as goal
 
 pub returns-in_err-weigh-clause-err : goal.returns-in_err-weigh-clause-err
@@ -12,78 +12,78 @@ returns-in_err-weigh-clause-err c =
     let values = values_in_matches c.args.matches.now in
     let p = err_from_is_err_and c.from_residual.result c.from_residual.ensures.1 in
     rw (p.1, p.2)
-    (choice_is_first values Weigh _ _ (sym c.text_of.ensures) c.requires
+    (bad_choice_value_is_first values Weigh _ _ (sym c.text_of.ensures) c.requires
     c.in_err-weigh.ensures.err)
 
 pub returns-in_err-shards-clause-err : goal.returns-in_err-shards-clause-err
 returns-in_err-shards-clause-err c =
     let values = values_in_matches c.args.matches.now in
     let before_shards =
-    good_before_next values Weigh _ (sym c.text_of.ensures) c.requires
-    (weigh_is_good _ _ c.in_ok-weigh.ensures.ok) in
+    values_before_next_are_good values Weigh _ (sym c.text_of.ensures) c.requires
+    (weigh_value_is_good _ _ c.in_ok-weigh.ensures.ok) in
     let p = err_from_is_err_and c.from_residual-in_err-shards.result c.from_residual-in_err-shards.ensures.1 in
     rw (p.1, p.2)
-    (number_is_first values Shards _ _ (sym c.text_of-2.ensures) before_shards c.in_err-shards.ensures.err)
+    (bad_numeric_value_is_first values Shards _ _ (sym c.text_of-2.ensures) before_shards c.in_err-shards.ensures.err)
 
 pub returns-in_err-capacity-clause-err : goal.returns-in_err-capacity-clause-err
 returns-in_err-capacity-clause-err c =
     let values = values_in_matches c.args.matches.now in
     let before_shards =
-    good_before_next values Weigh _ (sym c.text_of.ensures) c.requires
-    (weigh_is_good _ _ c.in_ok-weigh.ensures.ok) in
+    values_before_next_are_good values Weigh _ (sym c.text_of.ensures) c.requires
+    (weigh_value_is_good _ _ c.in_ok-weigh.ensures.ok) in
     let before_capacity =
-    good_before_next values Shards _ (sym c.text_of-2.ensures) before_shards
-    (number_is_good Shards 4 _ _ c.in_ok-shards.ensures.ok) in
+    values_before_next_are_good values Shards _ (sym c.text_of-2.ensures) before_shards
+    (numeric_value_is_good Shards 4 _ _ c.in_ok-shards.ensures.ok) in
     let p = err_from_is_err_and c.from_residual-in_err-capacity.result c.from_residual-in_err-capacity.ensures.1 in
     rw (p.1, p.2)
-    (number_is_first values Capacity _ _ (sym c.text_of-3.ensures) before_capacity c.in_err-capacity.ensures.err)
+    (bad_numeric_value_is_first values Capacity _ _ (sym c.text_of-3.ensures) before_capacity c.in_err-capacity.ensures.err)
 
 pub returns-in_err-phi-clause-err : goal.returns-in_err-phi-clause-err
 returns-in_err-phi-clause-err c =
     let values = values_in_matches c.args.matches.now in
     let before_shards =
-    good_before_next values Weigh _ (sym c.text_of.ensures) c.requires
-    (weigh_is_good _ _ c.in_ok-weigh.ensures.ok) in
+    values_before_next_are_good values Weigh _ (sym c.text_of.ensures) c.requires
+    (weigh_value_is_good _ _ c.in_ok-weigh.ensures.ok) in
     let before_capacity =
-    good_before_next values Shards _ (sym c.text_of-2.ensures) before_shards
-    (number_is_good Shards 4 _ _ c.in_ok-shards.ensures.ok) in
+    values_before_next_are_good values Shards _ (sym c.text_of-2.ensures) before_shards
+    (numeric_value_is_good Shards 4 _ _ c.in_ok-shards.ensures.ok) in
     let before_phi =
-    good_before_next values Capacity _ (sym c.text_of-3.ensures) before_capacity
-    (number_is_good Capacity 512 _ _ c.in_ok-capacity.ensures.ok) in
+    values_before_next_are_good values Capacity _ (sym c.text_of-3.ensures) before_capacity
+    (numeric_value_is_good Capacity 512 _ _ c.in_ok-capacity.ensures.ok) in
     let p = err_from_is_err_and c.from_residual-in_err-phi.result c.from_residual-in_err-phi.ensures.1 in
-    rw (p.1, p.2) (number_is_first values Phi _ _ (sym c.text_of-4.ensures) before_phi c.in_err-phi.ensures.err)
+    rw (p.1, p.2) (bad_numeric_value_is_first values Phi _ _ (sym c.text_of-4.ensures) before_phi c.in_err-phi.ensures.err)
 
 pub returns-in_err-deal-clause-err : goal.returns-in_err-deal-clause-err
 returns-in_err-deal-clause-err c =
     let values = values_in_matches c.args.matches.now in
     let before_shards =
-    good_before_next values Weigh _ (sym c.text_of.ensures) c.requires
-    (weigh_is_good _ _ c.in_ok-weigh.ensures.ok) in
+    values_before_next_are_good values Weigh _ (sym c.text_of.ensures) c.requires
+    (weigh_value_is_good _ _ c.in_ok-weigh.ensures.ok) in
     let before_capacity =
-    good_before_next values Shards _ (sym c.text_of-2.ensures) before_shards
-    (number_is_good Shards 4 _ _ c.in_ok-shards.ensures.ok) in
+    values_before_next_are_good values Shards _ (sym c.text_of-2.ensures) before_shards
+    (numeric_value_is_good Shards 4 _ _ c.in_ok-shards.ensures.ok) in
     let before_phi =
-    good_before_next values Capacity _ (sym c.text_of-3.ensures) before_capacity
-    (number_is_good Capacity 512 _ _ c.in_ok-capacity.ensures.ok) in
+    values_before_next_are_good values Capacity _ (sym c.text_of-3.ensures) before_capacity
+    (numeric_value_is_good Capacity 512 _ _ c.in_ok-capacity.ensures.ok) in
     let before_deal =
-    good_before_next values Phi _ (sym c.text_of-4.ensures) before_phi
-    (number_is_good Phi 10000 _ _ c.in_ok-phi.ensures.ok) in
+    values_before_next_are_good values Phi _ (sym c.text_of-4.ensures) before_phi
+    (numeric_value_is_good Phi 10000 _ _ c.in_ok-phi.ensures.ok) in
     let p = err_from_is_err_and c.from_residual-in_err-deal.result c.from_residual-in_err-deal.ensures.1 in
-    rw (p.1, p.2) (choice_is_first values Deal _ _ (sym c.text_of-5.ensures) before_deal c.in_err-deal.ensures.err)
+    rw (p.1, p.2) (bad_choice_value_is_first values Deal _ _ (sym c.text_of-5.ensures) before_deal c.in_err-deal.ensures.err)
 
 pub running_of-requires : goal.running_of-requires
 running_of-requires c =
     let values = values_in_matches c.args.matches.now in
     let before_shards =
-    good_before_next values Weigh _ (sym c.text_of.ensures) c.requires
-    (weigh_is_good _ _ c.in_ok-weigh.ensures.ok) in
+    values_before_next_are_good values Weigh _ (sym c.text_of.ensures) c.requires
+    (weigh_value_is_good _ _ c.in_ok-weigh.ensures.ok) in
     let before_capacity =
-    good_before_next values Shards _ (sym c.text_of-2.ensures) before_shards
-    (number_is_good Shards 4 _ _ c.in_ok-shards.ensures.ok) in
+    values_before_next_are_good values Shards _ (sym c.text_of-2.ensures) before_shards
+    (numeric_value_is_good Shards 4 _ _ c.in_ok-shards.ensures.ok) in
     let before_phi =
-    good_before_next values Capacity _ (sym c.text_of-3.ensures) before_capacity
-    (number_is_good Capacity 512 _ _ c.in_ok-capacity.ensures.ok) in
+    values_before_next_are_good values Capacity _ (sym c.text_of-3.ensures) before_capacity
+    (numeric_value_is_good Capacity 512 _ _ c.in_ok-capacity.ensures.ok) in
     let before_deal =
-    good_before_next values Phi _ (sym c.text_of-4.ensures) before_phi
-    (number_is_good Phi 10000 _ _ c.in_ok-phi.ensures.ok) in
-    good_before_next values Deal _ (sym c.text_of-5.ensures) before_deal (deal_is_good _ _ c.in_ok-deal.ensures.ok)
+    values_before_next_are_good values Phi _ (sym c.text_of-4.ensures) before_phi
+    (numeric_value_is_good Phi 10000 _ _ c.in_ok-phi.ensures.ok) in
+    values_before_next_are_good values Deal _ (sym c.text_of-5.ensures) before_deal (deal_value_is_good _ _ c.in_ok-deal.ensures.ok)

@@ -1,6 +1,6 @@
 use Rattle.conditioned_bounds.proofs.BoundLemmas.{bound_of-least, bound_of-most, bound_of-exact}
 use Rattle.conditioned_bounds.specs.Bounds.{bound_of}
-use Rattle.conditioned_bounds.proofs.IntervalSumLemmas.{times_reached}
+use Rattle.conditioned_bounds.proofs.IntervalSumLemmas.{interval_sum-reached}
 use Rattle.conditioned_bounds.proofs.laws.bounds_hold.Goals as goal
 
 pub returns-clause-at_least : goal.returns-clause-at_least
@@ -18,6 +18,6 @@ returns-clause-exact c = λ low high prefix lines records distinct exact.
 
 pub returns-clause-reached : goal.returns-clause-reached
 returns-clause-reached c = λ low high prefix lines records times whole least distinct holds narrow reached.
-    times_reached times _ least (bound_of low high prefix lines) reached
+    interval_sum-reached times _ least (bound_of low high prefix lines) reached
     (bound_of-most low high prefix lines records times whole
     (c.weights_balance.ensures prefix lines records distinct) holds narrow)

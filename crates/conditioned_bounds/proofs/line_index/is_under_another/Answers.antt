@@ -1,49 +1,49 @@
 use Rattle.std.proofs.Common.{◌≡◌, ◌≢◌, true, None, Some, Contains, refl, sym, ap, ◌∙◌}
 use Rattle.std.proofs.Common.{subst}
 use Rattle.std.proofs.lemmas.Bool.{and_from, false≢true}
-use Rattle.prefix_lattice.specs.{node_of, strictly_under}
+use Rattle.prefix_lattice.specs.{node_of_prefix, strictly_under}
 use Rattle.conditioned_bounds.specs.Uppers.{upper_at}
-use Rattle.conditioned_bounds.proofs.UpperLemmas.{same_node, other_node, upper-is}
-use Rattle.conditioned_bounds.proofs.CodeLemmas.{AreOrdered, strictly-by_node}
-use Rattle.conditioned_bounds.proofs.SearchLemmas.{explains, explained, none_more, none_passes, one_passes}
-use Rattle.conditioned_bounds.proofs.SearchLemmas.{own_node_explains_none, no_upper_explains_none, other_explains_none}
+use Rattle.conditioned_bounds.proofs.UpperLemmas.{same_upper_node, other_upper_node, upper-is}
+use Rattle.conditioned_bounds.proofs.CodeLemmas.{CodeOrderHolds, code_above-by_node}
+use Rattle.conditioned_bounds.proofs.SearchLemmas.{search_explains, search_explained, search-one_more_node, search_ends_with_none, search_finds_one}
+use Rattle.conditioned_bounds.proofs.SearchLemmas.{search_own_node-explains_none, search_no_upper-explains_none, search_other-explains_none}
 use Rattle.conditioned_bounds.proofs.line_index.is_under_another.Goals as goal
 
 pub loop-node-preserved-then-eq : goal.loop-node-preserved-then-eq
 loop-node-preserved-then-eq c =
-    let order : AreOrdered = record {
+    let order : CodeOrderHolds = record {
       reflexive = c.prefixes_are_ordered.ensures.reflexive;
       antisymmetric = c.prefixes_are_ordered.ensures.antisymmetric;
       level = c.prefixes_are_ordered.ensures.level;
     } in
-    none_more c.args.lines.now (explains c.args.line.now c.args.prefix.now) c.nodes-node-items.result.now
+    search-one_more_node c.args.lines.now (search_explains c.args.line.now c.args.prefix.now) c.nodes-node-items.result.now
     c.loop-node.node-index c.node-item.result c.loop-node.invariant c.loop-node-test.true c.node-item.is
     (λ member there at.
-    own_node_explains_none order c.args.line.now c.args.prefix.now member
-    (at ∙ same_node c.node-item.result c.node-own.result c.if-eq.ensures ∙ c.node-own.ensures))
+    search_own_node-explains_none order c.args.line.now c.args.prefix.now member
+    (at ∙ same_upper_node c.node-item.result c.node-own.result c.if-eq.ensures ∙ c.node-own.ensures))
 
 pub loop-node-preserved-in_default : goal.loop-node-preserved-in_default
 loop-node-preserved-in_default c =
     let none : upper_at c.args.line.now c.node-item.result ≡ None = sym c.upper.ensures.value ∙ c.in_default.is in
-    none_more c.args.lines.now (explains c.args.line.now c.args.prefix.now) c.nodes-node-items.result.now
+    search-one_more_node c.args.lines.now (search_explains c.args.line.now c.args.prefix.now) c.nodes-node-items.result.now
     c.loop-node.node-index c.node-item.result c.loop-node.invariant c.loop-node-test.true c.node-item.is
     (λ member there at.
-    no_upper_explains_none c.args.line.now c.args.prefix.now member (ap (upper_at c.args.line.now) at ∙ none))
+    search_no_upper-explains_none c.args.line.now c.args.prefix.now member (ap (upper_at c.args.line.now) at ∙ none))
 
 pub loop-node-preserved-then-not-strictly_under : goal.loop-node-preserved-then-not-strictly_under
 loop-node-preserved-then-not-strictly_under c =
     let found : upper_at c.args.line.now c.node-item.result ≡ Some c.in-Some.other =
     sym c.upper.ensures.value ∙ c.in-Some.is in
-    none_more c.args.lines.now (explains c.args.line.now c.args.prefix.now) c.nodes-node-items.result.now
+    search-one_more_node c.args.lines.now (search_explains c.args.line.now c.args.prefix.now) c.nodes-node-items.result.now
     c.loop-node.node-index c.node-item.result c.loop-node.invariant c.loop-node-test.true c.node-item.is
     (λ member there at.
-    other_explains_none c.args.line.now c.args.prefix.now member c.in-Some.other
+    search_other-explains_none c.args.line.now c.args.prefix.now member c.in-Some.other
     (ap (upper_at c.args.line.now) at ∙ found)
     (λ same. sym c.strictly_under.ensures.value ∙ c.if-not-strictly_under.true))
 
 pub returns-then-has : goal.returns-then-has
 returns-then-has c =
-    let order : AreOrdered = record {
+    let order : CodeOrderHolds = record {
       reflexive = c.prefixes_are_ordered.ensures.reflexive;
       antisymmetric = c.prefixes_are_ordered.ensures.antisymmetric;
       level = c.prefixes_are_ordered.ensures.level;
@@ -53,29 +53,29 @@ returns-then-has c =
     let other = c.in-Some.other in
     let found : upper_at line c.node-item.result ≡ Some other = sym c.upper.ensures.value ∙ c.in-Some.is in
     let is = upper-is line other c.node-item.result c.upper.ensures.prefix found in
-    let apart : node_of line ≢ node_of other =
-    λ same. other_node c.node-item.result c.node-own.result c.if-eq.ensures
+    let apart : node_of_prefix line ≢ node_of_prefix other =
+    λ same. other_upper_node c.node-item.result c.node-own.result c.if-eq.ensures
     (sym is.of_node ∙ sym same ∙ sym c.node-own.ensures) in
-    let passes : explains line prefix other ≡ true =
+    let passes : search_explains line prefix other ≡ true =
     and_from (strictly_under other prefix) (strictly_under line other)
     (sym c.strictly_under.ensures.value ∙ c.if-not-strictly_under.false)
-    (strictly-by_node order line other is.is_under apart) in
-    sym (sym (explained c.args.lines.now line prefix)
-    ∙ one_passes c.args.lines.now (explains line prefix) other (c.if-has.ensures.0 refl) passes)
+    (code_above-by_node order line other is.is_under apart) in
+    sym (sym (search_explained c.args.lines.now line prefix)
+    ∙ search_finds_one c.args.lines.now (search_explains line prefix) other (c.if-has.ensures.0 refl) passes)
 
 pub loop-node-preserved : goal.loop-node-preserved
 loop-node-preserved c =
     let found : upper_at c.args.line.now c.node-item.result ≡ Some c.in-Some.other =
     sym c.upper.ensures.value ∙ c.in-Some.is in
-    none_more c.args.lines.now (explains c.args.line.now c.args.prefix.now) c.nodes-node-items.result.now
+    search-one_more_node c.args.lines.now (search_explains c.args.line.now c.args.prefix.now) c.nodes-node-items.result.now
     c.loop-node.node-index c.node-item.result c.loop-node.invariant c.loop-node-test.true c.node-item.is
     (λ member there at.
-    other_explains_none c.args.line.now c.args.prefix.now member c.in-Some.other
+    search_other-explains_none c.args.line.now c.args.prefix.now member c.in-Some.other
     (ap (upper_at c.args.line.now) at ∙ found)
     (λ same. absurd (false≢true (c.if-has.ensures.1 (subst (Contains c.args.lines.now) (sym same) there)))))
 
 pub returns : goal.returns
 returns c =
-    sym (sym (explained c.args.lines.now c.args.line.now c.args.prefix.now)
-    ∙ none_passes c.args.lines.now (explains c.args.line.now c.args.prefix.now) c.nodes-node-items.result.now
+    sym (sym (search_explained c.args.lines.now c.args.line.now c.args.prefix.now)
+    ∙ search_ends_with_none c.args.lines.now (search_explains c.args.line.now c.args.prefix.now) c.nodes-node-items.result.now
     c.loop-node.node-index c.nodes-node-items.ensures c.loop-node.invariant c.loop-node-test.false)

@@ -1,55 +1,55 @@
 use Rattle.std.proofs.Common.{◌≡◌, ◌≢◌, None, Some, Contains, refl, sym, ap, ◌∙◌, subst}
 use Rattle.std.proofs.lemmas.Bool.{false≢true}
-use Rattle.prefix_lattice.specs.{node_of}
+use Rattle.prefix_lattice.specs.{node_of_prefix}
 use Rattle.conditioned_bounds.specs.Uppers.{upper_at}
-use Rattle.conditioned_bounds.proofs.UpperLemmas.{same_node, other_node, upper-is}
-use Rattle.conditioned_bounds.proofs.CodeLemmas.{AreOrdered}
-use Rattle.conditioned_bounds.proofs.SearchLemmas.{is_third, none_more, none_passes, one_passes, first_is_no_third}
-use Rattle.conditioned_bounds.proofs.SearchLemmas.{second_is_no_third, no_upper_is_third, other_is_third}
-use Rattle.conditioned_bounds.proofs.SearchLemmas.{is_third-by_node}
+use Rattle.conditioned_bounds.proofs.UpperLemmas.{same_upper_node, other_upper_node, upper-is}
+use Rattle.conditioned_bounds.proofs.CodeLemmas.{CodeOrderHolds}
+use Rattle.conditioned_bounds.proofs.SearchLemmas.{is_search_third, search-one_more_node, search_ends_with_none, search_finds_one, search_first-is_no_third}
+use Rattle.conditioned_bounds.proofs.SearchLemmas.{search_second-is_no_third, search_no_upper-no_third, search_other-is_no_third}
+use Rattle.conditioned_bounds.proofs.SearchLemmas.{is_search_third-by_node}
 use Rattle.conditioned_bounds.proofs.meet_sums.is_under_third.Goals as goal
 
 pub loop-node-preserved-then-eq : goal.loop-node-preserved-then-eq
 loop-node-preserved-then-eq c =
-    let order : AreOrdered = record {
+    let order : CodeOrderHolds = record {
       reflexive = c.prefixes_are_ordered.ensures.reflexive;
       antisymmetric = c.prefixes_are_ordered.ensures.antisymmetric;
       level = c.prefixes_are_ordered.ensures.level;
     } in
-    none_more c.args.members.now (is_third c.args.first.now c.args.second.now c.args.meet.now)
+    search-one_more_node c.args.members.now (is_search_third c.args.first.now c.args.second.now c.args.meet.now)
     c.nodes-node-items.result.now c.loop-node.node-index c.node-item.result c.loop-node.invariant
     c.loop-node-test.true c.node-item.is
     (λ member there at.
-    first_is_no_third order c.args.first.now c.args.second.now c.args.meet.now member c.requires.first
-    (at ∙ same_node c.node-item.result c.node-first.result c.if-eq.ensures ∙ c.node-first.ensures))
+    search_first-is_no_third order c.args.first.now c.args.second.now c.args.meet.now member c.requires.first
+    (at ∙ same_upper_node c.node-item.result c.node-first.result c.if-eq.ensures ∙ c.node-first.ensures))
 
 pub loop-node-preserved-then-eq-2 : goal.loop-node-preserved-then-eq-2
 loop-node-preserved-then-eq-2 c =
-    let order : AreOrdered = record {
+    let order : CodeOrderHolds = record {
       reflexive = c.prefixes_are_ordered.ensures.reflexive;
       antisymmetric = c.prefixes_are_ordered.ensures.antisymmetric;
       level = c.prefixes_are_ordered.ensures.level;
     } in
-    none_more c.args.members.now (is_third c.args.first.now c.args.second.now c.args.meet.now)
+    search-one_more_node c.args.members.now (is_search_third c.args.first.now c.args.second.now c.args.meet.now)
     c.nodes-node-items.result.now c.loop-node.node-index c.node-item.result c.loop-node.invariant
     c.loop-node-test.true c.node-item.is
     (λ member there at.
-    second_is_no_third order c.args.first.now c.args.second.now c.args.meet.now member c.requires.second
-    (at ∙ same_node c.node-item.result c.node-second.result c.if-eq-2.ensures ∙ c.node-second.ensures))
+    search_second-is_no_third order c.args.first.now c.args.second.now c.args.meet.now member c.requires.second
+    (at ∙ same_upper_node c.node-item.result c.node-second.result c.if-eq-2.ensures ∙ c.node-second.ensures))
 
 pub loop-node-preserved-in_default : goal.loop-node-preserved-in_default
 loop-node-preserved-in_default c =
     let none : upper_at c.args.meet.now c.node-item.result ≡ None = sym c.upper.ensures.value ∙ c.in_default.is in
-    none_more c.args.members.now (is_third c.args.first.now c.args.second.now c.args.meet.now)
+    search-one_more_node c.args.members.now (is_search_third c.args.first.now c.args.second.now c.args.meet.now)
     c.nodes-node-items.result.now c.loop-node.node-index c.node-item.result c.loop-node.invariant
     c.loop-node-test.true c.node-item.is
     (λ member there at.
-    no_upper_is_third c.args.first.now c.args.second.now c.args.meet.now member
+    search_no_upper-no_third c.args.first.now c.args.second.now c.args.meet.now member
     (ap (upper_at c.args.meet.now) at ∙ none))
 
 pub returns-then-has : goal.returns-then-has
 returns-then-has c =
-    let order : AreOrdered = record {
+    let order : CodeOrderHolds = record {
       reflexive = c.prefixes_are_ordered.ensures.reflexive;
       antisymmetric = c.prefixes_are_ordered.ensures.antisymmetric;
       level = c.prefixes_are_ordered.ensures.level;
@@ -57,30 +57,30 @@ returns-then-has c =
     let third = c.in-Some.third in
     let found : upper_at c.args.meet.now c.node-item.result ≡ Some third = sym c.upper.ensures.value ∙ c.in-Some.is in
     let is = upper-is c.args.meet.now third c.node-item.result c.upper.ensures.prefix found in
-    let not_first : node_of third ≢ node_of c.args.first.now =
-    λ same. other_node c.node-item.result c.node-first.result c.if-eq.ensures
+    let not_first : node_of_prefix third ≢ node_of_prefix c.args.first.now =
+    λ same. other_upper_node c.node-item.result c.node-first.result c.if-eq.ensures
     (sym is.of_node ∙ same ∙ sym c.node-first.ensures) in
-    let not_second : node_of third ≢ node_of c.args.second.now =
-    λ same. other_node c.node-item.result c.node-second.result c.if-eq-2.ensures
+    let not_second : node_of_prefix third ≢ node_of_prefix c.args.second.now =
+    λ same. other_upper_node c.node-item.result c.node-second.result c.if-eq-2.ensures
     (sym is.of_node ∙ same ∙ sym c.node-second.ensures) in
-    sym (one_passes c.args.members.now (is_third c.args.first.now c.args.second.now c.args.meet.now) third
+    sym (search_finds_one c.args.members.now (is_search_third c.args.first.now c.args.second.now c.args.meet.now) third
     (c.if-has.ensures.0 refl)
-    (is_third-by_node order c.args.first.now c.args.second.now c.args.meet.now third is.is_under not_first not_second))
+    (is_search_third-by_node order c.args.first.now c.args.second.now c.args.meet.now third is.is_under not_first not_second))
 
 pub loop-node-preserved : goal.loop-node-preserved
 loop-node-preserved c =
     let found : upper_at c.args.meet.now c.node-item.result ≡ Some c.in-Some.third =
     sym c.upper.ensures.value ∙ c.in-Some.is in
-    none_more c.args.members.now (is_third c.args.first.now c.args.second.now c.args.meet.now)
+    search-one_more_node c.args.members.now (is_search_third c.args.first.now c.args.second.now c.args.meet.now)
     c.nodes-node-items.result.now c.loop-node.node-index c.node-item.result c.loop-node.invariant
     c.loop-node-test.true c.node-item.is
     (λ member there at.
-    other_is_third c.args.first.now c.args.second.now c.args.meet.now member c.in-Some.third
+    search_other-is_no_third c.args.first.now c.args.second.now c.args.meet.now member c.in-Some.third
     (ap (upper_at c.args.meet.now) at ∙ found)
     (λ same. false≢true (c.if-has.ensures.1 (subst (Contains c.args.members.now) (sym same) there))))
 
 pub returns : goal.returns
 returns c =
-    sym (none_passes c.args.members.now (is_third c.args.first.now c.args.second.now c.args.meet.now)
+    sym (search_ends_with_none c.args.members.now (is_search_third c.args.first.now c.args.second.now c.args.meet.now)
     c.nodes-node-items.result.now c.loop-node.node-index c.nodes-node-items.ensures c.loop-node.invariant
     c.loop-node-test.false)

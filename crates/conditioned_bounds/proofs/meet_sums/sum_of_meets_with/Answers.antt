@@ -3,7 +3,7 @@ use Rattle.std.specs.List.{filter_map}
 use Rattle.std.proofs.lemmas.List.{length_push}
 use Rattle.std.proofs.lemmas.List.Sums.{sum_by_push}
 use Rattle.prefix_lattice.specs.{kept_meet}
-use Rattle.conditioned_bounds.proofs.MeetSumLemmas.{kept_more, kept_no_more}
+use Rattle.conditioned_bounds.proofs.MeetSumLemmas.{meet_sum-more, meet_sum-no_more}
 use Rattle.conditioned_bounds.proofs.meet_sums.sum_of_meets_with.Goals as goal
 use Rattle.conditioned_bounds.proofs.meet_sums.sum_of_meets_with.Goals.{in-Some, in_default}
 
@@ -19,7 +19,7 @@ loop-second-preserved g c =
       | in-Some w ↦
           let meet = w.in-Some.meet in
           let more : filter_map kept (take (at + 1) seconds) ≡ before ++ meet ∷ [] =
-          kept_more kept seconds at c.second-item.result meet c.loop-second-test.true c.second-item.is
+          meet_sum-more kept seconds at c.second-item.result meet c.loop-second-test.true c.second-item.is
           (sym c.kept_meet.ensures ∙ w.in-Some.is) in
           let sum : sum_by high (filter_map kept (take (at + 1) seconds)) ≡ sum_by high before + high meet =
           ap (sum_by high) more ∙ sum_by_push high before meet in
@@ -37,7 +37,7 @@ loop-second-preserved g c =
           }
       | in_default w ↦
           let more : filter_map kept (take (at + 1) seconds) ≡ before =
-          kept_no_more kept seconds at c.second-item.result c.loop-second-test.true c.second-item.is
+          meet_sum-no_more kept seconds at c.second-item.result c.loop-second-test.true c.second-item.is
           (sym c.kept_meet.ensures ∙ w.in_default.is) in
           let sum : sum_by high (filter_map kept (take (at + 1) seconds)) ≡ sum_by high before = ap (sum_by high) more in
           let count : length (filter_map kept (take (at + 1) seconds)) ≡ length before = ap length more in

@@ -1,8 +1,8 @@
 use Rattle.std.proofs.Common.{get_or, ◌∙◌, arith}
 use Rattle.std.proofs.lemmas.Bool.{ne_eqb}
 use Rattle.std.proofs.lemmas.List.{get_or_default}
-use Rattle.conditioned_bounds.specs.Numbers.{numbers_at}
-use Rattle.conditioned_bounds.proofs.NumberLemmas.{noted_more}
+use Rattle.conditioned_bounds.specs.LineNumbers.{line_numbers_at}
+use Rattle.conditioned_bounds.proofs.NotedNumberLemmas.{noted_number-more}
 use Rattle.conditioned_bounds.proofs.numbers.note.Goals as goal
 
 pub loop-code-preserved : goal.loop-code-preserved
@@ -11,8 +11,8 @@ loop-code-preserved c =
     let at = c.loop-code.code-index in
     record {
       noted =
-          noted_more codes at c.args.number (numbers_at c.args.kept.now) (numbers_at c.loop-code.kept)
-          (numbers_at c.note_at.new.kept) c.requires.distinct c.loop-code-test.true c.loop-code.invariant.noted
+          noted_number-more codes at c.args.number (line_numbers_at c.args.kept.now) (line_numbers_at c.loop-code.kept)
+          (line_numbers_at c.note_at.new.kept) c.requires.distinct c.loop-code-test.true c.loop-code.invariant.noted
           c.note_at.ensures.noted;
       room = λ k d above within.
           c.note_at.ensures.kept (get_or codes k d)

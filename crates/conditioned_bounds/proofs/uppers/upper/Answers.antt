@@ -1,6 +1,6 @@
 use Rattle.std.proofs.Common.{◌≤◌, ℕ, length, ap, ◌∙◌, sym, Some, arith}
 use Rattle.prefix_lattice.specs.{NodeValue, prefix_at, address_of}
-use Rattle.conditioned_bounds.proofs.UpperLemmas.{shortened-of_addresses, upper-some}
+use Rattle.conditioned_bounds.proofs.UpperLemmas.{upper_of_addresses-shortened, upper-some}
 use Rattle.conditioned_bounds.proofs.uppers.upper.Goals as goal
 
 pub returns-clause-value : goal.returns-clause-value
@@ -23,5 +23,5 @@ returns-clause-value c =
     (c.of.ensures.value
     ∙ ap (λ (src : ℕ). prefix_at node (record { src = src; dst = c.dest.result; weight = 1 })) c.source.ensures
     ∙ ap (λ (dst : ℕ). prefix_at node (record { src = address_of prefix.source; dst = dst; weight = 1 })) c.dest.ensures
-    ∙ shortened-of_addresses prefix node c.keeps_leading_bytes.ensures sources dests)
+    ∙ upper_of_addresses-shortened prefix node c.keeps_leading_bytes.ensures sources dests)
     ∙ sym (upper-some prefix node sources dests)

@@ -1,7 +1,7 @@
 use Rattle.std.proofs.Common.{ap, arith}
 use Rattle.std.proofs.lemmas.List.Sums.{sum_by_more}
 use Rattle.std.proofs.lemmas.Option.{get_or_from_slice_get, slice_get_within}
-use Rattle.shard_state.specs.{total_of}
+use Rattle.shard_state.specs.{snapshot_total}
 use Rattle.cut_merge.proofs.merged.total_of_shards.Goals as goal
 
 pub loop-place-preserved : goal.loop-place-preserved
@@ -14,6 +14,6 @@ loop-place-preserved c =
       arith,
       c.loop-place.invariant,
       c.total-total.ensures.total,
-      sum_by_more total_of shards c.loop-place.place snapshot within,
-      ap total_of at,
+      sum_by_more snapshot_total shards c.loop-place.place snapshot within,
+      ap snapshot_total at,
     )

@@ -1,9 +1,9 @@
 use Rattle.std.proofs.Common.{◌≡◌, ℕ, ◌+◌, ◌-◌, ◌∷◌, [], ◌++◌, map, take, fold, ap, ◌∙◌, sym, subst, if◌then◌else◌, arith}
 use Rattle.space_saving.specs.declared.entry.Entry.{Entry}
 use Rattle.cut_merge.specs.Merged.{seen}
-use Rattle.cut_merge.specs.HighBounds.{NotesKey}
-use Rattle.cut_merge.proofs.KeyLemmas.{keys_more}
-use Rattle.cut_merge.proofs.HighBoundLemmas.{notes_more}
+use Rattle.cut_merge.specs.HighBounds.{HighBoundsNoteKey}
+use Rattle.cut_merge.proofs.NewKeyLemmas.{new_keys_after_entry}
+use Rattle.cut_merge.proofs.HighBoundLemmas.{high_bound_notes_more}
 use Rattle.cut_merge.proofs.node_merge.note_keys.Goals as goal
 use Rattle.cut_merge.proofs.node_merge.note_keys.Goals.{then-not-is_known+in_ok-push, else-not-is_known}
 
@@ -20,7 +20,7 @@ loop-place-preserved c =
     let entry = c.entry-entry.result in
     let now = c.loop-place.keys.items in
     let more =
-    keys_more c.args.table.now.entries c.args.keys.now.items now c.loop-place.place entry c.is_known.result
+    new_keys_after_entry c.args.table.now.entries c.args.keys.now.items now c.loop-place.place entry c.is_known.result
     c.loop-place.invariant.keys c.entry-entry.ensures.entry c.entry-entry.ensures.apart
     (c.requires.known entry.key ∙ sym c.is_known.ensures) in
     let keys : c.if-not-is_known.keys.items
@@ -37,8 +37,8 @@ loop-place-preserved c =
     record {
       keys = keys;
       bounds =
-          notes_more c.args.table.now c.args.bounds.now c.loop-place.bounds c.note.new.self c.loop-place.place entry
+          high_bound_notes_more c.args.table.now c.args.bounds.now c.loop-place.bounds c.note.new.self c.loop-place.place entry
           c.loop-place.invariant.bounds c.entry-entry.ensures.entry c.entry-entry.ensures.apart
-          (subst (λ (missing : ℕ). NotesKey c.loop-place.bounds c.note.new.self entry.key (entry.count - missing))
+          (subst (λ (missing : ℕ). HighBoundsNoteKey c.loop-place.bounds c.note.new.self entry.key (entry.count - missing))
           c.requires.missing c.note.ensures);
     }

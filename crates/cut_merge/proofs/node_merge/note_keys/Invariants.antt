@@ -1,7 +1,7 @@
 use Rattle.std.proofs.Common.{◌≡◌, map, take, fold}
 use Rattle.space_saving.specs.declared.entry.Entry.{Entry}
 use Rattle.cut_merge.specs.Merged.{seen}
-use Rattle.cut_merge.specs.HighBounds.{NotesEntries}
+use Rattle.cut_merge.specs.HighBounds.{HighBoundsNoteEntries}
 use Rattle.cut_merge.proofs.node_merge.note_keys.Given as goal
 
 -- the keys of the entries so far, which are counted
@@ -9,5 +9,5 @@ abbrev pub invariant-loop-place : goal.invariant-loop-place
 invariant-loop-place l = record {
   keys : l.keys.items
       ≡ fold seen l.initial.keys.items (map (λ (entry : Entry). entry.key) (take l.place l.table.entries));
-  bounds : NotesEntries l.table l.initial.bounds l.bounds l.place;
+  bounds : HighBoundsNoteEntries l.table l.initial.bounds l.bounds l.place;
 }

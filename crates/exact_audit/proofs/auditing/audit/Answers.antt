@@ -1,15 +1,15 @@
 use Rattle.std.proofs.Common.{◌≡◌, ℕ, ◌↔◌, List, refl, ap, sym, ◌∙◌, subst, arith}
 use Rattle.std.proofs.lemmas.Result.{IfOk-weaker}
 use Rattle.prefix_lattice.specs.{total_weight}
-use Rattle.shard_state.specs.{records_before}
+use Rattle.shard_state.specs.{records_before_cut}
 use Rattle.hhh_output.specs.declared.line.Line.{Line}
-use Rattle.hhh_output.specs.{IsSound, IsThreshold, prefixes_of}
+use Rattle.hhh_output.specs.{IsSound, IsThreshold, prefixes_of_lines}
 use Rattle.exact_audit.specs.declared.counted.Counted.{Counted}
 use Rattle.exact_audit.specs.declared.verdict.Verdict.TheVariants.{Good, BadThreshold}
 use Rattle.exact_audit.specs.declared.verdict.Verdict.{Verdict}
-use Rattle.exact_audit.specs.NodeSums.{AreCounted, records_of}
+use Rattle.exact_audit.specs.NodeSums.{AreCountedInNodeSums, records_in_node_sums}
 use Rattle.exact_audit.specs.Verdict.{IsLineVerdict, IsVerdict, PassesHead}
-use Rattle.exact_audit.proofs.VerdictLemmas.{one_threshold, verdict_from_lines, good_exactly}
+use Rattle.exact_audit.proofs.VerdictLemmas.{verdict_threshold_is_unique, verdict_from_lines, verdict_is_good_iff_sound}
 use Rattle.exact_audit.proofs.auditing.audit.Goals as goal
 
 pub returns-then-report-threshold-clause-verdict : goal.returns-then-report-threshold-clause-verdict
@@ -17,20 +17,20 @@ returns-then-report-threshold-clause-verdict c = (
   c.if-not-are_within.ensures.0 refl,
   c.if-report-total.false ∙ c.total_before-total.ensures.total,
   λ is. c.if-report-threshold.true
-      (one_threshold c.args.phi c.args.report.now.total c.args.report.now.threshold c.threshold.result is
+      (verdict_threshold_is_unique c.args.phi c.args.report.now.total c.args.report.now.threshold c.threshold.result is
       (subst (λ t. IsThreshold c.args.phi t c.threshold.result) (sym c.if-report-total.false) c.threshold.ensures)),
 )
 
 pub returns-then-report-threshold-clause-good : goal.returns-then-report-threshold-clause-good
 returns-then-report-threshold-clause-good c =
-    good_exactly c.args.dealt.now c.args.capacity c.args.phi c.args.report.now BadThreshold
+    verdict_is_good_iff_sound c.args.dealt.now c.args.capacity c.args.phi c.args.report.now BadThreshold
     (returns-then-report-threshold-clause-verdict c)
 
 pub find-requires-clause-light : goal.find-requires-clause-light
 find-requires-clause-light c =
-    let are = c.in_ok-counted.ensures (prefixes_of c.as_slice-lines.result.now) c.in_ok-codes.ensures in
-    let same : total_weight (records_of c.deref.result.now) ≡ c.total_before-total.result =
-    ap (λ (counted : List Counted). total_weight (records_of counted)) c.deref.ensures.value
+    let are = c.in_ok-counted.ensures (prefixes_of_lines c.as_slice-lines.result.now) c.in_ok-codes.ensures in
+    let same : total_weight (records_in_node_sums c.deref.result.now) ≡ c.total_before-total.result =
+    ap (λ (counted : List Counted). total_weight (records_in_node_sums counted)) c.deref.ensures.value
     ∙ ap total_weight are.same ∙ sym c.total_before-total.ensures.total in
     omega (arith, same, c.total_before-total.ensures.bounded)
 
@@ -38,10 +38,10 @@ pub returns-clause-verdict : goal.returns-clause-verdict
 returns-clause-verdict c =
     let report = c.args.report.now in
     let lists = c.args.dealt.now in
-    let records = records_before lists report.positions in
-    let are = c.in_ok-counted.ensures (prefixes_of c.as_slice-lines.result.now) c.in_ok-codes.ensures in
+    let records = records_before_cut lists report.positions in
+    let are = c.in_ok-counted.ensures (prefixes_of_lines c.as_slice-lines.result.now) c.in_ok-codes.ensures in
     let found = c.in_ok-findings.ensures.found records
-    (subst (AreCounted (prefixes_of c.as_slice-lines.result.now) records) (sym c.deref.ensures.value) are) in
+    (subst (AreCountedInNodeSums (prefixes_of_lines c.as_slice-lines.result.now) records) (sym c.deref.ensures.value) are) in
     let ByTotal : ℕ → List Line → Verdict → Type 0 = λ total lines verdict.
     IsLineVerdict (record { capacity = c.args.capacity; threshold = report.threshold; total = total }) records lines
     verdict in
@@ -65,5 +65,5 @@ pub returns-clause-good : goal.returns-clause-good
 returns-clause-good c =
     IfOk-weaker c.verdict_of.result (IsVerdict c.args.dealt.now c.args.capacity c.args.phi c.args.report.now)
     (λ verdict. (verdict ≡ Good) ↔ IsSound c.args.report.now c.args.dealt.now c.args.capacity c.args.phi)
-    (good_exactly c.args.dealt.now c.args.capacity c.args.phi c.args.report.now)
+    (verdict_is_good_iff_sound c.args.dealt.now c.args.capacity c.args.phi c.args.report.now)
     (returns-clause-verdict c)

@@ -1,20 +1,20 @@
 use Rattle.std.proofs.Common.{All, sym, subst}
-use Rattle.hhh_output.specs.{prefixes_of}
+use Rattle.hhh_output.specs.{prefixes_of_lines}
 use Rattle.exact_audit.specs.Verdict.{IsFirstFailure, IsJustifiedAmong, IsLeftOut, IsLineVerdict, TestedBy}
-use Rattle.exact_audit.specs.Findings.{AreLineSums, IsFirstOf}
-use Rattle.exact_audit.proofs.VerdictLemmas.{first_left_out_is, none_left_out}
+use Rattle.exact_audit.specs.Findings.{AreFindingSums, IsFirstFinding}
+use Rattle.exact_audit.proofs.VerdictLemmas.{verdict_leaves_out_first, verdict_leaves_out_none}
 use Rattle.exact_audit.proofs.auditing.verdict_of.Goals as goal
 use Rattle.exact_audit.proofs.auditing.verdict_of.Goals.{in-Some-left_out, in-None}
 
 pub returns : goal.returns
 returns c = λ records are total.
     let lines = c.args.lines.now in
-    let prefixes = prefixes_of lines in
+    let prefixes = prefixes_of_lines lines in
     let by : TestedBy = record { capacity = c.args.capacity; threshold = c.args.threshold; total = c.args.total } in
-    let held = c.in_default.ensures records (subst (AreLineSums lines records) (sym c.deref.ensures.value) are.sums) in
+    let held = c.in_default.ensures records (subst (AreFindingSums lines records) (sym c.deref.ensures.value) are.sums) in
     let justified : All (IsJustifiedAmong by records lines) lines =
     subst (IsFirstFailure (IsJustifiedAmong by records lines) lines) c.in_default-2.is
-    (c.in_ok-line.ensures records (subst (AreLineSums lines records) (sym c.deref-2.ensures.value) are.sums) total) in
+    (c.in_ok-line.ensures records (subst (AreFindingSums lines records) (sym c.deref-2.ensures.value) are.sums) total) in
     elim c.match-findings.branch [
       | in-Some-left_out w ↦
           subst (IsLineVerdict by records lines) (sym w.result-is) (
@@ -22,8 +22,8 @@ returns c = λ records are total.
             c.in_default-too_wide.ensures,
             c.in_default-low_line.ensures,
             justified,
-            first_left_out_is prefixes records c.args.threshold w.in-Some-left_out.left_out
-                (subst (IsFirstOf (IsLeftOut prefixes records c.args.threshold)) w.in-Some-left_out.is are.left_out),
+            verdict_leaves_out_first prefixes records c.args.threshold w.in-Some-left_out.left_out
+                (subst (IsFirstFinding (IsLeftOut prefixes records c.args.threshold)) w.in-Some-left_out.is are.left_out),
           )
       | in-None w ↦
           subst (IsLineVerdict by records lines) (sym w.result-is) (
@@ -31,7 +31,7 @@ returns c = λ records are total.
             c.in_default-too_wide.ensures,
             c.in_default-low_line.ensures,
             justified,
-            none_left_out prefixes records c.args.threshold
-                (subst (IsFirstOf (IsLeftOut prefixes records c.args.threshold)) w.in-None.is are.left_out),
+            verdict_leaves_out_none prefixes records c.args.threshold
+                (subst (IsFirstFinding (IsLeftOut prefixes records c.args.threshold)) w.in-None.is are.left_out),
           )
     ]

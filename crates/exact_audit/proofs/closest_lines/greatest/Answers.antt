@@ -2,7 +2,7 @@ use Rattle.std.proofs.Common.{◌≡◌, true, false, not, length, sym, ap, ◌�
 use Rattle.std.specs.List.{list_any}
 use Rattle.std.proofs.lemmas.List.{length_push}
 use Rattle.prefix_lattice.specs.{PrefixValue, strictly_under}
-use Rattle.exact_audit.proofs.ClosestLineLemmas.{filter_more_yes, filter_more_no}
+use Rattle.exact_audit.proofs.KeptLineLemmas.{passing_line_is_kept, failing_line_is_not_kept}
 use Rattle.exact_audit.proofs.closest_lines.greatest.Goals as goal
 use Rattle.exact_audit.proofs.closest_lines.greatest.Goals.{then-not-is_under_another+in_ok-push}
 use Rattle.exact_audit.proofs.closest_lines.greatest.Goals.{else-not-is_under_another}
@@ -18,7 +18,7 @@ loop-member-preserved c =
           let passes : test c.member-item.result ≡ true = ap not (answer ∙ w.if-not-is_under_another.true) in
           let items = ap (λ v. v.items) w.tops-is ∙ w.in_ok-push.ensures.items in (
             items
-                ∙ filter_more_yes test c.args.members.now c.loop-member.tops.items c.loop-member.member-index
+                ∙ passing_line_is_kept test c.args.members.now c.loop-member.tops.items c.loop-member.member-index
                 c.member-item.result c.loop-member-test.true c.member-item.is passes c.loop-member.invariant.0,
             omega (
               arith,
@@ -31,7 +31,7 @@ loop-member-preserved c =
           let fails : test c.member-item.result ≡ false = ap not (answer ∙ w.if-not-is_under_another.false) in
           let items = ap (λ v. v.items) w.tops-is in (
             items
-                ∙ filter_more_no test c.args.members.now c.loop-member.tops.items c.loop-member.member-index
+                ∙ failing_line_is_not_kept test c.args.members.now c.loop-member.tops.items c.loop-member.member-index
                 c.member-item.result c.loop-member-test.true c.member-item.is fails c.loop-member.invariant.0,
             omega (arith, ap length items, c.loop-member.invariant.1),
           )

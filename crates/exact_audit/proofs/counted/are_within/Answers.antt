@@ -2,14 +2,14 @@ use Rattle.std.proofs.Common.{◌≤◌, ◌<◌, [], length, get_or, refl, sym,
 use borrow.Author.Count.{below_more}
 use Rattle.std.proofs.lemmas.Bool.{false≢true}
 use Rattle.std.proofs.lemmas.Option.{get_or_from_slice_get}
-use Rattle.exact_audit.proofs.CountedLemmas.{within_from, within_length, within_at}
+use Rattle.exact_audit.proofs.CountedRecordLemmas.{counted_record_positions_fit, counted_record_positions_as_many, each_counted_record_position_fits}
 use Rattle.exact_audit.proofs.counted.are_within.Goals as goal
 
 pub returns-then-len-shards : goal.returns-then-len-shards
 returns-then-len-shards c = (
   λ is. absurd (false≢true is),
   λ within. absurd (c.if-len-shards.true
-      (c.len.ensures ∙ within_length c.args.positions.now c.args.dealt.now within ∙ sym c.shards.ensures.value)),
+      (c.len.ensures ∙ counted_record_positions_as_many c.args.positions.now c.args.dealt.now within ∙ sym c.shards.ensures.value)),
 )
 
 pub returns-then-at-len : goal.returns-then-at-len
@@ -22,7 +22,7 @@ returns-then-at-len c = (
       let position = get_or_from_slice_get c.args.positions.now c.loop-shard.shard c.at.result 0 c.at.ensures in
       absurd (omega (
         arith,
-        within_at c.args.positions.now c.args.dealt.now c.loop-shard.shard within less,
+        each_counted_record_position_fits c.args.positions.now c.args.dealt.now c.loop-shard.shard within less,
         position,
         ap length list,
         c.len-in-loop-shard.ensures,
@@ -40,7 +40,7 @@ loop-shard-preserved c =
 
 pub returns : goal.returns
 returns c = (
-  λ is. within_from c.args.positions.now c.args.dealt.now
+  λ is. counted_record_positions_fit c.args.positions.now c.args.dealt.now
       (sym c.len.ensures ∙ c.if-len-shards.false ∙ c.shards.ensures.value)
       (λ place less. c.loop-shard.invariant place
       (omega (arith, less, c.loop-shard-test.false, c.shards-shard-end.ensures.value))),

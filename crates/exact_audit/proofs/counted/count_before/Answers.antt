@@ -1,8 +1,8 @@
 use Rattle.std.proofs.Common.{◌≤◌, ◌<◌, ◌++◌, length, take, sym, ap, ◌∙◌, subst, arith}
 use Rattle.std.proofs.lemmas.List.{take_all}
-use Rattle.shard_state.specs.{records_before}
-use Rattle.exact_audit.specs.NodeSums.{AreCounted}
-use Rattle.exact_audit.proofs.CountedLemmas.{within_length, records_before-more}
+use Rattle.shard_state.specs.{records_before_cut}
+use Rattle.exact_audit.specs.NodeSums.{AreCountedInNodeSums}
+use Rattle.exact_audit.proofs.CountedRecordLemmas.{counted_record_positions_as_many, counted_records_gain_part}
 use Rattle.exact_audit.proofs.counted.count_before.Goals as goal
 
 pub loop-shard-preserved : goal.loop-shard-preserved
@@ -10,11 +10,11 @@ loop-shard-preserved c = λ prefixes coded.
     let lists = c.args.dealt.now in
     let positions = c.args.positions.now in
     let shard = c.loop-shard.shard in
-    let same = within_length positions lists c.requires in
+    let same = counted_record_positions_as_many positions lists c.requires in
     let within : shard < length lists = omega (arith, c.loop-shard-test.true, c.shards-shard-end.ensures.value) in
-    let before = records_before (take shard lists) (take shard positions) in
-    subst (λ records. AreCounted prefixes records c.push_counted.new.counted.items)
-    (ap (λ rs. before ++ rs) c.part.ensures.value ∙ sym (records_before-more lists positions shard same within))
+    let before = records_before_cut (take shard lists) (take shard positions) in
+    subst (λ records. AreCountedInNodeSums prefixes records c.push_counted.new.counted.items)
+    (ap (λ rs. before ++ rs) c.part.ensures.value ∙ sym (counted_records_gain_part lists positions shard same within))
     (c.in_ok-push_counted.ensures prefixes before coded (c.loop-shard.invariant prefixes coded))
 
 pub returns : goal.returns
@@ -22,9 +22,9 @@ returns c = λ prefixes coded.
     let lists = c.args.dealt.now in
     let positions = c.args.positions.now in
     let shard = c.loop-shard.shard in
-    let same = within_length positions lists c.requires in
+    let same = counted_record_positions_as_many positions lists c.requires in
     let all : length lists ≤ shard = omega (arith, c.loop-shard-test.false, c.shards-shard-end.ensures.value) in
-    subst (λ records. AreCounted prefixes records c.loop-shard.counted.items)
-    (ap (λ l. records_before l (take shard positions)) (take_all shard lists all)
-    ∙ ap (λ p. records_before lists p) (take_all shard positions (omega (arith, same, all))))
+    subst (λ records. AreCountedInNodeSums prefixes records c.loop-shard.counted.items)
+    (ap (λ l. records_before_cut l (take shard positions)) (take_all shard lists all)
+    ∙ ap (λ p. records_before_cut lists p) (take_all shard positions (omega (arith, same, all))))
     (c.loop-shard.invariant prefixes coded)

@@ -2,11 +2,11 @@ use Rattle.std.proofs.Common.{ℕ, ◌+◌, ◌*◌, ◌≤◌, All, ap, sym, �
 use Rattle.std.proofs.lemmas.Bool.{false≢true}
 use Rattle.std.proofs.lemmas.List.{take_all}
 use Rattle.prefix_lattice.specs.{conditioned_weight}
-use Rattle.hhh_output.specs.{prefixes_of}
+use Rattle.hhh_output.specs.{prefixes_of_lines}
 use Rattle.exact_audit.specs.declared.node_sums.Sums.{Sums}
 use Rattle.exact_audit.specs.Verdict.{IsJustifiedAmong}
-use Rattle.exact_audit.specs.Widths.{tested_by, widths_of}
-use Rattle.exact_audit.proofs.LineTestLemmas.{fails_first, passes_more, sums_at_place}
+use Rattle.exact_audit.specs.Widths.{tested_by_widths, widths_of}
+use Rattle.exact_audit.proofs.LineTestLemmas.{line_test_fails_after_passes, line_test_passes_one_more, line_test_sums_at_place}
 use Rattle.exact_audit.proofs.line_tests.not_justified.Goals as goal
 
 pub loop-place-preserved : goal.loop-place-preserved
@@ -14,13 +14,13 @@ loop-place-preserved c = λ records are total.
     let line = c.index-lines-place.result in
     let lines = c.args.lines.now in
     let by = c.args.by.now in
-    let own = ap (λ (s : Sums). s.left) (sums_at_place lines records c.args.sums.now c.loop-place.place line
+    let own = ap (λ (s : Sums). s.left) (line_test_sums_at_place lines records c.args.sums.now c.loop-place.place line
     (record { weight = 0; left = 0 }) are c.loop-place-test.true c.index-lines-place.is) in
     let Allows : ℕ → ℕ → Type 0 = λ left whole.
-    by.capacity * by.threshold ≤ by.capacity * left + widths_of line.prefix (prefixes_of lines) * whole in
-    passes_more (IsJustifiedAmong (tested_by by) records lines) lines c.loop-place.place line c.loop-place-test.true
+    by.capacity * by.threshold ≤ by.capacity * left + widths_of line.prefix (prefixes_of_lines lines) * whole in
+    line_test_passes_one_more (IsJustifiedAmong (tested_by_widths by) records lines) lines c.loop-place.place line c.loop-place-test.true
     c.index-lines-place.is
-    (subst (Allows (conditioned_weight line.prefix (prefixes_of lines) records)) (sym total)
+    (subst (Allows (conditioned_weight line.prefix (prefixes_of_lines lines) records)) (sym total)
     (subst (λ left. Allows left by.total) own (c.in_ok-is_justified.ensures.0 c.if-not-branch.false)))
     (c.loop-place.invariant records are total)
 
@@ -29,19 +29,19 @@ returns-then-not-branch c = λ records are total.
     let line = c.index-lines-place.result in
     let lines = c.args.lines.now in
     let by = c.args.by.now in
-    let own = ap (λ (s : Sums). s.left) (sums_at_place lines records c.args.sums.now c.loop-place.place line
+    let own = ap (λ (s : Sums). s.left) (line_test_sums_at_place lines records c.args.sums.now c.loop-place.place line
     (record { weight = 0; left = 0 }) are c.loop-place-test.true c.index-lines-place.is) in
     let Allows : ℕ → ℕ → Type 0 = λ left whole.
-    by.capacity * by.threshold ≤ by.capacity * left + widths_of line.prefix (prefixes_of lines) * whole in
-    fails_first (IsJustifiedAmong (tested_by by) records lines) lines c.loop-place.place line c.loop-place-test.true
+    by.capacity * by.threshold ≤ by.capacity * left + widths_of line.prefix (prefixes_of_lines lines) * whole in
+    line_test_fails_after_passes (IsJustifiedAmong (tested_by_widths by) records lines) lines c.loop-place.place line c.loop-place-test.true
     c.index-lines-place.is
-    (λ (justified : IsJustifiedAmong (tested_by by) records lines line).
+    (λ (justified : IsJustifiedAmong (tested_by_widths by) records lines line).
     false≢true (sym c.if-not-branch.true
     ∙ c.in_ok-is_justified.ensures.1 (subst (λ left. Allows left by.total) (sym own)
-    (subst (Allows (conditioned_weight line.prefix (prefixes_of lines) records)) total justified))))
+    (subst (Allows (conditioned_weight line.prefix (prefixes_of_lines lines) records)) total justified))))
     (c.loop-place.invariant records are total)
 
 pub returns : goal.returns
 returns c = λ records are total.
-    subst (All (IsJustifiedAmong (tested_by c.args.by.now) records c.args.lines.now))
+    subst (All (IsJustifiedAmong (tested_by_widths c.args.by.now) records c.args.lines.now))
     (take_all c.loop-place.place c.args.lines.now c.loop-place-test.false) (c.loop-place.invariant records are total)

@@ -2,33 +2,33 @@ use Rattle.std.proofs.Common.{◌≡◌, ◌+◌, ◌&&◌, not, true, nat_eq, i
 use Rattle.std.specs.HashMap.{get}
 use Rattle.std.proofs.lemmas.Bool.{eqb-true, or_cases}
 use Rattle.std.proofs.lemmas.List.{take_all}
-use Rattle.prefix_lattice.specs.{IsKeyOf, key_of, prefix_at}
+use Rattle.prefix_lattice.specs.{IsPrefixKey, prefix_key, prefix_at}
 use Rattle.exact_audit.specs.declared.counted.Counted.{Counted}
-use Rattle.exact_audit.specs.Depths.{explained}
-use Rattle.exact_audit.specs.NodeSums.{has_key, sums_for, AreKeySums}
-use Rattle.exact_audit.proofs.NodeSumLemmas.{AreLaws, part_fits, AreKeySums-more, AreNodeSums-from_keys}
+use Rattle.exact_audit.specs.Depths.{explained_by_depth}
+use Rattle.exact_audit.specs.NodeSums.{has_node_sum_key, sums_for, AreNodeKeySums}
+use Rattle.exact_audit.proofs.NodeSumLemmas.{AreNodeSumLaws, partial_node_sum_fits, AreNodeKeySums-next_in_node, AreNodeSums-by_prefix}
 use Rattle.exact_audit.proofs.node_sums.sums_at.Goals as goal
 
 pub add-requires-clause-weight : goal.add-requires-clause-weight
 add-requires-clause-weight c =
     let key = c.key-key.result in
-    let fits = part_fits c.args.counted.now (has_key c.args.node key) c.loop-one.one-index c.one-item.result
+    let fits = partial_node_sum_fits c.args.counted.now (has_node_sum_key c.args.node key) c.loop-one.one-index c.one-item.result
     c.loop-one-test.true c.one-item.is in
     omega (arith, fits, c.loop-one.invariant.0.weight key, c.requires.light)
 
 pub add-requires-clause-left : goal.add-requires-clause-left
 add-requires-clause-left c =
     let key = c.key-key.result in
-    let fits = part_fits c.args.counted.now
-    (λ (one : Counted). has_key c.args.node key one && not (explained one.depths c.args.node))
+    let fits = partial_node_sum_fits c.args.counted.now
+    (λ (one : Counted). has_node_sum_key c.args.node key one && not (explained_by_depth one.depths c.args.node))
     c.loop-one.one-index c.one-item.result c.loop-one-test.true c.one-item.is in
     omega (arith, fits, c.loop-one.invariant.0.left key, c.requires.light)
 
 pub loop-one-preserved : goal.loop-one-preserved
 loop-one-preserved c =
-    let key : c.key-key.result ≡ key_of (prefix_at c.args.node c.one-item.result.rec) =
-    c.key-key.ensures.value ∙ ap key_of c.of.ensures.value in (
-      AreKeySums-more c.args.node c.args.counted.now c.loop-one.one-index c.one-item.result c.key-key.result
+    let key : c.key-key.result ≡ prefix_key (prefix_at c.args.node c.one-item.result.rec) =
+    c.key-key.ensures.value ∙ ap prefix_key c.of.ensures.value in (
+      AreNodeKeySums-next_in_node c.args.node c.args.counted.now c.loop-one.one-index c.one-item.result c.key-key.result
           c.loop-one.sums c.add.new.sums c.loop-one-test.true c.one-item.is key
           c.in_ok-add.ensures.weight
           (λ other. c.in_ok-add.ensures.left other
@@ -37,7 +37,7 @@ loop-one-preserved c =
           c.loop-one.invariant.0,
       λ other there. ⊎_elim
           (λ (same : nat_eq c.key-key.result other ≡ true).
-          subst (IsKeyOf c.args.node) (sym key ∙ eqb-true c.key-key.result other same)
+          subst (IsPrefixKey c.args.node) (sym key ∙ eqb-true c.key-key.result other same)
           (c.keys_are_of_their_node.ensures.of_record_key c.args.node c.one-item.result.rec c.requires.node))
           (λ (old : is_some (get nat_eq c.loop-one.sums other) ≡ true). c.loop-one.invariant.1 other old)
           (or_cases (nat_eq c.key-key.result other) (is_some (get nat_eq c.loop-one.sums other))
@@ -46,11 +46,11 @@ loop-one-preserved c =
 
 pub returns-clause-sums : goal.returns-clause-sums
 returns-clause-sums c = λ lines records are.
-    let laws : AreLaws = record {
+    let laws : AreNodeSumLaws = record {
       covering = c.keys_tell_covering.ensures;
       of_record = c.keys_are_of_their_node.ensures.of_record;
       apart = c.keys_are_of_their_node.ensures.apart;
     } in
-    AreNodeSums-from_keys laws c.args.node lines records c.args.counted.now c.loop-one.sums c.requires.node
-    (subst (λ counted. AreKeySums c.args.node counted c.loop-one.sums)
+    AreNodeSums-by_prefix laws c.args.node lines records c.args.counted.now c.loop-one.sums c.requires.node
+    (subst (λ counted. AreNodeKeySums c.args.node counted c.loop-one.sums)
     (take_all c.loop-one.one-index c.args.counted.now c.loop-one-test.false) c.loop-one.invariant.0) are

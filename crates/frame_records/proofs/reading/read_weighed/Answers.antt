@@ -1,5 +1,5 @@
 use Rattle.std.proofs.Common.{◌≤◌, [], length, sym, subst}
-use Rattle.frame_records.proofs.RecordVisitorLemmas.{exact_counts, few_records}
+use Rattle.frame_records.proofs.RecordVisitorLemmas.{record_visitor_counts_exactly, visitor_records_are_few}
 use Rattle.frame_records.proofs.reading.read_weighed.Goals as goal
 
 pub returns-in-Ok-clause-records : goal.returns-in-Ok-clause-records
@@ -10,11 +10,11 @@ returns-in-Ok-clause-records g c =
       frames = read.frames;
       few = few;
       told = read.capture;
-      are = exact_counts _ read.frames _ few (read.sees [] c.new-visitor.ensures);
+      are = record_visitor_counts_exactly _ read.frames _ few (read.sees [] c.new-visitor.ensures);
     }
 
 pub returns-in-Ok-clause-few : goal.returns-in-Ok-clause-few
 returns-in-Ok-clause-few g c =
     let read = c.in-Ok.ensures.seen in
-    few_records _ read.frames c.read_frames.new.visitor.records
+    visitor_records_are_few _ read.frames c.read_frames.new.visitor.records
     (subst (λ n. n ≤ 16777216) (sym read.counted) read.limit) (read.sees [] c.new-visitor.ensures)

@@ -1,7 +1,7 @@
 use Rattle.std.proofs.Common.{ap, subst}
-use Rattle.shard_state.specs.{CutValue, lists_of, positions_of}
+use Rattle.shard_state.specs.{CutValue, core_lists, cut_positions}
 use Rattle.hhh_output.specs.{IsSound}
-use Rattle.gate_workers.proofs.CallLemmas.{cut_represents, weights_are_some}
+use Rattle.gate_workers.proofs.CallLemmas.{call_cut_represents_records, call_weights_are_positive}
 use Rattle.gate_workers.proofs.calling.report_at.Goals as goal
 
 pub returns-clause-sound : goal.returns-clause-sound
@@ -10,8 +10,8 @@ returns-clause-sound c = λ bases.
     let cut = c.args.cut.now in
     let at = c.requires.cut in
     let stands =
-    cut_represents opening (positions_of cut) cut c.shards.ensures.kept at c.shards_stand.ensures.goes_on bases in
-    subst (λ capacity. IsSound c.in_ok-report.report (lists_of opening) capacity c.args.phi)
+    call_cut_represents_records opening (cut_positions cut) cut c.shards.ensures.kept at c.shards_stand.ensures.goes_on bases in
+    subst (λ capacity. IsSound c.in_ok-report.report (core_lists opening) capacity c.args.phi)
     (ap (λ (cut : CutValue). cut.capacity) at.is)
-    (c.in_ok-report.ensures.sound (lists_of opening) stands
-    (weights_are_some opening (positions_of cut) at.as_many at.kept))
+    (c.in_ok-report.ensures.sound (core_lists opening) stands
+    (call_weights_are_positive opening (cut_positions cut) at.as_many at.kept))

@@ -1,6 +1,6 @@
 use Rattle.std.proofs.Common.{◌≡◌, ◌+◌, [], ◌∷◌, ◌++◌, None, All, subst, sym}
 use Rattle.std.proofs.lemmas.List.Elements.{All-nil, All-cons, All-append}
-use Rattle.shard_state.specs.{capacity_of, lists_of}
+use Rattle.shard_state.specs.{core_capacity, core_lists}
 use Rattle.hhh_output.specs.{IsSound}
 use Rattle.hhh_output.specs.declared.reports.Reported.{Reported}
 use Rattle.pass_tokens.specs.{view}
@@ -16,10 +16,10 @@ loop-round-init g c =
       c.requires.shape,
       λ _.
           subst (All
-          (λ (reported : Reported). IsSound reported.report (lists_of opening) (capacity_of opening) c.args.phi))
+          (λ (reported : Reported). IsSound reported.report (core_lists opening) (core_capacity opening) c.args.phi))
           (sym none)
           (All-nil
-          (λ (reported : Reported). IsSound reported.report (lists_of opening) (capacity_of opening) c.args.phi)),
+          (λ (reported : Reported). IsSound reported.report (core_lists opening) (core_capacity opening) c.args.phi)),
       subst (Calls opening c.args.phi 0 (view c.args.pass.now) (view c.args.pass.now)) (sym none)
           (no_calls opening c.args.phi (view c.args.pass.now)),
     )
@@ -35,13 +35,13 @@ loop-round-preserved g c =
       once.shape,
       λ bases.
           subst (All
-          (λ (reported : Reported). IsSound reported.report (lists_of opening) (capacity_of opening) c.args.phi))
+          (λ (reported : Reported). IsSound reported.report (core_lists opening) (core_capacity opening) c.args.phi))
           (sym pushed)
-          (All-append (λ (reported : Reported). IsSound reported.report (lists_of opening) (capacity_of opening)
+          (All-append (λ (reported : Reported). IsSound reported.report (core_lists opening) (core_capacity opening)
           c.args.phi) c.loop-round.reports (reported ∷ []) (far.2 bases)
-          (All-cons (λ (reported : Reported). IsSound reported.report (lists_of opening) (capacity_of opening)
+          (All-cons (λ (reported : Reported). IsSound reported.report (core_lists opening) (core_capacity opening)
           c.args.phi) reported [] (once.sound bases)
-          (All-nil (λ (reported : Reported). IsSound reported.report (lists_of opening) (capacity_of opening)
+          (All-nil (λ (reported : Reported). IsSound reported.report (core_lists opening) (core_capacity opening)
           c.args.phi)))),
       subst
           (Calls opening c.args.phi (c.loop-round.round + 1) (view c.args.pass.now) (view c.report_once.new.pass))

@@ -1,12 +1,12 @@
 use Rattle.std.proofs.Common.{◌∙◌, ap, sym}
 use Rattle.pass_tokens.specs.{view}
-use Rattle.gate_workers.specs.Call.{cut_at}
-use Rattle.gate_workers.proofs.CallLemmas.{cut_at_its_positions, one_call}
+use Rattle.gate_workers.specs.Call.{cut_at_call}
+use Rattle.gate_workers.proofs.CallLemmas.{call_cut_at_its_positions, one_call}
 use Rattle.gate_workers.proofs.calling.report_once.Goals as goal
 
 pub report_at-requires-clause-cut : goal.report_at-requires-clause-cut
 report_at-requires-clause-cut g c =
-    cut_at_its_positions c.args.board.now.opening (view c.args.pass.now) (view c.read_cut.new.pass) c.args.cut.now
+    call_cut_at_its_positions c.args.board.now.opening (view c.args.pass.now) (view c.read_cut.new.pass) c.args.cut.now
     c.read_cut.new.cut c.read_cut.ensures.read c.requires.shape
 
 pub returns-clause-calls : goal.returns-clause-calls
@@ -17,6 +17,6 @@ returns-clause-calls g c =
 
 pub returns-clause-cut : goal.returns-clause-cut
 returns-clause-cut g c =
-    (cut_at_its_positions c.args.board.now.opening (view c.args.pass.now) (view c.read_cut.new.pass) c.args.cut.now
+    (call_cut_at_its_positions c.args.board.now.opening (view c.args.pass.now) (view c.read_cut.new.pass) c.args.cut.now
     c.read_cut.new.cut c.read_cut.ensures.read c.requires.shape).is
-    ∙ ap (cut_at c.args.board.now.opening) (sym c.in_ok-report.ensures.positions)
+    ∙ ap (cut_at_call c.args.board.now.opening) (sym c.in_ok-report.ensures.positions)

@@ -1,13 +1,13 @@
 use Rattle.std.proofs.Common.{◌+◌, ◌%◌, ◌<◌, arith}
 use Rattle.std.proofs.Math.Nat.{mod-lt}
 use Rattle.pass_tokens.specs.{view}
-use Rattle.gate_workers.proofs.FeedLemmas.{nothing_fed, feeds_then, still_at_end, both, round_goes_on, round_sees_all}
+use Rattle.gate_workers.proofs.FeedingLemmas.{feeding_of_same_view, feeding_goes_on, feeding_stays_at_end, feeding_tests_both_hold, feeding_round_goes_on, feeding_round_sees_ends}
 use Rattle.gate_workers.proofs.feeding.feed_round.Goals as goal
 
 pub loop-turn-init : goal.loop-turn-init
 loop-turn-init g c = (
   c.requires.pass,
-  nothing_fed c.args.board.now.opening c.args.block (view c.args.pass.now),
+  feeding_of_same_view c.args.board.now.opening c.args.block (view c.args.pass.now),
   λ _ turn below. absurd (omega (arith, below)),
 )
 
@@ -19,13 +19,13 @@ loop-turn-preserved g c =
     let shards = c.shards-shards.result in
     let first = c.args.worker % shards in (
       fed.pass,
-      feeds_then opening c.args.block (view c.args.pass.now) (view c.loop-turn.pass)
+      feeding_goes_on opening c.args.block (view c.args.pass.now) (view c.loop-turn.pass)
           (view c.feed_shard-ended.new.pass) far.1 fed.feeds,
       λ ended.
-          let tests = both c.loop-turn.ended c.feed_shard-ended.result ended in
-          round_goes_on opening shards first c.loop-turn.turn (view c.feed_shard-ended.new.pass)
+          let tests = feeding_tests_both_hold c.loop-turn.ended c.feed_shard-ended.result ended in
+          feeding_round_goes_on opening shards first c.loop-turn.turn (view c.feed_shard-ended.new.pass)
           (λ earlier below.
-          still_at_end opening c.args.block ((first + earlier) % shards) (view c.loop-turn.pass)
+          feeding_stays_at_end opening c.args.block ((first + earlier) % shards) (view c.loop-turn.pass)
           (view c.feed_shard-ended.new.pass) far.0.seat.trails fed.feeds (far.2 tests.0 earlier below))
           (fed.end tests.1),
     )
@@ -36,5 +36,5 @@ returns-clause-ends g c = λ ended.
     let shards = c.shards-shards.result in
     let kept = c.shards-shards.ensures in
     let inside : c.args.worker % shards < shards = mod-lt c.args.worker (omega (arith, kept.shards, kept.kept.some)) in
-    round_sees_all opening shards (c.args.worker % shards) (view c.loop-turn.pass) kept.shards inside
+    feeding_round_sees_ends opening shards (c.args.worker % shards) (view c.loop-turn.pass) kept.shards inside
     (λ turn below. c.loop-turn.invariant.2 ended turn (omega (arith, below, c.loop-turn-test.false)))

@@ -5,10 +5,10 @@ use Rattle.std.proofs.Math.Seq.{take-append_seam}
 use Rattle.std.proofs.lemmas.List.{length-map}
 use Rattle.std.proofs.lemmas.Slice.Zip.{AllZip-long}
 use Rattle.std.proofs.lemmas.List.Elements.{All-map}
-use Rattle.pass_tokens.specs.{joined, newcomer, view}
-use Rattle.gate_workers.specs.Feed.{HasSeenEnds}
-use Rattle.gate_workers.specs.Gather.{BringsBack, HasFed, IsSplitOff, after_splits}
-use Rattle.gate_workers.proofs.GatherLemmas.{splits_add, all_fed, all_passes, all_ended, all_called, all_sound, all_of_board, all_ends}
+use Rattle.pass_tokens.specs.{view_after_join, newcomer_view, view}
+use Rattle.gate_workers.specs.Feed.{HasFeedSeenEnds}
+use Rattle.gate_workers.specs.Gather.{GathersBack, HasGatheredFeed, IsSplitOffToGather, after_gather_splits}
+use Rattle.gate_workers.proofs.GatheredLemmas.{gathered_splits_are_summed, gathered_workers_have_fed, gathered_workers_are_of_board, gathered_callers_have_ended, gathered_callers_have_called, gathered_callers_are_sound, gathered_callers_are_of_board, gathered_pass_sees_ends}
 use Rattle.gate_workers.proofs.running.run_threads.Goals as goal
 
 -- a vector whose slice was written whole
@@ -29,8 +29,8 @@ returns-clause-ends g c =
     let passes = c.as_mut_slice.result.now in
     let fed = c.run_all.new.workers in
     let many : length fed ≡ length passes = c.run_all.auto.workers in
-    let split : All (IsSplitOff board before) passes =
-    subst (All (IsSplitOff board before)) (sym c.as_mut_slice.ensures.value) c.in_ok-workers.ensures.workers in
+    let split : All (IsSplitOffToGather board before) passes =
+    subst (All (IsSplitOffToGather board before)) (sym c.as_mut_slice.ensures.value) c.in_ok-workers.ensures.workers in
     let some : 1 ≤ length fed =
     omega (
       arith,
@@ -40,13 +40,13 @@ returns-clause-ends g c =
       c.in_ok-workers.ensures.count,
       c.requires.plan.some_workers,
     ) in
-    let each = all_fed board block before passes fed many split c.run_all.ensures.workers in
-    let of_board = all_passes board block passes fed many c.run_all.ensures.workers in
-    let all : HasSeenEnds board.opening (fold joined (view c.run_all.new.pass) (map view fed)) =
-    all_ends board block before (view c.run_all.new.pass) fed c.run_all.ensures.pass.seat.trails some of_board each in
-    subst (HasSeenEnds board.opening)
+    let each = gathered_workers_have_fed board block before passes fed many split c.run_all.ensures.workers in
+    let of_board = gathered_workers_are_of_board board block passes fed many c.run_all.ensures.workers in
+    let all : HasFeedSeenEnds board.opening (fold view_after_join (view c.run_all.new.pass) (map view fed)) =
+    gathered_pass_sees_ends board block before (view c.run_all.new.pass) fed c.run_all.ensures.pass.seat.trails some of_board each in
+    subst (HasFeedSeenEnds board.opening)
     (sym (c.join_workers.ensures.joined
-    ∙ ap (λ passes. fold joined (view c.run_all.new.pass) (map view passes))
+    ∙ ap (λ passes. fold view_after_join (view c.run_all.new.pass) (map view passes))
     (written c.in_ok-workers.workers.len fed c.in_ok-workers.workers.items (many ∙ c.as_mut_slice.ensures.len)))) all
 
 pub returns-clause-sound : goal.returns-clause-sound
@@ -57,13 +57,13 @@ returns-clause-sound g c bases =
     let callers = c.as_mut_slice-2.result.now in
     let ended = c.run_all.new.callers in
     let many : length ended ≡ length callers = c.run_all.auto.callers in
-    let new : All (λ caller. view caller.pass ≡ newcomer before) callers =
-    subst (All (λ caller. view caller.pass ≡ newcomer before)) (sym c.as_mut_slice-2.ensures.value)
+    let new : All (λ caller. view caller.pass ≡ newcomer_view before) callers =
+    subst (All (λ caller. view caller.pass ≡ newcomer_view before)) (sym c.as_mut_slice-2.ensures.value)
     (λ place default below.
-    c.in_ok-callers.ensures.newcomers place default below ∙ ap newcomer c.in_ok-workers.ensures.split) in
-    all_sound board plan before ended c.in_ok-called.called.items
-    (all_ended board plan before callers ended many new c.run_all.ensures.callers)
-    (subst (λ callers. AllZip BringsBack callers c.in_ok-called.called.items)
+    c.in_ok-callers.ensures.newcomers place default below ∙ ap newcomer_view c.in_ok-workers.ensures.split) in
+    gathered_callers_are_sound board plan before ended c.in_ok-called.called.items
+    (gathered_callers_have_ended board plan before callers ended many new c.run_all.ensures.callers)
+    (subst (λ callers. AllZip GathersBack callers c.in_ok-called.called.items)
     (written c.in_ok-callers.callers.len ended c.in_ok-callers.callers.items (many ∙ c.as_mut_slice-2.ensures.len)) c.in_ok-called.ensures)
     bases
 
@@ -75,13 +75,13 @@ returns-clause-passes g c =
     let callers = c.as_mut_slice-2.result.now in
     let ended = c.run_all.new.callers in
     let many : length ended ≡ length callers = c.run_all.auto.callers in
-    let new : All (λ caller. view caller.pass ≡ newcomer before) callers =
-    subst (All (λ caller. view caller.pass ≡ newcomer before)) (sym c.as_mut_slice-2.ensures.value)
+    let new : All (λ caller. view caller.pass ≡ newcomer_view before) callers =
+    subst (All (λ caller. view caller.pass ≡ newcomer_view before)) (sym c.as_mut_slice-2.ensures.value)
     (λ place default below.
-    c.in_ok-callers.ensures.newcomers place default below ∙ ap newcomer c.in_ok-workers.ensures.split) in
-    all_of_board board plan before ended c.in_ok-called.called.items
-    (all_ended board plan before callers ended many new c.run_all.ensures.callers)
-    (subst (λ callers. AllZip BringsBack callers c.in_ok-called.called.items)
+    c.in_ok-callers.ensures.newcomers place default below ∙ ap newcomer_view c.in_ok-workers.ensures.split) in
+    gathered_callers_are_of_board board plan before ended c.in_ok-called.called.items
+    (gathered_callers_have_ended board plan before callers ended many new c.run_all.ensures.callers)
+    (subst (λ callers. AllZip GathersBack callers c.in_ok-called.called.items)
     (written c.in_ok-callers.callers.len ended c.in_ok-callers.callers.items (many ∙ c.as_mut_slice-2.ensures.len)) c.in_ok-called.ensures)
 
 pub returns-clause-gathers : goal.returns-clause-gathers
@@ -92,22 +92,22 @@ returns-clause-gathers g c =
     let passes = c.as_mut_slice.result.now in
     let fed = c.run_all.new.workers in
     let many : length fed ≡ length passes = c.run_all.auto.workers in
-    let split : All (IsSplitOff board before) passes =
-    subst (All (IsSplitOff board before)) (sym c.as_mut_slice.ensures.value) c.in_ok-workers.ensures.workers in
-    let each = all_fed board plan.block before passes fed many split c.run_all.ensures.workers in
+    let split : All (IsSplitOffToGather board before) passes =
+    subst (All (IsSplitOffToGather board before)) (sym c.as_mut_slice.ensures.value) c.in_ok-workers.ensures.workers in
+    let each = gathered_workers_have_fed board plan.block before passes fed many split c.run_all.ensures.workers in
     let callers = c.as_mut_slice-2.result.now in
     let ended = c.run_all.new.callers in
     let as_many : length ended ≡ length callers = c.run_all.auto.callers in
-    let new : All (λ caller. view caller.pass ≡ newcomer before) callers =
-    subst (All (λ caller. view caller.pass ≡ newcomer before)) (sym c.as_mut_slice-2.ensures.value)
+    let new : All (λ caller. view caller.pass ≡ newcomer_view before) callers =
+    subst (All (λ caller. view caller.pass ≡ newcomer_view before)) (sym c.as_mut_slice-2.ensures.value)
     (λ place default below.
-    c.in_ok-callers.ensures.newcomers place default below ∙ ap newcomer c.in_ok-workers.ensures.split) in
-    let back : AllZip BringsBack ended c.in_ok-called.called.items =
-    subst (λ callers. AllZip BringsBack callers c.in_ok-called.called.items)
+    c.in_ok-callers.ensures.newcomers place default below ∙ ap newcomer_view c.in_ok-workers.ensures.split) in
+    let back : AllZip GathersBack ended c.in_ok-called.called.items =
+    subst (λ callers. AllZip GathersBack callers c.in_ok-called.called.items)
     (written c.in_ok-callers.callers.len ended c.in_ok-callers.callers.items (as_many ∙ c.as_mut_slice-2.ensures.len)) c.in_ok-called.ensures in
-    let splits : view c.split_callers.new.pass ≡ after_splits (plan.workers + plan.callers) before =
-    c.in_ok-callers.ensures.split ∙ ap (after_splits plan.callers) c.in_ok-workers.ensures.split
-    ∙ splits_add plan.workers plan.callers before in
+    let splits : view c.split_callers.new.pass ≡ after_gather_splits (plan.workers + plan.callers) before =
+    c.in_ok-callers.ensures.split ∙ ap (after_gather_splits plan.callers) c.in_ok-workers.ensures.split
+    ∙ gathered_splits_are_summed plan.workers plan.callers before in
     record {
       rounds = record {
         now = view c.run_all.new.pass;
@@ -119,26 +119,26 @@ returns-clause-gathers g c =
       as_many_workers =
           length-map fed view ∙ many ∙ c.as_mut_slice.ensures.len ∙ c.in_ok-workers.workers.ok.0
           ∙ c.in_ok-workers.ensures.count;
-      fed = All-map (HasFed board.opening plan.block before) view fed each;
+      fed = All-map (HasGatheredFeed board.opening plan.block before) view fed each;
       pass =
           c.join_workers.ensures.joined
-          ∙ ap (λ passes. fold joined (view c.run_all.new.pass) (map view passes))
+          ∙ ap (λ passes. fold view_after_join (view c.run_all.new.pass) (map view passes))
           (written c.in_ok-workers.workers.len fed c.in_ok-workers.workers.items (many ∙ c.as_mut_slice.ensures.len));
       as_many_callers =
-          AllZip-long BringsBack ended c.in_ok-called.called.items back ∙ as_many ∙ c.as_mut_slice-2.ensures.len
+          AllZip-long GathersBack ended c.in_ok-called.called.items back ∙ as_many ∙ c.as_mut_slice-2.ensures.len
           ∙ c.in_ok-callers.callers.ok.0 ∙ c.in_ok-callers.ensures.count;
       called =
-          all_called board plan before ended c.in_ok-called.called.items
-          (all_ended board plan before callers ended as_many new c.run_all.ensures.callers) back;
+          gathered_callers_have_called board plan before ended c.in_ok-called.called.items
+          (gathered_callers_have_ended board plan before callers ended as_many new c.run_all.ensures.callers) back;
     }
 
 pub returns-in_err-called-clause-memory : goal.returns-in_err-called-clause-memory
 returns-in_err-called-clause-memory g c =
     let plan = c.args.plan.now in
     let before = view c.args.pass in
-    let splits : view c.split_callers.new.pass ≡ after_splits (plan.workers + plan.callers) before =
-    c.in_ok-callers.ensures.split ∙ ap (after_splits plan.callers) c.in_ok-workers.ensures.split
-    ∙ splits_add plan.workers plan.callers before in
+    let splits : view c.split_callers.new.pass ≡ after_gather_splits (plan.workers + plan.callers) before =
+    c.in_ok-callers.ensures.split ∙ ap (after_gather_splits plan.callers) c.in_ok-workers.ensures.split
+    ∙ gathered_splits_are_summed plan.workers plan.callers before in
     on_err c.from_residual-in_err-called.result
     (inr (record {
       now = view c.run_all.new.pass;

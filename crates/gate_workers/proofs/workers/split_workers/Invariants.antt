@@ -1,12 +1,12 @@
 use Rattle.std.proofs.Common.{◌≡◌, length, All}
-use Rattle.pass_tokens.specs.{IsPassOf, view}
-use Rattle.gate_workers.specs.Gather.{IsSplitOff, after_splits}
+use Rattle.pass_tokens.specs.{IsPassOfBoard, view}
+use Rattle.gate_workers.specs.Gather.{IsSplitOffToGather, after_gather_splits}
 use Rattle.gate_workers.proofs.workers.split_workers.Given as goal
 
 -- so far this many passes were split off
 abbrev pub invariant-loop-worker : goal.invariant-loop-worker
 invariant-loop-worker l =
-    IsPassOf l.board l.pass
+    IsPassOfBoard l.board l.pass
     × (length l.workers.items ≡ l._worker)
-    × All (IsSplitOff l.board (view l.initial.pass)) l.workers.items
-    × (view l.pass ≡ after_splits l._worker (view l.initial.pass))
+    × All (IsSplitOffToGather l.board (view l.initial.pass)) l.workers.items
+    × (view l.pass ≡ after_gather_splits l._worker (view l.initial.pass))

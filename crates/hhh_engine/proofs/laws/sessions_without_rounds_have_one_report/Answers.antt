@@ -1,5 +1,5 @@
-use Rattle.hhh_engine.proofs.LastReportLemmas.{one_report}
+use Rattle.hhh_engine.proofs.LastReportLemmas.{last_report_stands_alone}
 use Rattle.hhh_engine.proofs.laws.sessions_without_rounds_have_one_report.Goals as goal
 
 pub returns : goal.returns
-returns c = λ opening settings reports tail none are. one_report opening settings reports tail none are
+returns c = λ opening settings reports tail none are. last_report_stands_alone opening settings reports tail none are

@@ -1,6 +1,6 @@
 use Rattle.std.proofs.Common.{None}
 use Rattle.hhh_engine.specs.Session.{by_formula}
-use Rattle.hhh_engine.proofs.BelongingLemmas.{part_belongs, whole_belongs}
+use Rattle.hhh_engine.proofs.BelongingSessionLemmas.{belonging_session_broken_off, belonging_session_completed}
 use Rattle.hhh_engine.proofs.laws.stores_belong_throughout.Goals as goal
 
 pub returns-clause-formatted : goal.returns-clause-formatted
@@ -8,12 +8,12 @@ returns-clause-formatted g c = λ settings lists image opens. (None, opens, tt)
 
 pub returns-clause-whole : goal.returns-clause-whole
 returns-clause-whole g c = λ formula before now settings store file text is limited used known belonged.
-    whole_belongs c.stores_open_to_one.ensures c.reported_cuts_represent.ensures g.D.Disk.reads g.D.Disk.image_now
+    belonging_session_completed c.stores_open_to_one.ensures c.reported_cuts_represent.ensures g.D.Disk.reads g.D.Disk.image_now
     g.D.Disk.moment g.D.Disk.image_since g.met.D.Disk.reading_is_image (by_formula formula) settings before now store file text
     is limited used known belonged
 
 pub returns-clause-in_part : goal.returns-clause-in_part
 returns-clause-in_part g c = λ formula before now settings store file front is limited used known belonged.
-    part_belongs c.stores_open_to_one.ensures c.reported_cuts_represent.ensures g.D.Disk.reads g.D.Disk.image_now
+    belonging_session_broken_off c.stores_open_to_one.ensures c.reported_cuts_represent.ensures g.D.Disk.reads g.D.Disk.image_now
     g.D.Disk.moment g.D.Disk.image_since g.met.D.Disk.reading_is_image (by_formula formula) settings before now store file
     front is limited used known belonged

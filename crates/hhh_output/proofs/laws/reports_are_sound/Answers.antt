@@ -1,9 +1,9 @@
-use Rattle.hhh_output.proofs.SoundReportLemmas.{CutHolds, report_is_sound}
+use Rattle.hhh_output.proofs.SoundReportLemmas.{SoundReportLawsHold, report_is_sound}
 use Rattle.hhh_output.proofs.laws.reports_are_sound.Goals as goal
 
 pub returns : goal.returns
 returns c = λ cut lists phi report kept stands weighed wide are_lines is.
-    let holds : CutHolds cut lists = record {
+    let holds : SoundReportLawsHold cut lists = record {
       order = c.report_order_is_total.ensures.total;
       stands = stands;
       intervals = λ prefix is_prefix.

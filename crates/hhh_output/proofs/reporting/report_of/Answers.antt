@@ -1,12 +1,12 @@
 use Rattle.std.proofs.Common.{◌∙◌}
-use Rattle.hhh_output.proofs.SelectionLemmas.{candidates_of_cut, lines_of_cut, lines_kept}
+use Rattle.hhh_output.proofs.SelectionLemmas.{selection_has_candidates, selection_gives_all_lines, selection_lines_are_kept}
 use Rattle.hhh_output.proofs.reporting.report_of.Goals as goal
 
 pub select_lines-requires : goal.select_lines-requires
 select_lines-requires c =
     let kept = c.positions.ensures.kept in
     let cut = c.args.cut.now in
-    candidates_of_cut c.in_ok-merged.merged cut kept c.in_ok-merged.ensures
+    selection_has_candidates c.in_ok-merged.merged cut kept c.in_ok-merged.ensures
     (record {
       keyed = λ node is_node. c.monitored_keys_are_few.ensures.keyed cut node kept is_node;
       distinct = λ node. c.monitored_keys_are_few.ensures.distinct cut node;
@@ -18,7 +18,7 @@ invariant_of-result c =
     let cut = c.args.cut.now in
     record {
       are_lines =
-          lines_kept c.in_ok-merged.merged cut c.in_ok-merged.ensures c.only_prefixes_are_asked.ensures
+          selection_lines_are_kept c.in_ok-merged.merged cut c.in_ok-merged.ensures c.only_prefixes_are_asked.ensures
           c.threshold-threshold.result c.in_ok-lines.lines c.in_ok-lines.ensures
           (λ prefix is_prefix.
           c.merged_intervals_are_narrow.ensures.within cut prefix c.positions.ensures.kept is_prefix);
@@ -31,7 +31,7 @@ returns-clause-report c =
       total = c.total-total.ensures.total ∙ c.in_ok-merged.ensures.total;
       threshold = c.threshold-threshold.ensures;
       lines =
-          lines_of_cut c.in_ok-merged.merged c.args.cut.now c.in_ok-merged.ensures
+          selection_gives_all_lines c.in_ok-merged.merged c.args.cut.now c.in_ok-merged.ensures
           c.only_prefixes_are_asked.ensures c.threshold-threshold.result c.in_ok-lines.lines
           c.in_ok-lines.ensures;
     }
@@ -40,7 +40,7 @@ pub returns-clause-sound : goal.returns-clause-sound
 returns-clause-sound c = λ lists stands weighed.
     let cut = c.args.cut.now in
     c.reports_are_sound.ensures cut lists c.args.phi _ c.positions.ensures.kept stands weighed c.requires.wide
-    (lines_kept c.in_ok-merged.merged cut c.in_ok-merged.ensures c.only_prefixes_are_asked.ensures
+    (selection_lines_are_kept c.in_ok-merged.merged cut c.in_ok-merged.ensures c.only_prefixes_are_asked.ensures
     c.threshold-threshold.result c.in_ok-lines.lines c.in_ok-lines.ensures
     (λ prefix is_prefix. c.merged_intervals_are_narrow.ensures.within cut prefix c.positions.ensures.kept is_prefix))
     (record {
@@ -48,6 +48,6 @@ returns-clause-sound c = λ lists stands weighed.
       total = c.total-total.ensures.total ∙ c.in_ok-merged.ensures.total;
       threshold = c.threshold-threshold.ensures;
       lines =
-          lines_of_cut c.in_ok-merged.merged cut c.in_ok-merged.ensures c.only_prefixes_are_asked.ensures
+          selection_gives_all_lines c.in_ok-merged.merged cut c.in_ok-merged.ensures c.only_prefixes_are_asked.ensures
           c.threshold-threshold.result c.in_ok-lines.lines c.in_ok-lines.ensures;
     })

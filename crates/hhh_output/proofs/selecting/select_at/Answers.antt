@@ -1,8 +1,8 @@
 use Rattle.std.proofs.Common.{◌≡◌, ℕ, ◌+◌, ◌≤◌, ◌↔◌, List, length, get_or, AllPairs, ◌≢◌, Some, sym, subst}
 use Rattle.std.proofs.lemmas.List.{get_or_default}
-use Rattle.prefix_lattice.specs.{PrefixValue, HasKey}
-use Rattle.cut_merge.specs.{candidates_at}
-use Rattle.hhh_output.proofs.NodeLineLemmas.{Judged, judged_more, judged_all}
+use Rattle.prefix_lattice.specs.{PrefixValue, HasPrefixKey}
+use Rattle.cut_merge.specs.{merged_candidates_at}
+use Rattle.hhh_output.proofs.NodeLineLemmas.{HasJudgedNodeLines, next_node_line_judged, all_node_lines_judged}
 use Rattle.hhh_output.proofs.selecting.select_at.Goals as goal
 
 pub loop-key-preserved : goal.loop-key-preserved
@@ -13,24 +13,24 @@ loop-key-preserved c =
     subst (AllPairs (λ (key : ℕ) other. key ≢ other)) (sym c.candidates-key-items.ensures.known)
     (c.requires.candidates.distinct c.args.node c.requires.is_node) in
     subst (λ lines.
-    Judged c.args.merged.now c.args.threshold c.args.reported.now c.args.node keys c.args.found.now.items lines
+    HasJudgedNodeLines c.args.merged.now c.args.threshold c.args.reported.now c.args.node keys c.args.found.now.items lines
     (c.loop-key.key-index + 1)) (sym c.in_ok-push_found.ensures)
-    (judged_more c.args.merged.now c.args.threshold c.args.reported.now c.args.node keys c.args.found.now.items
+    (next_node_line_judged c.args.merged.now c.args.threshold c.args.reported.now c.args.node keys c.args.found.now.items
     c.loop-key.found.items c.loop-key.key-index key c.unwrap-prefix.result
     c.loop-key.invariant c.requires.apart distinct c.loop-key-test.true
     (get_or_default keys c.loop-key.key-index 0 key c.loop-key-test.true)
-    (subst (λ found. (other : PrefixValue) → (found ≡ Some other) ↔ HasKey c.args.node key other)
+    (subst (λ found. (other : PrefixValue) → (found ≡ Some other) ↔ HasPrefixKey c.args.node key other)
     c.unwrap-prefix.ensures c.from_key.ensures.prefix)
     c.in_ok-line.line c.in_ok-line.ensures.asked c.in_ok-line.ensures.prefix)
 
 pub returns-clause-members : goal.returns-clause-members
 returns-clause-members c =
     let keys = c.candidates-key-items.result.now in
-    let done : length (candidates_at c.args.merged.now c.args.node) ≤ c.loop-key.key-index =
+    let done : length (merged_candidates_at c.args.merged.now c.args.node) ≤ c.loop-key.key-index =
     subst (λ (ks : List ℕ). length ks ≤ c.loop-key.key-index) c.candidates-key-items.ensures.known
     c.loop-key-test.false in
-    judged_all c.args.merged.now c.args.threshold c.args.reported.now c.args.node c.args.found.now.items
+    all_node_lines_judged c.args.merged.now c.args.threshold c.args.reported.now c.args.node c.args.found.now.items
     c.loop-key.found.items c.loop-key.key-index done
     (subst (λ ks.
-    Judged c.args.merged.now c.args.threshold c.args.reported.now c.args.node ks c.args.found.now.items
+    HasJudgedNodeLines c.args.merged.now c.args.threshold c.args.reported.now c.args.node ks c.args.found.now.items
     c.loop-key.found.items c.loop-key.key-index) c.candidates-key-items.ensures.known c.loop-key.invariant)

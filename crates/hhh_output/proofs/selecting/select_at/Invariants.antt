@@ -1,6 +1,6 @@
-use Rattle.hhh_output.proofs.NodeLineLemmas.{Judged}
+use Rattle.hhh_output.proofs.NodeLineLemmas.{HasJudgedNodeLines}
 use Rattle.hhh_output.proofs.selecting.select_at.Given as goal
 
 abbrev pub invariant-loop-key : goal.invariant-loop-key
 invariant-loop-key l =
-    Judged l.merged l.threshold l.reported l.node l.key-items l.initial.found.items l.found.items l.key-index
+    HasJudgedNodeLines l.merged l.threshold l.reported l.node l.key-items l.initial.found.items l.found.items l.key-index

@@ -1,20 +1,20 @@
 use Rattle.std.proofs.Common.{◌≡◌, IfSome, length, sym, subst, ◌∙◌, rules, arith}
 use Rattle.std.specs.Ordering.{is_lt}
 use Rattle.std.proofs.lemmas.List.Sorted.{ranks_by, answers_always}
-use Rattle.prefix_lattice.specs.{NodeValue, IsNode, index_of, node_at, report_order}
-use Rattle.cut_merge.specs.{candidates_at}
+use Rattle.prefix_lattice.specs.{NodeValue, IsNode, node_index, node_at, report_order}
+use Rattle.cut_merge.specs.{merged_candidates_at}
 use Rattle.hhh_output.specs.declared.line.Line.{Line}
-use Rattle.hhh_output.proofs.LevelLemmas.{LooksThrough, ReportOrder, looks_past, looks_at, level_sorted}
+use Rattle.hhh_output.proofs.LevelSearchLemmas.{IsLevelSearch, LevelSearchIsOrdered, level_search_skips_node, level_search_takes_node, level_search_is_sorted}
 use Rattle.hhh_output.proofs.selecting.select_level.Goals as goal
 
 pub loop-place-preserved-then-level : goal.loop-place-preserved-then-level
 loop-place-preserved-then-level c =
     let node : NodeValue = c.unwrap-node.result in
     let place = c.loop-place.place in
-    looks_past c.args.merged.now c.args.threshold c.args.reported.now c.args.level c.loop-place.found.items place
+    level_search_skips_node c.args.merged.now c.args.threshold c.args.reported.now c.args.level c.loop-place.found.items place
     node c.loop-place.invariant
     (subst (λ found. IfSome found (λ n. n ≡ node_at place)) c.unwrap-node.ensures c.from_index.ensures.some)
-    (subst (λ found. IfSome found (λ n. index_of n ≡ place)) c.unwrap-node.ensures c.from_index.ensures.back)
+    (subst (λ found. IfSome found (λ n. node_index n ≡ place)) c.unwrap-node.ensures c.from_index.ensures.back)
     (λ same. c.if-level.true (c.level.ensures.value ∙ same))
 
 pub loop-place-preserved : goal.loop-place-preserved
@@ -23,27 +23,27 @@ loop-place-preserved c =
     let place = c.loop-place.place in
     let is_node : IsNode node =
     subst (λ found. IfSome found IsNode) c.unwrap-node.ensures c.from_index.ensures.is_node in
-    looks_at c.args.merged.now c.args.threshold c.args.reported.now c.args.level c.loop-place.found.items place node
+    level_search_takes_node c.args.merged.now c.args.threshold c.args.reported.now c.args.level c.loop-place.found.items place node
     c.loop-place.invariant
     (subst (λ found. IfSome found (λ n. n ≡ node_at place)) c.unwrap-node.ensures c.from_index.ensures.some)
-    (subst (λ found. IfSome found (λ n. index_of n ≡ place)) c.unwrap-node.ensures c.from_index.ensures.back)
+    (subst (λ found. IfSome found (λ n. node_index n ≡ place)) c.unwrap-node.ensures c.from_index.ensures.back)
     (sym c.level.ensures.value ∙ c.if-level.false) c.select_at.new.found.items
-    (length (candidates_at c.args.merged.now node)) (c.requires.few node is_node)
+    (length (merged_candidates_at c.args.merged.now node)) (c.requires.few node is_node)
     c.in_ok-select_at.ensures.members c.in_ok-select_at.ensures.distinct c.in_ok-select_at.ensures.few
 
 pub returns : goal.returns
 returns c =
-    let order : ReportOrder = record {
+    let order : LevelSearchIsOrdered = record {
       total = c.report_order_is_total.ensures.total;
       apart = c.report_order_is_total.ensures.apart;
       reflexive = c.prefixes_are_ordered.ensures.reflexive;
       antisymmetric = c.prefixes_are_ordered.ensures.antisymmetric;
     } in
     let end : c.loop-place.place ≡ 25 = omega arith in
-    level_sorted c.args.merged.now c.args.threshold c.args.reported.now c.args.level c.loop-place.found.items
+    level_search_is_sorted c.args.merged.now c.args.threshold c.args.reported.now c.args.level c.loop-place.found.items
     c.sort_by.new.self.items order
     (subst
-    (LooksThrough c.args.merged.now c.args.threshold c.args.reported.now c.args.level c.loop-place.found.items)
+    (IsLevelSearch c.args.merged.now c.args.threshold c.args.reported.now c.args.level c.loop-place.found.items)
     end c.loop-place.invariant)
     c.sort_by.ensures.permutation
     (c.in_ok-sort_by.ensures.sorted (λ line other. is_lt (report_order line.prefix other.prefix))

@@ -2,28 +2,28 @@ use Rattle.std.proofs.Common.{◌≡◌, ◌≢◌, ℕ, ◌+◌, ◌-◌, ◌<�
 use Rattle.std.proofs.lemmas.List.{map-append, length-map, length-append}
 use Rattle.prefix_lattice.specs.{PrefixValue}
 use Rattle.cut_merge.specs.{MergedValue}
-use Rattle.conditioned_bounds.specs.{line_limit}
+use Rattle.conditioned_bounds.specs.{member_limit}
 use Rattle.hhh_output.specs.declared.line.Line.{Line}
-use Rattle.hhh_output.specs.Lines.{prefixes_of}
-use Rattle.hhh_output.specs.Selecting.{AreOfLevel, AreDownTo}
-use Rattle.hhh_output.proofs.NearLineLemmas.{LevelsFall}
-use Rattle.hhh_output.proofs.LevelsLemmas.{down_more}
-use Rattle.hhh_output.proofs.SoundReportLemmas.{distinct_prefixes}
-use Rattle.hhh_output.proofs.AppendLemmas.{lines_down-few}
+use Rattle.hhh_output.specs.ReportLines.{prefixes_of_lines}
+use Rattle.hhh_output.specs.Selecting.{AreSelectedOfLevel, AreSelectedDownTo}
+use Rattle.hhh_output.proofs.NearLineLemmas.{NearLineLevelsFall}
+use Rattle.hhh_output.proofs.LevelDescentLemmas.{level_descent_goes_on}
+use Rattle.hhh_output.proofs.SoundReportLemmas.{sound_report_prefixes_differ}
+use Rattle.hhh_output.proofs.AppendedLineLemmas.{appended_lines-few}
 use Rattle.hhh_output.proofs.selecting.select_lines.Goals as goal
 
 -- the lines with those of one more level
 further : (merged : MergedValue) (threshold levels : ℕ) (lines found : List Line) (reported : List PrefixValue)
-    (items : List Line) → LevelsFall → levels < 9 → reported ≡ prefixes_of lines → items ≡ found
-    → AreDownTo merged threshold levels lines → AreOfLevel merged threshold reported (8 - levels) found
-    → (reported ++ prefixes_of items ≡ prefixes_of (lines ++ found))
-    × AreDownTo merged threshold (levels + 1) (lines ++ found)
+    (items : List Line) → NearLineLevelsFall → levels < 9 → reported ≡ prefixes_of_lines lines → items ≡ found
+    → AreSelectedDownTo merged threshold levels lines → AreSelectedOfLevel merged threshold reported (8 - levels) found
+    → (reported ++ prefixes_of_lines items ≡ prefixes_of_lines (lines ++ found))
+    × AreSelectedDownTo merged threshold (levels + 1) (lines ++ found)
 further merged threshold levels lines found reported items law some same same_items down of_level = (
-  ap (λ before. before ++ prefixes_of items) same
-      ∙ ap (λ (more : List Line). prefixes_of lines ++ prefixes_of more) same_items
+  ap (λ before. before ++ prefixes_of_lines items) same
+      ∙ ap (λ (more : List Line). prefixes_of_lines lines ++ prefixes_of_lines more) same_items
       ∙ sym (map-append (λ (l : Line). l.prefix) lines found),
-  down_more merged threshold levels lines found law some down
-      (subst (λ before. AreOfLevel merged threshold before (8 - levels) found) same of_level),
+  level_descent_goes_on merged threshold levels lines found law some down
+      (subst (λ before. AreSelectedOfLevel merged threshold before (8 - levels) found) same of_level),
 )
 
 pub append-requires-clause-distinct : goal.append-requires-clause-distinct
@@ -34,7 +34,7 @@ append-requires-clause-distinct c =
     c.loop-levels-test.true c.loop-levels.invariant.0 c.deref.ensures.value c.loop-levels.invariant.1
     c.in_ok-found.ensures in
     subst (AllPairs (λ prefix other. prefix ≢ other)) (sym more.0)
-    (distinct_prefixes c.report_order_is_total.ensures.total (c.loop-levels.lines ++ c.in_ok-found.found.items)
+    (sound_report_prefixes_differ c.report_order_is_total.ensures.total (c.loop-levels.lines ++ c.in_ok-found.found.items)
     more.1.rising)
 
 pub append-requires-clause-few : goal.append-requires-clause-few
@@ -47,8 +47,8 @@ append-requires-clause-few c =
     c.loop-levels.reported c.deref.result.now (record { falls = c.prefixes_are_ordered.ensures.level })
     c.loop-levels-test.true c.loop-levels.invariant.0 c.deref.ensures.value c.loop-levels.invariant.1
     c.in_ok-found.ensures in
-    let few : length (lines ++ found) < line_limit =
-    lines_down-few (levels + 1) (length (lines ++ found)) (omega (arith, c.loop-levels-test.true)) more.1.few in
+    let few : length (lines ++ found) < member_limit =
+    appended_lines-few (levels + 1) (length (lines ++ found)) (omega (arith, c.loop-levels-test.true)) more.1.few in
     let reported : length c.loop-levels.reported ≡ length lines =
     ap length c.loop-levels.invariant.0 ∙ length-map lines (λ (l : Line). l.prefix) in
     let items : length c.deref.result.now ≡ length found = ap length c.deref.ensures.value in
@@ -63,16 +63,16 @@ loop-levels-preserved c =
     let lines = c.loop-levels.lines in
     let new_lines : c.append.new.lines ≡ lines ++ found =
     c.in_ok-append.ensures.lines ∙ ap (λ (more : List Line). lines ++ more) c.deref.ensures.value in
-    let new_prefixes : c.append.new.reported ≡ prefixes_of (lines ++ found) =
+    let new_prefixes : c.append.new.reported ≡ prefixes_of_lines (lines ++ found) =
     c.in_ok-append.ensures.prefixes
-    ∙ ap (λ (more : List Line). c.loop-levels.reported ++ prefixes_of more) c.deref.ensures.value
-    ∙ ap (λ before. before ++ prefixes_of found) c.loop-levels.invariant.0
+    ∙ ap (λ (more : List Line). c.loop-levels.reported ++ prefixes_of_lines more) c.deref.ensures.value
+    ∙ ap (λ before. before ++ prefixes_of_lines found) c.loop-levels.invariant.0
     ∙ sym (map-append (λ (l : Line). l.prefix) lines found) in
-    let of_level : AreOfLevel merged threshold (prefixes_of lines) (8 - levels) found =
-    subst (λ reported. AreOfLevel merged threshold reported (8 - levels) found) c.loop-levels.invariant.0
+    let of_level : AreSelectedOfLevel merged threshold (prefixes_of_lines lines) (8 - levels) found =
+    subst (λ reported. AreSelectedOfLevel merged threshold reported (8 - levels) found) c.loop-levels.invariant.0
     c.in_ok-found.ensures in (
-      new_prefixes ∙ ap prefixes_of (sym new_lines),
-      subst (AreDownTo merged threshold (levels + 1)) (sym new_lines)
-          (down_more merged threshold levels lines found (record { falls = c.prefixes_are_ordered.ensures.level })
+      new_prefixes ∙ ap prefixes_of_lines (sym new_lines),
+      subst (AreSelectedDownTo merged threshold (levels + 1)) (sym new_lines)
+          (level_descent_goes_on merged threshold levels lines found (record { falls = c.prefixes_are_ordered.ensures.level })
           c.loop-levels-test.true c.loop-levels.invariant.1 of_level),
     )

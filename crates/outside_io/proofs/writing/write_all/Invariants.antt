@@ -1,11 +1,11 @@
 use Rattle.std.proofs.Common.{◌≡◌, length}
-use Rattle.outside_io.proofs.PieceLemmas.{IsSent}
+use Rattle.outside_io.proofs.SentTextLemmas.{IsSentText}
 use Rattle.outside_io.proofs.writing.write_all.Given as goal
 
 -- what is sent and what is left are the text, and no call failed
 abbrev pub invariant-loop-rest : goal.invariant-loop-rest
 invariant-loop-rest g l = record {
-  sent : IsSent (g.K.Sink.taken l.fn.sink) (g.K.Sink.taken l.sink) l.bytes l.rest;
+  sent : IsSentText (g.K.Sink.taken l.fn.sink) (g.K.Sink.taken l.sink) l.bytes l.rest;
   kept : g.K.Sink.faults l.sink ≡ g.K.Sink.faults l.fn.sink;
 }
 

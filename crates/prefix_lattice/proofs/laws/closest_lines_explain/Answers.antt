@@ -1,4 +1,4 @@
-use Rattle.prefix_lattice.proofs.ClosestLineLemmas.{closest-covers, closest-incomparable, closest-strictly}
+use Rattle.prefix_lattice.proofs.ClosestLemmas.{closest-covers, closest-incomparable, closest-strictly}
 use Rattle.prefix_lattice.proofs.laws.closest_lines_explain.Goals as goal
 
 pub returns-clause-explain : goal.returns-clause-explain

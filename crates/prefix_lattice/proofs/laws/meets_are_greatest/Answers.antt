@@ -1,4 +1,4 @@
-use Rattle.prefix_lattice.proofs.MeetLemmas.{meet-under, meet-greatest}
+use Rattle.prefix_lattice.proofs.UnderMeetLemmas.{meet-under, meet-greatest}
 use Rattle.prefix_lattice.proofs.laws.meets_are_greatest.Goals as goal
 
 pub returns-clause-under_both : goal.returns-clause-under_both

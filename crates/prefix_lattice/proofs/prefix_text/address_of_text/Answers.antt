@@ -1,33 +1,33 @@
 use Rattle.std.proofs.Common.{◌/◌, ◌%◌, arith}
-use Rattle.prefix_lattice.proofs.TextCutLemmas.{no_next_number}
-use Rattle.prefix_lattice.proofs.AddressTextLemmas.{behind_first, first_number, second_number, cut_numbers}
+use Rattle.prefix_lattice.proofs.TextCutLemmas.{text_cut-no_next_number}
+use Rattle.prefix_lattice.proofs.AddressTextLemmas.{address_text_after_first, address_text-first_number, address_text-second_number, address_text-cut_into_numbers}
 use Rattle.prefix_lattice.proofs.prefix_text.address_of_text.Goals as goal
 
 pub returns-in_default-clause-none : goal.returns-in_default-clause-none
 returns-in_default-clause-none c = λ address small same.
-    no_next_number c.args.text.now (behind_first address) (address / 256 / 256 / 256 % 256) (omega arith)
+    text_cut-no_next_number c.args.text.now (address_text_after_first address) (address / 256 / 256 / 256 % 256) (omega arith)
     c.in_default.ensures.none same
 
 pub returns-in_default-cut_at-clause-none : goal.returns-in_default-cut_at-clause-none
 returns-in_default-cut_at-clause-none c = λ address small same.
-    let first = first_number c.args.text.now c.in-Some.first.before.now c.in-Some.first.after.now address
+    let first = address_text-first_number c.args.text.now c.in-Some.first.before.now c.in-Some.first.after.now address
     (record { is_before = c.in-Some.ensures.before; joined = c.in-Some.ensures.joined }) same in
-    no_next_number c.in-Some.first.after.now _ (address / 256 / 256 % 256) (omega arith)
+    text_cut-no_next_number c.in-Some.first.after.now _ (address / 256 / 256 % 256) (omega arith)
     c.in_default-cut_at.ensures.none first.1
 
 pub returns-in_default-cut_at-2-clause-none : goal.returns-in_default-cut_at-2-clause-none
 returns-in_default-cut_at-2-clause-none c = λ address small same.
-    let first = first_number c.args.text.now c.in-Some.first.before.now c.in-Some.first.after.now address
+    let first = address_text-first_number c.args.text.now c.in-Some.first.before.now c.in-Some.first.after.now address
     (record { is_before = c.in-Some.ensures.before; joined = c.in-Some.ensures.joined }) same in
-    let second = second_number c.in-Some.first.after.now c.in-Some-cut_at.second.before.now
+    let second = address_text-second_number c.in-Some.first.after.now c.in-Some-cut_at.second.before.now
     c.in-Some-cut_at.second.after.now address
     (record { is_before = c.in-Some-cut_at.ensures.before; joined = c.in-Some-cut_at.ensures.joined }) first.1 in
-    no_next_number c.in-Some-cut_at.second.after.now _ (address / 256 % 256) (omega arith)
+    text_cut-no_next_number c.in-Some-cut_at.second.after.now _ (address / 256 % 256) (omega arith)
     c.in_default-cut_at-2.ensures.none second.1
 
 pub returns-in_default-byte_of-clause-none : goal.returns-in_default-byte_of-clause-none
 returns-in_default-byte_of-clause-none c = λ address small same.
-    let numbers = cut_numbers address c.args.text.now _ _ _ _ _ _ same
+    let numbers = address_text-cut_into_numbers address c.args.text.now _ _ _ _ _ _ same
     (record { is_before = c.in-Some.ensures.before; joined = c.in-Some.ensures.joined })
     (record { is_before = c.in-Some-cut_at.ensures.before; joined = c.in-Some-cut_at.ensures.joined })
     (record { is_before = c.in-Some-cut_at-2.ensures.before; joined = c.in-Some-cut_at-2.ensures.joined }) in
@@ -35,7 +35,7 @@ returns-in_default-byte_of-clause-none c = λ address small same.
 
 pub returns-in_default-byte_of-2-clause-none : goal.returns-in_default-byte_of-2-clause-none
 returns-in_default-byte_of-2-clause-none c = λ address small same.
-    let numbers = cut_numbers address c.args.text.now _ _ _ _ _ _ same
+    let numbers = address_text-cut_into_numbers address c.args.text.now _ _ _ _ _ _ same
     (record { is_before = c.in-Some.ensures.before; joined = c.in-Some.ensures.joined })
     (record { is_before = c.in-Some-cut_at.ensures.before; joined = c.in-Some-cut_at.ensures.joined })
     (record { is_before = c.in-Some-cut_at-2.ensures.before; joined = c.in-Some-cut_at-2.ensures.joined }) in
@@ -43,7 +43,7 @@ returns-in_default-byte_of-2-clause-none c = λ address small same.
 
 pub returns-in_default-byte_of-3-clause-none : goal.returns-in_default-byte_of-3-clause-none
 returns-in_default-byte_of-3-clause-none c = λ address small same.
-    let numbers = cut_numbers address c.args.text.now _ _ _ _ _ _ same
+    let numbers = address_text-cut_into_numbers address c.args.text.now _ _ _ _ _ _ same
     (record { is_before = c.in-Some.ensures.before; joined = c.in-Some.ensures.joined })
     (record { is_before = c.in-Some-cut_at.ensures.before; joined = c.in-Some-cut_at.ensures.joined })
     (record { is_before = c.in-Some-cut_at-2.ensures.before; joined = c.in-Some-cut_at-2.ensures.joined }) in
@@ -51,7 +51,7 @@ returns-in_default-byte_of-3-clause-none c = λ address small same.
 
 pub returns-in_default-byte_of-4-clause-none : goal.returns-in_default-byte_of-4-clause-none
 returns-in_default-byte_of-4-clause-none c = λ address small same.
-    let numbers = cut_numbers address c.args.text.now _ _ _ _ _ _ same
+    let numbers = address_text-cut_into_numbers address c.args.text.now _ _ _ _ _ _ same
     (record { is_before = c.in-Some.ensures.before; joined = c.in-Some.ensures.joined })
     (record { is_before = c.in-Some-cut_at.ensures.before; joined = c.in-Some-cut_at.ensures.joined })
     (record { is_before = c.in-Some-cut_at-2.ensures.before; joined = c.in-Some-cut_at-2.ensures.joined }) in

@@ -1,6 +1,6 @@
 use Rattle.std.proofs.Common.{◌≡◌, ℕ, ◌+◌, ◌/◌, ◌%◌, ◌≤◌, List, ◌∷◌, ◌++◌, length, get_or, decimal, sym, ap, ◌∙◌}
 use Rattle.std.proofs.Common.{arith, subst}
-use Rattle.prefix_lattice.proofs.WrittenPartLemmas.{writes-same, writes-numbers}
+use Rattle.prefix_lattice.proofs.WrittenPartLemmas.{written_part-same, written_part-numbers}
 use Rattle.prefix_lattice.proofs.side_writing.write_address.Goals as goal
 
 pub returns : goal.returns
@@ -25,8 +25,8 @@ returns c =
     let room : c.args.at
     + length (written (get_or bytes 0 0) (get_or bytes 1 0) (get_or bytes 2 0) (get_or bytes 3 0)) ≤ length text =
     subst (λ (l : List ℕ). c.args.at + length l ≤ length text) (sym same) c.requires in
-    writes-same text c.write_behind.new.text c.args.at c.write_behind.result _ _ same
-    (writes-numbers text c.write_number-end.new.text c.write_behind-end.new.text c.write_behind-end-2.new.text
+    written_part-same text c.write_behind.new.text c.args.at c.write_behind.result _ _ same
+    (written_part-numbers text c.write_number-end.new.text c.write_behind-end.new.text c.write_behind-end-2.new.text
     c.write_behind.new.text 46 c.args.at
     c.write_number-end.result c.write_behind-end.result c.write_behind-end-2.result c.write_behind.result
     (get_or bytes 0 0) (get_or bytes 1 0) (get_or bytes 2 0) (get_or bytes 3 0)

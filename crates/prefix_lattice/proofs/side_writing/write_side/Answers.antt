@@ -1,8 +1,8 @@
 use Rattle.std.proofs.Common.{◌≡◌, ℕ, ◌*◌, ◌≤◌, ◌∷◌, ◌++◌, length, decimal, ap, ◌∙◌, arith}
 use Rattle.prefix_lattice.specs.KeptBytes.{address_of}
 use Rattle.prefix_lattice.specs.PrefixText.{address_text, side_text}
-use Rattle.prefix_lattice.proofs.TextLengthLemmas.{length-address_text, length-bits}
-use Rattle.prefix_lattice.proofs.WrittenPartLemmas.{writes-then, writes-same}
+use Rattle.prefix_lattice.proofs.TextLengthLemmas.{length-address_text, text_length-bits}
+use Rattle.prefix_lattice.proofs.WrittenPartLemmas.{written_parts-joined, written_part-same}
 use Rattle.prefix_lattice.proofs.side_writing.write_side.Goals as goal
 
 pub write_address-end-requires : goal.write_address-end-requires
@@ -17,7 +17,7 @@ write_behind-requires c =
       c.write_address-end.ensures.ends,
       c.write_address-end.auto.text,
       length-address_text c.address.result,
-      length-bits c.len.result few,
+      text_length-bits c.len.result few,
     )
 
 pub returns-clause-written : goal.returns-clause-written
@@ -28,8 +28,8 @@ returns-clause-written c =
     ∙ ap (λ (n : ℕ). address_text (address_of c.args.side.now) ++ 47 ∷ decimal (8 * n)) c.len.ensures.len in
     let within : c.write_address-end.result ≤ length text =
     omega (arith, c.requires, c.write_address-end.ensures.ends, length-address_text c.address.result) in
-    writes-same text c.write_behind.new.text c.args.at c.write_behind.result _ _ same
-    (writes-then text c.write_address-end.new.text c.write_behind.new.text c.args.at c.write_address-end.result
+    written_part-same text c.write_behind.new.text c.args.at c.write_behind.result _ _ same
+    (written_parts-joined text c.write_address-end.new.text c.write_behind.new.text c.args.at c.write_address-end.result
     c.write_behind.result
     (address_text c.address.result) (47 ∷ decimal (8 * c.len.result)) within c.write_address-end.ensures
     c.write_behind.ensures)
@@ -42,5 +42,5 @@ returns-clause-short c =
       c.write_address-end.ensures.ends,
       c.write_behind.ensures.ends,
       length-address_text c.address.result,
-      length-bits c.len.result few,
+      text_length-bits c.len.result few,
     )

@@ -1,19 +1,19 @@
 use Rattle.std.proofs.Common.{◌≡◌, ◌+◌, ◌<◌, ◌++◌, ◌∷◌, [], length, map, take, sym, ap, ◌∙◌, subst, arith}
 use Rattle.std.proofs.lemmas.List.{length-take-le, take_more, map-append}
 use Rattle.std.proofs.lemmas.Option.{get_or_from_slice_get}
-use Rattle.key_index.specs.{Keys}
+use Rattle.key_index.specs.{IndexedKeys}
 use Rattle.rank_table.specs.declared.slot.Slot.{Slot}
 use Rattle.space_saving.specs.declared.entry.Entry.{Entry}
 use Rattle.rank_table.specs.Slots.{Slots}
-use Rattle.rank_table.specs.Marks.{numbered}
-use Rattle.rank_table.proofs.LoadLemmas.{length-numbered, numbered-push}
+use Rattle.rank_table.specs.Marks.{numbered_for_marks}
+use Rattle.rank_table.proofs.NumberedEntryLemmas.{length-numbered_entries, numbered_for_marks-push_entry}
 use Rattle.rank_table.proofs.rank_table.load.Goals as goal
 
 pub push-requires-in-loop-place : goal.push-requires-in-loop-place
 push-requires-in-loop-place c =
     let entries = c.args.flat.now.entries in
     subst (λ (r : Slots). length r.slots < r.capacity) (sym c.loop-place.invariant.ranked)
-    (omega (arith, length-numbered 0 (take c.loop-place.place entries), length-take-le c.loop-place.place entries (omega arith)))
+    (omega (arith, length-numbered_entries 0 (take c.loop-place.place entries), length-take-le c.loop-place.place entries (omega arith)))
 
 pub loop-place-preserved : goal.loop-place-preserved
 loop-place-preserved c =
@@ -25,8 +25,9 @@ loop-place-preserved c =
     (get_or_from_slice_get entries place entry entry c.entry-entry.ensures.entry) in
     let count : 0 + length (take place entries) ≡ place = omega (arith, length-take-le place entries (omega arith)) in
     record {
-      index = c.push.ensures ∙ ap (λ (i : Keys). let k : Keys = record { room = i.room; keys = i.keys ++ entry.key ∷ [] } in k) c.loop-place.invariant.index
-          ∙ ap (λ keys. let k : Keys = record { room = c.args.index.now.room; keys = keys } in k)
+      index = c.push.ensures ∙ ap (λ (i : IndexedKeys). let k : IndexedKeys = record { room = i.room; keys = i.keys ++ entry.key ∷ [] } in k)
+          c.loop-place.invariant.index
+          ∙ ap (λ keys. let k : IndexedKeys = record { room = c.args.index.now.room; keys = keys } in k)
           (sym (ap (map (λ (e : Entry). e.key)) more ∙ map-append (λ (e : Entry). e.key) (take place entries) (entry ∷ [])));
       ranked = c.push-in-loop-place.ensures
           ∙ ap (λ (r : Slots). let s : Slots = record {
@@ -38,5 +39,5 @@ loop-place-preserved c =
             } in t) ∷ [];
           } in s) c.loop-place.invariant.ranked
           ∙ ap (λ slots. let s : Slots = record { capacity = c.args.ranked.now.capacity; slots = slots } in s)
-          (sym (ap (numbered 0) more ∙ numbered-push 0 (take place entries) entry place count));
+          (sym (ap (numbered_for_marks 0) more ∙ numbered_for_marks-push_entry 0 (take place entries) entry place count));
     }

@@ -1,10 +1,10 @@
 use Rattle.std.proofs.Common.{◌-◌, ◌*◌, ◌^◌, length, sum}
-use Rattle.rank_table.specs.Ranks.{AreLeaves}
+use Rattle.rank_table.specs.Ranks.{AreRankLeaves}
 use Rattle.rank_table.proofs.ranked_slots.winner.Given as goal
 
 -- the leaves are lower bounds still
 abbrev pub invariant-mending : goal.invariant-mending
-invariant-mending l = AreLeaves (length l.slots) l.base l.tree l.slots
+invariant-mending l = AreRankLeaves (length l.slots) l.base l.tree l.slots
 
 -- so much can all leaves still rise
 abbrev pub decreases-mending : goal.decreases-mending

@@ -1,13 +1,13 @@
 use Rattle.std.proofs.Common.{◌+◌, get_or, set, refl, sym, ap, subst, ◌∙◌, arith}
 use Rattle.std.proofs.lemmas.List.{map-set}
-use Rattle.key_index.specs.{Keys}
+use Rattle.key_index.specs.{IndexedKeys}
 use Rattle.rank_table.specs.declared.slot.Slot.{Slot}
-use Rattle.rank_table.specs.SlotOrder.{AreSlots, entries_of}
+use Rattle.rank_table.specs.SlotOrder.{AreOrderedSlots, entries_in_slot_order}
 use Rattle.rank_table.specs.Slots.{Slots}
-use Rattle.rank_table.specs.Steps.{raised, heir}
-use Rattle.rank_table.specs.RankTable.{AreTogether}
-use Rattle.rank_table.proofs.SlotChangeLemmas.{AreSlots-grown, AreSlots-fresh, AreSlots-heir, step-grown, step-fresh, step-heir}
-use Rattle.rank_table.proofs.KeyLemmas.{key_at, missing_slot, place_of_slot, key_of_slot, keyed-kept}
+use Rattle.rank_table.specs.TableSteps.{raised_by_step, heir_by_step}
+use Rattle.rank_table.specs.RankTable.{AreRankTableParts}
+use Rattle.rank_table.proofs.SlotChangeLemmas.{AreOrderedSlots-grown_change, AreOrderedSlots-fresh_change, AreOrderedSlots-heir_change, grown_slot_change_is_step, fresh_slot_change_is_step, heir_slot_change_is_step}
+use Rattle.rank_table.proofs.SlotKeyLemmas.{slot_key, missing_key_has_no_slot, slot_key_place_is_within, slot_key_at_its_place, slot_keys_stay_on_set}
 use Rattle.rank_table.proofs.steps.add_weight.Goals as goal
 
 abbrev blank : Slot
@@ -20,29 +20,30 @@ pub returns-in-Some-clause-together : goal.returns-in-Some-clause-together
 returns-in-Some-clause-together c =
     let slots = c.args.ranked.now.slots in
     let keyed = c.requires.together.keyed in
-    subst (λ (r : Slots). AreTogether r.capacity c.args.index.now r) (sym (c.grow.ensures blank))
+    subst (λ (r : Slots). AreRankTableParts r.capacity c.args.index.now r) (sym (c.grow.ensures blank))
     (record {
       roomy = c.requires.together.roomy;
       as_many = refl;
-      keyed = keyed-kept c.in-Some.place c.args.index.now.keys slots (raised c.args.weight c.args.now (get_or slots c.in-Some.place blank)) blank
-          (place_of_slot c.args.key c.in-Some.place c.args.index.now.keys slots keyed c.in-Some.ensures) keyed refl;
+      keyed = slot_keys_stay_on_set c.in-Some.place c.args.index.now.keys slots
+          (raised_by_step c.args.weight c.args.now (get_or slots c.in-Some.place blank)) blank
+          (slot_key_place_is_within c.args.key c.in-Some.place c.args.index.now.keys slots keyed c.in-Some.ensures) keyed refl;
     })
 
 pub returns-in-Some-clause-slots : goal.returns-in-Some-clause-slots
 returns-in-Some-clause-slots c =
     let slots = c.args.ranked.now.slots in
-    subst (λ (r : Slots). AreSlots (c.args.now + 1) r.slots) (sym (c.grow.ensures blank))
-    (AreSlots-grown c.args.weight c.args.now c.in-Some.place slots blank c.requires.slots
-    (place_of_slot c.args.key c.in-Some.place c.args.index.now.keys slots c.requires.together.keyed c.in-Some.ensures))
+    subst (λ (r : Slots). AreOrderedSlots (c.args.now + 1) r.slots) (sym (c.grow.ensures blank))
+    (AreOrderedSlots-grown_change c.args.weight c.args.now c.in-Some.place slots blank c.requires.slots
+    (slot_key_place_is_within c.args.key c.in-Some.place c.args.index.now.keys slots c.requires.together.keyed c.in-Some.ensures))
 
 pub returns-in-Some-clause-stepped : goal.returns-in-Some-clause-stepped
 returns-in-Some-clause-stepped c =
     let slots = c.args.ranked.now.slots in
     let keyed = c.requires.together.keyed in
-    ap (λ (r : Slots). entries_of r.slots) (c.grow.ensures blank)
-    ∙ step-grown c.args.ranked.now.capacity c.args.key c.args.weight c.args.now c.in-Some.place slots blank (omega arith) c.requires.slots
-    (place_of_slot c.args.key c.in-Some.place c.args.index.now.keys slots keyed c.in-Some.ensures)
-    (key_of_slot c.args.key c.in-Some.place c.args.index.now.keys slots blank keyed c.in-Some.ensures)
+    ap (λ (r : Slots). entries_in_slot_order r.slots) (c.grow.ensures blank)
+    ∙ grown_slot_change_is_step c.args.ranked.now.capacity c.args.key c.args.weight c.args.now c.in-Some.place slots blank (omega arith) c.requires.slots
+    (slot_key_place_is_within c.args.key c.in-Some.place c.args.index.now.keys slots keyed c.in-Some.ensures)
+    (slot_key_at_its_place c.args.key c.in-Some.place c.args.index.now.keys slots blank keyed c.in-Some.ensures)
 
 pub returns-in-None-2-clause-capacity : goal.returns-in-None-2-clause-capacity
 returns-in-None-2-clause-capacity c = ap (λ (r : Slots). r.capacity) (c.take_over.ensures.taken blank)
@@ -52,44 +53,44 @@ returns-in-None-2-clause-together c =
     let slots = c.args.ranked.now.slots in
     let place = c.take_over.ensures.place in
     let keyed = c.requires.together.keyed in
-    subst (λ (r : Slots). AreTogether r.capacity c.take_over.new.index r) (sym (c.take_over.ensures.taken blank))
-    (subst (λ (i : Keys). AreTogether c.args.ranked.now.capacity i (record c.args.ranked.now {
+    subst (λ (r : Slots). AreRankTableParts r.capacity c.take_over.new.index r) (sym (c.take_over.ensures.taken blank))
+    (subst (λ (i : IndexedKeys). AreRankTableParts c.args.ranked.now.capacity i (record c.args.ranked.now {
       slots = set slots place
-          (heir c.args.key c.args.weight c.args.now (get_or slots place blank));
+          (heir_by_step c.args.key c.args.weight c.args.now (get_or slots place blank));
     })) (sym c.take_over.ensures.indexed)
     (record {
       roomy = c.requires.together.roomy;
       as_many = refl;
       keyed = ap (λ keys. set keys place c.args.key) keyed
-          ∙ sym (map-set key_at slots place (heir c.args.key c.args.weight c.args.now (get_or slots place blank)));
+          ∙ sym (map-set slot_key slots place (heir_by_step c.args.key c.args.weight c.args.now (get_or slots place blank)));
     }))
 
 pub returns-in-None-2-clause-slots : goal.returns-in-None-2-clause-slots
 returns-in-None-2-clause-slots c =
     let slots = c.args.ranked.now.slots in
-    let missing = missing_slot c.args.key c.args.index.now.keys slots c.requires.together.keyed c.in-None-2.ensures in
-    subst (λ (r : Slots). AreSlots (c.args.now + 1) r.slots) (sym (c.take_over.ensures.taken blank))
-    (AreSlots-heir c.args.key c.args.weight c.args.now c.take_over.ensures.place slots blank c.requires.slots missing)
+    let missing = missing_key_has_no_slot c.args.key c.args.index.now.keys slots c.requires.together.keyed c.in-None-2.ensures in
+    subst (λ (r : Slots). AreOrderedSlots (c.args.now + 1) r.slots) (sym (c.take_over.ensures.taken blank))
+    (AreOrderedSlots-heir_change c.args.key c.args.weight c.args.now c.take_over.ensures.place slots blank c.requires.slots missing)
 
 pub returns-in-None-2-clause-stepped : goal.returns-in-None-2-clause-stepped
 returns-in-None-2-clause-stepped c =
     let slots = c.args.ranked.now.slots in
-    let missing = missing_slot c.args.key c.args.index.now.keys slots c.requires.together.keyed c.in-None-2.ensures in
-    ap (λ (r : Slots). entries_of r.slots) (c.take_over.ensures.taken blank)
-    ∙ step-heir c.args.ranked.now.capacity c.args.key c.args.weight c.args.now c.take_over.ensures.place slots blank
+    let missing = missing_key_has_no_slot c.args.key c.args.index.now.keys slots c.requires.together.keyed c.in-None-2.ensures in
+    ap (λ (r : Slots). entries_in_slot_order r.slots) (c.take_over.ensures.taken blank)
+    ∙ heir_slot_change_is_step c.args.ranked.now.capacity c.args.key c.args.weight c.args.now c.take_over.ensures.place slots blank
     (omega arith) c.requires.slots missing (c.has_room.ensures.full c.if-has_room.false) c.take_over.ensures.least
 
 pub returns-in-None-clause-slots : goal.returns-in-None-clause-slots
 returns-in-None-clause-slots c =
     let slots = c.args.ranked.now.slots in
-    let missing = missing_slot c.args.key c.args.index.now.keys slots c.requires.together.keyed c.in-None.ensures in
-    subst (λ (r : Slots). AreSlots (c.args.now + 1) r.slots) (sym c.take_room.ensures.ranked)
-    (AreSlots-fresh c.args.key c.args.weight c.args.now slots c.requires.slots missing)
+    let missing = missing_key_has_no_slot c.args.key c.args.index.now.keys slots c.requires.together.keyed c.in-None.ensures in
+    subst (λ (r : Slots). AreOrderedSlots (c.args.now + 1) r.slots) (sym c.take_room.ensures.ranked)
+    (AreOrderedSlots-fresh_change c.args.key c.args.weight c.args.now slots c.requires.slots missing)
 
 pub returns-in-None-clause-stepped : goal.returns-in-None-clause-stepped
 returns-in-None-clause-stepped c =
     let slots = c.args.ranked.now.slots in
-    let missing = missing_slot c.args.key c.args.index.now.keys slots c.requires.together.keyed c.in-None.ensures in
-    ap (λ (r : Slots). entries_of r.slots) c.take_room.ensures.ranked
-    ∙ step-fresh c.args.ranked.now.capacity c.args.key c.args.weight c.args.now slots (omega arith) c.requires.slots missing
+    let missing = missing_key_has_no_slot c.args.key c.args.index.now.keys slots c.requires.together.keyed c.in-None.ensures in
+    ap (λ (r : Slots). entries_in_slot_order r.slots) c.take_room.ensures.ranked
+    ∙ fresh_slot_change_is_step c.args.ranked.now.capacity c.args.key c.args.weight c.args.now slots (omega arith) c.requires.slots missing
     (c.has_room.ensures.room.0 c.if-has_room.true)

@@ -2,7 +2,7 @@ use Rattle.std.proofs.Common.{◌≡◌, ◌<◌, ◌≤◌, List, length, get_o
 use Rattle.std.proofs.lemmas.List.{get_or_default}
 use Rattle.rank_table.specs.declared.slot.Slot.{Slot}
 use Rattle.rank_table.specs.Slots.{Slots}
-use Rattle.rank_table.proofs.OrderLemmas.{all-at, count-le-total}
+use Rattle.rank_table.proofs.RankedSlotLemmas.{all-ranked_slot_at, ranked_slot_count_in_total}
 use Rattle.rank_table.proofs.steps.take_over.Goals as goal
 
 abbrev blank : Slot
@@ -14,7 +14,7 @@ overflow_add-heir c =
     let at : (get_or c.slots.result.now c.least-place.result blank).entry.count ≡ (get_or slots c.least-place.result blank).entry.count =
     ap (λ (l : List Slot). (get_or l c.least-place.result blank).entry.count) (c.slots.ensures.slots
     ∙ ap (λ (r : Slots). r.slots) c.least-place.ensures.same) in
-    omega (arith, count-le-total c.least-place.result slots blank c.least-place.ensures.least.within)
+    omega (arith, ranked_slot_count_in_total c.least-place.result slots blank c.least-place.ensures.least.within)
 
 pub raise-requires-clause-count : goal.raise-requires-clause-count
 raise-requires-clause-count c = λ d.
@@ -31,6 +31,6 @@ raise-requires-clause-time c = λ d.
     subst (λ (r : Slots). (get_or r.slots c.least-place.result d).time ≤ c.args.now) (sym c.least-place.ensures.same)
     (omega (
       arith,
-      all-at (λ s. s.time < c.args.now) c.least-place.result c.args.ranked.now.slots d c.requires.slots.timed
+      all-ranked_slot_at (λ s. s.time < c.args.now) c.least-place.result c.args.ranked.now.slots d c.requires.slots.timed
           c.least-place.ensures.least.within,
     ))

@@ -1,7 +1,7 @@
 use Rattle.std.proofs.Common.{arith}
-use Rattle.rank_table.specs.Words.{word}
+use Rattle.rank_table.specs.RankWords.{rank_word}
 use Rattle.rank_table.proofs.words.word_of.Goals as goal
 
 pub returns : goal.returns
-unfolding word
+unfolding rank_word
 returns c = omega arith

@@ -1,4 +1,4 @@
-use Rattle.recovery.proofs.BelongingLemmas.{belonging_stores_are_opened}
+use Rattle.recovery.proofs.BelongingStoreLemmas.{belonging_stores_are_opened}
 use Rattle.recovery.proofs.laws.belonging_stores_are_opened.Goals as goal
 
 pub returns : goal.returns

@@ -1,4 +1,4 @@
-use Rattle.recovery.proofs.DecisionLemmas.{openings_are_decided}
+use Rattle.recovery.proofs.DecidedLemmas.{openings_are_decided}
 use Rattle.recovery.proofs.laws.openings_are_decided.Goals as goal
 
 pub returns : goal.returns

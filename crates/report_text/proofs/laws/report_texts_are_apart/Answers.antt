@@ -1,4 +1,4 @@
-use Rattle.report_text.proofs.OneTextLemmas.{report-apart}
+use Rattle.report_text.proofs.ReportApartLemmas.{report-apart}
 use Rattle.report_text.proofs.laws.report_texts_are_apart.Goals as goal
 
 pub returns : goal.returns

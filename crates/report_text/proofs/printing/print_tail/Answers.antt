@@ -1,10 +1,10 @@
 use Rattle.std.proofs.Common.{◌++◌, codes, decimal, ap, ◌∙◌}
-use Rattle.report_text.proofs.TextPartLemmas.{tail-parts}
+use Rattle.report_text.proofs.TextPartLemmas.{text_parts_of_tail}
 use Rattle.report_text.proofs.printing.print_tail.Goals as goal
 
 pub returns-clause-ok : goal.returns-clause-ok
 returns-clause-ok c =
-    tail-parts c.args.into.now.items c.put_number.new.text.items c.put_number-2.new.text.items
+    text_parts_of_tail c.args.into.now.items c.put_number.new.text.items c.put_number-2.new.text.items
     c.put_number-3.new.text.items c.put_number-4.new.text.items c.put.new.text.items
     (decimal c.args.records.now.frames) (decimal c.args.records.now.not_ipv4) (decimal c.args.records.now.short)
     (decimal c.args.records.now.bad_header)

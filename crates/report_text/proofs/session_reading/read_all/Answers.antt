@@ -1,13 +1,13 @@
 use Rattle.std.proofs.Common.{[], ◌∷◌, ◌++◌, ap, refl, subst}
 use Rattle.std.specs.List.{flat_map}
 use Rattle.std.proofs.lemmas.Result.{err_from_is_err_and}
-use Rattle.report_text.specs.SessionText.{reported_lines}
+use Rattle.report_text.specs.SessionText.{session_reported_lines}
 use Rattle.report_text.specs.SessionStages.{nothing, opened, counted, skipped, ended}
-use Rattle.report_text.specs.Reading.{Reads}
+use Rattle.report_text.specs.LineReading.{ReadsLines}
 use Rattle.report_text.specs.declared.session_line.SessionLine.TheVariants.{Opened, Frames, Skipped, End}
-use Rattle.report_text.proofs.ReadingLemmas.{stays, reads-on, reads-known, stands-on, next-fault, refused}
-use Rattle.report_text.proofs.RefusedLineLemmas.{only-opened, only-skips, only-end}
-use Rattle.report_text.proofs.ReadSessionLemmas.{read-groups}
+use Rattle.report_text.proofs.LineReadingLemmas.{line_reading_stays, line_reading_goes_on, line_reading_known_line, line_reading_reads_more, line_reading_next_fault, line_reading_refused}
+use Rattle.report_text.proofs.RefusedLineLemmas.{line_refused_unless_opened, line_refused_unless_skips, line_refused_unless_end}
+use Rattle.report_text.proofs.ReadSessionLemmas.{read_session_line_groups}
 use Rattle.report_text.proofs.session_reading.read_all.Goals as goal
 
 pub returns-in_err-opened-clause-fault : goal.returns-in_err-opened-clause-fault
@@ -19,108 +19,108 @@ pub returns-in_default : goal.returns-in_default
 returns-in_default c = record {
   read = tt;
   fault =
-      refused c.args.lines.now c.args.lines.now c.next.new.self [] c.in_ok-opened.field-0 nothing nothing
-      c.refuse.result c.requires (stays c.args.lines.now nothing) c.in_ok-opened.ensures.read
-      (only-opened c.in_ok-opened.field-0 c.in_default.not-Opened) c.refuse.ensures;
+      line_reading_refused c.args.lines.now c.args.lines.now c.next.new.self [] c.in_ok-opened.field-0 nothing nothing
+      c.refuse.result c.requires (line_reading_stays c.args.lines.now nothing) c.in_ok-opened.ensures.read
+      (line_refused_unless_opened c.in_ok-opened.field-0 c.in_default.not-Opened) c.refuse.ensures;
 }
 
 pub read_reports-requires : goal.read_reports-requires
 read_reports-requires c =
     let start = c.args.lines.now in
-    let first = reads-known start start c.next.new.self [] c.in_ok-opened.field-0 (Opened c.in-Opened.opened) nothing
-    nothing (opened c.len.result) (stays start nothing) c.in_ok-opened.ensures.read c.in-Opened.is
+    let first = line_reading_known_line start start c.next.new.self [] c.in_ok-opened.field-0 (Opened c.in-Opened.opened) nothing
+    nothing (opened c.len.result) (line_reading_stays start nothing) c.in_ok-opened.ensures.read c.in-Opened.is
     (ap opened c.len.ensures) in
-    stands-on start c.next.new.self (Opened c.in-Opened.opened ∷ []) nothing (opened c.len.result) c.requires first
+    line_reading_reads_more start c.next.new.self (Opened c.in-Opened.opened ∷ []) nothing (opened c.len.result) c.requires first
 
 pub returns-in_err-skips-clause-fault : goal.returns-in_err-skips-clause-fault
 returns-in_err-skips-clause-fault c =
     let start = c.args.lines.now in
     let listed = c.in_ok-listed.listed in
-    let reports = flat_map reported_lines listed.reports ++ Frames listed.frames ∷ [] in
-    let first = reads-known start start c.next.new.self [] c.in_ok-opened.field-0 (Opened c.in-Opened.opened) nothing
-    nothing (opened c.len.result) (stays start nothing) c.in_ok-opened.ensures.read c.in-Opened.is
+    let reports = flat_map session_reported_lines listed.reports ++ Frames listed.frames ∷ [] in
+    let first = line_reading_known_line start start c.next.new.self [] c.in_ok-opened.field-0 (Opened c.in-Opened.opened) nothing
+    nothing (opened c.len.result) (line_reading_stays start nothing) c.in_ok-opened.ensures.read c.in-Opened.is
     (ap opened c.len.ensures) in
-    let all = reads-on start c.next.new.self c.read_reports.new.lines (Opened c.in-Opened.opened ∷ []) reports nothing
+    let all = line_reading_goes_on start c.next.new.self c.read_reports.new.lines (Opened c.in-Opened.opened ∷ []) reports nothing
     (opened c.len.result) counted first c.in_ok-listed.ensures.read in
     let p = err_from_is_err_and c.from_residual-in_err-skips.result c.from_residual-in_err-skips.ensures.1 in
     rw (p.1, p.2)
-    (next-fault start c.read_reports.new.lines (Opened c.in-Opened.opened ∷ reports) nothing counted
+    (line_reading_next_fault start c.read_reports.new.lines (Opened c.in-Opened.opened ∷ reports) nothing counted
     c.in_err-skips.field-0.0 c.requires all tt c.in_err-skips.ensures.fault)
 
 pub returns-in_default-2 : goal.returns-in_default-2
 returns-in_default-2 c =
     let start = c.args.lines.now in
     let listed = c.in_ok-listed.listed in
-    let reports = flat_map reported_lines listed.reports ++ Frames listed.frames ∷ [] in
-    let first = reads-known start start c.next.new.self [] c.in_ok-opened.field-0 (Opened c.in-Opened.opened) nothing
-    nothing (opened c.len.result) (stays start nothing) c.in_ok-opened.ensures.read c.in-Opened.is
+    let reports = flat_map session_reported_lines listed.reports ++ Frames listed.frames ∷ [] in
+    let first = line_reading_known_line start start c.next.new.self [] c.in_ok-opened.field-0 (Opened c.in-Opened.opened) nothing
+    nothing (opened c.len.result) (line_reading_stays start nothing) c.in_ok-opened.ensures.read c.in-Opened.is
     (ap opened c.len.ensures) in
-    let all = reads-on start c.next.new.self c.read_reports.new.lines (Opened c.in-Opened.opened ∷ []) reports nothing
+    let all = line_reading_goes_on start c.next.new.self c.read_reports.new.lines (Opened c.in-Opened.opened ∷ []) reports nothing
     (opened c.len.result) counted first c.in_ok-listed.ensures.read in
     record {
       read = tt;
       fault =
-          refused start c.read_reports.new.lines c.next-2.new.self (Opened c.in-Opened.opened ∷ reports)
+          line_reading_refused start c.read_reports.new.lines c.next-2.new.self (Opened c.in-Opened.opened ∷ reports)
           c.in_ok-skips.field-0 nothing counted c.refuse-in_default-2.result c.requires all c.in_ok-skips.ensures.read
-          (only-skips c.in_ok-skips.field-0 c.in_default-2.not-Skipped) c.refuse-in_default-2.ensures;
+          (line_refused_unless_skips c.in_ok-skips.field-0 c.in_default-2.not-Skipped) c.refuse-in_default-2.ensures;
     }
 
 pub returns-in_err-next-clause-fault : goal.returns-in_err-next-clause-fault
 returns-in_err-next-clause-fault c =
     let start = c.args.lines.now in
     let listed = c.in_ok-listed.listed in
-    let reports = flat_map reported_lines listed.reports ++ Frames listed.frames ∷ [] in
+    let reports = flat_map session_reported_lines listed.reports ++ Frames listed.frames ∷ [] in
     let skips = c.in-Skipped.skips in
-    let first = reads-known start start c.next.new.self [] c.in_ok-opened.field-0 (Opened c.in-Opened.opened) nothing
-    nothing (opened c.len.result) (stays start nothing) c.in_ok-opened.ensures.read c.in-Opened.is
+    let first = line_reading_known_line start start c.next.new.self [] c.in_ok-opened.field-0 (Opened c.in-Opened.opened) nothing
+    nothing (opened c.len.result) (line_reading_stays start nothing) c.in_ok-opened.ensures.read c.in-Opened.is
     (ap opened c.len.ensures) in
-    let all = reads-on start c.next.new.self c.read_reports.new.lines (Opened c.in-Opened.opened ∷ []) reports nothing
+    let all = line_reading_goes_on start c.next.new.self c.read_reports.new.lines (Opened c.in-Opened.opened ∷ []) reports nothing
     (opened c.len.result) counted first c.in_ok-listed.ensures.read in
-    let more = reads-known start c.read_reports.new.lines c.next-2.new.self (Opened c.in-Opened.opened ∷ reports)
+    let more = line_reading_known_line start c.read_reports.new.lines c.next-2.new.self (Opened c.in-Opened.opened ∷ reports)
     c.in_ok-skips.field-0 (Skipped skips) nothing counted skipped all c.in_ok-skips.ensures.read c.in-Skipped.is refl in
     let p = err_from_is_err_and c.from_residual-in_err-next.result c.from_residual-in_err-next.ensures.1 in
     rw (p.1, p.2)
-    (next-fault start c.next-2.new.self ((Opened c.in-Opened.opened ∷ reports) ++ Skipped skips ∷ []) nothing skipped
+    (line_reading_next_fault start c.next-2.new.self ((Opened c.in-Opened.opened ∷ reports) ++ Skipped skips ∷ []) nothing skipped
     c.in_err-next.field-0.0 c.requires more tt c.in_err-next.ensures.fault)
 
 pub returns-in_default-3 : goal.returns-in_default-3
 returns-in_default-3 c =
     let start = c.args.lines.now in
     let listed = c.in_ok-listed.listed in
-    let reports = flat_map reported_lines listed.reports ++ Frames listed.frames ∷ [] in
+    let reports = flat_map session_reported_lines listed.reports ++ Frames listed.frames ∷ [] in
     let skips = c.in-Skipped.skips in
-    let first = reads-known start start c.next.new.self [] c.in_ok-opened.field-0 (Opened c.in-Opened.opened) nothing
-    nothing (opened c.len.result) (stays start nothing) c.in_ok-opened.ensures.read c.in-Opened.is
+    let first = line_reading_known_line start start c.next.new.self [] c.in_ok-opened.field-0 (Opened c.in-Opened.opened) nothing
+    nothing (opened c.len.result) (line_reading_stays start nothing) c.in_ok-opened.ensures.read c.in-Opened.is
     (ap opened c.len.ensures) in
-    let all = reads-on start c.next.new.self c.read_reports.new.lines (Opened c.in-Opened.opened ∷ []) reports nothing
+    let all = line_reading_goes_on start c.next.new.self c.read_reports.new.lines (Opened c.in-Opened.opened ∷ []) reports nothing
     (opened c.len.result) counted first c.in_ok-listed.ensures.read in
-    let more = reads-known start c.read_reports.new.lines c.next-2.new.self (Opened c.in-Opened.opened ∷ reports)
+    let more = line_reading_known_line start c.read_reports.new.lines c.next-2.new.self (Opened c.in-Opened.opened ∷ reports)
     c.in_ok-skips.field-0 (Skipped skips) nothing counted skipped all c.in_ok-skips.ensures.read c.in-Skipped.is refl in
     record {
       read = tt;
       fault =
-          refused start c.next-2.new.self c.next-3.new.self ((Opened c.in-Opened.opened ∷ reports) ++ Skipped skips ∷ [])
+          line_reading_refused start c.next-2.new.self c.next-3.new.self ((Opened c.in-Opened.opened ∷ reports) ++ Skipped skips ∷ [])
           c.in_ok-next.field-0 nothing skipped c.refuse-in_default-3.result c.requires more c.in_ok-next.ensures.read
-          (only-end c.in_ok-next.field-0 c.in_default-3.not-End) c.refuse-in_default-3.ensures;
+          (line_refused_unless_end c.in_ok-next.field-0 c.in_default-3.not-End) c.refuse-in_default-3.ensures;
     }
 
 pub returns-clause-read : goal.returns-clause-read
 returns-clause-read c =
     let start = c.args.lines.now in
     let listed = c.in_ok-listed.listed in
-    let reports = flat_map reported_lines listed.reports ++ Frames listed.frames ∷ [] in
+    let reports = flat_map session_reported_lines listed.reports ++ Frames listed.frames ∷ [] in
     let skips = c.in-Skipped.skips in
-    let first = reads-known start start c.next.new.self [] c.in_ok-opened.field-0 (Opened c.in-Opened.opened) nothing
-    nothing (opened c.len.result) (stays start nothing) c.in_ok-opened.ensures.read c.in-Opened.is
+    let first = line_reading_known_line start start c.next.new.self [] c.in_ok-opened.field-0 (Opened c.in-Opened.opened) nothing
+    nothing (opened c.len.result) (line_reading_stays start nothing) c.in_ok-opened.ensures.read c.in-Opened.is
     (ap opened c.len.ensures) in
-    let all = reads-on start c.next.new.self c.read_reports.new.lines (Opened c.in-Opened.opened ∷ []) reports nothing
+    let all = line_reading_goes_on start c.next.new.self c.read_reports.new.lines (Opened c.in-Opened.opened ∷ []) reports nothing
     (opened c.len.result) counted first c.in_ok-listed.ensures.read in
-    let more = reads-known start c.read_reports.new.lines c.next-2.new.self (Opened c.in-Opened.opened ∷ reports)
+    let more = line_reading_known_line start c.read_reports.new.lines c.next-2.new.self (Opened c.in-Opened.opened ∷ reports)
     c.in_ok-skips.field-0 (Skipped skips) nothing counted skipped all c.in_ok-skips.ensures.read c.in-Skipped.is refl in
-    let whole = reads-known start c.next-2.new.self c.next-3.new.self
+    let whole = line_reading_known_line start c.next-2.new.self c.next-3.new.self
     ((Opened c.in-Opened.opened ∷ reports) ++ Skipped skips ∷ []) c.in_ok-next.field-0 End nothing skipped ended more
     c.in_ok-next.ensures.read c.in-End.is refl in
-    subst (λ l. Reads start c.next-3.new.self l nothing ended)
-    (read-groups (Opened c.in-Opened.opened) (Frames listed.frames) (Skipped skips) End
-    (flat_map reported_lines listed.reports))
+    subst (λ l. ReadsLines start c.next-3.new.self l nothing ended)
+    (read_session_line_groups (Opened c.in-Opened.opened) (Frames listed.frames) (Skipped skips) End
+    (flat_map session_reported_lines listed.reports))
     whole

@@ -1,13 +1,13 @@
 use Rattle.std.proofs.Common.{Some, None, [], ◌∷◌, ◌++◌, sym, subst}
 use Rattle.std.specs.List.{flat_map}
 use Rattle.std.proofs.lemmas.Result.{err_from_is_err_and}
-use Rattle.report_text.specs.SessionText.{reported_lines, saved_lines}
-use Rattle.report_text.specs.SessionStages.{opened, begun, done, after_line, after_stage, body_lines}
-use Rattle.report_text.specs.Reading.{Reads}
+use Rattle.report_text.specs.SessionText.{session_reported_lines, session_saved_lines}
+use Rattle.report_text.specs.SessionStages.{opened, begun, done, after_stage_line, after_stage, stage_body_lines}
+use Rattle.report_text.specs.LineReading.{ReadsLines}
 use Rattle.report_text.specs.declared.session_line.SessionLine.TheVariants.{Report}
-use Rattle.report_text.proofs.ReadingLemmas.{stays, reads-on, stands-on, refused}
-use Rattle.report_text.proofs.RefusedLineLemmas.{only-report}
-use Rattle.report_text.proofs.ReportedLemmas.{report-fewer, report-more}
+use Rattle.report_text.proofs.LineReadingLemmas.{line_reading_stays, line_reading_goes_on, line_reading_reads_more, line_reading_refused}
+use Rattle.report_text.proofs.RefusedLineLemmas.{line_refused_unless_report}
+use Rattle.report_text.proofs.ReadReportLemmas.{read_report_leaves_fewer, one_more_read_report}
 use Rattle.report_text.proofs.session_reading.read_reports.Goals as goal
 
 pub returns-in_err-next-clause-fault : goal.returns-in_err-next-clause-fault
@@ -19,65 +19,65 @@ pub returns-in_default : goal.returns-in_default
 returns-in_default c = record {
   read = tt;
   fault =
-      refused c.args.lines.now c.args.lines.now c.next.new.self [] c.in_ok-next.field-0 (opened c.args.shards)
-      (opened c.args.shards) c.refuse.result c.requires (stays c.args.lines.now (opened c.args.shards))
-      c.in_ok-next.ensures.read (only-report c.args.shards c.in_ok-next.field-0 c.in_default.not-Report)
+      line_reading_refused c.args.lines.now c.args.lines.now c.next.new.self [] c.in_ok-next.field-0 (opened c.args.shards)
+      (opened c.args.shards) c.refuse.result c.requires (line_reading_stays c.args.lines.now (opened c.args.shards))
+      c.in_ok-next.ensures.read (line_refused_unless_report c.args.shards c.in_ok-next.field-0 c.in_default.not-Report)
       c.refuse.ensures;
 }
 
 pub read_report-requires : goal.read_report-requires
 read_report-requires c =
-    stands-on c.args.lines.now c.reports.lines (flat_map reported_lines c.reports.reports ++ Report ∷ [])
+    line_reading_reads_more c.args.lines.now c.reports.lines (flat_map session_reported_lines c.reports.reports ++ Report ∷ [])
     (opened c.args.shards) (begun c.args.shards) c.requires c.reports.invariant
 
 pub read_after_report-requires : goal.read_after_report-requires
 read_after_report-requires c =
-    let begins = flat_map reported_lines c.reports.reports ++ Report ∷ [] in
-    stands-on c.args.lines.now c.read_report.new.lines (begins ++ body_lines c.in_ok-report.report)
+    let begins = flat_map session_reported_lines c.reports.reports ++ Report ∷ [] in
+    line_reading_reads_more c.args.lines.now c.read_report.new.lines (begins ++ stage_body_lines c.in_ok-report.report)
     (opened c.args.shards) (done c.args.shards) c.requires
-    (reads-on c.args.lines.now c.reports.lines c.read_report.new.lines begins (body_lines c.in_ok-report.report)
+    (line_reading_goes_on c.args.lines.now c.reports.lines c.read_report.new.lines begins (stage_body_lines c.in_ok-report.report)
     (opened c.args.shards) (begun c.args.shards) (done c.args.shards) c.reports.invariant c.in_ok-report.ensures.read)
 
 pub returns-in-Some-clause-read : goal.returns-in-Some-clause-read
 returns-in-Some-clause-read c =
     let n = c.args.shards in
-    let more = report-more c.args.lines.now c.reports.lines c.read_report.new.lines c.read_after_report.new.lines n
+    let more = one_more_read_report c.args.lines.now c.reports.lines c.read_report.new.lines c.read_after_report.new.lines n
     c.reports.reports c.in_ok-report.report c.in_ok-after.after.saved c.in_ok-after.after.frames c.reports.invariant
     c.in_ok-report.ensures.read c.in_ok-after.ensures.read in
     let known = subst
-    (λ frames. Reads c.args.lines.now c.read_after_report.new.lines
-    (flat_map reported_lines
+    (λ frames. ReadsLines c.args.lines.now c.read_after_report.new.lines
+    (flat_map session_reported_lines
     (c.reports.reports ++ record { report = c.in_ok-report.report; saved = c.in_ok-after.after.saved } ∷ [])
-    ++ after_line frames ∷ [])
+    ++ after_stage_line frames ∷ [])
     (opened n) (after_stage n frames))
     c.in-Some.is more in
     subst
-    (λ reports. Reads c.args.lines.now c.read_after_report.new.lines
-    (flat_map reported_lines reports ++ after_line (Some c.in-Some.frames) ∷ []) (opened n)
+    (λ reports. ReadsLines c.args.lines.now c.read_after_report.new.lines
+    (flat_map session_reported_lines reports ++ after_stage_line (Some c.in-Some.frames) ∷ []) (opened n)
     (after_stage n (Some c.in-Some.frames)))
     (sym c.in_ok-push.ensures.ok) known
 
 pub reports-smaller : goal.reports-smaller
 reports-smaller c =
-    report-fewer c.reports.lines c.read_report.new.lines c.read_after_report.new.lines c.in_ok-report.report
-    (saved_lines c.in_ok-after.after.saved ++ after_line c.in_ok-after.after.frames ∷ []) (begun c.args.shards)
+    read_report_leaves_fewer c.reports.lines c.read_report.new.lines c.read_after_report.new.lines c.in_ok-report.report
+    (session_saved_lines c.in_ok-after.after.saved ++ after_stage_line c.in_ok-after.after.frames ∷ []) (begun c.args.shards)
     (done c.args.shards) (after_stage c.args.shards c.in_ok-after.after.frames) c.in_ok-report.ensures.read
     c.in_ok-after.ensures.read
 
 pub reports-preserved : goal.reports-preserved
 reports-preserved c =
     let n = c.args.shards in
-    let more = report-more c.args.lines.now c.reports.lines c.read_report.new.lines c.read_after_report.new.lines n
+    let more = one_more_read_report c.args.lines.now c.reports.lines c.read_report.new.lines c.read_after_report.new.lines n
     c.reports.reports c.in_ok-report.report c.in_ok-after.after.saved c.in_ok-after.after.frames c.reports.invariant
     c.in_ok-report.ensures.read c.in_ok-after.ensures.read in
     let known = subst
-    (λ frames. Reads c.args.lines.now c.read_after_report.new.lines
-    (flat_map reported_lines
+    (λ frames. ReadsLines c.args.lines.now c.read_after_report.new.lines
+    (flat_map session_reported_lines
     (c.reports.reports ++ record { report = c.in_ok-report.report; saved = c.in_ok-after.after.saved } ∷ [])
-    ++ after_line frames ∷ [])
+    ++ after_stage_line frames ∷ [])
     (opened n) (after_stage n frames))
     c.in_default-frames.is more in
     subst
-    (λ reports. Reads c.args.lines.now c.read_after_report.new.lines
-    (flat_map reported_lines reports ++ after_line None ∷ []) (opened n) (after_stage n None))
+    (λ reports. ReadsLines c.args.lines.now c.read_after_report.new.lines
+    (flat_map session_reported_lines reports ++ after_stage_line None ∷ []) (opened n) (after_stage n None))
     (sym c.in_ok-push.ensures.ok) known

@@ -2,7 +2,7 @@ use Rattle.std.proofs.Common.{◌≡◌, [], refl, ap, ◌∙◌, subst}
 use Rattle.std.proofs.lemmas.Result.{err_from_is_err_and}
 use Rattle.report_text.specs.SessionText.{session_lines, HasSessionFault}
 use Rattle.report_text.specs.SessionStages.{nothing, ended}
-use Rattle.report_text.proofs.ReadSessionLemmas.{read-whole, is-session, is-session-text}
+use Rattle.report_text.proofs.ReadSessionLemmas.{read_session_from_start, read_session_is_session, read_session_has_its_text}
 use Rattle.report_text.proofs.session_reading.read_session.Goals as goal
 
 pub read_all-requires : goal.read_all-requires
@@ -19,8 +19,8 @@ returns-in_err-finish-clause-fault c =
     rw (p.1, p.2)
     (subst (λ text. HasSessionFault text c.in_err-finish.field-0.0) same
     (c.in_err-finish.ensures.err session
-    (read-whole old new (session_lines session) nothing ended c.new-lines.ensures.start reads)
-    (is-session c.report_order_is_total.ensures.total old new session reads)))
+    (read_session_from_start old new (session_lines session) nothing ended c.new-lines.ensures.start reads)
+    (read_session_is_session c.report_order_is_total.ensures.total old new session reads)))
 
 pub returns-clause-read : goal.returns-clause-read
 returns-clause-read c =
@@ -29,7 +29,7 @@ returns-clause-read c =
     let new = c.read_all.new.lines in
     let reads = c.in_ok-session.ensures.read in
     let same : new.text.now ≡ c.args.bytes.now = ap (λ t. t.now) (reads.same ∙ c.new-lines.ensures.text) in
-    is-session-text c.args.bytes.now new session
-    (is-session c.report_order_is_total.ensures.total old new session reads)
-    (read-whole old new (session_lines session) nothing ended c.new-lines.ensures.start reads) same
+    read_session_has_its_text c.args.bytes.now new session
+    (read_session_is_session c.report_order_is_total.ensures.total old new session reads)
+    (read_session_from_start old new (session_lines session) nothing ended c.new-lines.ensures.start reads) same
     c.in_ok-finish.ensures.ok

@@ -1,5 +1,5 @@
-use Rattle.slot_disk.proofs.NewestLemmas.{put_loses_nothing}
+use Rattle.slot_disk.proofs.NewestBodyLemmas.{newest_body_survives_put}
 use Rattle.slot_disk.proofs.laws.puts_lose_nothing.Goals as goal
 
 pub returns : goal.returns
-returns c = put_loses_nothing
+returns c = newest_body_survives_put

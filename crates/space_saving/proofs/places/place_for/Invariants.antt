@@ -1,7 +1,7 @@
 use Rattle.std.proofs.Common.{◌≡◌, ◌++◌, take, drop}
-use Rattle.space_saving.specs.Table.{put}
+use Rattle.space_saving.specs.Table.{put_in_table}
 use Rattle.space_saving.proofs.places.place_for.Given as goal
 
 -- the entry is put in further on
 abbrev pub invariant-loop-place : goal.invariant-loop-place
-invariant-loop-place l = take l.place l.entries ++ put l.new (drop l.place l.entries) ≡ put l.new l.entries
+invariant-loop-place l = take l.place l.entries ++ put_in_table l.new (drop l.place l.entries) ≡ put_in_table l.new l.entries

@@ -1,13 +1,13 @@
 use Rattle.std.proofs.Common.{◌≡◌, ◌+◌, ◌-◌, ◌<◌, ◌++◌, length, take, drop}
-use Rattle.space_saving.specs.Table.{put}
+use Rattle.space_saving.specs.Table.{put_in_table}
 use Rattle.space_saving.proofs.places.settle.Given as goal
 
 -- what is still to be put in among the later entries
 abbrev pub invariant-loop-place : goal.invariant-loop-place
 invariant-loop-place l = record {
   within : l.place < length l.entries;
-  still : take l.place l.entries ++ put l.new (drop (l.place + 1) l.entries)
-      ≡ take l.fn.from l.fn.entries ++ put l.new (drop (l.fn.from + 1) l.fn.entries);
+  still : take l.place l.entries ++ put_in_table l.new (drop (l.place + 1) l.entries)
+      ≡ take l.fn.from l.fn.entries ++ put_in_table l.new (drop (l.fn.from + 1) l.fn.entries);
 }
 
 abbrev pub decreases-loop-place : goal.decreases-loop-place

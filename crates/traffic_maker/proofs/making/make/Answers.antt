@@ -3,25 +3,25 @@ use Rattle.std.proofs.Common.{◌≡◌, ◌+◌, ◌-◌, ◌++◌, ◌∙◌, 
 use Rattle.std.specs.Io.KnownBytes.{Appends}
 use Rattle.std.proofs.KnownBytes.{Appends-trans}
 use Rattle.outside_io.specs.{AppendsBeginning}
-use Rattle.traffic_maker.specs.Capture.{capture_header, made_capture, made_frames}
-use Rattle.traffic_maker.proofs.FrameLemmas.{capture_of_none, capture_more}
-use Rattle.traffic_maker.proofs.PieceLemmas.{begins_after, begins_in_first, on_err}
+use Rattle.traffic_maker.specs.MadeCapture.{made_capture_header, made_capture, made_capture_frames}
+use Rattle.traffic_maker.proofs.MadeFrameLemmas.{capture_of_no_made_frames, capture_of_more_made_frames}
+use Rattle.traffic_maker.proofs.CapturePieceLemmas.{begins_in_later_capture_piece, begins_in_first_capture_piece, holds_on_capture_piece_error}
 use Rattle.traffic_maker.proofs.making.make.Goals as goal
 
 pub returns-in_err-write_all-clause-beginning : goal.returns-in_err-write_all-clause-beginning
-unfolding capture_header
+unfolding made_capture_header
 returns-in_err-write_all-clause-beginning g c =
-    on_err c.from_residual.result
-    (begins_in_first _ _ _ (made_frames c.args.seed 0 c.args.frames) (made_capture c.args.seed c.args.frames)
+    holds_on_capture_piece_error c.from_residual.result
+    (begins_in_first_capture_piece _ _ _ (made_capture_frames c.args.seed 0 c.args.frames) (made_capture c.args.seed c.args.frames)
     c.in_err-write_all.ensures.beginning refl)
 
 pub loop-made-init : goal.loop-made-init
-unfolding capture_header
+unfolding made_capture_header
 loop-made-init g c = record {
   within = omega arith;
   written =
       subst (Appends (g.K.Sink.taken c.args.sink.now) (g.K.Sink.taken c.write_all.new.sink))
-      (sym (capture_of_none c.args.seed)) c.in_ok-write_all.ensures.whole;
+      (sym (capture_of_no_made_frames c.args.seed)) c.in_ok-write_all.ensures.whole;
   kept = c.in_ok-write_all.ensures.cause.kept;
   drawn = c.from_seed-draws.ensures;
 }
@@ -35,10 +35,10 @@ returns-in_err-write_all-2-clause-beginning g c =
     let held = c.loop-made.invariant in
     let piece = c.as_slice.ensures ∙ c.fill.ensures.made seed held.drawn in
     let all : c.args.frames ≡ made + count + more = omega (arith, c.min-count.ensures, held.within) in
-    let joined = ap (made_capture seed) all ∙ capture_more seed (made + count) more
-    ∙ ap (λ front. front ++ made_frames seed (made + count) more) (capture_more seed made count) in
-    on_err c.from_residual-in_err-write_all-2.result
-    (begins_after _ _ _ (made_capture seed made) (made_frames seed made count) (made_frames seed (made + count) more)
+    let joined = ap (made_capture seed) all ∙ capture_of_more_made_frames seed (made + count) more
+    ∙ ap (λ front. front ++ made_capture_frames seed (made + count) more) (capture_of_more_made_frames seed made count) in
+    holds_on_capture_piece_error c.from_residual-in_err-write_all-2.result
+    (begins_in_later_capture_piece _ _ _ (made_capture seed made) (made_capture_frames seed made count) (made_capture_frames seed (made + count) more)
     (made_capture seed c.args.frames) held.written
     (subst (AppendsBeginning _ _) piece c.in_err-write_all-2.ensures.beginning) joined)
 
@@ -50,7 +50,7 @@ loop-made-preserved g c =
     let held = c.loop-made.invariant in
     let piece = c.as_slice.ensures ∙ c.fill.ensures.made seed held.drawn in
     let appended = Appends-trans _ _ _ (made_capture seed made) _ held.written c.in_ok-write_all-2.ensures.whole in
-    let joined = ap (λ last. made_capture seed made ++ last) piece ∙ sym (capture_more seed made count) in
+    let joined = ap (λ last. made_capture seed made ++ last) piece ∙ sym (capture_of_more_made_frames seed made count) in
     record {
       within = omega (arith, c.min-count.ensures, held.within);
       written = subst (Appends _ _) joined appended;

@@ -1,17 +1,17 @@
 use Rattle.std.proofs.Common.{◌≡◌, ◌≢◌, ◌<◌, List, length, AllPairs, ap, subst, arith}
 use Rattle.prefix_lattice.specs.{PrefixValue, closest, kept_pairs}
 use Rattle.conditioned_bounds.specs.Bounds.{bound_of}
-use Rattle.conditioned_bounds.specs.Members.{line_limit}
-use Rattle.conditioned_bounds.proofs.IndexLemmas.{closest_few}
+use Rattle.conditioned_bounds.specs.Members.{member_limit}
+use Rattle.conditioned_bounds.proofs.IndexLemmas.{index_closest_are_few}
 use Rattle.conditioned_bounds.proofs.line_index.LineIndex.bound.Goals as goal
 
 pub of-requires : goal.of-requires
 of-requires g c =
-    let few : length c.args.self.now < line_limit =
-    subst (λ (lines : List PrefixValue). length lines < line_limit) c.self.view_is c.self.invariant.few in
+    let few : length c.args.self.now < member_limit =
+    subst (λ (lines : List PrefixValue). length lines < member_limit) c.self.view_is c.self.invariant.few in
     let same : length c.in_ok-lines.lines ≡ length (closest c.args.prefix.now c.args.self.now) =
     ap length c.in_ok-lines.ensures in
-    omega (arith, few, same, closest_few c.args.prefix.now c.args.self.now)
+    omega (arith, few, same, index_closest_are_few c.args.prefix.now c.args.self.now)
 
 pub returns-clause-at_least : goal.returns-clause-at_least
 returns-clause-at_least g c = λ records holds.

@@ -4,10 +4,10 @@ use Rattle.std.specs.List.{list_any}
 use Rattle.std.proofs.lemmas.List.{get_or_default}
 use Rattle.std.proofs.lemmas.List.Elements.{All-get_or}
 use Rattle.prefix_lattice.specs.{PrefixValue, strictly_under, lines_under}
-use Rattle.conditioned_bounds.specs.Uppers.{code_of}
-use Rattle.conditioned_bounds.specs.Numbers.{numbers_at}
-use Rattle.conditioned_bounds.specs.LineIndex.{line_of, root}
-use Rattle.conditioned_bounds.proofs.IndexLemmas.{number_strictly, filter_line}
+use Rattle.conditioned_bounds.specs.Uppers.{upper_code}
+use Rattle.conditioned_bounds.specs.LineNumbers.{line_numbers_at}
+use Rattle.conditioned_bounds.specs.LineIndex.{indexed_line, line_index_root}
+use Rattle.conditioned_bounds.proofs.IndexLemmas.{index_line-strictly_under, index_line-filter}
 use Rattle.conditioned_bounds.proofs.line_index.LineIndex.closest.Goals as goal
 use Rattle.conditioned_bounds.proofs.line_index.LineIndex.closest.Goals.{then-not-is_under_another+in_ok-push}
 use Rattle.conditioned_bounds.proofs.line_index.LineIndex.closest.Goals.{else-not-is_under_another}
@@ -18,20 +18,20 @@ is_under_another-requires c =
     let prefix = c.args.prefix.now in
     let numbers = c.numbers_at-number-items.result.now in
     let at = c.loop-number.number-index in
-    let kept : numbers ≡ numbers_at c.self.inside.under (code_of prefix) =
-    c.numbers_at-number-items.ensures ∙ ap (numbers_at c.self.inside.under) c.code_of.ensures.value in
-    let same : map (line_of lines) numbers ≡ lines_under prefix lines =
-    ap (map (line_of lines)) kept ∙ c.self.invariant.under prefix c.code_of.ensures.prefix in
+    let kept : numbers ≡ line_numbers_at c.self.inside.under (upper_code prefix) =
+    c.numbers_at-number-items.ensures ∙ ap (line_numbers_at c.self.inside.under) c.code_of.ensures.value in
+    let same : map (indexed_line lines) numbers ≡ lines_under prefix lines =
+    ap (map (indexed_line lines)) kept ∙ c.self.invariant.under prefix c.code_of.ensures.prefix in
     let number = get_or numbers at 0 in
     let few : number < length lines =
     All-get_or (λ n. n < length lines) numbers at 0 c.loop-number-test.true
-    (subst (All (λ n. n < length lines)) (sym kept) (c.self.invariant.numbers (code_of prefix))) in
-    let line : c.index-lines-number.result ≡ line_of lines number =
+    (subst (All (λ n. n < length lines)) (sym kept) (c.self.invariant.numbers (upper_code prefix))) in
+    let line : c.index-lines-number.result ≡ indexed_line lines number =
     c.index-lines-number.is
     ∙ ap (λ (ls : List PrefixValue). get_or ls number c.index-lines-number.result) c.as_slice-lines.ensures.value
-    ∙ get_or_default lines number c.index-lines-number.result root few in
+    ∙ get_or_default lines number c.index-lines-number.result line_index_root few in
     subst (λ l. strictly_under l prefix ≡ true) (sym line)
-    (number_strictly lines numbers prefix at same c.loop-number-test.true)
+    (index_line-strictly_under lines numbers prefix at same c.loop-number-test.true)
 
 pub loop-number-preserved : goal.loop-number-preserved
 loop-number-preserved c =
@@ -40,15 +40,15 @@ loop-number-preserved c =
     let numbers = c.numbers_at-number-items.result.now in
     let at = c.loop-number.number-index in
     let number = get_or numbers at 0 in
-    let kept : numbers ≡ numbers_at c.self.inside.under (code_of prefix) =
-    c.numbers_at-number-items.ensures ∙ ap (numbers_at c.self.inside.under) c.code_of.ensures.value in
+    let kept : numbers ≡ line_numbers_at c.self.inside.under (upper_code prefix) =
+    c.numbers_at-number-items.ensures ∙ ap (line_numbers_at c.self.inside.under) c.code_of.ensures.value in
     let few : number < length lines =
     All-get_or (λ n. n < length lines) numbers at 0 c.loop-number-test.true
-    (subst (All (λ n. n < length lines)) (sym kept) (c.self.invariant.numbers (code_of prefix))) in
-    let line : c.index-lines-number.result ≡ line_of lines number =
+    (subst (All (λ n. n < length lines)) (sym kept) (c.self.invariant.numbers (upper_code prefix))) in
+    let line : c.index-lines-number.result ≡ indexed_line lines number =
     c.index-lines-number.is
     ∙ ap (λ (ls : List PrefixValue). get_or ls number c.index-lines-number.result) c.as_slice-lines.ensures.value
-    ∙ get_or_default lines number c.index-lines-number.result root few in
+    ∙ get_or_default lines number c.index-lines-number.result line_index_root few in
     let Test : PrefixValue → Bool =
     λ member. not (list_any (λ other. strictly_under member other) (lines_under prefix lines)) in
     let answer : list_any (λ other. strictly_under c.index-lines-number.result other) (lines_under prefix lines)
@@ -57,11 +57,11 @@ loop-number-preserved c =
       | then-not-is_under_another+in_ok-push w ↦
           w.tops-is ∙ w.in_ok-push.ensures.ok
           ∙ ap (λ (tops : List PrefixValue). tops ++ c.index-lines-number.result ∷ []) c.loop-number.invariant
-          ∙ sym (filter_line Test lines numbers at c.index-lines-number.result true c.loop-number-test.true line
+          ∙ sym (index_line-filter Test lines numbers at c.index-lines-number.result true c.loop-number-test.true line
           (ap not (answer ∙ w.if-not-is_under_another.true)))
       | else-not-is_under_another w ↦
           w.tops-is ∙ c.loop-number.invariant
-          ∙ sym (append-nil (filter Test (map (line_of lines) (take at numbers))))
-          ∙ sym (filter_line Test lines numbers at c.index-lines-number.result false c.loop-number-test.true line
+          ∙ sym (append-nil (filter Test (map (indexed_line lines) (take at numbers))))
+          ∙ sym (index_line-filter Test lines numbers at c.index-lines-number.result false c.loop-number-test.true line
           (ap not (answer ∙ w.if-not-is_under_another.false)))
     ]

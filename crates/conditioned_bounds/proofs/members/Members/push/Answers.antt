@@ -4,10 +4,10 @@ use Rattle.std.specs.List.{list_any}
 use Rattle.std.proofs.lemmas.List.Elements.{Contains-push, Contains-append_left}
 use Rattle.std.specs.Ordering.{nat_cmp, eq_by_cmp}
 use Rattle.std.specs.BTreeSet.{contains}
-use Rattle.prefix_lattice.specs.{NodeValue, PrefixValue, node_of}
-use Rattle.conditioned_bounds.specs.Uppers.{code_of}
-use Rattle.conditioned_bounds.specs.Members.{AreMembers, line_limit}
-use Rattle.conditioned_bounds.proofs.MemberLemmas.{members_same, members_push, node_there}
+use Rattle.prefix_lattice.specs.{NodeValue, PrefixValue, node_of_prefix}
+use Rattle.conditioned_bounds.specs.Uppers.{upper_code}
+use Rattle.conditioned_bounds.specs.Members.{AreMembers, member_limit}
+use Rattle.conditioned_bounds.proofs.MemberLemmas.{members_same, members_push, member_node_is_there}
 use Rattle.conditioned_bounds.proofs.members.Members.push.Goals as goal
 use Rattle.conditioned_bounds.proofs.members.Members.push.Goals.{then-not-contains+in_ok-push, else-not-contains}
 
@@ -22,16 +22,16 @@ invariant_of-self-2 c =
     let inside = c.self.inside in
     let prefix = c.args.prefix.now in
     let old = inside.nodes.items in
-    let node : c.node-node.result ≡ node_of prefix = c.node-node.ensures in
-    let few : length inside.prefixes.items + 1 < line_limit =
-    subst (λ (ms : List PrefixValue). length ms + 1 < line_limit) (sym c.self.view_is) c.requires in
+    let node : c.node-node.result ≡ node_of_prefix prefix = c.node-node.ensures in
+    let few : length inside.prefixes.items + 1 < member_limit =
+    subst (λ (ms : List PrefixValue). length ms + 1 < member_limit) (sym c.self.view_is) c.requires in
     let adds : (q : ℕ) → contains nat_cmp c.insert.new.self q
-    ≡ cond (eq_by_cmp nat_cmp (code_of prefix) q) true (contains nat_cmp inside.codes q) =
+    ≡ cond (eq_by_cmp nat_cmp (upper_code prefix) q) true (contains nat_cmp inside.codes q) =
     subst (λ (code : ℕ). (q : ℕ) → contains nat_cmp c.insert.new.self q
     ≡ cond (eq_by_cmp nat_cmp code q) true (contains nat_cmp inside.codes q))
     c.code_of.ensures.value c.in_ok-insert.ensures.updates.0 in
     let pushed : (at : List NodeValue) → ((n : NodeValue) → Contains old n → Contains at n)
-    → Contains at (node_of prefix) → AreMembers (inside.prefixes.items ++ prefix ∷ []) c.insert.new.self at =
+    → Contains at (node_of_prefix prefix) → AreMembers (inside.prefixes.items ++ prefix ∷ []) c.insert.new.self at =
     λ at kept there.
     members_push c.keys_are_of_their_node.ensures.apart inside.prefixes.items prefix inside.codes c.insert.new.self
     old at c.self.invariant c.code_of.ensures.prefix few adds kept there in
@@ -62,7 +62,7 @@ invariant_of-self-2 c =
           (ap (λ i. i.nodes.items) w.self-inside-is ∙ c.reserve-2.ensures.items)
           (pushed old (λ n there. there)
           (subst (Contains old) node
-          (node_there old c.node-node.result
+          (member_node_is_there old c.node-node.result
           (ap Test (sym (c.deref.ensures.value ∙ c.reserve-2.ensures.items)) ∙ sym c.contains.ensures.value
           ∙ w.if-not-contains.false))))
     ]

@@ -1,6 +1,6 @@
 use Rattle.std.proofs.Common.{◌<◌, length, arith}
 use Rattle.cut_merge.specs.Merged.{MergedValue}
-use Rattle.cut_merge.proofs.CutMergeLemmas.{within_merged}
+use Rattle.cut_merge.proofs.CutMergeLemmas.{cut_merge_place_within_total}
 use Rattle.cut_merge.proofs.merged.Merged.merge_of.Goals as goal
 
 pub returns-clause-within : goal.returns-clause-within
@@ -13,4 +13,4 @@ returns-clause-within c = λ key.
     let within : c.from.result < length merged.nodes =
     omega (arith, c.self.invariant.shape, c.index.ensures.few, c.from.ensures) in
     rw (← c.self.view_is)
-    (within_merged merged c.from.result key c.index-2.result.now c.self.invariant within c.index-2.ensures)
+    (cut_merge_place_within_total merged c.from.result key c.index-2.result.now c.self.invariant within c.index-2.ensures)

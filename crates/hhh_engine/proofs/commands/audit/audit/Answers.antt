@@ -2,22 +2,22 @@ use Rattle.std.proofs.Common.{subst}
 use Rattle.std.specs.Io.KnownBytes.{Appends}
 use Rattle.outside_io.specs.{AppendsBeginning}
 use Rattle.hhh_engine.specs.Inputs.{inputs}
-use Rattle.hhh_engine.proofs.AuditEndLemmas.{broken_answer, not_taken, written_answer}
-use Rattle.hhh_engine.proofs.ReadOrderLemmas.{audit_was_made}
+use Rattle.hhh_engine.proofs.AuditEndLemmas.{audit_ends_broken_off, audit_ends_without_inputs, audit_ends_as_written}
+use Rattle.hhh_engine.proofs.ReadOrderLemmas.{read_order_of_made_audit}
 use Rattle.hhh_engine.proofs.commands.audit.audit.Goals as goal
 
 pub returns-in-Err-clause-ends : goal.returns-in-Err-clause-ends
 returns-in-Err-clause-ends g c = λ store.
     let given = inputs (g.S.Source.left c.args.capture.now) (g.S.Source.left c.read_audited.new.capture)
     (g.T.Source.left c.args.text.now) (g.T.Source.left c.read_audited.new.text) store in
-    not_taken c.args.settings.now _ given _ _ _ _ _ c.in-Err.status (c.in-Err.ensures.refused store)
+    audit_ends_without_inputs c.args.settings.now _ given _ _ _ _ _ c.in-Err.status (c.in-Err.ensures.refused store)
     (λ other. c.in-Err.ensures.told (λ is. other (cc is)))
 
 pub returns-in-Ok-write_all-clause-ends : goal.returns-in-Ok-write_all-clause-ends
 returns-in-Ok-write_all-clause-ends g c = λ store.
     let given = inputs (g.S.Source.left c.args.capture.now) (g.S.Source.left c.read_audited.new.capture)
     (g.T.Source.left c.args.text.now) (g.T.Source.left c.read_audited.new.text) store in
-    written_answer c.args.settings.now _ given _ _ c.args.sink.now c.write_all.new.sink _ _ _ _ c.in-Ok.audited c.in-Ok-answer_of.answer
+    audit_ends_as_written c.args.settings.now _ given _ _ c.args.sink.now c.write_all.new.sink _ _ _ _ c.in-Ok.audited c.in-Ok-answer_of.answer
     (c.in-Ok.ensures.audited store) c.in-Ok-answer_of.ensures c.in-Ok.ensures.capture_at_end
     c.in-Ok.ensures.text_at_end (c.in-Ok.ensures.told (λ is. cc is))
     (subst (Appends (g.K.Sink.taken c.args.sink.now) (g.K.Sink.taken c.write_all.new.sink)) c.deref.ensures.value
@@ -27,7 +27,7 @@ pub returns-clause-ends : goal.returns-clause-ends
 returns-clause-ends g c = λ store.
     let given = inputs (g.S.Source.left c.args.capture.now) (g.S.Source.left c.read_audited.new.capture)
     (g.T.Source.left c.args.text.now) (g.T.Source.left c.read_audited.new.text) store in
-    broken_answer c.args.settings.now _ given _ _ c.args.sink.now c.write_all.new.sink _ _ _ _ c.in-Ok.audited c.in-Ok-answer_of.answer
+    audit_ends_broken_off c.args.settings.now _ given _ _ c.args.sink.now c.write_all.new.sink _ _ _ _ c.in-Ok.audited c.in-Ok-answer_of.answer
     (c.in-Ok.ensures.audited store) c.in-Ok-answer_of.ensures c.in-Ok.ensures.capture_at_end
     c.in-Ok.ensures.text_at_end (c.in-Ok.ensures.told (λ is. cc is))
     (subst (AppendsBeginning (g.K.Sink.taken c.args.sink.now) (g.K.Sink.taken c.write_all.new.sink)) c.deref.ensures.value
@@ -35,5 +35,5 @@ returns-clause-ends g c = λ store.
 
 pub returns-in-Ok-write_all-clause-order : goal.returns-in-Ok-write_all-clause-order
 returns-in-Ok-write_all-clause-order g c = λ store.
-    audit_was_made _ _ _ _ _ c.args.settings.now c.in-Ok.audited.dealt c.in-Ok.audited.session.reports
+    read_order_of_made_audit _ _ _ _ _ c.args.settings.now c.in-Ok.audited.dealt c.in-Ok.audited.session.reports
     c.in-Ok-answer_of.answer.text.items c.in-Ok-answer_of.answer.status c.in-Ok-answer_of.ensures

@@ -1,12 +1,12 @@
 use Rattle.std.proofs.Common.{◌∙◌, ◌+◌, All, subst}
 use Rattle.std.proofs.lemmas.List.{take_all}
-use Rattle.hhh_engine.specs.Audit.{IsFirstUnsound, IsSoundOver}
-use Rattle.hhh_engine.proofs.AuditLemmas.{sound_more, unsound_next}
+use Rattle.hhh_engine.specs.Audit.{IsAuditedAsFirstUnsound, IsAuditedAsSound}
+use Rattle.hhh_engine.proofs.AuditFindingLemmas.{audit_finding_next_is_sound, audit_finding_next_is_unsound}
 use Rattle.hhh_engine.proofs.commands.audit.first_unsound.Goals as goal
 
 pub loop-place-preserved : goal.loop-place-preserved
 loop-place-preserved c =
-    sound_more c.args.settings.now c.args.audited.now.dealt c.as_slice-reports.result.now c.loop-place.place
+    audit_finding_next_is_sound c.args.settings.now c.args.audited.now.dealt c.as_slice-reports.result.now c.loop-place.place
     c.index-reports-place.result c.loop-place-test.true c.index-reports-place.is
     (c.in_ok-verdict.ensures.good.0 c.in-Good.is) c.loop-place.invariant
 
@@ -16,16 +16,16 @@ returns-in_default c =
     let lists = c.args.audited.now.dealt in
     record {
       none = tt;
-      some = subst (λ reports. IsFirstUnsound settings lists reports (c.loop-place.place + 1) c.in_ok-verdict.verdict)
+      some = subst (λ reports. IsAuditedAsFirstUnsound settings lists reports (c.loop-place.place + 1) c.in_ok-verdict.verdict)
           c.as_slice-reports.ensures
-          (unsound_next settings lists c.as_slice-reports.result.now c.loop-place.place c.index-reports-place.result
+          (audit_finding_next_is_unsound settings lists c.as_slice-reports.result.now c.loop-place.place c.index-reports-place.result
           c.in_ok-verdict.verdict c.loop-place-test.true c.index-reports-place.is c.in_ok-verdict.ensures.verdict
           c.in_default.not-Good c.loop-place.invariant);
     }
 
 pub returns-clause-none : goal.returns-clause-none
 returns-clause-none c =
-    let sound = IsSoundOver c.args.settings.now c.args.audited.now.dealt in
+    let sound = IsAuditedAsSound c.args.settings.now c.args.audited.now.dealt in
     subst (All sound)
     (take_all c.loop-place.place c.as_slice-reports.result.now c.loop-place-test.false ∙ c.as_slice-reports.ensures)
     c.loop-place.invariant

@@ -1,16 +1,16 @@
 use Rattle.hhh_engine.proofs.BaseLemmas.{new_base, no_base}
-use Rattle.hhh_engine.proofs.SessionLemmas.{if_err_of, if_ok_of}
+use Rattle.hhh_engine.proofs.SessionThreadLemmas.{session_thread_if_err_implies, session_thread_if_ok_implies}
 use Rattle.hhh_engine.proofs.commands.base.open_base.Goals as goal
 
 pub returns-else-settings-clause-base : goal.returns-else-settings-clause-base
 returns-else-settings-clause-base g c =
-    if_ok_of c.new_base.result _ _
+    session_thread_if_ok_implies c.new_base.result _ _
     (λ base is. new_base c.args.settings.now c.args.dealt.now (g.D.Disk.reads c.args.disk.now) base c.if-settings.false is)
     c.new_base.ensures.base
 
 pub returns-else-settings-clause-refused : goal.returns-else-settings-clause-refused
 returns-else-settings-clause-refused g c =
-    if_err_of c.new_base.result _ _
+    session_thread_if_err_implies c.new_base.result _ _
     (λ status is. no_base c.args.settings.now c.args.dealt.now (g.D.Disk.reads c.args.disk.now)
     (g.D.Disk.faults c.args.disk.now) status is)
     c.new_base.ensures.memory

@@ -1,7 +1,7 @@
 use Rattle.std.proofs.Common.{◌∙◌, ap, length}
 use Rattle.std.proofs.lemmas.List.FromFn.{length-map-range_with_len}
 use Rattle.hhh_engine.specs.Demo.{demo_text}
-use Rattle.hhh_engine.proofs.SessionLemmas.{if_ok_of}
+use Rattle.hhh_engine.proofs.SessionThreadLemmas.{session_thread_if_ok_implies}
 use Rattle.hhh_engine.proofs.commands.demo.demo_text.Goals as goal
 
 pub report_all-requires-clause-shards : goal.report_all-requires-clause-shards
@@ -11,7 +11,7 @@ report_all-requires-clause-shards g c = λ κs outlives.
 pub returns : goal.returns
 returns g c =
     let made = c.in_ok-records.ensures.records in
-    if_ok_of c.summary.result _ _
+    session_thread_if_ok_implies c.summary.result _ _
     (λ text spelled. record {
       records = c.in_ok-records.records;
       lists = c.in_ok-dealt.dealt;

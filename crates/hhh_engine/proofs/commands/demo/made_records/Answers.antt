@@ -1,7 +1,7 @@
 use Rattle.std.proofs.Common.{◌∙◌, Some, subst}
 use Rattle.traffic_maker.specs.{made_capture}
 use Rattle.hhh_engine.specs.NoText.{HasNoText}
-use Rattle.hhh_engine.proofs.DemoLemmas.{never_refused}
+use Rattle.hhh_engine.proofs.DemoLemmas.{demo_capture_is_never_refused}
 use Rattle.hhh_engine.proofs.commands.demo.made_records.Goals as goal
 
 pub unreachable-requires : goal.unreachable-requires
@@ -9,6 +9,6 @@ unreachable-requires c =
     let made = c.made_captures_are_captures.ensures c.args.seed c.args.frames c.requires.1 in
     let file = made_capture c.args.seed c.args.frames in
     let same = c.new-capture.ensures ∙ c.in_ok-make_bytes.ensures in
-    never_refused c.files_are_read_or_refused.ensures.never_both file made.0 c.in-Err.status made.1
+    demo_capture_is_never_refused c.files_are_read_or_refused.ensures.never_both file made.0 c.in-Err.status made.1
     (subst (λ bytes. HasNoText (Some bytes) 0 0 c.in-Err.status) same c.in-Err.ensures.refused)
     c.in_default.not-OutOfMemory

@@ -1,43 +1,43 @@
 use Rattle.std.proofs.Common.{ap}
 use Rattle.gate_workers.specs.declared.plan.ThreadPlan.{ThreadPlan}
 use Rattle.pass_tokens.specs.{view}
-use Rattle.hhh_engine.proofs.SavesLemmas.{nothing_saved, part_of_saves}
-use Rattle.hhh_engine.proofs.SeenLemmas.{stands_first}
-use Rattle.hhh_engine.proofs.SessionLemmas.{ended_as_set, ended_whole, feed_in_part, gathered_whole, on_err, once_or_not}
+use Rattle.hhh_engine.proofs.SaveLemmas.{no_save_into_untouched_disk, part_of_saves}
+use Rattle.hhh_engine.proofs.SeenPositionLemmas.{seen_positions_saver_stands}
+use Rattle.hhh_engine.proofs.SessionThreadLemmas.{session_thread_ended_as_set, session_thread_ended_all_rounds, session_threads_leave_rounds, session_threads_gathered_all, session_thread_on_err, session_threads_ran_or_not}
 use Rattle.hhh_engine.proofs.commands.feed.run_feed.Goals as goal
 
 pub returns-in-Some-clause-part : goal.returns-in-Some-clause-part
 returns-in-Some-clause-part g c =
-    feed_in_part _ _ c.args.board.now.opening c.args.settings.now _ (view c.args.pass) _ _ _ _ _ _ _ c.requires.view
+    session_threads_leave_rounds _ _ c.args.board.now.opening c.args.settings.now _ (view c.args.pass) _ _ _ _ _ _ _ c.requires.view
     c.requires.alike
-    (λ before now does. ended_as_set _ _ _ _ _ before now _ _ _ _ _ _ _ _ _ c.requires.share c.requires.count
+    (λ before now does. session_thread_ended_as_set _ _ _ _ _ before now _ _ _ _ _ _ _ _ _ c.requires.share c.requires.count
     c.requires.used does.5)
     (c.calls_follow_calls.ensures.more c.args.board.now.opening)
     (λ cuts saves. part_of_saves _ _ _ _ _ _ _ cuts saves.saves)
     (λ same. (
       ap (λ work. g.K.Sink.taken work.sink.now) same,
-      nothing_saved g.D.Disk.reads g.D.Disk.image_now g.D.Disk.moment g.D.Disk.image_since
+      no_save_into_untouched_disk g.D.Disk.reads g.D.Disk.image_now g.D.Disk.moment g.D.Disk.image_since
           c.args.rounds.now.saver.now c.args.rounds.now.disk.now _ g.met.D.Disk.only_now
-          (stands_first _ _ c.args.board.now.opening _ _ c.args.rounds.now.saver.now c.requires.can_save)
+          (seen_positions_saver_stands _ _ c.args.board.now.opening _ _ c.args.rounds.now.saver.now c.requires.can_save)
           (ap (λ work. work.disk.now) same),
     ))
-    (once_or_not _ _ c.args.board.now.opening _ (view c.args.pass) c.run_threads-gathered.result
+    (session_threads_ran_or_not _ _ c.args.board.now.opening _ (view c.args.pass) c.run_threads-gathered.result
     c.run_threads-gathered.ensures.gathers c.run_threads-gathered.ensures.memory)
 
 pub returns-in_err-gathered-clause-part : goal.returns-in_err-gathered-clause-part
 returns-in_err-gathered-clause-part g c =
-    on_err c.from_residual.result _
-    (feed_in_part _ _ c.args.board.now.opening c.args.settings.now _ (view c.args.pass) _ _ _ _ _ _ _ c.requires.view
+    session_thread_on_err c.from_residual.result _
+    (session_threads_leave_rounds _ _ c.args.board.now.opening c.args.settings.now _ (view c.args.pass) _ _ _ _ _ _ _ c.requires.view
     c.requires.alike
-    (λ before now does. ended_as_set _ _ _ _ _ before now _ _ _ _ _ _ _ _ _ c.requires.share c.requires.count
+    (λ before now does. session_thread_ended_as_set _ _ _ _ _ before now _ _ _ _ _ _ _ _ _ c.requires.share c.requires.count
     c.requires.used does.5)
     (c.calls_follow_calls.ensures.more c.args.board.now.opening)
     (λ cuts saves. part_of_saves _ _ _ _ _ _ _ cuts saves.saves)
     (λ same. (
       ap (λ work. g.K.Sink.taken work.sink.now) same,
-      nothing_saved g.D.Disk.reads g.D.Disk.image_now g.D.Disk.moment g.D.Disk.image_since
+      no_save_into_untouched_disk g.D.Disk.reads g.D.Disk.image_now g.D.Disk.moment g.D.Disk.image_since
           c.args.rounds.now.saver.now c.args.rounds.now.disk.now _ g.met.D.Disk.only_now
-          (stands_first _ _ c.args.board.now.opening _ _ c.args.rounds.now.saver.now c.requires.can_save)
+          (seen_positions_saver_stands _ _ c.args.board.now.opening _ _ c.args.rounds.now.saver.now c.requires.can_save)
           (ap (λ work. work.disk.now) same),
     ))
     c.in_err-gathered.ensures.memory)
@@ -45,12 +45,12 @@ returns-in_err-gathered-clause-part g c =
 pub returns-clause-fed : goal.returns-clause-fed
 returns-clause-fed g c =
     let plan = c.plan_of.ensures in
-    let whole = gathered_whole _ c.args.board.now.opening c.args.settings.now _ (view c.args.pass)
+    let whole = session_threads_gathered_all _ c.args.board.now.opening c.args.settings.now _ (view c.args.pass)
     c.in_ok-gathered.gathered _ _ _ c.requires.view c.requires.alike
     (ap (λ (plan : ThreadPlan). plan.phi) plan) (ap (λ (plan : ThreadPlan). plan.rounds) plan)
     (ap (λ (plan : ThreadPlan). plan.callers) plan)
-    (λ before now does. ended_whole _ _ _ before now _ _ _ _ _ _ _ _ c.in_default.is
-    (ended_as_set _ _ _ _ _ before now _ _ _ _ _ _ _ _ _ c.requires.share c.requires.count c.requires.used does.5))
+    (λ before now does. session_thread_ended_all_rounds _ _ _ before now _ _ _ _ _ _ _ _ c.in_default.is
+    (session_thread_ended_as_set _ _ _ _ _ before now _ _ _ _ _ _ _ _ _ c.requires.share c.requires.count c.requires.used does.5))
     c.in_ok-gathered.ensures.gathers c.in_ok-gathered.ensures.sound in
     record {
       pass = c.in_ok-gathered.ensures.pass;

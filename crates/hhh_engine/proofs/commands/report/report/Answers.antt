@@ -1,16 +1,16 @@
 use Rattle.std.proofs.Common.{ap}
-use Rattle.hhh_engine.specs.Ending.{source_faults}
-use Rattle.hhh_engine.proofs.CaptureLemmas.{dealt_told, report_ends}
+use Rattle.hhh_engine.specs.Ending.{ending_source_faults}
+use Rattle.hhh_engine.proofs.CaptureReportLemmas.{capture_report_tells_disk_fault, capture_report_ends}
 use Rattle.hhh_engine.proofs.commands.report.report.Goals as goal
 
 pub returns-clause-ends : goal.returns-clause-ends
 returns-clause-ends g c = λ other.
-    report_ends c.args.settings.now _ _ (g.S.Source.left c.args.capture.now)
+    capture_report_ends c.args.settings.now _ _ (g.S.Source.left c.args.capture.now)
     (g.D.Disk.reads c.args.disk.now) _ c.in-Ok.fed.dealt c.in-Ok.fed.tail.items _
     _ _ _ _ _ _ _ _ _ _ _ c.report_dealt.result c.in-Ok.ensures.dealt c.in-Ok.ensures.at_end
-    (ap (λ count. source_faults count other) (c.in-Ok.ensures.told (λ no. cc no))) c.report_dealt.ensures.ends
+    (ap (λ count. ending_source_faults count other) (c.in-Ok.ensures.told (λ no. cc no))) c.report_dealt.ensures.ends
 
 pub returns-clause-told : goal.returns-clause-told
 returns-clause-told g c =
-    dealt_told c.args.settings.now c.in-Ok.fed.dealt c.in-Ok.fed.tail.items _ _ _ _ _ _ _ _ _ c.report_dealt.result
+    capture_report_tells_disk_fault c.args.settings.now c.in-Ok.fed.dealt c.in-Ok.fed.tail.items _ _ _ _ _ _ _ _ _ c.report_dealt.result
     c.report_dealt.ensures.ends

@@ -1,17 +1,17 @@
 use Rattle.std.proofs.Common.{◌≡◌, sym, ap, subst, Some, [], ◌∷◌}
 use Rattle.std.specs.Prelude.{IfSome}
-use Rattle.checkpoint.specs.{StandsFor}
-use Rattle.hhh_engine.specs.Feed.{CanSaveCut}
+use Rattle.checkpoint.specs.{StandsForSaver}
+use Rattle.hhh_engine.specs.DealtFeed.{DealtFeedCanSaveCut}
 use Rattle.hhh_engine.specs.Saves.{SavesInTurn}
-use Rattle.hhh_engine.proofs.SavesLemmas.{unfinished_save_of, one_save}
+use Rattle.hhh_engine.proofs.SaveLemmas.{unfinished_save_of, one_save}
 use Rattle.hhh_engine.proofs.commands.saving.save_cut.Goals as goal
 
 pub returns-in-Ok-clause-saved : goal.returns-in-Ok-clause-saved
 returns-in-Ok-clause-saved g c =
     let saver = c.in-Some.open in
     let is : c.args.saver.now ≡ Some saver = sym c.in-Some.ensures.value in
-    let can : CanSaveCut (g.D.Disk.reads c.args.disk.now) (g.D.Disk.image_now c.args.disk.now) c.args.cut.now saver =
-    subst (λ s. IfSome s (CanSaveCut (g.D.Disk.reads c.args.disk.now) (g.D.Disk.image_now c.args.disk.now)
+    let can : DealtFeedCanSaveCut (g.D.Disk.reads c.args.disk.now) (g.D.Disk.image_now c.args.disk.now) c.args.cut.now saver =
+    subst (λ s. IfSome s (DealtFeedCanSaveCut (g.D.Disk.reads c.args.disk.now) (g.D.Disk.image_now c.args.disk.now)
     c.args.cut.now)) is c.requires in
     let done = c.in-Ok.ensures in
     subst (λ before. SavesInTurn g.D.Disk.reads g.D.Disk.image_now g.D.Disk.moment g.D.Disk.image_since before
@@ -21,7 +21,7 @@ returns-in-Ok-clause-saved g c =
       saves = one_save c.stores_open_to_one.ensures g.D.Disk.reads g.D.Disk.image_now g.D.Disk.moment
           g.D.Disk.image_since saver c.args.cut.now c.args.disk.now c.save.new.disk can.settings can.stands
           done.known
-          (subst (λ after. StandsFor (g.D.Disk.reads c.save.new.disk) (g.D.Disk.image_now c.save.new.disk) after)
+          (subst (λ after. StandsForSaver (g.D.Disk.reads c.save.new.disk) (g.D.Disk.image_now c.save.new.disk) after)
           done.saved done.stands) done.opens done.any_moment;
     })
 

@@ -3,8 +3,8 @@ use Rattle.std.specs.List.{All}
 use Rattle.std.specs.Vec.Iter.{into_iter_items}
 use Rattle.std.proofs.lemmas.List.{nil_from_length}
 use Rattle.std.proofs.lemmas.List.Elements.{All-drop}
-use Rattle.hhh_engine.specs.Session.{new_shards}
-use Rattle.hhh_engine.proofs.OpeningLemmas.{each_few, new_shards-push}
+use Rattle.hhh_engine.specs.Session.{new_session_shards}
+use Rattle.hhh_engine.proofs.OpeningShardLemmas.{opening_shards_have_few_records, opening_shards_grow_by_one}
 use Rattle.hhh_engine.proofs.commands.session.new_states.Goals as goal
 
 pub loop-list-init : goal.loop-list-init
@@ -15,7 +15,7 @@ loop-list-init c =
       states = c.new-states.ensures.items;
       small =
           subst (All (λ list. length list ≤ 2 ^ 24)) (sym c.into_iter-list-iterator.ensures.into_iter_gives.0)
-          (each_few (2 ^ 24) c.into_lists-list-items.result.items c.into_lists-list-items.ensures.bounded.small);
+          (opening_shards_have_few_records (2 ^ 24) c.into_lists-list-items.result.items c.into_lists-list-items.ensures.bounded.small);
     }
 
 pub loop-list-preserved : goal.loop-list-preserved
@@ -30,7 +30,7 @@ loop-list-preserved c =
       states =
           c.in_ok-push.ensures.items
           ∙ ap₂ (λ states state. states ++ state ∷ []) kept.states c.in_ok-start.ensures
-          ∙ sym (new_shards-push c.args.capacity done c.in-Some.list);
+          ∙ sym (opening_shards_grow_by_one c.args.capacity done c.in-Some.list);
       small =
           All-drop (λ list. length list ≤ 2 ^ 24) 1 (c.in-Some.list ∷ into_iter_items c.next.new.self)
           (subst (All (λ list. length list ≤ 2 ^ 24)) parted kept.small);
@@ -43,4 +43,4 @@ returns-clause-states c =
     let none =
     nil_from_length (into_iter_items c.loop-list.list-iterator)
     (sym c.loop-list.list-iterator.rest.ok.0 ∙ c.in-None.ensures.steps.0) in
-    kept.states ∙ ap (new_shards c.args.capacity) (sym (kept.parted ∙ ap (λ xs. done ++ xs) none ∙ append-nil done))
+    kept.states ∙ ap (new_session_shards c.args.capacity) (sym (kept.parted ∙ ap (λ xs. done ++ xs) none ∙ append-nil done))

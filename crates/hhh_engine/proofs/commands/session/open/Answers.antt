@@ -1,11 +1,11 @@
 use Rattle.std.proofs.Common.{◌∙◌, sym, ap, subst, length}
 use Rattle.std.proofs.lemmas.List.{length-replicate}
 use Rattle.pass_tokens.specs.{first_view}
-use Rattle.shard_state.specs.{AreShards, CutValue, empty_snapshot}
+use Rattle.shard_state.specs.{AreCoreShards, CutValue, empty_snapshot}
 use Rattle.hhh_engine.proofs.commands.session.open.Goals as goal
 
 pub start-requires : goal.start-requires
-start-requires c = subst AreShards (sym c.in_ok-states.ensures) c.openings_stand.ensures.shards
+start-requires c = subst AreCoreShards (sym c.in_ok-states.ensures) c.openings_stand.ensures.shards
 
 pub returns : goal.returns
 returns c =

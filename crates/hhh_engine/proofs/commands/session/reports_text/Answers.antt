@@ -1,9 +1,9 @@
 use Rattle.std.proofs.Common.{false, ◌∙◌, ◌++◌, take, sym, ap, subst, arith}
 use Rattle.std.proofs.lemmas.List.{length-map, take_all}
 use Rattle.gate_workers.specs.declared.gathered.Called.{Called}
-use Rattle.hhh_engine.specs.Feed.{reports_of}
-use Rattle.hhh_engine.specs.Session.{AreReportsOf, callers_text, parts_text}
-use Rattle.hhh_engine.proofs.SessionLemmas.{caller_at, callers-more}
+use Rattle.hhh_engine.specs.DealtFeed.{dealt_feed_other_reports}
+use Rattle.hhh_engine.specs.Session.{AreSessionReportsOfCaller, session_callers_text, session_parts_text}
+use Rattle.hhh_engine.proofs.SessionThreadLemmas.{session_thread_caller_at_index, session_thread_adds_caller}
 use Rattle.hhh_engine.proofs.commands.session.reports_text.Goals as goal
 
 pub loop-caller-init : goal.loop-caller-init
@@ -14,8 +14,8 @@ put_reports-requires c =
     let index = c.loop-caller.caller-index in
     let called = c.args.called.now in
     let d = c.caller-item.result in
-    subst (AreReportsOf c.args.board.now.opening c.args.settings.now c.args.settings.now.rounds)
-    (caller_at called index d ∙ ap (λ (caller : Called). caller.reports) (sym c.caller-item.is))
+    subst (AreSessionReportsOfCaller c.args.board.now.opening c.args.settings.now c.args.settings.now.rounds)
+    (session_thread_caller_at_index called index d ∙ ap (λ (caller : Called). caller.reports) (sym c.caller-item.is))
     (c.requires index d.reports
     (omega (arith, c.loop-caller-test.true, length-map called (λ (caller : Called). caller.reports))))
 
@@ -24,17 +24,17 @@ loop-caller-preserved c =
     let index = c.loop-caller.caller-index in
     let called = c.args.called.now in
     let d = c.caller-item.result in
-    c.in_ok-put_reports.ensures ∙ ap (λ bytes. bytes ++ parts_text false d.reports) c.loop-caller.invariant
-    ∙ ap (λ (caller : Called). callers_text (take index (reports_of called)) ++ parts_text false caller.reports)
+    c.in_ok-put_reports.ensures ∙ ap (λ bytes. bytes ++ session_parts_text false d.reports) c.loop-caller.invariant
+    ∙ ap (λ (caller : Called). session_callers_text (take index (dealt_feed_other_reports called)) ++ session_parts_text false caller.reports)
     c.caller-item.is
-    ∙ sym (callers-more called index d c.loop-caller-test.true)
+    ∙ sym (session_thread_adds_caller called index d c.loop-caller-test.true)
 
 pub returns : goal.returns
 returns c =
     let called = c.args.called.now in
     c.loop-caller.invariant
-    ∙ ap (callers_text)
-    (take_all c.loop-caller.caller-index (reports_of called)
+    ∙ ap (session_callers_text)
+    (take_all c.loop-caller.caller-index (dealt_feed_other_reports called)
     (omega (
       arith,
       c.loop-caller.auto.caller-index-end,

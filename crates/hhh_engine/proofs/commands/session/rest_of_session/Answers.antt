@@ -1,30 +1,30 @@
 use Rattle.std.proofs.Common.{◌∙◌, ◌++◌, None, ap}
 use Rattle.report_text.specs.{report_text}
 use Rattle.pass_tokens.specs.{view}
-use Rattle.hhh_engine.specs.Feed.{reports_of}
-use Rattle.hhh_engine.specs.Session.{callers_text}
-use Rattle.hhh_engine.proofs.RoundLemmas.{report_of_call, report_positions}
-use Rattle.hhh_engine.proofs.SessionLemmas.{last_report}
+use Rattle.hhh_engine.specs.DealtFeed.{dealt_feed_other_reports}
+use Rattle.hhh_engine.specs.Session.{session_callers_text}
+use Rattle.hhh_engine.proofs.RoundLemmas.{round_makes_report, round_report_has_positions}
+use Rattle.hhh_engine.proofs.SessionThreadLemmas.{session_thread_reports_at_ends}
 use Rattle.hhh_engine.proofs.commands.session.rest_of_session.Goals as goal
 
 pub print-requires-clause-positions : goal.print-requires-clause-positions
 print-requires-clause-positions g c =
-    report_positions c.args.board.now.opening _ c.in_ok-last.last c.shards-shards.ensures.kept
-    (report_of_call _ _ _ _ c.in_ok-last.last c.in_ok-last.ensures.calls)
+    round_report_has_positions c.args.board.now.opening _ c.in_ok-last.last c.shards-shards.ensures.kept
+    (round_makes_report _ _ _ _ c.in_ok-last.last c.in_ok-last.ensures.calls)
 
 pub print-requires-clause-threshold : goal.print-requires-clause-threshold
 print-requires-clause-threshold g c =
-    (report_of_call _ _ _ _ c.in_ok-last.last c.in_ok-last.ensures.calls).is.threshold.heavy.some
+    (round_makes_report _ _ _ _ c.in_ok-last.last c.in_ok-last.ensures.calls).is.threshold.heavy.some
 
 pub saved_line-requires : goal.saved_line-requires
 saved_line-requires g c =
-    report_positions c.args.board.now.opening _ c.in_ok-last.last c.shards-shards.ensures.kept
-    (report_of_call _ _ _ _ c.in_ok-last.last c.in_ok-last.ensures.calls)
+    round_report_has_positions c.args.board.now.opening _ c.in_ok-last.last c.shards-shards.ensures.kept
+    (round_makes_report _ _ _ _ c.in_ok-last.last c.in_ok-last.ensures.calls)
 
 pub returns-clause-rest : goal.returns-clause-rest
 returns-clause-rest g c =
     let last = c.in_ok-last.last in
-    let shown = last_report c.args.board.now.opening c.args.settings.now (view c.args.fed.gathered.pass) _ last
+    let shown = session_thread_reports_at_ends c.args.board.now.opening c.args.settings.now (view c.args.fed.gathered.pass) _ last
     c.requires.alike c.requires.ends c.in_ok-last.ensures.calls c.in_ok-last.ensures.sound in
     record {
       last = record { report = last; saved = None };
@@ -34,7 +34,7 @@ returns-clause-rest g c =
       front_is =
           c.in_ok-print.ensures.ok
           ∙ ap (λ text. text ++ report_text last)
-          (c.in_ok-front.ensures ∙ ap (λ called. callers_text (reports_of called)) c.deref.ensures.value);
+          (c.in_ok-front.ensures ∙ ap (λ called. session_callers_text (dealt_feed_other_reports called)) c.deref.ensures.value);
       back_is =
           c.in_ok-extend_from_slice.ensures.items ∙ ap (λ text. text ++ c.args.tail.now) c.in_ok-back.ensures;
     }

@@ -2,9 +2,9 @@ use Rattle.std.proofs.Common.{inl, inr, refl, subst}
 use Rattle.std.specs.Io.KnownBytes.{Appends}
 use Rattle.std.proofs.KnownBytes.{Appends-trans}
 use Rattle.outside_io.specs.{AppendsBeginning}
-use Rattle.hhh_engine.proofs.FaultLemmas.{fault_of_save, fault_of_sink}
-use Rattle.hhh_engine.proofs.SavesLemmas.{nothing_saved, part_of_saves}
-use Rattle.hhh_engine.proofs.SeenLemmas.{stands_of_cut}
+use Rattle.hhh_engine.proofs.FeedFaultLemmas.{feed_fault_of_save, feed_fault_of_sink}
+use Rattle.hhh_engine.proofs.SaveLemmas.{no_save_into_untouched_disk, part_of_saves}
+use Rattle.hhh_engine.proofs.SeenPositionLemmas.{seen_positions_cut_saver_stands}
 use Rattle.hhh_engine.proofs.commands.session.write_rest.Goals as goal
 
 pub returns-in-Err-clause-part : goal.returns-in-Err-clause-part
@@ -14,15 +14,15 @@ returns-in-Err-clause-part g c =
       text = begun.front;
       is_text = inl (
         begun.is_beginning,
-        nothing_saved g.D.Disk.reads g.D.Disk.image_now g.D.Disk.moment g.D.Disk.image_since c.args.saver.now
+        no_save_into_untouched_disk g.D.Disk.reads g.D.Disk.image_now g.D.Disk.moment g.D.Disk.image_since c.args.saver.now
             c.args.disk.now c.args.disk.now g.met.D.Disk.only_now
-            (stands_of_cut _ _ c.args.rest.now.cut c.args.saver.now c.requires) refl,
+            (seen_positions_cut_saver_stands _ _ c.args.rest.now.cut c.args.saver.now c.requires) refl,
       );
       written = begun.appended;
     }
 
 pub returns-in-Err-clause-fault : goal.returns-in-Err-clause-fault
-returns-in-Err-clause-fault g c = fault_of_sink _ _ _ _ _ c.in-Err.status c.in-Err.ensures.fault refl refl
+returns-in-Err-clause-fault g c = feed_fault_of_sink _ _ _ _ _ c.in-Err.status c.in-Err.ensures.fault refl refl
 
 pub returns-in-Err-save_cut-clause-part : goal.returns-in-Err-save_cut-clause-part
 returns-in-Err-save_cut-clause-part g c = record {
@@ -33,7 +33,7 @@ returns-in-Err-save_cut-clause-part g c = record {
 
 pub returns-in-Err-save_cut-clause-fault : goal.returns-in-Err-save_cut-clause-fault
 returns-in-Err-save_cut-clause-fault g c =
-    fault_of_save _ _ _ _ c.in-Err-save_cut.status c.in-Err-save_cut.ensures.fault c.in_default.ensures.faults
+    feed_fault_of_save _ _ _ _ c.in-Err-save_cut.status c.in-Err-save_cut.ensures.fault c.in_default.ensures.faults
 
 pub returns-in-Ok-clause-whole : goal.returns-in-Ok-clause-whole
 returns-in-Ok-clause-whole g c =
@@ -59,5 +59,5 @@ returns-in-Err-write-clause-part g c =
 
 pub returns-in-Err-write-clause-fault : goal.returns-in-Err-write-clause-fault
 returns-in-Err-write-clause-fault g c =
-    fault_of_sink _ _ _ _ _ c.in-Err-write.status c.in-Err-write.ensures.fault c.in_default.ensures.faults
+    feed_fault_of_sink _ _ _ _ _ c.in-Err-write.status c.in-Err-write.ensures.fault c.in_default.ensures.faults
     c.in_default-save_cut.ensures.no_fault

@@ -1,13 +1,13 @@
 use Rattle.std.proofs.Common.{◌∙◌, inr, length, sym, ap, subst}
-use Rattle.shard_state.specs.{capacity_of}
-use Rattle.report_text.specs.{ArePositions, mark_text}
+use Rattle.shard_state.specs.{core_capacity}
+use Rattle.report_text.specs.{ReportTextShowsPositions, report_mark_text}
 use Rattle.report_text.specs.declared.mark.Mark.TheVariants.{Opened}
 use Rattle.hhh_engine.specs.Answer.{Writes}
-use Rattle.hhh_engine.specs.Feed.{IsOpened, StartsBeforeEnds}
+use Rattle.hhh_engine.specs.DealtFeed.{IsDealtFeedOpening, DealtFeedStartsBeforeEnds}
 use Rattle.hhh_engine.specs.Saves.{Saves, SavesInPart}
-use Rattle.hhh_engine.specs.Session.{BeginsSession, SpellsSession, start_of}
-use Rattle.hhh_engine.proofs.BaseLemmas.{base_goes_on, saver_can_save}
-use Rattle.hhh_engine.proofs.SessionLemmas.{on_err_of, on_ok_of}
+use Rattle.hhh_engine.specs.Session.{BeginsSession, SpellsSession, session_start}
+use Rattle.hhh_engine.proofs.BaseLemmas.{base_goes_on, base_saver_is_ready}
+use Rattle.hhh_engine.proofs.SessionThreadLemmas.{session_thread_on_err_implies, session_thread_on_ok_implies}
 use Rattle.hhh_engine.proofs.commands.session.write_session.Goals as goal
 
 pub openings_stand-requires : goal.openings_stand-requires
@@ -16,7 +16,7 @@ openings_stand-requires g c =
 
 pub opened_line-requires : goal.opened_line-requires
 opened_line-requires g c =
-    subst ArePositions (sym c.requires.base.positions_are) c.openings_stand.ensures.positions
+    subst ReportTextShowsPositions (sym c.requires.base.positions_are) c.openings_stand.ensures.positions
 
 pub open-requires-clause-fits : goal.open-requires-clause-fits
 open-requires-clause-fits g c =
@@ -24,32 +24,32 @@ open-requires-clause-fits g c =
 
 pub write_feed-requires-clause-opened : goal.write_feed-requires-clause-opened
 write_feed-requires-clause-opened g c = λ lifetimes outlive.
-    subst (λ shards. IsOpened shards c.in_ok-opened.opened) (sym c.in_ok-opened.ensures.opening) c.in_ok-opened.ensures
+    subst (λ shards. IsDealtFeedOpening shards c.in_ok-opened.opened) (sym c.in_ok-opened.ensures.opening) c.in_ok-opened.ensures
 
 pub write_feed-requires-clause-alike : goal.write_feed-requires-clause-alike
 write_feed-requires-clause-alike g c = λ lifetimes outlive.
-    ap capacity_of c.in_ok-opened.ensures.opening ∙ c.openings_stand.ensures.alike
+    ap core_capacity c.in_ok-opened.ensures.opening ∙ c.openings_stand.ensures.alike
 
 pub write_feed-requires-clause-starts : goal.write_feed-requires-clause-starts
 write_feed-requires-clause-starts g c = λ lifetimes outlive.
-    subst StartsBeforeEnds (sym c.in_ok-opened.ensures.opening) c.openings_stand.ensures.starts
+    subst DealtFeedStartsBeforeEnds (sym c.in_ok-opened.ensures.opening) c.openings_stand.ensures.starts
 
 pub write_feed-requires-clause-line : goal.write_feed-requires-clause-line
 write_feed-requires-clause-line g c = λ lifetimes outlive.
-    c.deref.ensures.value ∙ c.in_ok-line.ensures ∙ ap (mark_text Opened) c.requires.base.positions_are
-    ∙ ap (λ shards. mark_text Opened (start_of shards)) (sym c.in_ok-opened.ensures.opening)
+    c.deref.ensures.value ∙ c.in_ok-line.ensures ∙ ap (report_mark_text Opened) c.requires.base.positions_are
+    ∙ ap (λ shards. report_mark_text Opened (session_start shards)) (sym c.in_ok-opened.ensures.opening)
 
 pub write_feed-requires-clause-can_save : goal.write_feed-requires-clause-can_save
 write_feed-requires-clause-can_save g c = λ lifetimes outlive.
     let opening = c.in_ok-opened.ensures.opening in
-    saver_can_save c.args.settings.now c.args.dealt _ _ c.in_ok-opened.opened.board.opening c.args.base.positions
+    base_saver_is_ready c.args.settings.now c.args.dealt _ _ c.in_ok-opened.opened.board.opening c.args.base.positions
     c.args.base.saver c.requires.limited (ap length opening ∙ c.openings_stand.ensures.many ∙ c.requires.shards)
-    (ap capacity_of opening ∙ c.openings_stand.ensures.alike) (c.requires.base.positions_are ∙ ap start_of (sym opening))
+    (ap core_capacity opening ∙ c.openings_stand.ensures.alike) (c.requires.base.positions_are ∙ ap session_start (sym opening))
     c.requires.base.saver c.requires.stands
 
 pub returns-clause-whole : goal.returns-clause-whole
 returns-clause-whole g c =
-    on_ok_of c.write_feed.result _ _
+    session_thread_on_ok_implies c.write_feed.result _ _
     (subst (λ shards. Writes (SpellsSession shards c.args.settings.now
     (λ cuts. Saves g.D.Disk.reads g.D.Disk.image_now g.D.Disk.moment g.D.Disk.image_since c.args.base.saver cuts
     c.args.disk.now c.write_feed.new.disk) c.args.tail.now) (g.K.Sink.taken c.args.sink.now)
@@ -58,7 +58,7 @@ returns-clause-whole g c =
 
 pub returns-clause-part : goal.returns-clause-part
 returns-clause-part g c =
-    on_err_of c.write_feed.result _ _
+    session_thread_on_err_implies c.write_feed.result _ _
     (λ part. inr (subst (λ shards. Writes (BeginsSession shards c.args.settings.now
     (SavesInPart g.D.Disk.reads g.D.Disk.image_now g.D.Disk.moment g.D.Disk.image_since c.args.base.saver c.args.disk.now
     c.write_feed.new.disk) c.args.tail.now)

@@ -2,7 +2,7 @@ use Rattle.std.proofs.Common.{subst}
 use Rattle.shard_state.specs.{CutValue}
 use Rattle.position_words.specs.{view}
 use Rattle.pass_tokens.specs.Read.{ReadsAtLast}
-use Rattle.pass_tokens.proofs.WaitLemmas.{reads_at_last}
+use Rattle.pass_tokens.proofs.WaitLemmas.{wait_ends_with_read}
 use Rattle.pass_tokens.proofs.board.Board.read.Goals as goal
 
 pub returns-in-Done-clause-read : goal.returns-in-Done-clause-read
@@ -10,5 +10,5 @@ returns-in-Done-clause-read g c =
     subst (λ (cut : CutValue).
     ReadsAtLast c.args.self.now.opening c.args.shard (view c.args.pass.now) cut (view c.try_read.new.pass)
     c.try_read.new.cut) c.loop.invariant.2
-    (reads_at_last c.args.self.now.opening c.args.shard (view c.args.pass.now) (view c.loop.pass)
+    (wait_ends_with_read c.args.self.now.opening c.args.shard (view c.args.pass.now) (view c.loop.pass)
     (view c.try_read.new.pass) c.loop.cut c.try_read.new.cut c.loop.invariant.1 c.in-Done.ensures.read)

@@ -1,14 +1,14 @@
-use Rattle.pcap_frames.proofs.FeedLemmas.{stopped_fed, stopped_exact, fed_exact}
+use Rattle.pcap_frames.proofs.FedPieceLemmas.{piece_fed_to_stopped_reader, stopped_reader_answers_fed_piece, fed_piece_is_answered_exactly}
 use Rattle.pcap_frames.proofs.reader.FrameReader.feed.Goals as goal
 
 pub returns-then-has_stopped-clause-fed : goal.returns-then-has_stopped-clause-fed
 returns-then-has_stopped-clause-fed g c =
-    stopped_fed g.V.FrameVisitor.represents _ _ _ _ (c.has_stopped.ensures.0 c.if-has_stopped.true) c.answer.ensures
+    piece_fed_to_stopped_reader g.V.FrameVisitor.represents _ _ _ _ (c.has_stopped.ensures.0 c.if-has_stopped.true) c.answer.ensures
 
 pub returns-then-has_stopped-clause-exact : goal.returns-then-has_stopped-clause-exact
 returns-then-has_stopped-clause-exact g c =
-    stopped_exact _ _ _ (c.has_stopped.ensures.0 c.if-has_stopped.true) c.answer.ensures
+    stopped_reader_answers_fed_piece _ _ _ (c.has_stopped.ensures.0 c.if-has_stopped.true) c.answer.ensures
 
 pub returns-in-Ok-clause-exact : goal.returns-in-Ok-clause-exact
 returns-in-Ok-clause-exact g c =
-    fed_exact g.V.FrameVisitor.represents _ _ _ _ _ _ c.in-Ok.ensures.ok c.answer-in-Ok.ensures
+    fed_piece_is_answered_exactly g.V.FrameVisitor.represents _ _ _ _ _ _ c.in-Ok.ensures.ok c.answer-in-Ok.ensures

@@ -1,12 +1,12 @@
 use Rattle.std.proofs.lemmas.Result.{err_from_is_err_and}
-use Rattle.pcap_frames.proofs.FeedLemmas.{more_fed, begun}
+use Rattle.pcap_frames.proofs.FedPieceLemmas.{more_of_piece_is_fed, fed_piece_lacks_room}
 use Rattle.pcap_frames.proofs.reader.FrameReader.show_all.Goals as goal
 
 pub returns-in_err-rest-clause-err : goal.returns-in_err-rest-clause-err
 returns-in_err-rest-clause-err g c =
     let p = err_from_is_err_and c.from_residual.result c.from_residual.ensures.1 in
-    rw (p.1) (begun g.V.FrameVisitor.represents _ _ _ _ _ _ _ c.loop-rest.invariant c.in_err-rest.ensures.err)
+    rw (p.1) (fed_piece_lacks_room g.V.FrameVisitor.represents _ _ _ _ _ _ _ c.loop-rest.invariant c.in_err-rest.ensures.err)
 
 pub loop-rest-preserved : goal.loop-rest-preserved
 loop-rest-preserved g c =
-    more_fed g.V.FrameVisitor.represents _ _ _ _ _ _ _ _ _ c.loop-rest.invariant c.in_ok-rest.ensures.ok
+    more_of_piece_is_fed g.V.FrameVisitor.represents _ _ _ _ _ _ _ _ _ c.loop-rest.invariant c.in_ok-rest.ensures.ok

@@ -1,10 +1,10 @@
 use Rattle.std.proofs.Common.{length}
-use Rattle.pcap_frames.proofs.FeedLemmas.{IsFed}
+use Rattle.pcap_frames.proofs.FedPieceLemmas.{IsFedPiece}
 use Rattle.pcap_frames.proofs.reader.FrameReader.show_all.Given as goal
 
 -- a front of the piece is fed
 abbrev pub invariant-loop-rest : goal.invariant-loop-rest
-invariant-loop-rest g l = IsFed g.V.FrameVisitor.represents l.fn.visitor l.visitor l.fn.self l.self l.piece l.rest
+invariant-loop-rest g l = IsFedPiece g.V.FrameVisitor.represents l.fn.visitor l.visitor l.fn.self l.self l.piece l.rest
 
 abbrev pub decreases-loop-rest : goal.decreases-loop-rest
 decreases-loop-rest g l = length l.rest

@@ -1,9 +1,9 @@
 use Rattle.std.proofs.Common.{ap, sym, ◌∙◌, arith}
-use Rattle.position_words.specs.View.{joined}
+use Rattle.position_words.specs.View.{view_after_join}
 use Rattle.position_words.specs.Words.{slot_out}
 use Rattle.position_words.proofs.SeatLemmas.{is_seat}
-use Rattle.position_words.proofs.StepLemmas.{may_join}
-use Rattle.position_words.proofs.TrailLemmas.{length-joined}
+use Rattle.position_words.proofs.AllowedStepLemmas.{join_step_is_allowed}
+use Rattle.position_words.proofs.TrailLemmas.{length_of_joined_trails}
 use Rattle.position_words.proofs.words.Words.join.Goals as goal
 
 pub join_seat-requires : goal.join_seat-requires
@@ -15,7 +15,7 @@ join_seat-requires c =
       c.requires.other.id ∙ sym (ap (λ w. w.id) c.self.view_is),
       c.requires.other.slot ∙ ap slot_out c.requires.other_free,
       omega (arith, c.self.invariant.0, c.self.invariant.2.some),
-      may_join table.key.value.items seat.id other.id seat.me.0 other.me.0 c.requires.seat.live
+      join_step_is_allowed table.key.value.items seat.id other.id seat.me.0 other.me.0 c.requires.seat.live
           c.requires.other.live c.requires.other_free,
     )
 
@@ -24,6 +24,6 @@ returns-clause-seat c =
     let before = c.args.seat.now in
     let join = c.join_seat.ensures in
     let seat = c.requires.seat in
-    is_seat c.args.self.now c.join_seat.new.seat (joined before.me.0 c.args.other.me.0) before.me.1
+    is_seat c.args.self.now c.join_seat.new.seat (view_after_join before.me.0 c.args.other.me.0) before.me.1
     (join.0 ∙ seat.id) join.2 seat.opening
-    (length-joined before.me.0.trails c.args.other.me.0.trails ∙ seat.trails) seat.live seat.slot
+    (length_of_joined_trails before.me.0.trails c.args.other.me.0.trails ∙ seat.trails) seat.live seat.slot

@@ -1,5 +1,5 @@
 use Rattle.std.proofs.Common.{ap, sym, ◌∙◌, arith}
-use Rattle.position_words.proofs.StepLemmas.{may_split}
+use Rattle.position_words.proofs.AllowedStepLemmas.{split_step_is_allowed}
 use Rattle.position_words.proofs.words.Words.split.Goals as goal
 
 pub split_seat-requires : goal.split_seat-requires
@@ -8,5 +8,5 @@ split_seat-requires c =
     let seat = c.args.seat.now in (
       c.requires.seat.id ∙ sym (ap (λ w. w.id) c.self.view_is),
       omega (arith, c.self.invariant.0, c.self.invariant.2.some),
-      may_split table.key.value.items seat.id seat.me.0 c.requires.seat.live,
+      split_step_is_allowed table.key.value.items seat.id seat.me.0 c.requires.seat.live,
     )

@@ -1,7 +1,7 @@
 use Rattle.std.proofs.Common.{◌≡◌, ◌↔◌, true, Option, is_some, IsSomeAnd, sym, subst}
 use Rattle.prefix_lattice.specs.Prefix.{PrefixValue}
 use Rattle.prefix_lattice.specs.Lattice.{under, ShareAddresses}
-use Rattle.prefix_lattice.proofs.MeetLemmas.{meet_under_both, meet-greatest, meet-some}
+use Rattle.prefix_lattice.proofs.UnderMeetLemmas.{meet_under_both, meet-greatest, meet-some}
 use Rattle.prefix_lattice.proofs.prefix.Prefix.meet.Goals as goal
 
 pub returns-clause-under_both : goal.returns-clause-under_both

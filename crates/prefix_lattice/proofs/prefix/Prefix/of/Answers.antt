@@ -2,7 +2,7 @@ use Rattle.std.proofs.Common.{◌≡◌, ◌≤◌, true, take, refl, ap, sym, s
 use Rattle.prefix_lattice.specs.KeptBytes.{address_bytes}
 use Rattle.prefix_lattice.specs.Record.{RecordValue}
 use Rattle.prefix_lattice.specs.Prefix.{PrefixValue, covers, prefix_at}
-use Rattle.prefix_lattice.proofs.KeyLemmas.{covers-prefix_at, only_prefix_at, made_at}
+use Rattle.prefix_lattice.proofs.NodePrefixLemmas.{node_prefix-covers, only_node_prefix_covers, node_prefix-made_of_bytes}
 use Rattle.prefix_lattice.proofs.prefix.Prefix.of.Goals as goal
 
 -- what is made of the record's first bytes is its prefix at the node
@@ -10,7 +10,7 @@ made : (c : goal.After-of-2)
     → Path PrefixValue (record { source = c.of.result; dest = c.of-2.result })
     (prefix_at c.args.node c.args.rec.now)
 made c =
-    made_at c.args.node c.args.rec.now c.source_bytes.result c.dest_bytes.result c.of.result c.of-2.result
+    node_prefix-made_of_bytes c.args.node c.args.rec.now c.source_bytes.result c.dest_bytes.result c.of.result c.of-2.result
     c.source_bytes.ensures.value c.dest_bytes.ensures.value
     (c.of.ensures ∙ ap (λ (r : RecordValue). take c.source_bytes.result (address_bytes r.src)) c.rec.view_is)
     (c.of-2.ensures ∙ ap (λ (r : RecordValue). take c.dest_bytes.result (address_bytes r.dst)) c.rec.view_is)
@@ -23,8 +23,8 @@ returns-clause-covers c =
     let few_dest : c.args.node.dest_bytes ≤ 4 =
     subst (λ m. m ≤ 4) c.dest_bytes.ensures.value c.dest_bytes.ensures.few in
     subst (λ p. covers p c.args.rec.now ≡ true) (sym (made c))
-    (covers-prefix_at c.args.node c.args.rec.now few_source few_dest)
+    (node_prefix-covers c.args.node c.args.rec.now few_source few_dest)
 
 pub returns-clause-only : goal.returns-clause-only
 returns-clause-only c = λ other of_node covered.
-    only_prefix_at c.args.node c.args.rec.now other of_node covered ∙ sym (made c)
+    only_node_prefix_covers c.args.node c.args.rec.now other of_node covered ∙ sym (made c)

@@ -1,28 +1,29 @@
 use Rattle.std.proofs.Common.{sym, ap, ◌∙◌, subst}
-use Rattle.key_index.specs.{Keys}
-use Rattle.space_saving.specs.{TableValue, AreEntries}
-use Rattle.rank_table.specs.SlotOrder.{entries_of}
+use Rattle.key_index.specs.{IndexedKeys}
+use Rattle.space_saving.specs.{TableValue, AreTableEntries}
+use Rattle.rank_table.specs.SlotOrder.{entries_in_slot_order}
 use Rattle.rank_table.specs.Slots.{Slots}
 use Rattle.rank_table.specs.RankTable.{IsRankTable}
-use Rattle.rank_table.proofs.LoadLemmas.{entries_of-numbered}
-use Rattle.rank_table.proofs.TableLemmas.{IsRankTable-loaded}
+use Rattle.rank_table.proofs.NumberedEntryLemmas.{entries_in_slot_order-numbered}
+use Rattle.rank_table.proofs.RankTableLemmas.{IsRankTable-loaded}
 use Rattle.rank_table.proofs.rank_table.RankTableSummary.restore.Goals as goal
 
 pub invariant_of-result : goal.invariant_of-result
 invariant_of-result c =
     let entries = c.args.flat.now.entries in
     let capacity = c.capacity-capacity.result in
-    let are = subst (λ n. AreEntries n entries) (sym c.capacity-capacity.ensures.capacity) c.total-total.ensures.kept in
+    let are = subst (λ n. AreTableEntries n entries) (sym c.capacity-capacity.ensures.capacity) c.total-total.ensures.kept in
     subst (λ n. IsRankTable capacity n c.total-total.result c.load.new.index c.load.new.ranked) (sym c.len.ensures.length)
     (IsRankTable-loaded capacity c.total-total.result entries c.load.new.index c.load.new.ranked c.capacity-capacity.ensures.least
     c.capacity-capacity.ensures.most are c.total-total.ensures.total
-    (ap (λ (i : Keys). i.room) c.load.ensures.index ∙ ap (λ (i : Keys). i.room) c.in_ok-index.ensures) (ap
+    (ap (λ (i : IndexedKeys). i.room) c.load.ensures.index ∙ ap (λ (i : IndexedKeys). i.room) c.in_ok-index.ensures) (ap
     (λ (r : Slots). r.capacity) c.load.ensures.ranked ∙ ap (λ (r : Slots). r.capacity) c.in_ok-ranked.ensures)
-    (ap (λ (i : Keys). i.keys) c.load.ensures.index) (ap (λ (r : Slots). r.slots) c.load.ensures.ranked))
+    (ap (λ (i : IndexedKeys). i.keys) c.load.ensures.index) (ap (λ (r : Slots). r.slots) c.load.ensures.ranked))
 
 pub returns : goal.returns
 returns c =
     let entries = c.args.flat.now.entries in
-    let same = ap (λ (r : Slots). entries_of r.slots) c.load.ensures.ranked ∙ entries_of-numbered entries c.total-total.ensures.kept.is_table.ascending in
-    ap (λ n. let t : TableValue = record { capacity = n; entries = entries_of c.load.new.ranked.slots } in t) c.capacity-capacity.ensures.capacity
+    let same = ap (λ (r : Slots). entries_in_slot_order r.slots) c.load.ensures.ranked
+    ∙ entries_in_slot_order-numbered entries c.total-total.ensures.kept.is_table.ascending in
+    ap (λ n. let t : TableValue = record { capacity = n; entries = entries_in_slot_order c.load.new.ranked.slots } in t) c.capacity-capacity.ensures.capacity
     ∙ ap (λ l. let t : TableValue = record { capacity = c.args.flat.now.capacity; entries = l } in t) same

@@ -2,34 +2,34 @@ use Rattle.std.proofs.Common.{◌≡◌, ◌<◌, ◌≤◌, ℕ, List, length, 
 use Rattle.std.specs.List.{range_with_len}
 use Rattle.rank_table.specs.declared.slot.Slot.{Slot}
 use Rattle.rank_table.specs.Slots.{Slots}
-use Rattle.rank_table.specs.Words.{word, IsExact}
-use Rattle.rank_table.specs.Ranks.{AreLeaves, AreRanked}
-use Rattle.rank_table.proofs.LeafLemmas.{least_from_exact, AreRanked-restarted}
+use Rattle.rank_table.specs.RankWords.{rank_word, IsExactRankWord}
+use Rattle.rank_table.specs.Ranks.{AreRankLeaves, AreRanked}
+use Rattle.rank_table.proofs.LeafLemmas.{exact_leaf_is_least, leaf_restarts_at_least_count}
 use Rattle.rank_table.proofs.ranked_slots.RankedSlots.least.Goals as goal
 
 pub returns-then-is_exact-clause-least : goal.returns-then-is_exact-clause-least
 returns-then-is_exact-clause-least c =
     let items = c.self.inside.slots.items in
     let same = c.deref.ensures.value in
-    let leaves = subst (λ (l : List Slot). AreLeaves (length l) c.self.inside.base c.winner-place.new.tree l) same c.winner-place.ensures.leaves in
+    let leaves = subst (λ (l : List Slot). AreRankLeaves (length l) c.self.inside.base c.winner-place.new.tree l) same c.winner-place.ensures.leaves in
     let within = subst (λ (l : List Slot). c.winner-place.result < length l) same c.winner-place.ensures.within in
     let least = subst (λ (l : List Slot). (place : ℕ) (d : Slot) → place < length l
-    → word c.self.inside.base (get_or l c.winner-place.result d) c.winner-place.result ≤ word c.self.inside.base
+    → rank_word c.self.inside.base (get_or l c.winner-place.result d) c.winner-place.result ≤ rank_word c.self.inside.base
     (get_or l place d) place) same c.winner-place.ensures.least in
-    let exact : IsExact c.self.inside.base c.index.result.now = c.is_exact.ensures.0 c.if-is_exact.true in
-    rw (← c.self.view_is) (least_from_exact (length items) c.self.inside.base c.winner-place.new.tree items c.winner-place.result c.index.result.now
+    let exact : IsExactRankWord c.self.inside.base c.index.result.now = c.is_exact.ensures.0 c.if-is_exact.true in
+    rw (← c.self.view_is) (exact_leaf_is_least (length items) c.self.inside.base c.winner-place.new.tree items c.winner-place.result c.index.result.now
     leaves within c.index.ensures exact least)
 
 pub invariant_of-self-then-least-self-ge-MOST_EXCESS : goal.invariant_of-self-then-least-self-ge-MOST_EXCESS
 invariant_of-self-then-least-self-ge-MOST_EXCESS c =
     let items = c.self.inside.slots.items in
     let full : length items ≡ c.self.inside.capacity = subst (λ (r : Slots). length r.slots ≡ r.capacity) (sym c.self.view_is) c.requires in
-    let leaves = subst (λ (l : List Slot). AreLeaves
+    let leaves = subst (λ (l : List Slot). AreRankLeaves
     (length l) c.self.inside.base c.winner-place.new.tree l) c.deref.ensures.value c.winner-place.ensures.leaves in
     let restarted : c.restart.new.self ≡ range_with_len 0 c.self.inside.capacity = c.restart.ensures ∙ ap (range_with_len 0) (leaves.shape ∙ full) in
     let within = subst (λ (l : List Slot). c.least_of-place.result < length l) c.deref-2.ensures.value c.least_of-place.ensures.least.within in
     let least = subst (λ (l : List Slot). (other : ℕ) (d : Slot) → other < length l
     → (get_or l c.least_of-place.result d).entry.count ≤ (get_or l other d).entry.count) c.deref-2.ensures.value c.least_of-place.ensures.count in
     subst (λ after. AreRanked c.self.inside.capacity c.self.inside.slots.cap c.index-2.result.now.entry.count after items) (sym restarted)
-    (AreRanked-restarted c.self.inside.capacity c.self.inside.slots.cap c.self.inside.base c.self.inside.tree items c.least_of-place.result
+    (leaf_restarts_at_least_count c.self.inside.capacity c.self.inside.slots.cap c.self.inside.base c.self.inside.tree items c.least_of-place.result
     c.index-2.result.now c.self.invariant full within c.index-2.ensures least)

@@ -2,7 +2,7 @@ use Rattle.std.proofs.Common.{◌≡◌, ◌<◌, ◌++◌, ◌∷◌, [], List,
 use Rattle.rank_table.specs.declared.slot.Slot.{Slot}
 use Rattle.rank_table.specs.Slots.{Slots}
 use Rattle.rank_table.specs.Ranks.{AreRanked}
-use Rattle.rank_table.proofs.LeafLemmas.{AreLeaves-pushed}
+use Rattle.rank_table.proofs.LeafLemmas.{leaf_stays_after_push}
 use Rattle.rank_table.proofs.ranked_slots.RankedSlots.push.Goals as goal
 
 pub invariant_of-self : goal.invariant_of-self
@@ -14,7 +14,7 @@ invariant_of-self c =
     (record {
       some = c.self.invariant.some;
       has_room = omega (arith, c.self.invariant.has_room, c.push.ensures.capacity);
-      are_leaves = AreLeaves-pushed c.self.inside.capacity c.self.inside.base c.self.inside.tree items c.args.slot c.self.invariant.are_leaves room
+      are_leaves = leaf_stays_after_push c.self.inside.capacity c.self.inside.base c.self.inside.tree items c.args.slot c.self.invariant.are_leaves room
           (c.self.invariant.unbased room);
       unbased = λ _. c.self.invariant.unbased room;
     })

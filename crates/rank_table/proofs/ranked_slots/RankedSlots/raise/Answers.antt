@@ -1,6 +1,6 @@
 use Rattle.std.proofs.Common.{◌<◌, ◌≤◌, length, get_or, length-set, sym, subst, arith}
 use Rattle.rank_table.specs.Slots.{Slots}
-use Rattle.rank_table.proofs.LeafLemmas.{AreLeaves-raised}
+use Rattle.rank_table.proofs.LeafLemmas.{leaf_stays_below_raised_slot}
 use Rattle.rank_table.proofs.ranked_slots.RankedSlots.raise.Goals as goal
 
 pub invariant_of-self : goal.invariant_of-self
@@ -13,7 +13,7 @@ invariant_of-self c =
     record {
       some = c.self.invariant.some;
       has_room = c.self.invariant.has_room;
-      are_leaves = AreLeaves-raised c.self.inside.capacity c.self.inside.base c.self.inside.tree items c.args.place c.args.slot
+      are_leaves = leaf_stays_below_raised_slot c.self.inside.capacity c.self.inside.base c.self.inside.tree items c.args.place c.args.slot
           c.self.invariant.are_leaves within more later;
       unbased = λ room. c.self.invariant.unbased (omega (arith, length-set items c.args.place c.args.slot));
     }

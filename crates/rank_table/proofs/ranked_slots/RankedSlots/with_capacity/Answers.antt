@@ -2,7 +2,7 @@ use Rattle.std.proofs.Common.{[], ℕ, List, sym, subst, refl, arith}
 use Rattle.std.specs.List.{range_with_len}
 use Rattle.rank_table.specs.declared.slot.Slot.{Slot}
 use Rattle.rank_table.specs.Ranks.{AreRanked}
-use Rattle.rank_table.proofs.LeafLemmas.{AreLeaves-start}
+use Rattle.rank_table.proofs.LeafLemmas.{leaf_starts_as_its_place}
 use Rattle.rank_table.proofs.ranked_slots.RankedSlots.with_capacity.Goals as goal
 
 pub invariant_of-result : goal.invariant_of-result
@@ -14,6 +14,6 @@ invariant_of-result c =
     (record {
       some = omega arith;
       has_room = omega (arith, c.in_ok-with_capacity.ensures.exact);
-      are_leaves = AreLeaves-start c.args.capacity 0 [] (omega arith) (omega arith) (λ place d within. absurd (omega arith));
+      are_leaves = leaf_starts_as_its_place c.args.capacity 0 [] (omega arith) (omega arith) (λ place d within. absurd (omega arith));
       unbased = λ room. refl;
     }))

@@ -1,8 +1,8 @@
-use Rattle.report_text.proofs.CursorLemmas.{refuse-fault}
+use Rattle.report_text.proofs.CursorLemmas.{cursor_refuses_line}
 use Rattle.report_text.proofs.line_cursor.LineCursor.refuse.Goals as goal
 
 pub returns : goal.returns
 returns c = λ old line stage stands reads none.
-    refuse-fault
+    cursor_refuses_line
     (record { texts = c.prefix_texts_read_back.ensures.apart; order = c.report_order_is_total.ensures.total })
     old c.args.self.now line stage stands reads none

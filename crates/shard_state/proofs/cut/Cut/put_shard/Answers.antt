@@ -1,10 +1,10 @@
 use Rattle.std.proofs.Common.{sym, ap, ◌∙◌}
 use Rattle.shard_state.specs.Cut.{CutValue}
-use Rattle.shard_state.proofs.CutLemmas.{IsCut-set}
+use Rattle.shard_state.proofs.CutSnapshotLemmas.{IsCut-set_snapshot}
 use Rattle.shard_state.proofs.cut.Cut.put_shard.Goals as goal
 
 pub invariant_of-self : goal.invariant_of-self
 invariant_of-self c =
     let inside : CutValue = record { capacity = c.self.inside.capacity; shards = c.self.inside.shards.items } in
-    IsCut-set inside c.args.shard c.args.snapshot c.self.invariant c.position-kept.ensures.kept
+    IsCut-set_snapshot inside c.args.shard c.args.snapshot c.self.invariant c.position-kept.ensures.kept
     (c.requires.capacity ∙ ap (λ (cut : CutValue). cut.capacity) (sym c.self.view_is))

@@ -1,7 +1,7 @@
 use Rattle.std.proofs.Common.{◌≡◌, List, replicate, ap, sym, subst, ◌∙◌, arith}
 use Rattle.shard_state.specs.Snapshot.{SnapshotValue, empty_snapshot}
 use Rattle.shard_state.specs.Cut.{CutValue, IsCut}
-use Rattle.shard_state.proofs.EmptyTableLemmas.{IsCut-empty}
+use Rattle.shard_state.proofs.EmptyTableLemmas.{empty_tables_make_shard_cut}
 use Rattle.shard_state.proofs.cut.Cut.with_room.Goals as goal
 
 -- the snapshots are those of the cut of no record
@@ -13,7 +13,7 @@ all_empty c =
 pub invariant_of-result : goal.invariant_of-result
 invariant_of-result c =
     subst (λ (shards : List SnapshotValue). IsCut (record { capacity = c.args.capacity; shards = shards })) (sym (all_empty c))
-    (IsCut-empty c.args.shards c.args.capacity c.requires.some c.requires.few c.requires.least c.requires.most)
+    (empty_tables_make_shard_cut c.args.shards c.args.capacity c.requires.some c.requires.few c.requires.least c.requires.most)
 
 pub returns : goal.returns
 returns c =

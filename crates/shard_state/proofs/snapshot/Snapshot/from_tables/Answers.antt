@@ -1,18 +1,18 @@
 use Rattle.std.proofs.Common.{subst, arith}
-use Rattle.shard_state.specs.Snapshot.{AreTables}
-use Rattle.shard_state.proofs.SnapshotPartLemmas.{AreKept, MadeOf, made_of_parts, tables_from_entries}
+use Rattle.shard_state.specs.Snapshot.{AreTablesOfSnapshot}
+use Rattle.shard_state.proofs.SnapshotPartLemmas.{AreKeptSnapshotParts, MadeOfSnapshotParts, made_of_snapshot_parts, snapshot_parts_from_entries}
 use Rattle.shard_state.proofs.snapshot.Snapshot.from_tables.Goals as goal
 
-made : (c : goal.After-capacity) → MadeOf c.capacity.result c.args.position c.args.tables.items
+made : (c : goal.After-capacity) → MadeOfSnapshotParts c.capacity.result c.args.position c.args.tables.items
 made c =
     let tables = c.args.tables.items in
-    let are : AreTables tables = subst AreTables c.deref.ensures.value (c.are_tables.ensures.tables.0 c.if-not-are_tables.false) in
-    let kept : AreKept tables = subst AreKept c.deref.ensures.value (c.are_tables.ensures.kept c.if-not-are_tables.false) in
-    made_of_parts c.args.position tables c.capacity.result c.index.result.now (omega arith) are kept c.index.ensures
+    let are : AreTablesOfSnapshot tables = subst AreTablesOfSnapshot c.deref.ensures.value (c.are_tables.ensures.tables.0 c.if-not-are_tables.false) in
+    let kept : AreKeptSnapshotParts tables = subst AreKeptSnapshotParts c.deref.ensures.value (c.are_tables.ensures.kept c.if-not-are_tables.false) in
+    made_of_snapshot_parts c.args.position tables c.capacity.result c.index.result.now (omega arith) are kept c.index.ensures
     c.capacity.ensures.capacity c.capacity.ensures.least c.capacity.ensures.most
 
 pub invariant_of-result : goal.invariant_of-result
 invariant_of-result c = ((made c).alike, (made c).is_snapshot)
 
 pub returns-clause-tables : goal.returns-clause-tables
-returns-clause-tables c = tables_from_entries c.capacity.result c.args.tables.items (made c).alike
+returns-clause-tables c = snapshot_parts_from_entries c.capacity.result c.args.tables.items (made c).alike

@@ -1,8 +1,8 @@
 use Rattle.std.proofs.Common.{◌<◌, length, refl, sym, subst}
 use Rattle.std.proofs.lemmas.Option.{slice_get_read}
 use Rattle.space_saving.specs.Table.{TableValue}
-use Rattle.space_saving.proofs.IntervalLemmas.{RisesFrom-least}
-use Rattle.space_saving.proofs.EntryLemmas.{apart_at, least_at, count_at-le-total}
+use Rattle.space_saving.proofs.IntervalLemmas.{TableRisesFrom-interval_least}
+use Rattle.space_saving.proofs.TableEntryLemmas.{table_entry_stands_apart, table_entry_rises_from_least, table_entry_within_total}
 use Rattle.space_saving.proofs.flat.Flat.entry.Goals as goal
 
 pub returns-clause-apart : goal.returns-clause-apart
@@ -12,7 +12,7 @@ returns-clause-apart c =
     subst (λ (t : TableValue). c.args.place < length t.entries) (sym c.self.view_is) c.requires in
     let at = slice_get_read es (length es) c.args.place c.index.result.now refl within c.index.ensures in
     rw (← c.self.view_is)
-    (apart_at es c.args.place c.index.result.now c.self.invariant.are_entries.is_table.distinct at)
+    (table_entry_stands_apart es c.args.place c.index.result.now c.self.invariant.are_entries.is_table.distinct at)
 
 pub returns-clause-least : goal.returns-clause-least
 returns-clause-least c =
@@ -21,8 +21,8 @@ returns-clause-least c =
     subst (λ (t : TableValue). c.args.place < length t.entries) (sym c.self.view_is) c.requires in
     let at = slice_get_read es (length es) c.args.place c.index.result.now refl within c.index.ensures in
     rw (← c.self.view_is)
-    (least_at _ es c.args.place c.index.result.now
-    (RisesFrom-least es c.self.invariant.are_entries.is_table.ascending) at)
+    (table_entry_rises_from_least _ es c.args.place c.index.result.now
+    (TableRisesFrom-interval_least es c.self.invariant.are_entries.is_table.ascending) at)
 
 pub returns-clause-within_total : goal.returns-clause-within_total
 returns-clause-within_total c =
@@ -30,4 +30,4 @@ returns-clause-within_total c =
     let within : c.args.place < length es =
     subst (λ (t : TableValue). c.args.place < length t.entries) (sym c.self.view_is) c.requires in
     let at = slice_get_read es (length es) c.args.place c.index.result.now refl within c.index.ensures in
-    rw (← c.self.view_is) (count_at-le-total es c.args.place c.index.result.now at)
+    rw (← c.self.view_is) (table_entry_within_total es c.args.place c.index.result.now at)

@@ -1,13 +1,13 @@
 use Rattle.std.proofs.Common.{◌∙◌, ◌≤◌, length, refl, sym, ap₂, subst, arith}
 use Rattle.std.specs.Prelude.{is_some}
-use Rattle.hhh_output.specs.{IsWideShare, million}
-use Rattle.shard_state.specs.{HasShape, capacity_of}
+use Rattle.hhh_output.specs.{IsWideShare, threshold_million}
+use Rattle.shard_state.specs.{HasCoreShape, core_capacity}
 use Rattle.pass_tokens.specs.{view}
 use Rattle.hhh_engine.specs.Rounds.{WritesRounds}
 use Rattle.hhh_engine.specs.Saves.{SavesInPart, SavesInTurn}
-use Rattle.hhh_engine.proofs.RoundLemmas.{all_made, one_broke_off, same_store, writes_none, writes_more}
-use Rattle.hhh_engine.proofs.SavesLemmas.{no_save, nothing_done, part_follows, saves_follow}
-use Rattle.hhh_engine.proofs.SeenLemmas.{allowed, can_go_on, calls_many, fits_first, early_first, stands_first}
+use Rattle.hhh_engine.proofs.RoundLemmas.{all_rounds_were_made, one_round_broke_off, round_saver_stays_or_none, writes_no_round, writes_more_rounds}
+use Rattle.hhh_engine.proofs.SaveLemmas.{no_save, save_needs_saver, broken_off_save_follows, saves_follow}
+use Rattle.hhh_engine.proofs.SeenPositionLemmas.{seen_positions_allowed_settings, seen_positions_allow_more_saves, seen_position_report_count, seen_positions_fit_saver, seen_positions_saver_is_early, seen_positions_saver_stands}
 use Rattle.hhh_engine.proofs.commands.live_rounds.LiveRoundsRounds.go.Goals as goal
 
 pub loop-round-init : goal.loop-round-init
@@ -22,12 +22,12 @@ loop-round-init g c = record {
   unstopped = c.requires.ready.4;
   sink_faults = refl;
   disk_faults = refl;
-  fits = fits_first _ _ c.args.board.now.opening _ _ c.args.self.now.saver.now c.requires.ready.5;
+  fits = seen_positions_fit_saver _ _ c.args.board.now.opening _ _ c.args.self.now.saver.now c.requires.ready.5;
   written =
-      writes_none _ _ _ _ _ _ (c.calls_follow_calls.ensures.none _ _ _)
+      writes_no_round _ _ _ _ _ _ (c.calls_follow_calls.ensures.none _ _ _)
       (no_save g.D.Disk.reads g.D.Disk.image_now g.D.Disk.moment g.D.Disk.image_since c.args.self.now.saver.now
       c.args.self.now.disk.now (g.met.D.Disk.only_now c.args.self.now.disk.now)
-      (stands_first _ _ c.args.board.now.opening _ _ c.args.self.now.saver.now c.requires.ready.5));
+      (seen_positions_saver_stands _ _ c.args.board.now.opening _ _ c.args.self.now.saver.now c.requires.ready.5));
 }
 
 pub make_round-made-requires-clause-some : goal.make_round-made-requires-clause-some
@@ -36,21 +36,21 @@ make_round-made-requires-clause-some g c =
 
 pub make_round-made-requires-clause-most : goal.make_round-made-requires-clause-most
 make_round-made-requires-clause-most g c =
-    subst (λ phi. phi ≤ million) (sym c.loop-round.invariant.same_share) c.requires.ready.2
+    subst (λ phi. phi ≤ threshold_million) (sym c.loop-round.invariant.same_share) c.requires.ready.2
 
 pub make_round-made-requires-clause-wide : goal.make_round-made-requires-clause-wide
 make_round-made-requires-clause-wide g c =
-    subst (λ phi. IsWideShare phi (capacity_of c.args.board.now.opening)) (sym c.loop-round.invariant.same_share)
+    subst (λ phi. IsWideShare phi (core_capacity c.args.board.now.opening)) (sym c.loop-round.invariant.same_share)
     c.requires.ready.3
 
 pub make_round-made-requires-clause-can_save : goal.make_round-made-requires-clause-can_save
 make_round-made-requires-clause-can_save g c =
     let far = c.loop-round.invariant in
-    can_go_on g.D.Disk.reads g.D.Disk.image_now g.D.Disk.moment g.D.Disk.image_since c.args.board.now.opening
+    seen_positions_allow_more_saves g.D.Disk.reads g.D.Disk.image_now g.D.Disk.moment g.D.Disk.image_since c.args.board.now.opening
     (view c.loop-round.pass) c.args.self.now.saver.now c.loop-round.self.saver.now far.written.reports
     c.args.self.now.disk.now c.loop-round.self.disk.now c.loop-round.round 1 c.args.self.now.rounds
-    (calls_many _ _ _ _ _ _ far.written.calls) (omega (arith, c.loop-round-test.true)) far.fits far.written.kept
-    (early_first _ _ c.args.board.now.opening _ _ c.args.self.now.saver.now c.requires.ready.5)
+    (seen_position_report_count _ _ _ _ _ _ far.written.calls) (omega (arith, c.loop-round-test.true)) far.fits far.written.kept
+    (seen_positions_saver_is_early _ _ c.args.board.now.opening _ _ c.args.self.now.saver.now c.requires.ready.5)
 
 pub returns-in-Err-clause-does : goal.returns-in-Err-clause-does
 returns-in-Err-clause-does g c =
@@ -60,26 +60,26 @@ returns-in-Err-clause-does g c =
       far.same_disk,
       far.same_saver,
       far.same_cut,
-      subst (λ shards. HasShape (length shards) (capacity_of shards) c.make_round-made.new.cut) (sym opening)
+      subst (λ shards. HasCoreShape (length shards) (core_capacity shards) c.make_round-made.new.cut) (sym opening)
           c.in-Err.ensures.shape,
-      one_broke_off _ _ _ _ _ _ _ _ _ _ _
+      one_round_broke_off _ _ _ _ _ _ _ _ _ _ _
           (SavesInTurn g.D.Disk.reads g.D.Disk.image_now g.D.Disk.moment g.D.Disk.image_since c.args.self.now.saver.now
           c.loop-round.self.saver.now c.args.self.now.disk.now c.loop-round.self.disk.now)
           (SavesInPart g.D.Disk.reads g.D.Disk.image_now g.D.Disk.moment g.D.Disk.image_since
           c.loop-round.self.saver.now c.loop-round.self.disk.now c.make_round-made.new.disk)
           (SavesInPart g.D.Disk.reads g.D.Disk.image_now g.D.Disk.moment g.D.Disk.image_since c.args.self.now.saver.now
           c.args.self.now.disk.now c.make_round-made.new.disk) _ _ _ _ _ _ c.in-Err.status opening far.same_share
-          (same_store c.args.self.now.saver.now c.loop-round.self.saver.now _ far.written.kept.saver)
+          (round_saver_stays_or_none c.args.self.now.saver.now c.loop-round.self.saver.now _ far.written.kept.saver)
           (ap₂ (λ s d. record { sink = s; disk = d }) far.sink_faults far.disk_faults) c.loop-round-test.true
           (λ cuts saved unfinished first second.
-          part_follows c.stores_open_to_one.ensures g.D.Disk.reads g.D.Disk.image_now g.D.Disk.moment
+          broken_off_save_follows c.stores_open_to_one.ensures g.D.Disk.reads g.D.Disk.image_now g.D.Disk.moment
           g.D.Disk.image_since c.args.self.now.saver.now c.loop-round.self.saver.now cuts saved unfinished
           c.args.self.now.disk.now c.loop-round.self.disk.now c.make_round-made.new.disk
-          (allowed _ _ c.args.board.now.opening _ _ c.args.self.now.saver.now c.requires.ready.5)
+          (seen_positions_allowed_settings _ _ c.args.board.now.opening _ _ c.args.self.now.saver.now c.requires.ready.5)
           g.met.D.Disk.reading_is_image first second)
           far.written c.in-Err.ensures.broken,
       λ none.
-          let done = nothing_done _ _ _ _ _ _ _ _ _ far.written.kept none in
+          let done = save_needs_saver _ _ _ _ _ _ _ _ _ far.written.kept none in
           let round = c.in-Err.ensures.unused done.0 in (round.0, round.1 ∙ done.1),
     )
 
@@ -100,7 +100,7 @@ loop-round-preserved g c =
       disk_faults = c.in_default.ensures.faults.1 ∙ far.disk_faults;
       fits = c.in_default.ensures.fits;
       written =
-          writes_more opening c.args.self.now.phi c.loop-round.round 1 (view c.args.pass.now) (view c.loop-round.pass)
+          writes_more_rounds opening c.args.self.now.phi c.loop-round.round 1 (view c.args.pass.now) (view c.loop-round.pass)
           (view c.make_round-made.new.pass) (is_some c.args.self.now.saver.now)
           (SavesInTurn g.D.Disk.reads g.D.Disk.image_now g.D.Disk.moment g.D.Disk.image_since c.args.self.now.saver.now
           c.loop-round.self.saver.now c.args.self.now.disk.now c.loop-round.self.disk.now)
@@ -117,7 +117,7 @@ loop-round-preserved g c =
           saves_follow c.stores_open_to_one.ensures g.D.Disk.reads g.D.Disk.image_now g.D.Disk.moment
           g.D.Disk.image_since c.args.self.now.saver.now c.loop-round.self.saver.now c.make_round-made.new.saver cuts later
           c.args.self.now.disk.now c.loop-round.self.disk.now c.make_round-made.new.disk
-          (allowed _ _ opening _ _ c.args.self.now.saver.now c.requires.ready.5) g.met.D.Disk.reading_is_image first
+          (seen_positions_allowed_settings _ _ opening _ _ c.args.self.now.saver.now c.requires.ready.5) g.met.D.Disk.reading_is_image first
           second)
           far.written
           (subst (λ store. WritesRounds opening c.args.self.now.phi 1 (view c.loop-round.pass)
@@ -125,7 +125,7 @@ loop-round-preserved g c =
           (SavesInTurn g.D.Disk.reads g.D.Disk.image_now g.D.Disk.moment g.D.Disk.image_since
           c.loop-round.self.saver.now c.make_round-made.new.saver c.loop-round.self.disk.now c.make_round-made.new.disk)
           (g.K.Sink.taken c.loop-round.self.sink.now) (g.K.Sink.taken c.make_round-made.new.sink))
-          (same_store c.args.self.now.saver.now c.loop-round.self.saver.now _ far.written.kept.saver)
+          (round_saver_stays_or_none c.args.self.now.saver.now c.loop-round.self.saver.now _ far.written.kept.saver)
           (subst (λ phi. WritesRounds opening phi 1 (view c.loop-round.pass) (view c.make_round-made.new.pass)
           (is_some c.loop-round.self.saver.now)
           (SavesInTurn g.D.Disk.reads g.D.Disk.image_now g.D.Disk.moment g.D.Disk.image_since
@@ -141,9 +141,9 @@ returns-clause-does g c =
       far.same_disk,
       far.same_saver,
       far.same_cut,
-      subst (λ shards. HasShape (length shards) (capacity_of shards) c.loop-round.self.cut.now) (sym opening) far.shape,
-      all_made _ _ _ _ _ _ _ _ _ _ _ _ _ _ c.loop-round.self.stop opening far.unstopped
+      subst (λ shards. HasCoreShape (length shards) (core_capacity shards) c.loop-round.self.cut.now) (sym opening) far.shape,
+      all_rounds_were_made _ _ _ _ _ _ _ _ _ _ _ _ _ _ c.loop-round.self.stop opening far.unstopped
           (omega (arith, c.loop-round.auto.round-end, c.loop-round-test.false))
           (ap₂ (λ s d. record { sink = s; disk = d }) far.sink_faults far.disk_faults) far.written,
-      nothing_done _ _ _ _ _ _ _ _ _ far.written.kept,
+      save_needs_saver _ _ _ _ _ _ _ _ _ far.written.kept,
     )

@@ -1,29 +1,29 @@
 use Rattle.std.proofs.Common.{◌≡◌, None, sym, ap, ◌∙◌, arith}
-use Rattle.pcap_frames.specs.Frames.{needed, frame_fault}
-use Rattle.pcap_frames.proofs.ReaderStepLemmas.{faulty_frame, part_of_frame, whole_frame, needed_at_none}
-use Rattle.pcap_frames.proofs.ReaderStepLemmas.{needed_bound, right_frame, held_fits}
+use Rattle.pcap_frames.specs.Frames.{frame_bytes_needed, frame_fault}
+use Rattle.pcap_frames.proofs.ReaderStepLemmas.{reader_step_to_frame_fault, reader_step_in_frame, reader_step_ends_frame, frame_bytes_needed-empty_reader_step}
+use Rattle.pcap_frames.proofs.ReaderStepLemmas.{frame_bytes_needed-reader_step_bound, reader_step_at_right_frame, reader_step_held_frame_fits}
 use Rattle.pcap_frames.proofs.reader.part.FramePart.leave_frame.Goals as goal
 
 pub returns-in-Some-clause-advances : goal.returns-in-Some-clause-advances
 returns-in-Some-clause-advances c = λ kept front came is size.
-    faulty_frame _ front _ c.in-Some.fault is
+    reader_step_to_frame_fault _ front _ c.in-Some.fault is
     (ap (frame_fault c.args.self.now.order c.args.self.now.count c.args.self.now.place)
     (sym c.first-bytes.ensures.bytes) ∙ sym c.frame_fault.ensures ∙ c.in-Some.is)
 
 pub returns-then-came-size-clause-sound : goal.returns-then-came-size-clause-sound
 returns-then-came-size-clause-sound c =
-    let size : c.needed-size.result ≡ needed c.args.self.now.order c.args.self.now.kept.first =
-    c.needed-size.ensures ∙ ap (needed c.args.self.now.order) c.first-bytes.ensures.bytes in
+    let size : c.needed-size.result ≡ frame_bytes_needed c.args.self.now.order c.args.self.now.kept.first =
+    c.needed-size.ensures ∙ ap (frame_bytes_needed c.args.self.now.order) c.first-bytes.ensures.bytes in
     let bound =
-    needed_bound c.args.self.now.order c.args.self.now.count c.args.self.now.place c.first-bytes.result.now
+    frame_bytes_needed-reader_step_bound c.args.self.now.order c.args.self.now.count c.args.self.now.place c.first-bytes.result.now
     (sym c.frame_fault.ensures ∙ c.in_default.is) in
     record { count = c.requires.count; place = c.requires.place; cut = omega arith; bound = omega arith }
 
 pub returns-then-came-size-clause-advances : goal.returns-then-came-size-clause-advances
 returns-then-came-size-clause-advances c = λ kept front came is total.
-    let size : c.needed-size.result ≡ needed c.args.self.now.order c.args.self.now.kept.first =
-    c.needed-size.ensures ∙ ap (needed c.args.self.now.order) c.first-bytes.ensures.bytes in
-    part_of_frame _ front _ _ is total
+    let size : c.needed-size.result ≡ frame_bytes_needed c.args.self.now.order c.args.self.now.kept.first =
+    c.needed-size.ensures ∙ ap (frame_bytes_needed c.args.self.now.order) c.first-bytes.ensures.bytes in
+    reader_step_in_frame _ front _ _ is total
     (ap (frame_fault c.args.self.now.order c.args.self.now.count c.args.self.now.place)
     (sym c.first-bytes.ensures.bytes) ∙ sym c.frame_fault.ensures ∙ c.in_default.is)
     (omega arith)
@@ -33,7 +33,7 @@ invariant_of-held c =
     let kept = ap (λ k. k.first) c.replace-kept.ensures.value in
     let same = c.first-bytes.ensures.bytes ∙ sym kept in
     let fits =
-    held_fits c.args.self.now.order c.args.self.now.count c.args.self.now.place c.args.self.now.kept.came
+    reader_step_held_frame_fits c.args.self.now.order c.args.self.now.count c.args.self.now.place c.args.self.now.kept.came
     c.first-bytes.result.now (sym c.frame_fault.ensures ∙ c.in_default.is) c.first-bytes.ensures.length
     (omega arith) in
     record { header = rw same at fits.0; limit = rw same at fits.1; head = rw same at fits.2 }
@@ -41,29 +41,29 @@ invariant_of-held c =
 pub returns-clause-sound : goal.returns-clause-sound
 returns-clause-sound c =
     let empty = c.replace-kept.ensures.after ∙ c.new.ensures in
-    let size : c.needed-size.result ≡ needed c.args.self.now.order c.first-bytes.result.now = c.needed-size.ensures in
-    let none = needed_at_none c.args.self.now.order c.replace-kept.new.dest.first (ap (λ k. k.first) empty) in
+    let size : c.needed-size.result ≡ frame_bytes_needed c.args.self.now.order c.first-bytes.result.now = c.needed-size.ensures in
+    let none = frame_bytes_needed-empty_reader_step c.args.self.now.order c.replace-kept.new.dest.first (ap (λ k. k.first) empty) in
     let came : c.replace-kept.new.dest.came ≡ 0 = ap (λ k. k.came) empty in
     let shown : frame_fault c.args.self.now.order c.args.self.now.count c.args.self.now.place
     c.first-bytes.result.now ≡ None =
     sym c.frame_fault.ensures ∙ c.in_default.is in
     let bound =
-    needed_bound c.args.self.now.order c.args.self.now.count c.args.self.now.place c.first-bytes.result.now
+    frame_bytes_needed-reader_step_bound c.args.self.now.order c.args.self.now.count c.args.self.now.place c.first-bytes.result.now
     shown in
     let fits =
-    held_fits c.args.self.now.order c.args.self.now.count c.args.self.now.place c.args.self.now.kept.came
+    reader_step_held_frame_fits c.args.self.now.order c.args.self.now.count c.args.self.now.place c.args.self.now.kept.came
     c.first-bytes.result.now shown c.first-bytes.ensures.length (omega arith) in
     let room =
-    (right_frame c.args.self.now.order c.args.self.now.count c.args.self.now.place c.first-bytes.result.now
+    (reader_step_at_right_frame c.args.self.now.order c.args.self.now.count c.args.self.now.place c.first-bytes.result.now
     shown fits.0).0 in
     record { count = omega arith; place = omega arith; cut = omega arith; bound = omega arith }
 
 pub returns-clause-advances : goal.returns-clause-advances
 returns-clause-advances c = λ kept front came is total.
-    let size : c.needed-size.result ≡ needed c.args.self.now.order c.args.self.now.kept.first =
-    c.needed-size.ensures ∙ ap (needed c.args.self.now.order) c.first-bytes.ensures.bytes in
+    let size : c.needed-size.result ≡ frame_bytes_needed c.args.self.now.order c.args.self.now.kept.first =
+    c.needed-size.ensures ∙ ap (frame_bytes_needed c.args.self.now.order) c.first-bytes.ensures.bytes in
     rw (c.replace-kept.ensures.after, c.new.ensures, c.replace-kept.ensures.value) (
-    whole_frame _ front _ _ _ is total
+    reader_step_ends_frame _ front _ _ _ is total
     (ap (frame_fault c.args.self.now.order c.args.self.now.count c.args.self.now.place)
     (sym c.first-bytes.ensures.bytes) ∙ sym c.frame_fault.ensures ∙ c.in_default.is)
     (omega arith) size)

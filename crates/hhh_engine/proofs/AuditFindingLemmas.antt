@@ -1,0 +1,376 @@
+-- How an audit can end.
+use Rattle.std.proofs.Common.{◌≡◌, ◌⊎◌, ◌≤◌, ◌<◌, ◌+◌, ℕ, ◌≢◌, List, length, take, get_or, All, Option, Some, IfSome}
+use Rattle.std.proofs.Common.{inl, inr, refl, ap, ap₂, ◌∙◌, subst, arith, ⊎_elim}
+use Rattle.std.specs.List.{slice_get}
+use Rattle.std.proofs.lemmas.Option.{get_or_from_slice_get, slice_get_read, slice_get_within}
+use Rattle.std.proofs.lemmas.List.{get_or-take, length-take}
+use Rattle.std.proofs.lemmas.List.Elements.{All-get_or, All-more}
+use Rattle.prefix_lattice.specs.{RecordValue}
+use Rattle.pcap_frames.specs.{FrameValue}
+use Rattle.frame_records.specs.{HasCaptureFrames, IsRefusedCapture}
+use Rattle.hhh_output.specs.declared.report.Report.{Report}
+use Rattle.hhh_output.specs.declared.reports.Reported.{Reported}
+use Rattle.report_text.specs.{HasTextFault, IsSessionText, longest_session_text}
+use Rattle.report_text.specs.declared.session.Session.{Session}
+use Rattle.report_text.specs.declared.session_fault.TextFault.{TextFault}
+use Rattle.exact_audit.specs.{IsVerdict}
+use Rattle.exact_audit.specs.declared.verdict.Verdict.{Verdict}
+use Rattle.exact_audit.specs.declared.verdict.Verdict.TheVariants.{Good}
+use Rattle.command_words.specs.{AskFor}
+use Rattle.command_words.specs.declared.command.Command.{Command}
+use Rattle.command_words.specs.declared.command.Command.TheVariants.{Weigh, Report as ToReport, Format, Audit, Make, Demo}
+use Rattle.command_words.specs.declared.settings.Settings.{Settings}
+use Rattle.hhh_engine.specs.Audit.{AreAudited, IsAuditText, IsAuditedAsFirstUnsound, IsAuditedAsSound, IsSoundAudit, IsUnsoundAudit}
+use Rattle.hhh_engine.specs.Answer.{IsUnfinishedAnswer}
+use Rattle.hhh_engine.specs.Ending.{FindsAtEnding, EndsFindingUnsound, OfDiskAtEnding, EndsRefusingText, EndingSourceFaults}
+use Rattle.hhh_engine.specs.Inputs.{InputBytes, IsInputCapture, OfAuditInputs, InputsWereRead}
+use Rattle.hhh_engine.specs.Session.{SessionKeeping, Rules}
+use Rattle.hhh_engine.specs.declared.status.Status.{Status}
+use Rattle.hhh_engine.specs.declared.status.Status.TheVariants.{Done, BadWords, BadCapture, ReadFault, WriteFault}
+use Rattle.hhh_engine.specs.declared.status.Status.TheVariants.{DiskFault, NotFormatted, Damaged, OtherSettings}
+use Rattle.hhh_engine.specs.declared.status.Status.TheVariants.{OtherCapture, AuditNo, BadReport, OutOfMemory}
+use Rattle.hhh_engine.proofs.StatusLemmas.{EndsWithStatus, CaptureStatusIsFaultless, SessionStatusIsFaultless, status_of_known_file}
+
+-- a text has one fault at most
+abbrev pub AuditFindingHasOneFault : Type 0
+AuditFindingHasOneFault = (text : List ℕ) (fault other : TextFault) → HasTextFault text fault → HasTextFault text other → fault ≡ other
+
+-- a report has one verdict
+abbrev pub AuditFindingIsUnique : Type 0
+AuditFindingIsUnique =
+    (lists : List (List RecordValue)) (capacity phi : ℕ) (report : Report) (verdict other : Verdict)
+    → IsVerdict lists capacity phi report verdict → IsVerdict lists capacity phi report other → verdict ≡ other
+
+-- what holds of known inputs
+pub audit_finding_of_known_inputs : (given : InputBytes) (file bytes : List ℕ) (Holds : List ℕ → List ℕ → Type 0)
+    → given.capture ≡ Some file → given.text ≡ Some bytes → OfAuditInputs given Holds → Holds file bytes
+audit_finding_of_known_inputs given file bytes Holds is_file is_text holds =
+    status_of_known_file given.text bytes (Holds file) is_text
+    (status_of_known_file given.capture file (λ f. IsInputCapture f × IfSome given.text (Holds f)) is_file holds).1
+
+-- what holds of each element holds of the one at an index
+pub audit_finding_holds_at_index : {A : Type 0} (P : A → Type 0) (xs : List A) (place : ℕ) (x : A) → slice_get xs place ≡ Some x → All P xs
+    → P x
+audit_finding_holds_at_index P xs place x is all =
+    subst P (get_or_from_slice_get xs place x x is) (All-get_or P xs place x (slice_get_within xs place x is) all)
+
+-- and of the one at an index below the number of the first ones
+audit_finding_holds_before : {A : Type 0} (P : A → Type 0) (xs : List A) (before place : ℕ) (x : A) → place < before
+    → slice_get xs place ≡ Some x → All P (take before xs) → P x
+audit_finding_holds_before P xs before place x early is all =
+    subst P (get_or-take before xs place x early ∙ get_or_from_slice_get xs place x x is)
+    (All-get_or P (take before xs) place x
+    (omega (arith, early, slice_get_within xs place x is, length-take before xs)) all)
+
+-- one more report is sound
+pub audit_finding_next_is_sound : (settings : Settings) (lists : List (List RecordValue)) (reports : List Reported) (place : ℕ)
+    (reported : Reported) → place < length reports → reported ≡ get_or reports place reported
+    → IsAuditedAsSound settings lists reported → All (IsAuditedAsSound settings lists) (take place reports)
+    → All (IsAuditedAsSound settings lists) (take (place + 1) reports)
+audit_finding_next_is_sound settings lists reports place reported within at sound all =
+    All-more (IsAuditedAsSound settings lists) reports place reported within all
+    (subst (IsAuditedAsSound settings lists) at sound)
+
+-- the next report is the first that is not sound
+pub audit_finding_next_is_unsound : (settings : Settings) (lists : List (List RecordValue)) (reports : List Reported) (place : ℕ)
+    (reported : Reported) (verdict : Verdict) → place < length reports → reported ≡ get_or reports place reported
+    → IsVerdict lists settings.capacity settings.phi reported.report verdict → verdict ≢ Good
+    → All (IsAuditedAsSound settings lists) (take place reports)
+    → IsAuditedAsFirstUnsound settings lists reports (place + 1) verdict
+audit_finding_next_is_unsound settings lists reports place reported verdict within at found not_good sound = record {
+  before = place;
+  counted = refl;
+  reported = reported;
+  is = slice_get_read reports (length reports) place reported refl within at;
+  found = found;
+  not_good = not_good;
+  sound = sound;
+}
+
+-- a report with another verdict than good is not sound
+pub audit_finding_is_not_sound : AuditFindingIsUnique → (settings : Settings) (lists : List (List RecordValue)) (reports : List Reported)
+    (number : ℕ) (verdict : Verdict) (first : IsAuditedAsFirstUnsound settings lists reports number verdict)
+    → IsAuditedAsSound settings lists first.reported → ⊥
+audit_finding_is_not_sound one settings lists reports number verdict first sound =
+    first.not_good
+    (one lists settings.capacity settings.phi first.reported.report verdict Good first.found sound)
+
+-- of two reports that are the first that is not sound, neither comes before the other
+audit_finding_is_not_earlier : AuditFindingIsUnique → (settings : Settings) (lists : List (List RecordValue)) (reports : List Reported)
+    (number later : ℕ) (verdict other : Verdict) (first : IsAuditedAsFirstUnsound settings lists reports number verdict)
+    (second : IsAuditedAsFirstUnsound settings lists reports later other) → first.before < second.before → ⊥
+audit_finding_is_not_earlier one settings lists reports number later verdict other first second early =
+    audit_finding_is_not_sound one settings lists reports number verdict first
+    (audit_finding_holds_before (IsAuditedAsSound settings lists) reports second.before first.before first.reported early first.is second.sound)
+
+-- two that stand at one place have one number and one verdict
+audit_finding_at_one_place : AuditFindingIsUnique → (settings : Settings) (lists : List (List RecordValue)) (reports : List Reported)
+    (number other_number : ℕ) (verdict other : Verdict) (first : IsAuditedAsFirstUnsound settings lists reports number verdict)
+    (second : IsAuditedAsFirstUnsound settings lists reports other_number other) → first.before ≡ second.before
+    → AuditNo other_number other ≡ AuditNo number verdict
+audit_finding_at_one_place one settings lists reports number other_number verdict other first second place =
+    let is = subst (λ p. slice_get reports p ≡ Some first.reported) place first.is in
+    let same : first.reported ≡ second.reported = cc (is, second.is) in
+    ap₂ AuditNo (omega (arith, first.counted, second.counted, place))
+    (one lists settings.capacity settings.phi second.reported.report other verdict second.found
+    (subst (λ (r : Reported). IsVerdict lists settings.capacity settings.phi r.report verdict) same first.found))
+
+-- so they are the same report
+pub audit_findings_agree : AuditFindingIsUnique → (settings : Settings) (lists : List (List RecordValue)) (reports : List Reported)
+    (number other_number : ℕ) (verdict other : Verdict) → IsAuditedAsFirstUnsound settings lists reports number verdict
+    → IsAuditedAsFirstUnsound settings lists reports other_number other
+    → AuditNo other_number other ≡ AuditNo number verdict
+audit_findings_agree one settings lists reports number other_number verdict other first second =
+    let no_less = audit_finding_is_not_earlier one settings lists reports number other_number verdict other first second in
+    let no_more = audit_finding_is_not_earlier one settings lists reports other_number number other verdict second first in
+    let place : first.before ≡ second.before = omega (arith, no_less, no_more) in
+    audit_finding_at_one_place one settings lists reports number other_number verdict other first second place
+
+-- the audit of a text with a fault says nothing
+audit_finding_excludes_bad_text : SessionStatusIsFaultless → (settings : Settings) (rules : Rules) (file bytes answer : List ℕ) (fault : TextFault)
+    → HasTextFault bytes fault → IsAuditText settings rules file bytes answer → ⊥
+audit_finding_excludes_bad_text no_fault settings rules file bytes answer fault has =
+    ⊎_elim
+    (λ is. no_fault bytes is.session fault is.audited.is_session is.audited.not_long has)
+    (λ is. no_fault bytes is.2.session fault is.2.audited.is_session is.2.audited.not_long has)
+
+-- an audit of a text with a fault is refused for it, unless a source fails or memory runs out
+audit_finding_is_text_fault : {K : Type 0} → CaptureStatusIsFaultless → AuditFindingHasOneFault → SessionStatusIsFaultless
+    → (rules : Rules) (keeping : SessionKeeping) (settings : Settings) (given : InputBytes) (AsBefore : Type 0)
+    (ReadToEnd DiskSame : Type 0) (read_before read_now : EndingSourceFaults) (sink written : K) (old new : Option (List ℕ))
+    (write_before write_now : ℕ) (status : Status) (file bytes : List ℕ) (frames : List FrameValue) (fault : TextFault)
+    → given.capture ≡ Some file → HasCaptureFrames file frames → given.text ≡ Some bytes → HasTextFault bytes fault
+    → EndsWithStatus rules keeping (Audit settings) given AsBefore ReadToEnd ⊥ DiskSame read_before read_now sink written old
+    new write_before write_now status
+    → (status ≡ BadReport fault) ⊎ ((status ≡ ReadFault) ⊎ (status ≡ OutOfMemory))
+audit_finding_is_text_fault never_both one_fault no_fault rules keeping settings given AsBefore ReadToEnd DiskSame read_before
+    read_now sink written old new write_before write_now Done file bytes frames fault is_file capture is_text has ends =
+    let is =
+    audit_finding_of_known_inputs given file bytes (λ f t. IsSoundAudit settings rules f t ends.1.text) is_file is_text ends.1.is_text in
+    absurd (no_fault bytes is.session fault is.audited.is_session is.audited.not_long has)
+audit_finding_is_text_fault never_both one_fault no_fault rules keeping settings given AsBefore ReadToEnd DiskSame read_before
+    read_now sink written old new write_before write_now (BadWords kind) file bytes frames fault is_file capture is_text has ends =
+    absurd ends
+audit_finding_is_text_fault never_both one_fault no_fault rules keeping settings given AsBefore ReadToEnd DiskSame read_before
+    read_now sink written old new write_before write_now (BadCapture other) file bytes frames fault is_file capture is_text has ends =
+    absurd (never_both file frames other capture (status_of_known_file given.capture file (λ f. IsRefusedCapture f other) is_file ends.0))
+audit_finding_is_text_fault never_both one_fault no_fault rules keeping settings given AsBefore ReadToEnd DiskSame read_before
+    read_now sink written old new write_before write_now ReadFault file bytes frames fault is_file capture is_text has ends =
+    inr (inl refl)
+audit_finding_is_text_fault never_both one_fault no_fault rules keeping settings given AsBefore ReadToEnd DiskSame read_before
+    read_now sink written old new write_before write_now WriteFault file bytes frames fault is_file capture is_text has ends =
+    let is =
+    audit_finding_of_known_inputs given file bytes (λ f t. IsUnfinishedAnswer (IsAuditText settings rules f t) ends.1.text) is_file is_text
+    ends.1.is_text in
+    absurd (audit_finding_excludes_bad_text no_fault settings rules file bytes is.text fault has is.is_text)
+audit_finding_is_text_fault never_both one_fault no_fault rules keeping settings given AsBefore ReadToEnd DiskSame read_before
+    read_now sink written old new write_before write_now DiskFault file bytes frames fault is_file capture is_text has ends =
+    absurd ends.3
+audit_finding_is_text_fault never_both one_fault no_fault rules keeping settings given AsBefore ReadToEnd DiskSame read_before
+    read_now sink written old new write_before write_now NotFormatted file bytes frames fault is_file capture is_text has ends =
+    absurd ends.0
+audit_finding_is_text_fault never_both one_fault no_fault rules keeping settings given AsBefore ReadToEnd DiskSame read_before
+    read_now sink written old new write_before write_now (Damaged slot) file bytes frames fault is_file capture is_text has ends =
+    absurd ends.0
+audit_finding_is_text_fault never_both one_fault no_fault rules keeping settings given AsBefore ReadToEnd DiskSame read_before
+    read_now sink written old new write_before write_now (OtherSettings stored asked) file bytes frames fault is_file capture is_text has ends =
+    absurd ends.0
+audit_finding_is_text_fault never_both one_fault no_fault rules keeping settings given AsBefore ReadToEnd DiskSame read_before
+    read_now sink written old new write_before write_now (OtherCapture stored asked) file bytes frames fault is_file capture is_text has ends =
+    absurd ends.0
+audit_finding_is_text_fault never_both one_fault no_fault rules keeping settings given AsBefore ReadToEnd DiskSame read_before
+    read_now sink written old new write_before write_now (AuditNo report verdict) file bytes frames fault is_file capture is_text has ends =
+    let is =
+    audit_finding_of_known_inputs given file bytes (λ f t. IsUnsoundAudit settings rules f t report verdict) is_file is_text ends.1.0 in
+    absurd (no_fault bytes is.session fault is.audited.is_session is.audited.not_long has)
+audit_finding_is_text_fault never_both one_fault no_fault rules keeping settings given AsBefore ReadToEnd DiskSame read_before
+    read_now sink written old new write_before write_now (BadReport wrong) file bytes frames fault is_file capture is_text has ends =
+    inl (ap BadReport (one_fault bytes wrong fault
+    (status_of_known_file given.text bytes (λ t. HasTextFault t wrong) is_text ends.0.first_fault) has))
+audit_finding_is_text_fault never_both one_fault no_fault rules keeping settings given AsBefore ReadToEnd DiskSame read_before
+    read_now sink written old new write_before write_now OutOfMemory file bytes frames fault is_file capture is_text has ends =
+    inr (inr refl)
+
+-- a session whose first report that is not sound is known, however the records are dealt, is found so, unless a source or
+-- the sink fails or memory runs out
+audit_finding_is_first_unsound : {K : Type 0} → CaptureStatusIsFaultless → SessionStatusIsFaultless → AuditFindingIsUnique
+    → (rules : Rules) (keeping : SessionKeeping) (settings : Settings) (given : InputBytes) (AsBefore : Type 0)
+    (ReadToEnd DiskSame : Type 0) (read_before read_now : EndingSourceFaults) (sink written : K) (old new : Option (List ℕ))
+    (write_before write_now : ℕ) (status : Status) (file bytes : List ℕ) (frames : List FrameValue) (known : Session)
+    (report : ℕ) (verdict : Verdict)
+    → given.capture ≡ Some file → HasCaptureFrames file frames → given.text ≡ Some bytes → IsSessionText bytes known
+    → length bytes ≤ longest_session_text
+    → ((lists : List (List RecordValue)) (session : Session) → AreAudited settings rules file bytes lists session
+    → IsAuditedAsFirstUnsound settings lists session.reports report verdict)
+    → EndsWithStatus rules keeping (Audit settings) given AsBefore ReadToEnd ⊥ DiskSame read_before read_now sink written old
+    new write_before write_now status
+    → (status ≡ AuditNo report verdict) ⊎ ((status ≡ ReadFault) ⊎ ((status ≡ WriteFault) ⊎ (status ≡ OutOfMemory)))
+audit_finding_is_first_unsound never_both no_fault one rules keeping settings given AsBefore ReadToEnd DiskSame read_before read_now sink
+    written old new write_before write_now Done file bytes frames known report verdict is_file capture is_text is_session
+    not_long first ends =
+    let is =
+    audit_finding_of_known_inputs given file bytes (λ f t. IsSoundAudit settings rules f t ends.1.text) is_file is_text ends.1.is_text in
+    let unsound = first is.lists is.session is.audited in
+    absurd (audit_finding_is_not_sound one settings is.lists is.session.reports report verdict unsound
+    (audit_finding_holds_at_index (IsAuditedAsSound settings is.lists) is.session.reports unsound.before unsound.reported unsound.is is.sound))
+audit_finding_is_first_unsound never_both no_fault one rules keeping settings given AsBefore ReadToEnd DiskSame read_before read_now sink
+    written old new write_before write_now (BadWords kind) file bytes frames known report verdict is_file capture is_text is_session
+    not_long first ends =
+    absurd ends
+audit_finding_is_first_unsound never_both no_fault one rules keeping settings given AsBefore ReadToEnd DiskSame read_before read_now sink
+    written old new write_before write_now (BadCapture other) file bytes frames known report verdict is_file capture is_text is_session
+    not_long first ends =
+    absurd (never_both file frames other capture (status_of_known_file given.capture file (λ f. IsRefusedCapture f other) is_file ends.0))
+audit_finding_is_first_unsound never_both no_fault one rules keeping settings given AsBefore ReadToEnd DiskSame read_before read_now sink
+    written old new write_before write_now ReadFault file bytes frames known report verdict is_file capture is_text is_session
+    not_long first ends =
+    inr (inl refl)
+audit_finding_is_first_unsound never_both no_fault one rules keeping settings given AsBefore ReadToEnd DiskSame read_before read_now sink
+    written old new write_before write_now WriteFault file bytes frames known report verdict is_file capture is_text is_session
+    not_long first ends =
+    inr (inr (inl refl))
+audit_finding_is_first_unsound never_both no_fault one rules keeping settings given AsBefore ReadToEnd DiskSame read_before read_now sink
+    written old new write_before write_now DiskFault file bytes frames known report verdict is_file capture is_text is_session
+    not_long first ends =
+    absurd ends.3
+audit_finding_is_first_unsound never_both no_fault one rules keeping settings given AsBefore ReadToEnd DiskSame read_before read_now sink
+    written old new write_before write_now NotFormatted file bytes frames known report verdict is_file capture is_text is_session
+    not_long first ends =
+    absurd ends.0
+audit_finding_is_first_unsound never_both no_fault one rules keeping settings given AsBefore ReadToEnd DiskSame read_before read_now sink
+    written old new write_before write_now (Damaged slot) file bytes frames known report verdict is_file capture is_text is_session
+    not_long first ends =
+    absurd ends.0
+audit_finding_is_first_unsound never_both no_fault one rules keeping settings given AsBefore ReadToEnd DiskSame read_before read_now sink
+    written old new write_before write_now (OtherSettings stored asked) file bytes frames known report verdict is_file capture is_text is_session
+    not_long first ends =
+    absurd ends.0
+audit_finding_is_first_unsound never_both no_fault one rules keeping settings given AsBefore ReadToEnd DiskSame read_before read_now sink
+    written old new write_before write_now (OtherCapture stored asked) file bytes frames known report verdict is_file capture is_text is_session
+    not_long first ends =
+    absurd ends.0
+audit_finding_is_first_unsound never_both no_fault one rules keeping settings given AsBefore ReadToEnd DiskSame read_before read_now sink
+    written old new write_before write_now (AuditNo other_report other) file bytes frames known report verdict is_file capture is_text is_session
+    not_long first ends =
+    let is =
+    audit_finding_of_known_inputs given file bytes (λ f t. IsUnsoundAudit settings rules f t other_report other) is_file is_text ends.1.0 in
+    inl (audit_findings_agree one settings is.lists is.session.reports report other_report verdict other
+    (first is.lists is.session is.audited) is.first)
+audit_finding_is_first_unsound never_both no_fault one rules keeping settings given AsBefore ReadToEnd DiskSame read_before read_now sink
+    written old new write_before write_now (BadReport wrong) file bytes frames known report verdict is_file capture is_text is_session
+    not_long first ends =
+    absurd (no_fault bytes known wrong is_session not_long
+    (status_of_known_file given.text bytes (λ t. HasTextFault t wrong) is_text ends.0.first_fault))
+audit_finding_is_first_unsound never_both no_fault one rules keeping settings given AsBefore ReadToEnd DiskSame read_before read_now sink
+    written old new write_before write_now OutOfMemory file bytes frames known report verdict is_file capture is_text is_session
+    not_long first ends =
+    inr (inr (inr refl))
+
+-- what an audit found that ended so
+audit_finding_for_command : (rules : Rules) (words : List (List ℕ)) (command : Command) (given : InputBytes) (old new : Option (List ℕ))
+    (report : ℕ) (verdict : Verdict) → AskFor words command → InputsWereRead command given
+    → FindsAtEnding command rules given old new (AuditNo report verdict)
+    → EndsFindingUnsound rules words given report verdict old new
+audit_finding_for_command rules words (Weigh prefix settings) given old new report verdict asked read finds = absurd finds
+audit_finding_for_command rules words (ToReport settings) given old new report verdict asked read finds = absurd finds
+audit_finding_for_command rules words (Format settings) given old new report verdict asked read finds = absurd finds
+audit_finding_for_command rules words (Make seed frames) given old new report verdict asked read finds = absurd finds
+audit_finding_for_command rules words (Demo seed frames settings) given old new report verdict asked read finds = absurd finds
+audit_finding_for_command rules words (Audit settings) given old new report verdict asked read finds = record {
+  settings = settings;
+  asked = asked;
+  read_to_end = read;
+  found = finds.0;
+  written = finds.1;
+}
+
+pub audit_finding_by_status : {K : Type 0} (rules : Rules) (keeping : SessionKeeping) (words : List (List ℕ)) (command : Command)
+    (given : InputBytes) (AsBefore : Type 0) (DiskRose DiskSame : Type 0)
+    (read_before read_now : EndingSourceFaults) (sink written : K) (old new : Option (List ℕ)) (write_before write_now : ℕ)
+    (status : Status) (report : ℕ) (verdict : Verdict) → AskFor words command → status ≡ AuditNo report verdict
+    → EndsWithStatus rules keeping command given AsBefore (InputsWereRead command given) DiskRose DiskSame read_before read_now sink
+    written old new write_before write_now status
+    → EndsFindingUnsound rules words given report verdict old new
+audit_finding_by_status rules keeping words command given AsBefore DiskRose DiskSame read_before read_now sink written old new
+    write_before write_now status report verdict asked is ends =
+    let now = subst (EndsWithStatus rules keeping command given AsBefore (InputsWereRead command given) DiskRose DiskSame read_before
+    read_now sink written old new write_before write_now) is ends in
+    audit_finding_for_command rules words command given old new report verdict asked now.0 now.1
+
+-- the text of a session that was refused
+audit_finding_refuses_text : {K D : Type 0} (rules : Rules) (words : List (List ℕ)) (command : Command) (given : InputBytes)
+    (old new : Option (List ℕ)) (fault : TextFault) (sink written : K) (disk stands : D) → AskFor words command
+    → FindsAtEnding command rules given old new (BadReport fault) → written ≡ sink → stands ≡ disk
+    → EndsRefusingText words given fault sink written disk stands
+audit_finding_refuses_text rules words (Weigh prefix settings) given old new fault sink written disk stands asked finds same untouched =
+    absurd finds
+audit_finding_refuses_text rules words (ToReport settings) given old new fault sink written disk stands asked finds same untouched =
+    absurd finds
+audit_finding_refuses_text rules words (Format settings) given old new fault sink written disk stands asked finds same untouched =
+    absurd finds
+audit_finding_refuses_text rules words (Make seed frames) given old new fault sink written disk stands asked finds same untouched =
+    absurd finds
+audit_finding_refuses_text rules words (Demo seed frames settings) given old new fault sink written disk stands asked finds same
+    untouched =
+    absurd finds
+audit_finding_refuses_text rules words (Audit settings) given old new fault sink written disk stands asked finds same untouched = record {
+  settings = settings;
+  asked = asked;
+  refusal = finds;
+  unwritten = same;
+  untouched = untouched;
+}
+
+pub audit_finding_refuses_by_status : {K D : Type 0} (rules : Rules) (keeping : SessionKeeping) (words : List (List ℕ)) (command : Command)
+    (given : InputBytes) (AsBefore : Type 0) (ReadToEnd DiskRose : Type 0)
+    (read_before read_now : EndingSourceFaults) (sink written : K) (disk stands : D) (old new : Option (List ℕ))
+    (write_before write_now : ℕ) (status : Status) (fault : TextFault) → AskFor words command
+    → status ≡ BadReport fault
+    → EndsWithStatus rules keeping command given AsBefore ReadToEnd DiskRose (stands ≡ disk) read_before read_now sink written
+    old new write_before write_now status
+    → EndsRefusingText words given fault sink written disk stands
+audit_finding_refuses_by_status rules keeping words command given AsBefore ReadToEnd DiskRose read_before read_now sink written disk
+    stands old new write_before write_now status fault asked is ends =
+    let now = subst (EndsWithStatus rules keeping command given AsBefore ReadToEnd DiskRose (stands ≡ disk) read_before
+    read_now sink written old new write_before write_now) is ends in
+    audit_finding_refuses_text rules words command given old new fault sink written disk stands asked now.0 now.1 now.2
+
+-- the same of the command that was asked for, where it is an audit
+pub asked_audit_finding_is_fault : {K : Type 0} → CaptureStatusIsFaultless → AuditFindingHasOneFault → SessionStatusIsFaultless
+    → (rules : Rules) (keeping : SessionKeeping) (settings : Settings) (read : Command) (given : InputBytes)
+    (AsBefore : Type 0) (DiskRose DiskSame : Type 0)
+    (read_before read_now : EndingSourceFaults) (sink written : K) (old new : Option (List ℕ)) (write_before write_now : ℕ)
+    (status : Status) (file bytes : List ℕ) (frames : List FrameValue) (fault : TextFault) → read ≡ Audit settings
+    → given.capture ≡ Some file → HasCaptureFrames file frames → given.text ≡ Some bytes → HasTextFault bytes fault
+    → EndsWithStatus rules keeping read given AsBefore (InputsWereRead read given) (OfDiskAtEnding read DiskRose) DiskSame read_before read_now sink
+    written old new write_before write_now status
+    → (status ≡ BadReport fault) ⊎ ((status ≡ ReadFault) ⊎ (status ≡ OutOfMemory))
+asked_audit_finding_is_fault never_both one_fault no_fault rules keeping settings read given AsBefore DiskRose DiskSame
+    read_before read_now sink written old new write_before write_now status file bytes frames fault same is_file capture
+    is_text has ends =
+    audit_finding_is_text_fault never_both one_fault no_fault rules keeping settings given AsBefore (InputsWereRead (Audit settings) given)
+    DiskSame read_before read_now sink written old new write_before write_now status file bytes frames fault is_file
+    capture is_text has
+    (subst (λ c. EndsWithStatus rules keeping c given AsBefore (InputsWereRead c given) (OfDiskAtEnding c DiskRose) DiskSame read_before read_now
+    sink written old new write_before write_now status) same ends)
+
+pub asked_audit_finding_is_unsound : {K : Type 0} → CaptureStatusIsFaultless → SessionStatusIsFaultless → AuditFindingIsUnique
+    → (rules : Rules) (keeping : SessionKeeping) (settings : Settings) (read : Command) (given : InputBytes)
+    (AsBefore : Type 0) (DiskRose DiskSame : Type 0)
+    (read_before read_now : EndingSourceFaults) (sink written : K) (old new : Option (List ℕ)) (write_before write_now : ℕ)
+    (status : Status) (file bytes : List ℕ) (frames : List FrameValue) (known : Session) (report : ℕ) (verdict : Verdict)
+    → read ≡ Audit settings → given.capture ≡ Some file → HasCaptureFrames file frames → given.text ≡ Some bytes
+    → IsSessionText bytes known → length bytes ≤ longest_session_text
+    → ((lists : List (List RecordValue)) (session : Session) → AreAudited settings rules file bytes lists session
+    → IsAuditedAsFirstUnsound settings lists session.reports report verdict)
+    → EndsWithStatus rules keeping read given AsBefore (InputsWereRead read given) (OfDiskAtEnding read DiskRose) DiskSame read_before read_now sink
+    written old new write_before write_now status
+    → (status ≡ AuditNo report verdict) ⊎ ((status ≡ ReadFault) ⊎ ((status ≡ WriteFault) ⊎ (status ≡ OutOfMemory)))
+asked_audit_finding_is_unsound never_both no_fault one rules keeping settings read given AsBefore DiskRose DiskSame read_before
+    read_now sink written old new write_before write_now status file bytes frames known report verdict same is_file capture
+    is_text is_session not_long first ends =
+    audit_finding_is_first_unsound never_both no_fault one rules keeping settings given AsBefore (InputsWereRead (Audit settings) given) DiskSame
+    read_before read_now sink written old new write_before write_now status file bytes frames known report verdict is_file
+    capture is_text is_session not_long first
+    (subst (λ c. EndsWithStatus rules keeping c given AsBefore (InputsWereRead c given) (OfDiskAtEnding c DiskRose) DiskSame read_before read_now
+    sink written old new write_before write_now status) same ends)

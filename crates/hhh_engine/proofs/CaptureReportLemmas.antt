@@ -1,0 +1,223 @@
+-- The session over a capture, by the dealt lists over which it was written.
+use Rattle.std.proofs.Common.{◌≡◌, ◌⊎◌, inl, inr, ⊎_elim, ℕ, true, List, [], Option, None, Some, IfSome, refl, ap, subst}
+use Rattle.outside_io.specs.{FaultCountRose}
+use Rattle.prefix_lattice.specs.{RecordValue}
+use Rattle.recovery.specs.declared.fault.OpenFault.{OpenFault}
+use Rattle.recovery.specs.declared.fault.OpenFault.TheVariants as opening
+use Rattle.command_words.specs.declared.settings.Settings.{Settings}
+use Rattle.hhh_engine.specs.Answer.{Writes}
+use Rattle.hhh_engine.specs.Ending.{Ends, IsRefusedStoreAtEnding, RefusesStoreAtEnding, EndingSourceFaults}
+use Rattle.hhh_engine.specs.DealtFeed.{DealtFeedEnds, IsDealtFeedCapture, DealtFeedRefusesLists, DealtFeedWrites}
+use Rattle.hhh_engine.specs.DealtFeed.{DealtFeedWritesInPart}
+use Rattle.hhh_engine.specs.Inputs.{IsInputCapture}
+use Rattle.hhh_engine.specs.Rounds.{RoundFaults}
+use Rattle.hhh_engine.specs.Saves.{store_settings}
+use Rattle.hhh_engine.specs.Session.{BeginsSession, IsSession, IsSessionInPart, SessionKeeping, Rules, SpellsSession, session_opening}
+use Rattle.hhh_engine.specs.declared.status.Status.{Status}
+use Rattle.hhh_engine.specs.declared.status.Status.TheVariants.{Done, BadWords, BadCapture, ReadFault, WriteFault}
+use Rattle.hhh_engine.specs.declared.status.Status.TheVariants.{DiskFault, NotFormatted, Damaged, OtherSettings}
+use Rattle.hhh_engine.specs.declared.status.Status.TheVariants.{OtherCapture, AuditNo, BadReport, OutOfMemory}
+
+-- what follows of each capture that may be known follows of the one that is
+pub capture_report_if_known : (left : Option (List ℕ)) (P Q : List ℕ → Type 0) → ((file : List ℕ) → P file → Q file) → IfSome left P
+    → IfSome left Q
+capture_report_if_known None P Q follows has = tt
+capture_report_if_known (Some file) P Q follows has = follows file has
+
+-- the whole session over a capture
+capture_report_writes_session : (settings : Settings) (rules : Rules) (keeping : SessionKeeping) (left store : Option (List ℕ))
+    (lists : List (List RecordValue)) (tail : List ℕ) (old new : Option (List ℕ))
+    → IfSome left (λ file. IsDealtFeedCapture settings rules file lists tail)
+    → DealtFeedWrites settings lists tail keeping store old new
+    → Writes (λ text. IfSome left (λ file. IsSession settings rules keeping store file text)) old new
+capture_report_writes_session settings rules keeping left store lists tail old new dealt writes = record {
+  text = writes.writes.text;
+  is_text = capture_report_if_known left (λ file. IsDealtFeedCapture settings rules file lists tail)
+      (λ file. IsSession settings rules keeping store file writes.writes.text)
+      (λ file capture. record {
+        records = capture.records;
+        lists = lists;
+        dealt = capture.dealt;
+        base = writes.base;
+        begins = writes.begins;
+        represents = writes.represents;
+        spelled =
+            subst (λ t. SpellsSession (session_opening settings.capacity lists writes.base) settings
+            (λ cuts. settings.store ≡ true → keeping (store_settings settings) lists cuts []) t writes.writes.text)
+            capture.is_tail writes.writes.is_text;
+      }) dealt;
+  written = writes.writes.written;
+}
+
+-- the session in part
+capture_report_writes_in_part : (settings : Settings) (rules : Rules) (keeping : SessionKeeping) (left store : Option (List ℕ))
+    (lists : List (List RecordValue)) (tail : List ℕ) (old new : Option (List ℕ))
+    → IfSome left (λ file. IsDealtFeedCapture settings rules file lists tail)
+    → DealtFeedWritesInPart settings lists tail keeping store old new
+    → Writes (λ front. IfSome left (λ file. IsSessionInPart settings rules keeping store file front)) old new
+capture_report_writes_in_part settings rules keeping left store lists tail old new dealt writes = record {
+  text = writes.writes.text;
+  is_text = capture_report_if_known left (λ file. IsDealtFeedCapture settings rules file lists tail)
+      (λ file. IsSessionInPart settings rules keeping store file writes.writes.text)
+      (λ file capture. record {
+        records = capture.records;
+        lists = lists;
+        dealt = capture.dealt;
+        base = writes.base;
+        begins = writes.begins;
+        represents = writes.represents;
+        begun =
+            subst (λ t. BeginsSession (session_opening settings.capacity lists writes.base) settings
+            (λ saved unfinished. settings.store ≡ true → keeping (store_settings settings) lists saved unfinished) t
+            writes.writes.text) capture.is_tail writes.writes.is_text;
+      }) dealt;
+  written = writes.writes.written;
+}
+
+-- the store is refused over the dealt lists of a capture
+capture_report_refuses_store : (settings : Settings) (rules : Rules) (left store : Option (List ℕ)) (AsBefore : Type 0)
+    (lists : List (List RecordValue)) (tail : List ℕ) (fault : OpenFault)
+    → IfSome left (λ file. IsDealtFeedCapture settings rules file lists tail)
+    → DealtFeedRefusesLists settings lists store AsBefore fault
+    → RefusesStoreAtEnding settings rules left store AsBefore fault
+capture_report_refuses_store settings rules left store AsBefore lists tail fault dealt refuses = (
+  refuses.used,
+  refuses.as_before,
+  capture_report_if_known left (λ file. IsDealtFeedCapture settings rules file lists tail)
+      (λ file. IsRefusedStoreAtEnding settings rules store file fault)
+      (λ file capture. record {
+        records = capture.records;
+        lists = lists;
+        dealt = capture.dealt;
+        refused = refuses.refused;
+      }) dealt,
+)
+
+-- nothing was written, or a part of the text was
+capture_report_nothing_or_part : (settings : Settings) (rules : Rules) (keeping : SessionKeeping) (left store : Option (List ℕ))
+    (lists : List (List RecordValue)) (tail : List ℕ) (ReadToEnd Nothing : Type 0) (old new : Option (List ℕ))
+    → IfSome left (λ file. IsDealtFeedCapture settings rules file lists tail) → ReadToEnd
+    → Nothing ⊎ DealtFeedWritesInPart settings lists tail keeping store old new
+    → Nothing
+    ⊎ (ReadToEnd × Writes (λ front. IfSome left (λ file. IsSessionInPart settings rules keeping store file front)) old new)
+capture_report_nothing_or_part settings rules keeping left store lists tail ReadToEnd Nothing old new dealt read =
+    ⊎_elim (λ nothing. inl nothing)
+    (λ part. inr (read, capture_report_writes_in_part settings rules keeping left store lists tail old new dealt part))
+
+-- how a report over a capture ended, from how it ended over its dealt lists
+pub capture_report_ends : {K : Type 0} (settings : Settings) (rules : Rules) (keeping : SessionKeeping)
+    (left store : Option (List ℕ)) (AsBefore : Type 0) (lists : List (List RecordValue)) (tail : List ℕ)
+    (ReadToEnd DiskSame : Type 0) (read_before read_now : EndingSourceFaults) (sink written : K) (old new : Option (List ℕ))
+    (write_before write_now disk_before disk_now : ℕ) (status : Status)
+    → IfSome left (λ file. IsDealtFeedCapture settings rules file lists tail) → ReadToEnd → read_now ≡ read_before
+    → DealtFeedEnds settings lists tail keeping store AsBefore sink written old new
+    (record { sink = write_before; disk = disk_before }) (record { sink = write_now; disk = disk_now }) status
+    → Ends (λ text. IfSome left (λ file. IsSession settings rules keeping store file text))
+    (λ front. IfSome left (λ file. IsSessionInPart settings rules keeping store file front))
+    ReadToEnd (IfSome left IsInputCapture) (FaultCountRose disk_before disk_now) DiskSame AsBefore
+    (RefusesStoreAtEnding settings rules left store AsBefore)
+    (λ status. ⊥) left read_before read_now sink written old new write_before write_now status
+capture_report_ends settings rules keeping left store AsBefore lists tail ReadToEnd DiskSame read_before read_now sink
+    written old new write_before write_now disk_before disk_now Done dealt read same ends = (
+      read,
+      capture_report_writes_session settings rules keeping left store lists tail old new dealt ends.0,
+      same,
+      ap (λ (f : RoundFaults). f.sink) ends.1,
+    )
+capture_report_ends settings rules keeping left store AsBefore lists tail ReadToEnd DiskSame read_before read_now sink
+    written old new write_before write_now disk_before disk_now WriteFault dealt read same ends =
+    (read, capture_report_writes_in_part settings rules keeping left store lists tail old new dealt ends.0, ends.1.rose, same)
+capture_report_ends settings rules keeping left store AsBefore lists tail ReadToEnd DiskSame read_before read_now sink
+    written old new write_before write_now disk_before disk_now DiskFault dealt read same ends = (
+      read,
+      capture_report_if_known left (λ file. IsDealtFeedCapture settings rules file lists tail) IsInputCapture
+          (λ file capture. (capture.dealt.frames, capture.dealt.capture)) dealt,
+      ⊎_elim (λ none. inl none)
+          (λ part. inr (capture_report_writes_in_part settings rules keeping left store lists tail old new dealt part)) ends.0,
+      ends.1.rose,
+      same,
+      ends.1.sink,
+    )
+capture_report_ends settings rules keeping left store AsBefore lists tail ReadToEnd DiskSame read_before read_now sink
+    written old new write_before write_now disk_before disk_now NotFormatted dealt read same ends = (
+      capture_report_refuses_store settings rules left store AsBefore lists tail opening.NotFormatted dealt ends.0,
+      read,
+      ends.1,
+      same,
+      ap (λ (f : RoundFaults). f.sink) ends.2,
+    )
+capture_report_ends settings rules keeping left store AsBefore lists tail ReadToEnd DiskSame read_before read_now sink
+    written old new write_before write_now disk_before disk_now (Damaged slot) dealt read same ends = (
+      capture_report_refuses_store settings rules left store AsBefore lists tail (opening.Damaged slot) dealt ends.0,
+      read,
+      ends.1,
+      same,
+      ap (λ (f : RoundFaults). f.sink) ends.2,
+    )
+capture_report_ends settings rules keeping left store AsBefore lists tail ReadToEnd DiskSame read_before read_now sink
+    written old new write_before write_now disk_before disk_now (OtherSettings stored asked) dealt read same ends = (
+      capture_report_refuses_store settings rules left store AsBefore lists tail (opening.OtherSettings stored asked) dealt ends.0,
+      read,
+      ends.1,
+      same,
+      ap (λ (f : RoundFaults). f.sink) ends.2,
+    )
+capture_report_ends settings rules keeping left store AsBefore lists tail ReadToEnd DiskSame read_before read_now sink
+    written old new write_before write_now disk_before disk_now (OtherCapture stored asked) dealt read same ends = (
+      capture_report_refuses_store settings rules left store AsBefore lists tail (opening.OtherCapture stored asked) dealt ends.0,
+      read,
+      ends.1,
+      same,
+      ap (λ (f : RoundFaults). f.sink) ends.2,
+    )
+capture_report_ends settings rules keeping left store AsBefore lists tail ReadToEnd DiskSame read_before read_now sink
+    written old new write_before write_now disk_before disk_now OutOfMemory dealt read same ends = (
+      capture_report_nothing_or_part settings rules keeping left store lists tail ReadToEnd ((written ≡ sink) × AsBefore) old new dealt
+          read ends.0,
+      same,
+      ap (λ (f : RoundFaults). f.sink) ends.1,
+    )
+capture_report_ends settings rules keeping left store AsBefore lists tail ReadToEnd DiskSame read_before read_now sink
+    written old new write_before write_now disk_before disk_now (BadWords kind) dealt read same ends = absurd ends
+capture_report_ends settings rules keeping left store AsBefore lists tail ReadToEnd DiskSame read_before read_now sink
+    written old new write_before write_now disk_before disk_now (BadCapture fault) dealt read same ends = absurd ends
+capture_report_ends settings rules keeping left store AsBefore lists tail ReadToEnd DiskSame read_before read_now sink
+    written old new write_before write_now disk_before disk_now ReadFault dealt read same ends = absurd ends
+capture_report_ends settings rules keeping left store AsBefore lists tail ReadToEnd DiskSame read_before read_now sink
+    written old new write_before write_now disk_before disk_now (AuditNo report verdict) dealt read same ends =
+    absurd ends
+capture_report_ends settings rules keeping left store AsBefore lists tail ReadToEnd DiskSame read_before read_now sink
+    written old new write_before write_now disk_before disk_now (BadReport fault) dealt read same ends = absurd ends
+
+-- the disk's count of faults rose only where the status says so
+pub capture_report_tells_disk_fault : {K : Type 0} (settings : Settings) (lists : List (List RecordValue)) (tail : List ℕ)
+    (keeping : SessionKeeping) (store : Option (List ℕ)) (AsBefore : Type 0) (sink written : K) (old new : Option (List ℕ))
+    (before now : RoundFaults) (status : Status)
+    → DealtFeedEnds settings lists tail keeping store AsBefore sink written old new before now status
+    → (status ≡ DiskFault → ⊥) → now.disk ≡ before.disk
+capture_report_tells_disk_fault settings lists tail keeping store AsBefore sink written old new before now Done ends other =
+    ap (λ (f : RoundFaults). f.disk) ends.1
+capture_report_tells_disk_fault settings lists tail keeping store AsBefore sink written old new before now WriteFault ends other =
+    ends.1.disk
+capture_report_tells_disk_fault settings lists tail keeping store AsBefore sink written old new before now DiskFault ends other =
+    absurd (other refl)
+capture_report_tells_disk_fault settings lists tail keeping store AsBefore sink written old new before now NotFormatted ends other =
+    ap (λ (f : RoundFaults). f.disk) ends.2
+capture_report_tells_disk_fault settings lists tail keeping store AsBefore sink written old new before now (Damaged slot) ends other =
+    ap (λ (f : RoundFaults). f.disk) ends.2
+capture_report_tells_disk_fault settings lists tail keeping store AsBefore sink written old new before now (OtherSettings stored asked) ends
+    other = ap (λ (f : RoundFaults). f.disk) ends.2
+capture_report_tells_disk_fault settings lists tail keeping store AsBefore sink written old new before now (OtherCapture stored asked) ends
+    other = ap (λ (f : RoundFaults). f.disk) ends.2
+capture_report_tells_disk_fault settings lists tail keeping store AsBefore sink written old new before now OutOfMemory ends other =
+    ap (λ (f : RoundFaults). f.disk) ends.1
+capture_report_tells_disk_fault settings lists tail keeping store AsBefore sink written old new before now (BadWords kind) ends other =
+    absurd ends
+capture_report_tells_disk_fault settings lists tail keeping store AsBefore sink written old new before now (BadCapture fault) ends other =
+    absurd ends
+capture_report_tells_disk_fault settings lists tail keeping store AsBefore sink written old new before now ReadFault ends other =
+    absurd ends
+capture_report_tells_disk_fault settings lists tail keeping store AsBefore sink written old new before now (AuditNo report verdict) ends other =
+    absurd ends
+capture_report_tells_disk_fault settings lists tail keeping store AsBefore sink written old new before now (BadReport fault) ends other =
+    absurd ends

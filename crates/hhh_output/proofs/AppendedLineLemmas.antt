@@ -1,0 +1,59 @@
+-- Lines that are appended to the reported ones, one after another.
+use Rattle.std.proofs.Common.{◌≡◌, ◌≢◌, ℕ, ◌+◌, ◌*◌, ◌<◌, ◌≤◌, zero, suc, List, ◌++◌, length, get_or, map, take, AllPairs}
+use Rattle.std.proofs.Common.{Contains, refl, sym, ap, ◌∙◌, subst, ⊎_elim, arith}
+use Rattle.std.proofs.lemmas.List.{get_or_append_left, get_or-append-add, get_or-map, get_or-take, get_or_default}
+use Rattle.std.proofs.lemmas.List.{length-map, length-take, length-append}
+use Rattle.std.proofs.lemmas.List.Elements.{Contains-append_cases}
+use Rattle.prefix_lattice.specs.{PrefixValue}
+use Rattle.conditioned_bounds.specs.{member_limit}
+use Rattle.hhh_output.specs.declared.line.Line.{Line}
+use Rattle.hhh_output.specs.ReportLines.{prefixes_of_lines}
+use Rattle.hhh_output.specs.Selecting.{selecting_nodes_down, most_candidates_to_select}
+
+-- no prefix before a place is the one at the place
+pub appended_line_has_new_prefix : (old : List PrefixValue) (found : List Line) (at : ℕ) (line : Line)
+    → AllPairs (λ prefix other. prefix ≢ other) (old ++ prefixes_of_lines found) → at < length found
+    → line ≡ get_or found at line → ¬ Contains (old ++ prefixes_of_lines (take at found)) line.prefix
+appended_line_has_new_prefix old found at line distinct within is there =
+    let total = old ++ prefixes_of_lines found in
+    let count : length total ≡ length old + length found =
+    length-append old (prefixes_of_lines found) ∙ ap (λ n. length old + n) (length-map found (λ (l : Line). l.prefix)) in
+    let here : get_or total (length old + at) line.prefix ≡ line.prefix =
+    get_or-append-add old (prefixes_of_lines found) at line.prefix
+    ∙ get_or-map (λ (l : Line). l.prefix) found at line line.prefix within
+    ∙ ap (λ (l : Line). l.prefix) (sym is) in
+    ⊎_elim
+    (λ (earlier : Contains old line.prefix).
+    distinct earlier.0 (length old + at) line.prefix (omega (arith, earlier.1)) (omega (arith, within, count))
+    (get_or_append_left old (prefixes_of_lines found) line.prefix earlier.0 earlier.1 ∙ earlier.2 ∙ sym here))
+    (λ (later : Contains (prefixes_of_lines (take at found)) line.prefix).
+    let few : later.0 < length (take at found) =
+    omega (arith, later.1, length-map (take at found) (λ (l : Line). l.prefix)) in
+    let before : later.0 < at = omega (arith, few, length-take at found) in
+    let same : get_or total (length old + later.0) line.prefix ≡ line.prefix =
+    get_or-append-add old (prefixes_of_lines found) later.0 line.prefix
+    ∙ get_or-map (λ (l : Line). l.prefix) found later.0 line line.prefix (omega (arith, before, within))
+    ∙ ap (λ (l : Line). l.prefix) (sym (get_or-take at found later.0 line before))
+    ∙ sym (get_or-map (λ (l : Line). l.prefix) (take at found) later.0 line line.prefix few) ∙ later.2 in
+    distinct (length old + later.0) (length old + at) line.prefix (omega (arith, before))
+    (omega (arith, within, count)) (same ∙ sym here))
+    (Contains-append_cases old (prefixes_of_lines (take at found)) line.prefix there)
+
+-- some levels have no more nodes than all
+appended_line_levels-few : (levels : ℕ) → levels ≤ 9 → selecting_nodes_down levels ≤ 25
+appended_line_levels-few zero within = omega arith
+appended_line_levels-few (suc zero) within = omega arith
+appended_line_levels-few (suc (suc zero)) within = omega arith
+appended_line_levels-few (suc (suc (suc zero))) within = omega arith
+appended_line_levels-few (suc (suc (suc (suc zero)))) within = omega arith
+appended_line_levels-few (suc (suc (suc (suc (suc zero))))) within = omega arith
+appended_line_levels-few (suc (suc (suc (suc (suc (suc zero)))))) within = omega arith
+appended_line_levels-few (suc (suc (suc (suc (suc (suc (suc zero))))))) within = omega arith
+appended_line_levels-few (suc (suc (suc (suc (suc (suc (suc (suc zero)))))))) within = omega arith
+appended_line_levels-few (suc (suc (suc (suc (suc (suc (suc (suc (suc zero))))))))) within = omega arith
+appended_line_levels-few (suc (suc (suc (suc (suc (suc (suc (suc (suc (suc levels)))))))))) within = absurd (omega arith)
+
+-- so there is room for the lines of each level
+pub appended_lines-few : (levels lines : ℕ) → levels ≤ 9 → lines ≤ selecting_nodes_down levels * most_candidates_to_select
+    → lines < member_limit
+appended_lines-few levels lines within few = omega (arith, few, appended_line_levels-few levels within)

@@ -1,0 +1,32 @@
+-- The cells that a search for a key passes, which no public contract cites.
+use Rattle.std.specs.Prelude.{ℕ, ◌≡◌, ◌+◌, ◌-◌, ◌*◌, ◌/◌, ◌%◌, ◌^◌, ◌==◌, if◌then◌else◌, zero, suc, Bool, true, false, List, [], ◌∷◌, ◌++◌, slice_index}
+use Rattle.std.specs.List.{range_with_len}
+use Rattle.key_index.specs.declared.homes.TheConstants.{MULTIPLIERS}
+
+-- the home of a key at a turn, one of eight for each key that there is room for: its product with the multiplier, scaled
+unfoldable pub cell_path_home : ℕ → ℕ → ℕ → ℕ
+cell_path_home room turn key = (key * slice_index MULTIPLIERS turn % 2 ^ 64 / 2 ^ 32) * (8 * room) / 2 ^ 32
+
+-- sixteen cells from a home on
+unfoldable pub cell_path_window : ℕ → List ℕ
+cell_path_window first = range_with_len first 16
+
+-- the cells of the turns that are left: a window for each, and at the last turn all cells from the home on
+abbrev pub cell_path_from : ℕ → ℕ → ℕ → List ℕ
+cell_path_from room zero key = range_with_len (cell_path_home room 0 key) (10 * room + 17 - cell_path_home room 0 key)
+cell_path_from room (suc turn) key = cell_path_window (cell_path_home room (suc turn) key) ++ cell_path_from room turn key
+
+-- the cells that a search for a key passes, in their order
+unfoldable pub cell_path : ℕ → ℕ → List ℕ
+cell_path room key = cell_path_from room 7 key
+
+-- a walk along these cells, which hold 0 where they are free and else a place and 1 more, comes to the place before it
+-- comes to a free cell
+abbrev pub cell_path_leads_to : List ℕ → List ℕ → ℕ → Bool
+cell_path_leads_to [] cells place = false
+cell_path_leads_to (cell ∷ rest) cells place =
+    if slice_index cells cell == place + 1 then true else if slice_index cells cell == 0 then false else cell_path_leads_to rest cells place
+
+-- a search for the key comes to the place
+abbrev pub CellPathFinds : ℕ → List ℕ → ℕ → ℕ → Type 0
+CellPathFinds room cells key place = cell_path_leads_to (cell_path room key) cells place ≡ true

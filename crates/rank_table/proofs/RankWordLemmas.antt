@@ -1,0 +1,48 @@
+-- What the words of slots say of their ranks.
+use Rattle.std.proofs.Common.{◌≡◌, ℕ, ◌+◌, ◌-◌, ◌*◌, ◌%◌, ◌^◌, ◌<◌, ◌≤◌, min, ap, ◌∙◌, ⊎_elim, arith}
+use Rattle.std.proofs.lemmas.Bool.{cases_order}
+use Rattle.std.proofs.lemmas.Nat.{mod-mul-add}
+use Rattle.rank_table.specs.declared.slot.Slot.{Slot}
+use Rattle.rank_table.specs.SlotOrder.{slot_rank}
+use Rattle.rank_table.specs.RankWords.{rank_word, IsExactRankWord}
+
+-- a word names its place
+pub rank_word_names_place : (base : ℕ) (slot : Slot) (place : ℕ) → place < 4096 → rank_word base slot place % 4096 ≡ place
+unfolding rank_word
+rank_word_names_place base slot place within =
+    let excess = min (slot.entry.count - base) (2 ^ 28 - 1) in
+    let time = min slot.time (2 ^ 24 - 1) in
+    let split : excess * 2 ^ 36 + time * 4096 + place ≡ (excess * 2 ^ 24 + time) * 4096 + place = omega arith in
+    ap (λ n. n % 4096) split ∙ mod-mul-add (excess * 2 ^ 24 + time) 4096 place within
+
+-- and is at least it
+pub rank_word_not_below_place : (base : ℕ) (slot : Slot) (place : ℕ) → place ≤ rank_word base slot place
+unfolding rank_word
+rank_word_not_below_place base slot place = omega arith
+
+-- and fits
+pub rank_word_fits : (base : ℕ) (slot : Slot) (place : ℕ) → place < 4096 → rank_word base slot place < 2 ^ 64
+unfolding rank_word
+rank_word_fits base slot place within = omega arith
+
+-- a word doesn't fall where count and time don't
+pub rank_word_rises : (base : ℕ) (slot after : Slot) (place : ℕ) → slot.entry.count ≤ after.entry.count → slot.time ≤ after.time
+    → rank_word base slot place ≤ rank_word base after place
+unfolding rank_word
+rank_word_rises base slot after place more later = omega arith
+
+-- an exact slot of a word that is no greater has a rank that is no greater
+pub exact_rank_word_is_least : (base : ℕ) (slot other : Slot) (place at : ℕ) → IsExactRankWord base slot → base ≤ slot.entry.count → base ≤ other.entry.count
+    → place < 4096 → at < 4096
+    → rank_word base slot place ≤ rank_word base other at → slot_rank slot ≤ slot_rank other
+unfolding slot_rank rank_word
+exact_rank_word_is_least base slot other place at exact above over within inside no_greater =
+    let few : slot.entry.count - base < 2 ^ 28 - 1 = exact.0 in
+    let soon : slot.time < 2 ^ 24 - 1 = exact.1 in
+    ⊎_elim
+    (λ (same : slot.entry.count ≡ other.entry.count). omega arith)
+    (λ rest. ⊎_elim
+    (λ (less : slot.entry.count < other.entry.count). omega arith)
+    (λ (more : other.entry.count < slot.entry.count). omega arith)
+    rest)
+    (cases_order slot.entry.count other.entry.count)

@@ -1,0 +1,132 @@
+-- The newest slot of a store, and what it opens to.
+use Rattle.std.proofs.Common.{◌≡◌, ◌≤◌, ℕ, Bool, true, false, nat_lt, if◌then◌else◌, List, Option, None, Some, IfSome, length}
+use Rattle.std.proofs.Common.{refl, sym, ap, subst, ◌∙◌, inr, arith}
+use Rattle.prefix_lattice.specs.{RecordValue}
+use Rattle.shard_state.specs.{CutValue}
+use Rattle.slot_disk.specs.{IsStoreOfSlots, SlotsState, store_front_bytes, header_of}
+use Rattle.checkpoint.specs.declared.newest.Newest.{Newest}
+use Rattle.checkpoint.specs.declared.settings.StoreSettings.{StoreSettings}
+use Rattle.checkpoint.specs.{AreHeaderSettings, StoreHasNewest, IsSafeForSaver, SavedValue, StoreSlotHolds, digest_of_lists, header_of_settings, newest_in_store}
+use Rattle.checkpoint.specs.{newest_slot_in_store, opened_store_positions, opened_store_sequence, saved_in, saver_of}
+use Rattle.recovery.specs.Opening.{IsDamagedAtOpening, IsRefusedAtOpening, OpensToBase}
+use Rattle.recovery.specs.OpeningParts.{HoldsFoundParts, IsBodyPartFault, IsFoundPartFault, IsListPartFault, IsPartOfDigest, base_in_parts}
+use Rattle.recovery.specs.declared.fault.OpenFault.{OpenFault}
+use Rattle.recovery.specs.declared.fault.OpenFault.TheVariants.{DiskFault, NotFormatted, OtherSettings, Damaged, OtherCapture, OutOfMemory}
+use Rattle.recovery.proofs.OpenSlotLemmas.{open_slot_is_not_damaged}
+
+-- a fault of slot 0
+pub found_store_fault_at_zero : (settings : StoreSettings) (image : List ℕ) (fault : OpenFault) → store_front_bytes ≤ length image
+    → AreHeaderSettings settings → header_of image ≡ header_of_settings settings → IsBodyPartFault settings 0 image fault
+    → IsFoundPartFault settings image fault
+found_store_fault_at_zero settings image DiskFault long are spelled is = tt
+found_store_fault_at_zero settings image OutOfMemory long are spelled is = tt
+found_store_fault_at_zero settings image NotFormatted long are spelled is = absurd is
+found_store_fault_at_zero settings image (OtherSettings stored asked) long are spelled is = absurd is
+found_store_fault_at_zero settings image (OtherCapture stored asked) long are spelled is = absurd is
+found_store_fault_at_zero settings image (Damaged slot) long are spelled is = (
+  record { long = long; are = are; spelled = spelled },
+  record {
+    within = omega (arith, is.0);
+    damaged = subst (λ (n : ℕ). IsDamagedAtOpening settings n image) (sym is.0) is.1;
+    first = λ earlier lt damaged. absurd (omega (arith, lt, is.0));
+  },
+)
+
+-- a fault of slot 1, where slot 0 is sound
+pub found_store_fault_at_one : (settings : StoreSettings) (image : List ℕ) (fault : OpenFault) → store_front_bytes ≤ length image
+    → AreHeaderSettings settings → header_of image ≡ header_of_settings settings → (held : Option SavedValue)
+    → StoreSlotHolds settings 0 image held → IsBodyPartFault settings 1 image fault → IsFoundPartFault settings image fault
+found_store_fault_at_one settings image DiskFault long are spelled held holds is = tt
+found_store_fault_at_one settings image OutOfMemory long are spelled held holds is = tt
+found_store_fault_at_one settings image NotFormatted long are spelled held holds is = absurd is
+found_store_fault_at_one settings image (OtherSettings stored asked) long are spelled held holds is = absurd is
+found_store_fault_at_one settings image (OtherCapture stored asked) long are spelled held holds is = absurd is
+found_store_fault_at_one settings image (Damaged slot) long are spelled held holds is = (
+  record { long = long; are = are; spelled = spelled },
+  record {
+    within = omega (arith, is.0);
+    damaged = subst (λ (n : ℕ). IsDamagedAtOpening settings n image) (sym is.0) is.1;
+    first = λ earlier lt damaged.
+        let none : earlier ≡ 0 = omega (arith, lt, is.0) in
+        open_slot_is_not_damaged settings 0 image held holds (subst (λ (n : ℕ). IsDamagedAtOpening settings n image) none damaged);
+  },
+)
+
+-- the newest slot of a store that was found
+found_store_has_newest : (settings : StoreSettings) (image : List ℕ) (found : Option Newest) (last : Newest) (slot : ℕ)
+    → HoldsFoundParts settings found image → found ≡ Some last → slot ≡ last.slot → StoreHasNewest settings slot (saved_in last) image
+found_store_has_newest settings image found last slot holds is at =
+    let of_last = subst (λ (f : Option Newest). HoldsFoundParts settings f image) is holds in
+    record {
+      first = of_last.0;
+      second = of_last.1;
+      holds = of_last.2;
+      newest_is = sym of_last.3;
+      slot_is = sym (at ∙ of_last.4);
+    }
+
+-- a fault of the newest slot
+pub list_fault_of_found_store : (settings : StoreSettings) (lists : List (List RecordValue)) (image digest : List ℕ) (found : Option Newest) (fault : OpenFault)
+    → HoldsFoundParts settings found image → digest ≡ digest_of_lists settings lists → IsListPartFault lists digest found fault
+    → IsRefusedAtOpening settings lists image fault
+list_fault_of_found_store settings lists image digest found DiskFault holds of is = absurd is
+list_fault_of_found_store settings lists image digest found OutOfMemory holds of is = absurd is
+list_fault_of_found_store settings lists image digest found NotFormatted holds of is = absurd is
+list_fault_of_found_store settings lists image digest found (OtherSettings stored asked) holds of is = absurd is
+list_fault_of_found_store settings lists image digest found (Damaged slot) holds of is =
+    inr (saved_in is.0, found_store_has_newest settings image found is.0 slot holds is.1 is.2, is.3 ∙ of, is.4)
+list_fault_of_found_store settings lists image digest found (OtherCapture stored asked) holds of is =
+    (is.0.slot, saved_in is.0, found_store_has_newest settings image found is.0 is.0.slot holds is.1 refl, is.2, is.3 ∙ of, is.4)
+
+-- what a store opens to whose newest slot was found
+pub found_store_opens_to_base : (settings : StoreSettings) (lists : List (List RecordValue)) (image digest : List ℕ) (found : Option Newest)
+    (base : Option CutValue) → HoldsFoundParts settings found image → digest ≡ digest_of_lists settings lists
+    → IfSome found (λ (last : Newest). IsPartOfDigest lists digest (saved_in last)) → base ≡ base_in_parts found
+    → OpensToBase settings lists image base
+found_store_opens_to_base settings lists image digest None base holds of accepted is =
+    (None, (holds.0, holds.1, holds.2, sym holds.3), tt, is)
+found_store_opens_to_base settings lists image digest (Some last) base holds of accepted is = (
+  Some (saved_in last),
+  (holds.0, holds.1, holds.2, sym holds.3),
+  record { digest = accepted.digest_is ∙ of; continues = accepted.continues },
+  is,
+)
+
+-- where nothing is the newest, the next save goes to slot 0
+found_store_without_newest : (first second : Option SavedValue) → None ≡ newest_in_store first second → 1 ≡ newest_slot_in_store first second
+found_store_without_newest None second none = refl
+found_store_without_newest (Some one) None none = cc none
+found_store_without_newest (Some one) (Some two) none = by_test (nat_lt one.sequence two.sequence) none
+  where
+    by_test : (b : Bool) → None ≡ (if b then Some two else Some one) → 1 ≡ (let n : ℕ = (if b then 1 else 0) in n)
+    by_test true none = refl
+    by_test false none = cc none
+
+-- the disk stands as the saver of that store knows it
+pub found_store_saver_stands : (settings : StoreSettings) (slots : SlotsState) (digest : List ℕ) (found : Option Newest)
+    (possible : List ℕ → Type 0) (image : List ℕ) → HoldsFoundParts settings found image → IsStoreOfSlots image possible slots
+    → IsSafeForSaver (saver_of slots settings digest found) possible image
+found_store_saver_stands settings slots digest None possible image holds store = record {
+  is_known = record {
+    slots_are = store.slots_are;
+    first = holds.0;
+    second = holds.1;
+    holds = holds.2;
+    slot_is = found_store_without_newest holds.0 holds.1 holds.3;
+    sequence_is = ap opened_store_sequence holds.3;
+    positions_are = ap (opened_store_positions settings) holds.3;
+  };
+  only = store.only;
+}
+found_store_saver_stands settings slots digest (Some last) possible image holds store = record {
+  is_known = record {
+    slots_are = store.slots_are;
+    first = holds.0;
+    second = holds.1;
+    holds = holds.2;
+    slot_is = holds.4;
+    sequence_is = ap opened_store_sequence holds.3;
+    positions_are = ap (opened_store_positions settings) holds.3;
+  };
+  only = store.only;
+}

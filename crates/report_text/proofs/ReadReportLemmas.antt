@@ -1,0 +1,75 @@
+-- Reading the reports of a session.
+use Rattle.std.proofs.Common.{◌≡◌, ℕ, ◌+◌, ◌-◌, ◌<◌, ◌≤◌, List, [], ◌∷◌, ◌++◌, map, length, take, sym, ap, ◌∙◌, subst}
+use Rattle.std.proofs.Common.{Option, arith, append_assoc, append-nil, length-append}
+use Rattle.std.specs.List.{flat_map, join_with_byte}
+use Rattle.std.proofs.Math.Seq.{length-take-le}
+use Rattle.std.proofs.lemmas.List.Concat.{flat_map-append}
+use Rattle.hhh_output.specs.declared.report.Report.{Report as ReportValue}
+use Rattle.hhh_output.specs.declared.reports.Reported.{Reported}
+use Rattle.report_text.specs.SessionText.{session_line_text, session_line_words, session_reported_lines, session_saved_lines}
+use Rattle.report_text.specs.SessionStages.{Stage, opened, begun, done, after_stage_line, after_stage, stage_body_lines}
+use Rattle.report_text.specs.LineReading.{ReadsLines}
+use Rattle.report_text.specs.declared.line_cursor.LineCursor.{LineCursor}
+use Rattle.report_text.specs.declared.session_line.SessionLine.{SessionLine}
+use Rattle.report_text.specs.declared.session_line.SessionLine.TheVariants.{Report, At, Total, Threshold, Line, Done}
+use Rattle.report_text.proofs.LineReadingLemmas.{line_reading_goes_on}
+
+-- lines take bytes
+read_report_takes_bytes : (old new : LineCursor) (lines : List SessionLine) (stage last : Stage) → ReadsLines old new lines stage last
+    → new.at ≡ old.at + length (flat_map session_line_text lines)
+read_report_takes_bytes old new lines stage last reads =
+    let text : length (take new.at new.text.now) ≡ length (take old.at old.text.now ++ flat_map session_line_text lines) =
+    ap length reads.text in
+    omega (
+      arith,
+      text,
+      length-append (take old.at old.text.now) (flat_map session_line_text lines),
+      length-take-le new.at new.text.now new.within,
+      length-take-le old.at old.text.now old.within,
+    )
+
+-- and a line at least one
+read_report_has_bytes : (line : SessionLine) (lines : List SessionLine) → 1 ≤ length (flat_map session_line_text (line ∷ lines))
+read_report_has_bytes line lines =
+    omega (
+      arith,
+      length-append (session_line_text line) (flat_map session_line_text lines),
+      length-append (join_with_byte 32 (session_line_words line)) (10 ∷ []),
+    )
+
+-- so fewer are left after a report
+pub read_report_leaves_fewer : (old middle new : LineCursor) (report : ReportValue) (others : List SessionLine)
+    (stage next last : Stage) → ReadsLines old middle (stage_body_lines report) stage next → ReadsLines middle new others next last
+    → length new.text.now - new.at < length old.text.now - old.at
+read_report_leaves_fewer old middle new report others stage next last one two =
+    let first = read_report_takes_bytes old middle (stage_body_lines report) stage next one in
+    let second = read_report_takes_bytes middle new others next last two in
+    let same : length new.text.now ≡ length old.text.now = ap (λ t. length t.now) (two.same ∙ one.same) in
+    let some = read_report_has_bytes (At report.positions)
+    (Total report.total ∷ Threshold report.threshold ∷ (map Line report.lines ++ Done ∷ [])) in
+    omega (arith, first, second, same, some, new.within)
+
+read_report_groups : (reports head body mark after : List SessionLine)
+    → ((reports ++ head) ++ body) ++ (mark ++ after) ≡ (reports ++ (((head ++ body) ++ mark) ++ [])) ++ after
+read_report_groups reports head body mark after = simp (append_assoc, append-nil)
+
+-- a report more, and what follows it
+pub one_more_read_report : (start cursor middle new : LineCursor) (n : ℕ) (reports : List Reported) (report : ReportValue)
+    (positions : Option (List ℕ)) (frames : Option ℕ)
+    → ReadsLines start cursor (flat_map session_reported_lines reports ++ Report ∷ []) (opened n) (begun n)
+    → ReadsLines cursor middle (stage_body_lines report) (begun n) (done n)
+    → ReadsLines middle new (session_saved_lines positions ++ after_stage_line frames ∷ []) (done n) (after_stage n frames)
+    → ReadsLines start new
+    (flat_map session_reported_lines (reports ++ record { report = report; saved = positions } ∷ []) ++ after_stage_line frames ∷ [])
+    (opened n) (after_stage n frames)
+one_more_read_report start cursor middle new n reports report positions frames one two three =
+    let reported : Reported = record { report = report; saved = positions } in
+    subst (λ l. ReadsLines start new l (opened n) (after_stage n frames))
+    (read_report_groups (flat_map session_reported_lines reports) (Report ∷ []) (stage_body_lines report) (session_saved_lines positions)
+    (after_stage_line frames ∷ [])
+    ∙ ap (λ l. l ++ after_stage_line frames ∷ []) (sym (flat_map-append session_reported_lines reports (reported ∷ []))))
+    (line_reading_goes_on start middle new ((flat_map session_reported_lines reports ++ Report ∷ []) ++ stage_body_lines report)
+    (session_saved_lines positions ++ after_stage_line frames ∷ []) (opened n) (done n) (after_stage n frames)
+    (line_reading_goes_on start cursor middle (flat_map session_reported_lines reports ++ Report ∷ []) (stage_body_lines report) (opened n)
+    (begun n) (done n) one two)
+    three)

@@ -1,0 +1,70 @@
+-- What records add to a table at a prefix's node, against what the prefix weighs.
+use Rattle.std.proofs.Common.{◌≡◌, ℕ, ◌+◌, ◌-◌, ◌*◌, ◌≤◌, eqb, cond, Bool, true, false, List, [], ◌∷◌, map, filter}
+use Rattle.std.proofs.Common.{sum_by, All, refl, sym, ap, ◌∙◌, arith, subst}
+use Rattle.std.proofs.lemmas.List.Sums.{sum_by-cons}
+use Rattle.std.proofs.lemmas.List.Elements.{All-map}
+use Rattle.prefix_lattice.specs.{RecordValue, PrefixValue, covers, node_of_prefix, prefix_at, prefix_key, prefix_weight, total_weight, NodeValue, IntervalHoldsWeight}
+use Rattle.space_saving.specs.{TableAdd, table_interval_after, table_weight_of_key, total_added_to_table, AreWeighedForTable}
+use Rattle.shard_state.specs.Snapshot.{snapshot_adds}
+use Rattle.shard_state.specs.Weights.{HoldsWeightOver}
+use Rattle.shard_state.proofs.TableFoldLemmas.{table_fold_add}
+
+-- the sum over the elements that pass, by whether the first passes
+prefix_weight_filtered_sum : {X : Type 0} (weight : X → ℕ) (test : X → Bool) (x : X) (xs : List X)
+    → sum_by weight (filter test (x ∷ xs)) ≡ cond (test x) (weight x) 0 + sum_by weight (filter test xs)
+prefix_weight_filtered_sum weight test x xs = by_test (test x)
+  where
+    by_test : (passes : Bool) → sum_by weight (cond passes (x ∷ filter test xs) (filter test xs)) ≡ cond passes (weight x) 0 + sum_by weight (filter test xs)
+    by_test true = sum_by-cons weight x (filter test xs)
+    by_test false = omega arith
+
+-- the keys of a node tell what a prefix covers
+pub record PrefixWeightIsTold (prefix : PrefixValue) : Type 0 where
+  pub tell : (rec : RecordValue) → covers prefix rec ≡ eqb (prefix_key (prefix_at (node_of_prefix prefix) rec)) (prefix_key prefix)
+
+-- what records add for the key of a prefix is what it weighs
+prefix_weight_is_added : (prefix : PrefixValue) (records : List RecordValue) → PrefixWeightIsTold prefix
+    → table_weight_of_key (prefix_key prefix) (snapshot_adds (node_of_prefix prefix) records) ≡ prefix_weight prefix records
+prefix_weight_is_added prefix [] keys = refl
+prefix_weight_is_added prefix (rec ∷ records) keys =
+    let add : RecordValue → TableAdd = table_fold_add (node_of_prefix prefix) in
+    prefix_weight_filtered_sum (λ (a : TableAdd). a.weight) (λ a. eqb a.key (prefix_key prefix)) (add rec) (map add records)
+    ∙ ap (λ b. cond b rec.weight 0 + table_weight_of_key (prefix_key prefix) (map add records)) (sym (keys.tell rec))
+    ∙ ap (λ n. cond (covers prefix rec) rec.weight 0 + n) (prefix_weight_is_added prefix records keys)
+    ∙ sym (prefix_weight_filtered_sum (λ (r : RecordValue). r.weight) (covers prefix) rec records)
+
+-- what records add together is what they weigh
+pub prefix_weight_totals_agree : (node : NodeValue) (records : List RecordValue) → total_added_to_table (snapshot_adds node records) ≡ total_weight records
+prefix_weight_totals_agree node [] = refl
+prefix_weight_totals_agree node (rec ∷ records) =
+    sum_by-cons (λ (a : TableAdd). a.weight) (table_fold_add node rec) (map (table_fold_add node) records)
+    ∙ ap (λ n. rec.weight + n) (prefix_weight_totals_agree node records)
+    ∙ sym (sum_by-cons (λ (r : RecordValue). r.weight) rec records)
+
+-- the laws of a table's intervals
+pub record IntervalsHoldPrefixWeight : Type 0 where
+  pub low : (capacity : ℕ) (adds : List TableAdd) (key : ℕ) → 1 ≤ capacity → AreWeighedForTable adds
+      → (table_interval_after capacity adds key).low ≤ table_weight_of_key key adds
+  pub high : (capacity : ℕ) (adds : List TableAdd) (key : ℕ) → 1 ≤ capacity → AreWeighedForTable adds
+      → table_weight_of_key key adds ≤ (table_interval_after capacity adds key).high
+  pub width : (capacity : ℕ) (adds : List TableAdd) (key : ℕ) → 1 ≤ capacity → AreWeighedForTable adds
+      → ((table_interval_after capacity adds key).high - (table_interval_after capacity adds key).low) * capacity ≤ total_added_to_table adds
+
+-- the interval of a prefix holds what it weighs
+pub prefix_weight_is_held : (capacity : ℕ) (prefix : PrefixValue) (records : List RecordValue) → PrefixWeightIsTold prefix → IntervalsHoldPrefixWeight
+    → 1 ≤ capacity
+    → All (λ (r : RecordValue). 1 ≤ r.weight) records → HoldsWeightOver capacity prefix records
+prefix_weight_is_held capacity prefix records keys laws some weighed =
+    let adds = snapshot_adds (node_of_prefix prefix) records in
+    let interval = table_interval_after capacity adds (prefix_key prefix) in
+    let are_weighed : AreWeighedForTable adds = All-map (λ (a : TableAdd). 1 ≤ a.weight) (table_fold_add (node_of_prefix prefix)) records weighed in
+    record {
+      holds =
+          subst (IntervalHoldsWeight interval.low interval.high) (prefix_weight_is_added prefix records keys) (record {
+            low = laws.low capacity adds (prefix_key prefix) some are_weighed;
+            high = laws.high capacity adds (prefix_key prefix) some are_weighed;
+          });
+      narrow =
+          subst (λ n. (interval.high - interval.low) * capacity ≤ n) (prefix_weight_totals_agree (node_of_prefix prefix) records)
+          (laws.width capacity adds (prefix_key prefix) some are_weighed);
+    }

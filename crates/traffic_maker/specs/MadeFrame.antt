@@ -1,0 +1,42 @@
+-- A frame of made traffic: its header in the file, and its bytes on the wire.
+use Rattle.std.specs.Prelude.{ℕ, ◌+◌, ◌-◌, ◌*◌, ◌%◌, List, [], ◌∷◌, ◌++◌}
+use Rattle.byteorder.specs.Endian.{big_bytes, little_bytes}
+use Rattle.traffic_maker.specs.Address.{made_address}
+use Rattle.traffic_maker.specs.Draw.{draw}
+
+-- how many bytes of each frame are captured: an Ethernet header of 14 and an IPv4 header of 20
+abbrev pub made_frame_captured_length : ℕ
+made_frame_captured_length = 34
+
+-- how many bytes each frame has in the file: its header there of 16, and the captured bytes
+abbrev pub made_frame_length : ℕ
+made_frame_length = 16 + made_frame_captured_length
+
+-- the length on the wire of the frame at an index: 100, 200, 300 and 400 bytes in turn
+abbrev pub made_frame_wire_length : ℕ → ℕ
+made_frame_wire_length index = 100 * (1 + index % 4)
+
+-- the frame's header in the file, low byte first: the index as the seconds of the time stamp, no fraction of a second,
+-- the captured length and the length on the wire
+abbrev pub made_frame_header : ℕ → List ℕ
+made_frame_header index =
+    little_bytes 4 index ++ little_bytes 4 0 ++ little_bytes 4 made_frame_captured_length ++ little_bytes 4 (made_frame_wire_length index)
+
+-- the Ethernet header: destination 02:00:00:00:00:02, source 02:00:00:00:00:01, type IPv4
+abbrev pub made_frame_ethernet_header : List ℕ
+made_frame_ethernet_header = 2 ∷ 0 ∷ 0 ∷ 0 ∷ 0 ∷ 2 ∷ 2 ∷ 0 ∷ 0 ∷ 0 ∷ 0 ∷ 1 ∷ 8 ∷ 0 ∷ []
+
+-- the IPv4 header (RFC 791): version 4 and five words, the length without the Ethernet header, no fragment, 64 hops, UDP,
+-- no checksum, and the two addresses
+abbrev pub made_frame_ip_header : ℕ → List ℕ → List ℕ → List ℕ
+made_frame_ip_header index source dest =
+    (0x45 ∷ 0 ∷ []) ++ big_bytes 2 (made_frame_wire_length index - 14) ++ (0 ∷ 0 ∷ 0 ∷ 0 ∷ 64 ∷ 17 ∷ 0 ∷ 0 ∷ []) ++ source ++ dest
+
+-- the frame at an index between two addresses
+unfoldable pub made_frame_bytes : ℕ → List ℕ → List ℕ → List ℕ
+made_frame_bytes index source dest = made_frame_header index ++ made_frame_ethernet_header ++ made_frame_ip_header index source dest
+
+-- the frame at an index, from 0, that a seed makes: its source is drawn first, then its destination
+unfoldable pub made_frame : ℕ → ℕ → List ℕ
+made_frame seed index =
+    made_frame_bytes index (made_address 10 (draw seed (2 * index))) (made_address 20 (draw seed (2 * index + 1)))
