@@ -9,8 +9,9 @@ each wrong body in must-fail/ of its crate, and each wrong body in must-fail/ in
 are the comments of specs/: of what a crate's face passes on, and of what the promises cite. What the README says is
 proved of a crate is a sentence of GUARANTEES.md. No line of GUARANTEES.md is longer than 300 characters. A file takes
 definitions of another crate from its face alone, `Rattle.NAME.specs.{..}`, and its lemmas from two files. What a file
-of lemmas holds has in its name a word of the file's noun, and no two crates have such files of the same noun. The manual
-page hhh.1 shows what each command takes as `command_words` has it, and explains each command and option. A command line
+of lemmas holds has in its name a word of the file's noun, and no two crates have such files, or files of definitions, of
+the same noun. Where a document says in which file of specs/ a definition is, it is there. No line of specs/, proofs/ or a
+contract is longer than 160 characters. The manual page hhh.1 shows what each command takes as `command_words` has it, and explains each command and option. A command line
 in OPERATORS.md has options of its command alone. Neither document names a command or an option that isn't there.
 """
 
@@ -22,8 +23,9 @@ top = Path(__file__).resolve().parent.parent
 crates = sorted(path.name for path in (top / "crates").iterdir())
 faults = []
 
-# The longest line that is read in one go.
+# The longest line of a document, and of definitions, proofs and contracts, that is read in one go.
 LONGEST_LINE = 300
+LONGEST_STATEMENT = 160
 
 # Lemmas on lists and on places of nodes, which the standard library lacks.
 SHARED_LEMMAS = {("prefix_lattice", "ListLemmas"), ("prefix_lattice", "NodePlaceLemmas")}
@@ -197,6 +199,26 @@ def check_lemmas(crate):
             check(words(name) & words(noun), f"{name} has no word of its file {path.relative_to(top)}")
 
 
+def check_lines(crate):
+    """Lines of definitions and proofs can be read in one go, and so can contracts: in src/ a text in quotes can't be
+    broken, nor what the layout joins in an attribute."""
+    for path in sorted((top / "crates" / crate).glob("*/**/*")):
+        if path.suffix not in (".rt", ".antt") or "out" in path.parts:
+            continue
+        for number, line in enumerate(path.read_text().split("\n"), 1):
+            is_fixed = path.suffix == ".rt" and ('"' in line or line.lstrip().startswith("#["))
+            check(len(line) <= LONGEST_STATEMENT or is_fixed, f"{path.relative_to(top)}:{number} has {len(line)} characters")
+
+
+def check_places(name, text):
+    """A place in a document, as `specs/File` or `crate/specs/File`, is a file; and in a row as | `name` | `crate`,
+    `specs/File` | that file has the definition."""
+    for crate, file in re.findall(r"`(?:(\w+)/)?specs/(\w+)`", text):
+        check(any((top / "crates" / one / "specs" / f"{file}.antt").exists() for one in ([crate] if crate else crates)), f"{name} names specs/{file}, and there is none")
+    for definition, crate, file in re.findall(r"(?m)^\| `(\S+)` \| `(\w+)`, `specs/(\w+)` \|", text):
+        check(all_definitions[crate].get(definition, ("",))[0] == file, f"{name}: {definition} isn't in specs/{file} of {crate}")
+
+
 def forms():
     """What each command takes: its positionals, its options, and those of them that are required."""
     text = (top / "crates" / "command_words" / "specs" / "Forms.antt").read_text()
@@ -273,12 +295,16 @@ for _, row in tables((top / "README.md").read_text()):
         check(claim[0].upper() + claim[1:] + "." in " ".join(guarantees.split()), f"GUARANTEES.md doesn't say what the README says of {crate}")
 check_manual(forms())
 check_operators(forms())
-files = sorted((top / "crates").glob("*/proofs/*Lemmas.antt"), key=lambda path: path.stem)
+for name in ("README.md", "CONTRIBUTING.md", "docs/ARCHITECTURE.md", "docs/GUARANTEES.md", "docs/DECISIONS.md", "docs/FORMATS.md"):
+    check_places(name, (top / name).read_text())
+files = [path for part in ("proofs/*Lemmas", "specs/*") for path in (top / "crates").glob(f"*/{part}.antt") if path.stem != "Lib"]
+files.sort(key=lambda path: path.stem)
 for path, following in zip(files, files[1:]):
     check(path.stem != following.stem, f"{path.relative_to(top)} and {following.relative_to(top)} have the same noun")
 for crate in crates:
     check_imports(crate)
     check_lemmas(crate)
+    check_lines(crate)
     for name in sorted(wrong_bodies(crate) - named.get(crate, set())):
         faults.append(f"no document names the wrong body {name} of {crate}")
 print("\n".join(faults) if faults else "each name fits")

@@ -5,10 +5,12 @@ use Rattle.std.specs.List.{flat_map}
 use Rattle.std.proofs.lemmas.List.{length-append, append-nil}
 use Rattle.shard_state.specs.{SnapshotValue, CutValue, IsCut}
 use Rattle.checkpoint.specs.NumberBytes.{number_bytes}
-use Rattle.checkpoint.specs.Body.{SavedValue, BodyKeysFit, IsSavedBody, IsBody, body_content_bytes, body_snapshot_bytes, body_table_bytes}
-use Rattle.checkpoint.specs.HeaderSettings.{body_span_by_header_settings, table_span_by_header_settings}
+use Rattle.checkpoint.specs.Saved.{SavedValue}
+use Rattle.checkpoint.specs.Body.{BodyKeysFit, IsSavedBody, IsBody, body_content_bytes, body_snapshot_bytes}
+use Rattle.checkpoint.specs.Body.{body_table_bytes}
+use Rattle.checkpoint.specs.Span.{body_span, table_span}
 use Rattle.space_saving.specs.declared.entry.Entry.{Entry}
-use Rattle.checkpoint.specs.Spellings.{BeginsWithSpelling, AreManyForSpelling, SnapshotFitsSpelling, TableFitsSpelling}
+use Rattle.checkpoint.specs.Spellings.{BeginsWithSpelling, ListFitsSpelling, SnapshotFitsSpelling, TableFitsSpelling}
 use Rattle.checkpoint.proofs.PartLengthLemmas.{part_length_is_at_most, part_length_of_table}
 use Rattle.checkpoint.proofs.PrefixFreeLemmas.{prefix_free_tables_fit}
 use Rattle.checkpoint.proofs.NumberBytesLemmas.{length-number_bytes}
@@ -16,7 +18,7 @@ use Rattle.checkpoint.proofs.SpellingLemmas.{spellings_in_bytes_are_apart, spell
 
 -- the snapshots of a cut that may be saved
 pub body_parts_fit_shards : (shards capacity : ℕ) (saved : SavedValue) → IsSavedBody shards capacity saved
-    → AreManyForSpelling (SnapshotFitsSpelling capacity) shards saved.cut.shards
+    → ListFitsSpelling (SnapshotFitsSpelling capacity) shards saved.cut.shards
 body_parts_fit_shards shards capacity saved is = record {
   as_many = is.shape;
   each = λ k d within. record {
@@ -28,7 +30,7 @@ body_parts_fit_shards shards capacity saved is = record {
 
 -- the spellings of those snapshots, with nothing after them
 pub body_part_spells_shards : (shards capacity : ℕ) (saved : SavedValue) → IsSavedBody shards capacity saved
-    → BeginsWithSpelling (flat_map body_snapshot_bytes) (AreManyForSpelling (SnapshotFitsSpelling capacity) shards)
+    → BeginsWithSpelling (flat_map body_snapshot_bytes) (ListFitsSpelling (SnapshotFitsSpelling capacity) shards)
     (flat_map body_snapshot_bytes saved.cut.shards) saved.cut.shards []
 body_part_spells_shards shards capacity saved is = record {
   fits = body_parts_fit_shards shards capacity saved is;
@@ -77,7 +79,7 @@ body_has_front_part shards capacity saved bytes after count small few is_count i
 pub record BodyHeadParts (shards capacity : ℕ) (saved : SavedValue) (sequence : ℕ) (digest rest : List ℕ) : Type 0 where
   pub sequence_is : sequence ≡ saved.sequence
   pub digest_is : digest ≡ saved.digest
-  pub shards_begin : BeginsWithSpelling (flat_map body_snapshot_bytes) (AreManyForSpelling (SnapshotFitsSpelling capacity) shards) rest saved.cut.shards []
+  pub shards_begin : BeginsWithSpelling (flat_map body_snapshot_bytes) (ListFitsSpelling (SnapshotFitsSpelling capacity) shards) rest saved.cut.shards []
 
 pub body_has_sequence_part : (shards capacity : ℕ) (saved : SavedValue) (after middle : List ℕ) (sequence : ℕ) → sequence < 2 ^ 64
     → IsSavedBody shards capacity saved → after ≡ body_content_bytes saved → after ≡ number_bytes 8 sequence ++ middle
@@ -105,7 +107,7 @@ body_has_head_parts shards capacity saved after middle rest digest sequence smal
 pub body_is_read_from_parts : (shards capacity : ℕ) (bytes after middle rest digest : List ℕ) (count sequence : ℕ) (cut : CutValue)
     → bytes ≡ number_bytes 8 count ++ after → after ≡ number_bytes 8 sequence ++ middle → middle ≡ digest ++ rest
     → count ≡ length bytes → length digest ≡ 32 → 1 ≤ sequence → sequence ≤ 2 ^ 62 → IsCut cut → cut.capacity ≡ capacity
-    → BeginsWithSpelling (flat_map body_snapshot_bytes) (AreManyForSpelling (SnapshotFitsSpelling capacity) shards) rest cut.shards []
+    → BeginsWithSpelling (flat_map body_snapshot_bytes) (ListFitsSpelling (SnapshotFitsSpelling capacity) shards) rest cut.shards []
     → IsBody shards capacity (record { sequence = sequence; digest = digest; cut = cut }) bytes
 body_is_read_from_parts shards capacity bytes after middle rest digest count sequence cut is_count is_sequence is_digest whole long first last is_cut alike
     begins =
@@ -167,26 +169,26 @@ body_is_made_from_parts sequence digest cut count first second third last least 
 
 -- a table of a capacity has at most as many bytes as its span
 body_part_of_table_fits : (capacity : ℕ) (entries : List Entry) → TableFitsSpelling capacity entries
-    → length (body_table_bytes entries) ≤ table_span_by_header_settings capacity
+    → length (body_table_bytes entries) ≤ table_span capacity
 body_part_of_table_fits capacity entries fits = omega (arith, part_length_of_table entries, fits.are_entries.is_table.fits)
 
 -- a snapshot of a capacity has at most so many bytes
 body_part_of_shard_fits : (capacity : ℕ) (snapshot : SnapshotValue) → SnapshotFitsSpelling capacity snapshot
-    → length (body_snapshot_bytes snapshot) ≤ 8 + 25 * table_span_by_header_settings capacity
+    → length (body_snapshot_bytes snapshot) ≤ 8 + 25 * table_span capacity
 body_part_of_shard_fits capacity snapshot fits =
     let each = prefix_free_tables_fit capacity snapshot fits in
     omega (
       arith,
       length-append (number_bytes 8 snapshot.position) (flat_map body_table_bytes snapshot.tables),
       length-number_bytes 8 snapshot.position,
-      ap (λ (n : ℕ). n * table_span_by_header_settings capacity) fits.is_snapshot.shape,
-      part_length_is_at_most body_table_bytes (table_span_by_header_settings capacity) snapshot.tables
+      ap (λ (n : ℕ). n * table_span capacity) fits.is_snapshot.shape,
+      part_length_is_at_most body_table_bytes (table_span capacity) snapshot.tables
           (λ k d within. body_part_of_table_fits capacity _ (each k d within)),
     )
 
 -- a body has at most as many bytes as the span
 pub body_parts_fit_span : (shards capacity : ℕ) (saved : SavedValue) (bytes : List ℕ) → IsBody shards capacity saved bytes
-    → length bytes ≤ body_span_by_header_settings shards capacity
+    → length bytes ≤ body_span shards capacity
 body_parts_fit_span shards capacity saved bytes is =
     let fits = body_parts_fit_shards shards capacity saved is.is_saved in
     let all = flat_map body_snapshot_bytes saved.cut.shards in
@@ -200,9 +202,9 @@ body_parts_fit_span shards capacity saved bytes is =
       length-number_bytes 8 saved.sequence,
       is.is_saved.digest,
     ) in
-    let few : length all ≤ length saved.cut.shards * (8 + 25 * table_span_by_header_settings capacity) =
-    part_length_is_at_most body_snapshot_bytes (8 + 25 * table_span_by_header_settings capacity) saved.cut.shards
+    let few : length all ≤ length saved.cut.shards * (8 + 25 * table_span capacity) =
+    part_length_is_at_most body_snapshot_bytes (8 + 25 * table_span capacity) saved.cut.shards
     (λ k d within. body_part_of_shard_fits capacity _ (fits.each k d within)) in
-    let counted : length saved.cut.shards * (8 + 25 * table_span_by_header_settings capacity) ≡ shards * (8 + 25 * table_span_by_header_settings capacity) =
-    ap (λ (n : ℕ). n * (8 + 25 * table_span_by_header_settings capacity)) fits.as_many in
+    let counted : length saved.cut.shards * (8 + 25 * table_span capacity) ≡ shards * (8 + 25 * table_span capacity) =
+    ap (λ (n : ℕ). n * (8 + 25 * table_span capacity)) fits.as_many in
     omega (arith, long.1, content, few, counted)

@@ -8,11 +8,15 @@ use Rattle.space_saving.specs.declared.entry.Entry.{Entry}
 use Rattle.shard_state.specs.{empty_snapshot, no_snapshot_entries}
 use Rattle.checkpoint.specs.declared.settings.StoreSettings.{StoreSettings}
 use Rattle.checkpoint.specs.NumberBytes.{number_bytes}
-use Rattle.checkpoint.specs.HeaderSettings.{AreHeaderSettings, header_of_settings, span_of_settings, table_span_by_header_settings}
-use Rattle.checkpoint.specs.Body.{SavedValue, IsSavedBody, IsBody, BodyKeysFit, HasShortBodyKeys, body_entry_bytes, body_table_bytes}
-use Rattle.checkpoint.specs.Body.{body_bytes, last_body_sequence}
+use Rattle.checkpoint.specs.HeaderSettings.{AreHeaderSettings, header_of_settings}
+use Rattle.checkpoint.specs.Span.{span_of_settings, table_span}
+use Rattle.checkpoint.specs.Saved.{SavedValue}
+use Rattle.checkpoint.specs.Body.{IsSavedBody, IsBody, BodyKeysFit, HasShortBodyKeys, body_entry_bytes}
+use Rattle.checkpoint.specs.Body.{body_table_bytes}
+use Rattle.checkpoint.specs.Body.{body_bytes, greatest_body_sequence}
 use Rattle.checkpoint.specs.Digest.{digested_list_bytes, digested_bytes}
-use Rattle.checkpoint.specs.Spellings.{BeginsWithSpelling, BeginsWithNoSpelling, AreManyForSpelling, EntryFitsSpelling, TableFitsSpelling, SnapshotFitsSpelling}
+use Rattle.checkpoint.specs.Spellings.{BeginsWithSpelling, BeginsWithNoSpelling, ListFitsSpelling, EntryFitsSpelling}
+use Rattle.checkpoint.specs.Spellings.{TableFitsSpelling, SnapshotFitsSpelling}
 use Rattle.checkpoint.proofs.PartLengthLemmas.{part_length_of_entry}
 
 -- one shard with tables of 512 entries, by bytes, dealt in turn
@@ -79,7 +83,7 @@ body_has_as_many_bytes = refl
 pub sequence_0_is_not_saved : (digest : List ℕ) → IsSavedBody 1 2 (nothing_yet 0 digest) → ⊥
 sequence_0_is_not_saved digest is = omega (arith, is.sequenced)
 
-pub sequence_above_the_last_is_not_saved : (digest : List ℕ) → IsSavedBody 1 2 (nothing_yet (last_body_sequence + 1) digest) → ⊥
+pub sequence_above_the_last_is_not_saved : (digest : List ℕ) → IsSavedBody 1 2 (nothing_yet (greatest_body_sequence + 1) digest) → ⊥
 sequence_above_the_last_is_not_saved digest is = omega (arith, is.early)
 
 pub digest_of_31_bytes_is_not_saved : IsSavedBody 1 2 (nothing_yet 1 (number_bytes 31 0)) → ⊥
@@ -117,7 +121,7 @@ keys_fit_8_bytes fit = let short = fit 0 entry (omega arith) in omega (arith, sh
 pub keys_of_no_table_fit : BodyKeysFit (record { capacity = 2; position = 0; tables = [] })
 keys_of_no_table_fit k d within = absurd (omega (arith, within))
 
-pub table_of_512_entries_has_12300_bytes : table_span_by_header_settings 512 ≡ 12300
+pub table_of_512_entries_has_12300_bytes : table_span 512 ≡ 12300
 table_of_512_entries_has_12300_bytes = refl
 
 pub entry_fits : EntryFitsSpelling entry
@@ -131,7 +135,7 @@ pub two_bytes_begin_with_no_entry : BeginsWithNoSpelling body_entry_bytes EntryF
 two_bytes_begin_with_no_entry value rest begins =
     omega (arith, ap length begins.spelled, length-append (body_entry_bytes value) rest, part_length_of_entry value)
 
-pub no_entry_is_none : AreManyForSpelling EntryFitsSpelling 0 []
+pub no_entry_is_none : ListFitsSpelling EntryFitsSpelling 0 []
 no_entry_is_none = record { as_many = refl; each = λ k d within. absurd (omega (arith, within)) }
 
 pub empty_table_fits : TableFitsSpelling 2 []

@@ -5,13 +5,16 @@ use Rattle.prefix_lattice.specs.{RecordValue}
 use Rattle.frame_records.specs.declared.weigh.Weigh.TheVariants.{Bytes}
 use Rattle.deal_rules.specs.declared.deal_kind.DealKind.TheVariants.{RoundRobin}
 use Rattle.shard_state.specs.{CutValue, empty_snapshot, no_snapshot_entries}
-use Rattle.slot_disk.specs.{slots_of}
+use Rattle.slot_disk.specs.{known_slots_of}
 use Rattle.checkpoint.specs.declared.settings.StoreSettings.{StoreSettings}
 use Rattle.checkpoint.specs.HeaderSettings.{header_of_settings}
-use Rattle.checkpoint.specs.Body.{SavedValue}
-use Rattle.checkpoint.specs.Store.{StoreSlotHolds, StoreHolds, IsSoundStore, newest_in_store, newest_slot_in_store, IsNotNewestInStore, StoreOpensTo}
-use Rattle.checkpoint.specs.Store.{opened_store_positions, opened_store_sequence, IsStoreOfLists, StoreBelongs, StoresOpenAlike, StoreOpensOldOrNew}
-use Rattle.checkpoint.specs.Saver.{SaverState, IsNewestForSaver, saver_of, IsKnownToSaver, StandsForSaver, saver_after_save, next_saved}
+use Rattle.checkpoint.specs.Saved.{SavedValue}
+use Rattle.checkpoint.specs.Store.{StoreSlotHolds, StoreHolds, IsSoundStore, newest_in_store, newest_slot_in_store}
+use Rattle.checkpoint.specs.Store.{IsNotNewestInStore, StoreOpensTo}
+use Rattle.checkpoint.specs.Store.{store_positions, store_sequence, IsStoreOfLists, StoreBelongs, StoresOpenToSame}
+use Rattle.checkpoint.specs.Store.{StoreOpensAsOldOrNew}
+use Rattle.checkpoint.specs.Saver.{SaverState, IsNewestForSaver, saver_of, IsKnownToSaver, DiskMatchesSaver}
+use Rattle.checkpoint.specs.Saver.{saver_after_save, next_saved}
 
 -- so many shards with tables of two entries
 abbrev settings : ℕ → StoreSettings
@@ -71,13 +74,13 @@ newest_may_not_be_written (inr none) = cc none
 pub formatted_store_opens_to_nothing : StoreOpensTo (settings 1) (store 0 0) None
 formatted_store_opens_to_nothing = (None, None, formatted_store_holds_nothing, refl)
 
-pub nothing_opens_at_0 : opened_store_positions (settings 2) None ≡ 0 ∷ 0 ∷ []
+pub nothing_opens_at_0 : store_positions (settings 2) None ≡ 0 ∷ 0 ∷ []
 nothing_opens_at_0 = refl
 
-pub cut_opens_at_its_positions : opened_store_positions (settings 1) (Some (record { sequence = 1; digest = []; cut = later_cut })) ≡ 9 ∷ []
+pub cut_opens_at_its_positions : store_positions (settings 1) (Some (record { sequence = 1; digest = []; cut = later_cut })) ≡ 9 ∷ []
 cut_opens_at_its_positions = refl
 
-pub no_sequence_is_0 : opened_store_sequence None ≡ 0
+pub no_sequence_is_0 : store_sequence None ≡ 0
 no_sequence_is_0 = refl
 
 pub nothing_is_of_any_lists : (lists : List (List RecordValue)) → IsStoreOfLists (settings 1) lists None
@@ -87,22 +90,22 @@ pub formatted_store_belongs : (lists : List (List RecordValue)) → StoreBelongs
 formatted_store_belongs lists = (None, formatted_store_opens_to_nothing, tt)
 
 -- a gate that a crash left as 255 is closed
-pub torn_gate_opens_alike : StoresOpenAlike (settings 1) (store 0 0) (store 255 0)
+pub torn_gate_opens_alike : StoresOpenToSame (settings 1) (store 0 0) (store 255 0)
 torn_gate_opens_alike = (
   None,
   formatted_store_opens_to_nothing,
   (None, None, record { long = omega arith; header = refl; first_slot = refl; second_slot = refl }, refl),
 )
 
-pub torn_gate_leaves_the_old : StoreOpensOldOrNew (settings 1) (store 0 0) (saved 1) (store 255 0)
+pub torn_gate_leaves_the_old : StoreOpensAsOldOrNew (settings 1) (store 0 0) (saved 1) (store 255 0)
 torn_gate_leaves_the_old = inl torn_gate_opens_alike
 
 -- the saver of that store, before its first save and after it
-pub no_gate_is_open : IsNewestForSaver (settings 1) (slots_of (store 0 0)) None
+pub no_gate_is_open : IsNewestForSaver (settings 1) (known_slots_of (store 0 0)) None
 no_gate_is_open = (refl, refl)
 
 abbrev saver : SaverState
-saver = saver_of (slots_of (store 0 0)) (settings 1) [] None
+saver = saver_of (known_slots_of (store 0 0)) (settings 1) [] None
 
 pub saver_begins_at_0 : saver.positions ≡ 0 ∷ []
 saver_begins_at_0 = refl
@@ -118,7 +121,7 @@ saver_knows_the_store = record {
   positions_are = refl;
 }
 
-pub disk_stands_for_the_saver : StandsForSaver (Some (store 0 0)) (λ image. image ≡ store 0 0) saver
+pub disk_stands_for_the_saver : DiskMatchesSaver (Some (store 0 0)) (λ image. image ≡ store 0 0) saver
 disk_stands_for_the_saver bytes is =
     let same : store 0 0 ≡ bytes = cc is in
     record { is_known = subst (IsKnownToSaver saver) same saver_knows_the_store; only = λ image was. was ∙ same }
@@ -126,7 +129,7 @@ disk_stands_for_the_saver bytes is =
 pub first_save_has_sequence_1 : (next_saved saver cut).sequence ≡ 1
 first_save_has_sequence_1 = refl
 
-pub first_save_opens_gate_0 : (saver_after_save saver later_cut).slots ≡ slots_of (store 1 0)
+pub first_save_opens_gate_0 : (saver_after_save saver later_cut).slots ≡ known_slots_of (store 1 0)
 first_save_opens_gate_0 = refl
 
 pub saver_goes_on_at_the_cut : (saver_after_save saver later_cut).positions ≡ 9 ∷ []

@@ -5,20 +5,23 @@ use Rattle.std.proofs.Math.Nat.{mul-le-mul_right}
 use Rattle.shard_state.specs.{CutValue, SnapshotValue}
 use Rattle.checkpoint.specs.declared.settings.StoreSettings.{StoreSettings}
 use Rattle.checkpoint.specs.NumberBytes.{number_bytes}
-use Rattle.checkpoint.specs.HeaderSettings.{AreHeaderSettings, body_span_by_header_settings, table_span_by_header_settings}
-use Rattle.checkpoint.specs.Body.{SavedValue, IsBody, body_content_bytes, body_snapshot_bytes}
-use Rattle.checkpoint.specs.BodyLaws.{BodiesAreApart, BodiesSpellOne}
+use Rattle.checkpoint.specs.HeaderSettings.{AreHeaderSettings}
+use Rattle.checkpoint.specs.Span.{body_span, table_span}
+use Rattle.checkpoint.specs.Saved.{SavedValue}
+use Rattle.checkpoint.specs.Body.{IsBody, body_content_bytes, body_snapshot_bytes}
+use Rattle.checkpoint.specs.Body.{BodiesAreApart, BodiesSpellOneThing}
 use Rattle.checkpoint.specs.Spellings.{SnapshotFitsSpelling}
-use Rattle.checkpoint.proofs.BodyPartLemmas.{body_parts_fit_span, body_parts_are_long, body_has_head_parts, body_has_front_part, body_part_spells_shards}
+use Rattle.checkpoint.proofs.BodyPartLemmas.{body_parts_fit_span, body_parts_are_long, body_has_head_parts}
+use Rattle.checkpoint.proofs.BodyPartLemmas.{body_has_front_part, body_part_spells_shards}
 use Rattle.checkpoint.proofs.PrefixFreeLemmas.{snapshots_are_prefix_free}
 use Rattle.checkpoint.proofs.ReadListLemmas.{read_list_is_same}
 use Rattle.checkpoint.proofs.SpellingLemmas.{spellings_in_bytes_are_apart, spelling_front_is_same}
 
 -- the greatest span
-one_body_span_is_small : (settings : StoreSettings) → AreHeaderSettings settings → body_span_by_header_settings settings.shards settings.capacity < 2 ^ 32
+one_body_span_is_small : (settings : StoreSettings) → AreHeaderSettings settings → body_span settings.shards settings.capacity < 2 ^ 32
 one_body_span_is_small settings are =
-    let most : settings.shards * (8 + 25 * table_span_by_header_settings settings.capacity) ≤ 16 * (8 + 25 * table_span_by_header_settings settings.capacity) =
-    mul-le-mul_right (8 + 25 * table_span_by_header_settings settings.capacity) are.few in
+    let most : settings.shards * (8 + 25 * table_span settings.capacity) ≤ 16 * (8 + 25 * table_span settings.capacity) =
+    mul-le-mul_right (8 + 25 * table_span settings.capacity) are.few in
     omega (arith, most, are.most)
 
 -- a body's length is a small number
@@ -52,7 +55,7 @@ one_body_saved_is_same saved other sequence digest capacity shards =
     ∙ ap (λ (n : ℕ). with_cut (record { capacity = n; shards = saved.cut.shards })) capacity
     ∙ ap (λ (l : List SnapshotValue). with_cut (record { capacity = other.cut.capacity; shards = l })) shards
 
-pub one_body_spells_one_value : BodiesSpellOne
+pub one_body_spells_one_value : BodiesSpellOneThing
 one_body_spells_one_value settings saved other body are is is_other =
     let shards = settings.shards in
     let capacity = settings.capacity in

@@ -12,7 +12,8 @@ use Rattle.shard_state.specs.{SnapshotValue}
 use Rattle.checkpoint.specs.NumberBytes.{number_bytes}
 use Rattle.checkpoint.specs.Body.{body_entry_bytes, body_table_bytes, body_snapshot_bytes}
 use Rattle.checkpoint.specs.Spellings.{EntryFitsSpelling, TableFitsSpelling, SnapshotFitsSpelling}
-use Rattle.checkpoint.proofs.SpellingLemmas.{SpellingsAreApart, spellings_in_bytes_are_apart, joined_spellings_are_apart}
+use Rattle.checkpoint.proofs.SpellingLemmas.{SpellingsAreApart, spellings_in_bytes_are_apart}
+use Rattle.checkpoint.proofs.SpellingLemmas.{joined_spellings_are_apart}
 
 -- three parts, one after the other
 pub prefix_free_parts_regroup : (a b c r : List ℕ) → (a ++ (b ++ c)) ++ r ≡ a ++ (b ++ (c ++ r))

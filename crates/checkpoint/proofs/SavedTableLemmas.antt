@@ -7,7 +7,7 @@ use Rattle.space_saving.specs.declared.entry.Entry.{Entry}
 use Rattle.space_saving.specs.{table_total, AreTableEntries}
 use Rattle.checkpoint.specs.NumberBytes.{number_bytes}
 use Rattle.checkpoint.specs.Body.{body_entry_bytes, body_table_bytes}
-use Rattle.checkpoint.specs.Spellings.{BeginsWithSpelling, AreManyForSpelling, EntryFitsSpelling, TableFitsSpelling}
+use Rattle.checkpoint.specs.Spellings.{BeginsWithSpelling, ListFitsSpelling, EntryFitsSpelling, TableFitsSpelling}
 use Rattle.checkpoint.proofs.SpellingLemmas.{spellings_in_bytes_are_apart}
 use Rattle.checkpoint.proofs.PartLengthLemmas.{part_length_of_entries, part_length_of_table}
 use Rattle.checkpoint.proofs.PrefixFreeLemmas.{prefix_free_parts_regroup, prefix_free_entries_fit}
@@ -22,7 +22,7 @@ saved_table_is_long capacity bytes entries rest begins =
 pub record SavedTableFront (total count : ℕ) (entries : List Entry) (middle rest : List ℕ) : Type 0 where
   pub total_is : total ≡ table_total entries
   pub count_is : count ≡ length entries
-  pub entries_begin : BeginsWithSpelling (flat_map body_entry_bytes) (AreManyForSpelling EntryFitsSpelling count) middle entries rest
+  pub entries_begin : BeginsWithSpelling (flat_map body_entry_bytes) (ListFitsSpelling EntryFitsSpelling count) middle entries rest
 
 pub saved_table_has_front : (capacity : ℕ) → capacity ≤ 4096 → (bytes after middle rest : List ℕ) (total count : ℕ) (entries : List Entry)
     → total < 2 ^ 64 → count < 2 ^ 32 → bytes ≡ number_bytes 8 total ++ after → after ≡ number_bytes 4 count ++ middle
@@ -45,7 +45,7 @@ saved_table_has_front capacity most bytes after middle rest total count entries 
 -- a table that was read
 pub saved_table_was_decoded : (capacity : ℕ) (bytes after middle rest : List ℕ) (total count : ℕ) (entries : List Entry)
     → AreTableEntries capacity entries → total ≡ table_total entries → bytes ≡ number_bytes 8 total ++ after
-    → after ≡ number_bytes 4 count ++ middle → BeginsWithSpelling (flat_map body_entry_bytes) (AreManyForSpelling EntryFitsSpelling count) middle entries rest
+    → after ≡ number_bytes 4 count ++ middle → BeginsWithSpelling (flat_map body_entry_bytes) (ListFitsSpelling EntryFitsSpelling count) middle entries rest
     → BeginsWithSpelling body_table_bytes (TableFitsSpelling capacity) bytes entries rest
 saved_table_was_decoded capacity bytes after middle rest total count entries are total_is is_total is_count begins = record {
   fits = record { are_entries = are; keys = λ k d within. (begins.fits.each k d within).key };
@@ -58,6 +58,6 @@ saved_table_was_decoded capacity bytes after middle rest total count entries are
 
 -- entries have 24 bytes each
 pub saved_table_bytes_are_counted : (count : ℕ) (bytes : List ℕ) (entries : List Entry) (rest : List ℕ)
-    → BeginsWithSpelling (flat_map body_entry_bytes) (AreManyForSpelling EntryFitsSpelling count) bytes entries rest → length bytes ≡ 24 * count + length rest
+    → BeginsWithSpelling (flat_map body_entry_bytes) (ListFitsSpelling EntryFitsSpelling count) bytes entries rest → length bytes ≡ 24 * count + length rest
 saved_table_bytes_are_counted count bytes entries rest begins =
     omega (arith, ap length begins.spelled, length-append (flat_map body_entry_bytes entries) rest, part_length_of_entries entries, begins.fits.as_many)

@@ -1,13 +1,19 @@
 -- A saver, and the store that it knows.
-use Rattle.std.proofs.Common.{◌≡◌, ℕ, zero, suc, ◌+◌, ◌<◌, List, Bool, false, None, Some, refl, sym, ap, subst, ◌∙◌, inl, arith, length}
+use Rattle.std.proofs.Common.{◌≡◌, ℕ, zero, suc, ◌+◌, ◌<◌, List, Bool, false, None, Some, refl, sym, ap, subst, ◌∙◌}
+use Rattle.std.proofs.Common.{inl, arith, length}
 use Rattle.shard_state.specs.{CutValue, HasCoreShape}
-use Rattle.slot_disk.specs.{IsPut, IsReadyForPut, IsStoreOfSlots, Leaves, Leaves-weaker, PutMayLeave, SlotsState, closed_slots, other_slot_of_put, with_open_slot}
+use Rattle.slot_disk.specs.{IsPut, IsReadyForPut, IsStoreOfKnownSlots, CrashLeavesAtAnyMoment}
+use Rattle.slot_disk.specs.{CrashLeavesAtAnyMoment-weaker, PutMayLeave, KnownSlotsState, closed_known_slots}
+use Rattle.slot_disk.specs.{other_slot_of_put, known_slots_after_opening}
 use Rattle.checkpoint.specs.declared.settings.StoreSettings.{StoreSettings}
-use Rattle.checkpoint.specs.HeaderSettings.{header_of_settings, span_of_settings}
-use Rattle.checkpoint.specs.Body.{SavedValue, IsBody}
-use Rattle.checkpoint.specs.Store.{StoreOpensOldOrNew, StoreOpensTo, newest_in_store, opened_store_positions, opened_store_sequence}
+use Rattle.checkpoint.specs.HeaderSettings.{header_of_settings}
+use Rattle.checkpoint.specs.Span.{span_of_settings}
+use Rattle.checkpoint.specs.Saved.{SavedValue}
+use Rattle.checkpoint.specs.Body.{IsBody}
+use Rattle.checkpoint.specs.Store.{StoreOpensAsOldOrNew, StoreOpensTo, newest_in_store, store_positions, store_sequence}
 use Rattle.checkpoint.specs.Saver.{SaverState, IsSafeForSaver, saver_after_save, next_saved, saver_of}
-use Rattle.checkpoint.proofs.StoreLemmas.{stores_open_old_or_new, stores_open_the_new, store_holds_new_body, stores_are_ready}
+use Rattle.checkpoint.proofs.StoreLemmas.{stores_open_old_or_new, stores_open_the_new, store_holds_new_body}
+use Rattle.checkpoint.proofs.StoreLemmas.{stores_are_ready}
 use Rattle.checkpoint.proofs.StoreLemmas.{closed_store_holds}
 
 -- the other slot is one of two
@@ -31,7 +37,7 @@ saver_makes_next_body saver cut sequence digest bytes body same_sequence same_di
     subst (IsBody saver.settings.shards saver.settings.capacity (next_saved saver cut)) (sym same) alike
 
 pub saver_stands : (saver : SaverState) (possible : List ℕ → Type 0) (old : List ℕ) → IsSafeForSaver saver possible old
-    → IsStoreOfSlots old possible saver.slots
+    → IsStoreOfKnownSlots old possible saver.slots
 saver_stands saver possible old stands =
     record { long = stands.is_known.holds.long; slots_are = stands.is_known.slots_are; only = stands.only }
 
@@ -47,7 +53,7 @@ module _ (saver : SaverState) (possible : List ℕ → Type 0) (old : List ℕ) 
 
   module _ (cut : CutValue) (body : List ℕ)
       (is : IsBody saver.settings.shards saver.settings.capacity (next_saved saver cut) body) where
-    pub saver_may_leave : (image : List ℕ) → PutMayLeave span slot body old image → StoreOpensOldOrNew saver.settings old (next_saved saver cut) image
+    pub saver_may_leave : (image : List ℕ) → PutMayLeave span slot body old image → StoreOpensAsOldOrNew saver.settings old (next_saved saver cut) image
     saver_may_leave image may =
         let known = stands.is_known in
         let spanned = subst (λ (n : ℕ). PutMayLeave n slot body old image) is_span may in
@@ -56,14 +62,16 @@ module _ (saver : SaverState) (possible : List ℕ → Type 0) (old : List ℕ) 
         (subst (λ (n : ℕ). PutMayLeave (span_of_settings saver.settings) n body old image) is_slot spanned)
 
     pub saver_leaves : {D : Type 0} (moment : D → ℕ) (image_since : D → ℕ → List ℕ → Type 0) (before after : D)
-        → Leaves moment image_since before after (PutMayLeave span slot body old)
-        → Leaves moment image_since before after (StoreOpensOldOrNew saver.settings old (next_saved saver cut))
+        → CrashLeavesAtAnyMoment moment image_since before after (PutMayLeave span slot body old)
+        → CrashLeavesAtAnyMoment moment image_since before after (StoreOpensAsOldOrNew saver.settings old (next_saved saver cut))
     saver_leaves moment image_since before after leaves =
-        Leaves-weaker moment image_since before after (PutMayLeave span slot body old) (StoreOpensOldOrNew saver.settings old (next_saved saver cut))
+        CrashLeavesAtAnyMoment-weaker moment image_since before after (PutMayLeave span slot body old)
+        (StoreOpensAsOldOrNew saver.settings old (next_saved saver cut))
         leaves saver_may_leave
 
-    pub saver_stands_after : (possible_after : List ℕ → Type 0) (new : List ℕ) (slots : SlotsState) → IsPut span slot body old new
-        → IsStoreOfSlots new possible_after slots → slots ≡ with_open_slot saver.slots slot → IsSafeForSaver (saver_after_save saver cut) possible_after new
+    pub saver_stands_after : (possible_after : List ℕ → Type 0) (new : List ℕ) (slots : KnownSlotsState) → IsPut span slot body old new
+        → IsStoreOfKnownSlots new possible_after slots → slots ≡ known_slots_after_opening saver.slots slot
+        → IsSafeForSaver (saver_after_save saver cut) possible_after new
     saver_stands_after possible_after new slots put store is_open =
         let known = stands.is_known in
         let spanned = subst (λ (n : ℕ). IsPut n slot body old new) is_span put in
@@ -72,19 +80,19 @@ module _ (saver : SaverState) (possible : List ℕ → Type 0) (old : List ℕ) 
         (saver_slot_is_small saver.newest_slot) known.holds (inl (ap other_slot_of_put known.slot_is)) is (omega (arith, known.sequence_is)) put_there in
         record {
           is_known = record {
-            slots_are = sym (is_open ∙ ap (λ (n : ℕ). with_open_slot saver.slots n) is_slot) ∙ store.slots_are;
+            slots_are = sym (is_open ∙ ap (λ (n : ℕ). known_slots_after_opening saver.slots n) is_slot) ∙ store.slots_are;
             first = holds.first;
             second = holds.second;
             holds = holds.holds;
             slot_is = sym holds.slot_is;
-            sequence_is = ap opened_store_sequence (sym holds.newest_is);
-            positions_are = ap (opened_store_positions saver.settings) (sym holds.newest_is);
+            sequence_is = ap store_sequence (sym holds.newest_is);
+            positions_are = ap (store_positions saver.settings) (sym holds.newest_is);
           };
           only = store.only;
         }
 
-    pub saver_opens_after : (possible_after : List ℕ → Type 0) (new : List ℕ) (slots : SlotsState) → IsPut span slot body old new
-        → IsStoreOfSlots new possible_after slots → (image : List ℕ) → possible_after image
+    pub saver_opens_after : (possible_after : List ℕ → Type 0) (new : List ℕ) (slots : KnownSlotsState) → IsPut span slot body old new
+        → IsStoreOfKnownSlots new possible_after slots → (image : List ℕ) → possible_after image
         → StoreOpensTo saver.settings image (Some (next_saved saver cut))
     saver_opens_after possible_after new slots put store image may =
         let known = stands.is_known in
@@ -96,7 +104,7 @@ module _ (saver : SaverState) (possible : List ℕ → Type 0) (old : List ℕ) 
 
 -- a crash before the first call of the disk
 pub saver_leaves_none : (saver : SaverState) (possible : List ℕ → Type 0) (old : List ℕ) (saved : SavedValue) → IsSafeForSaver saver possible old
-    → (image : List ℕ) → possible image → StoreOpensOldOrNew saver.settings old saved image
+    → (image : List ℕ) → possible image → StoreOpensAsOldOrNew saver.settings old saved image
 saver_leaves_none saver possible old saved stands image may =
     let known = stands.is_known in
     let opens : StoreOpensTo saver.settings old (newest_in_store known.first known.second) = (known.first, known.second, known.holds, refl) in
@@ -107,16 +115,16 @@ saver_leaves_none saver possible old saved stands image may =
     )
 
 -- two closed gates and a header
-pub saver_is_closed_by_parts : (slots : SlotsState) (header : List ℕ) → slots.first_open ≡ false → slots.second_open ≡ false
-    → slots.header ≡ header → slots ≡ closed_slots header
+pub saver_is_closed_by_parts : (slots : KnownSlotsState) (header : List ℕ) → slots.first_open ≡ false → slots.second_open ≡ false
+    → slots.header ≡ header → slots ≡ closed_known_slots header
 saver_is_closed_by_parts slots header first second same =
-    ap (λ (b : Bool). let s : SlotsState = record slots { first_open = b } in s) first
-    ∙ ap (λ (b : Bool). let s : SlotsState = record slots { first_open = false; second_open = b } in s) second
-    ∙ ap closed_slots same
+    ap (λ (b : Bool). let s : KnownSlotsState = record slots { first_open = b } in s) first
+    ∙ ap (λ (b : Bool). let s : KnownSlotsState = record slots { first_open = false; second_open = b } in s) second
+    ∙ ap closed_known_slots same
 
 -- a saver of a store with no gate open
-pub new_saver_stands : (settings : StoreSettings) (slots : SlotsState) (digest : List ℕ) (possible : List ℕ → Type 0) (bytes : List ℕ)
-    → slots ≡ closed_slots (header_of_settings settings) → IsStoreOfSlots bytes possible slots
+pub new_saver_stands : (settings : StoreSettings) (slots : KnownSlotsState) (digest : List ℕ) (possible : List ℕ → Type 0) (bytes : List ℕ)
+    → slots ≡ closed_known_slots (header_of_settings settings) → IsStoreOfKnownSlots bytes possible slots
     → IsSafeForSaver (saver_of slots settings digest None) possible bytes
 new_saver_stands settings slots digest possible bytes closed store = record {
   is_known = record {

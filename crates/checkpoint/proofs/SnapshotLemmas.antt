@@ -12,7 +12,7 @@ use Rattle.space_saving.specs.{TableValue, table_total}
 use Rattle.shard_state.specs.{SnapshotValue, IsSnapshot, snapshot_table_at, snapshot_total}
 use Rattle.checkpoint.specs.NumberBytes.{number_bytes}
 use Rattle.checkpoint.specs.Body.{body_table_bytes, body_snapshot_bytes}
-use Rattle.checkpoint.specs.Spellings.{BeginsWithSpelling, AreManyForSpelling, TableFitsSpelling, SnapshotFitsSpelling}
+use Rattle.checkpoint.specs.Spellings.{BeginsWithSpelling, ListFitsSpelling, TableFitsSpelling, SnapshotFitsSpelling}
 use Rattle.checkpoint.proofs.NumberBytesLemmas.{length-number_bytes}
 use Rattle.checkpoint.proofs.SpellingLemmas.{spellings_in_bytes_are_apart}
 use Rattle.checkpoint.proofs.PrefixFreeLemmas.{prefix_free_tables_fit}
@@ -49,7 +49,7 @@ snapshot_is_long capacity bytes snapshot rest begins =
 -- what was read in front of a snapshot's tables
 pub record SnapshotFront (capacity position : ℕ) (snapshot : SnapshotValue) (middle rest : List ℕ) : Type 0 where
   pub position_is : position ≡ snapshot.position
-  pub tables_begin : BeginsWithSpelling (flat_map body_table_bytes) (AreManyForSpelling (TableFitsSpelling capacity) 25) middle snapshot.tables rest
+  pub tables_begin : BeginsWithSpelling (flat_map body_table_bytes) (ListFitsSpelling (TableFitsSpelling capacity) 25) middle snapshot.tables rest
 
 pub snapshot_has_front : (capacity : ℕ) (bytes middle rest : List ℕ) (position : ℕ) (snapshot : SnapshotValue)
     → position < 2 ^ 64 → bytes ≡ number_bytes 8 position ++ middle → BeginsWithSpelling body_snapshot_bytes (SnapshotFitsSpelling capacity) bytes snapshot rest
@@ -114,13 +114,13 @@ snapshot_has_same_capacity given capacity (first ∷ rest) shape alike =
 pub snapshot_was_decoded : (capacity : ℕ) (bytes middle rest : List ℕ) (position : ℕ) (tables : List TableValue) (snapshot : SnapshotValue)
     → IsSnapshot snapshot → snapshot.position ≡ position → map (snapshot_with_entries snapshot.capacity) snapshot.tables ≡ tables
     → All (λ (table : TableValue). table.capacity ≡ capacity) tables → bytes ≡ number_bytes 8 position ++ middle
-    → BeginsWithSpelling (flat_map body_table_bytes) (AreManyForSpelling (TableFitsSpelling capacity) 25) middle (map entries_in_snapshot tables) rest
+    → BeginsWithSpelling (flat_map body_table_bytes) (ListFitsSpelling (TableFitsSpelling capacity) 25) middle (map entries_in_snapshot tables) rest
     → BeginsWithSpelling body_snapshot_bytes (SnapshotFitsSpelling capacity) bytes snapshot rest
 snapshot_was_decoded capacity bytes middle rest position tables snapshot is_snapshot placed made alike is begins =
     let same : map entries_in_snapshot tables ≡ snapshot.tables = ap (map entries_in_snapshot) (sym made)
     ∙ snapshot_entries_come_back snapshot.capacity snapshot.tables in
-    let whole : BeginsWithSpelling (flat_map body_table_bytes) (AreManyForSpelling (TableFitsSpelling capacity) 25) middle snapshot.tables rest =
-    subst (λ (l : List (List Entry)). BeginsWithSpelling (flat_map body_table_bytes) (AreManyForSpelling (TableFitsSpelling capacity) 25) middle l rest)
+    let whole : BeginsWithSpelling (flat_map body_table_bytes) (ListFitsSpelling (TableFitsSpelling capacity) 25) middle snapshot.tables rest =
+    subst (λ (l : List (List Entry)). BeginsWithSpelling (flat_map body_table_bytes) (ListFitsSpelling (TableFitsSpelling capacity) 25) middle l rest)
     same begins in
     record {
       fits = record {

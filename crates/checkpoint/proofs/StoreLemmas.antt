@@ -1,24 +1,31 @@
 -- What a store opens to, and what puts into it leave.
-use Rattle.std.proofs.Common.{◌≡◌, ◌⊎◌, ℕ, zero, suc, ◌+◌, ◌<◌, ◌≤◌, Bool, true, false, List, length, Option, Some, None}
+use Rattle.std.proofs.Common.{◌≡◌, ◌⊎◌, ℕ, zero, suc, ◌+◌, ◌<◌, ◌≤◌, Bool, true, false, List, length, Option, Some}
+use Rattle.std.proofs.Common.{None}
 use Rattle.std.proofs.Common.{refl, sym, ap, subst, ◌∙◌, inl, inr, ⊎_elim, arith, le-ltb, lt-ltb, nat_lt, if◌then◌else◌}
-use Rattle.slot_disk.specs.{Closed, Whole, closed_slots, store_content, store_front_bytes, other_slot_of_put, shown_in_store, slots_of, store_is_open, stored_body, store_number_at, SlotsState, IsWholeForPut}
+use Rattle.slot_disk.specs.{Closed, Whole, closed_known_slots, layout_slot_content, layout_front_bytes}
+use Rattle.slot_disk.specs.{other_slot_of_put, shown_in_layout, known_slots_of, layout_gate_is_open, layout_body}
+use Rattle.slot_disk.specs.{layout_number_at, KnownSlotsState, IsWholeForPut}
 use Rattle.byteorder.specs.Endian.{big_from}
 use Rattle.byteorder.specs.Numbers.{big_number-reads_back}
 use Rattle.slot_disk.specs.{IsReadyForPut, PutMayLeave, IsPut}
 use Rattle.checkpoint.specs.declared.settings.StoreSettings.{StoreSettings}
-use Rattle.checkpoint.specs.HeaderSettings.{AreHeaderSettings, header_of_settings, span_of_settings}
-use Rattle.checkpoint.specs.Body.{SavedValue, IsBody, body_content_bytes}
+use Rattle.checkpoint.specs.HeaderSettings.{AreHeaderSettings, header_of_settings}
+use Rattle.checkpoint.specs.Span.{span_of_settings}
+use Rattle.checkpoint.specs.Saved.{SavedValue}
+use Rattle.checkpoint.specs.Body.{IsBody, body_content_bytes}
 use Rattle.checkpoint.specs.NumberBytes.{number_bytes}
-use Rattle.checkpoint.specs.Store.{StoreSlotHolds, StoreHolds, newest_in_store, newest_slot_in_store, IsNotNewestInStore, StoreOpensOldOrNew}
-use Rattle.checkpoint.specs.Store.{StoreHasNewest, opened_store_sequence}
-use Rattle.checkpoint.specs.StoreLaws.{BodiesFitSlots, FormattedStoresAreEmpty, PutsOpenOldOrNew, PutsOpenTheNew}
-use Rattle.checkpoint.specs.StoreLaws.{StoresAreReady, StoresHoldOne, StoresOpenToOne}
+use Rattle.checkpoint.specs.Store.{StoreSlotHolds, StoreHolds, newest_in_store, newest_slot_in_store}
+use Rattle.checkpoint.specs.Store.{IsNotNewestInStore, StoreOpensAsOldOrNew}
+use Rattle.checkpoint.specs.Store.{StoreHasNewest, store_sequence}
+use Rattle.checkpoint.specs.Store.{StoreBodiesFitSlots, FormattedStoresAreEmpty, StorePutsOpenOldOrNew}
+use Rattle.checkpoint.specs.Store.{StorePutsOpenNewBody}
+use Rattle.checkpoint.specs.Store.{StoresAreReady, StoreSlotsHoldOneThing, StoresOpenToOneThing}
 use Rattle.checkpoint.proofs.BodyPartLemmas.{body_parts_fit_span, body_parts_are_long}
 use Rattle.checkpoint.proofs.OneBodyLemmas.{one_body_is_short, one_body_spells_one_value}
 
 -- a slot with the same content holds the same
 store_slot_holds_same : (settings : StoreSettings) (slot : ℕ) (old image : List ℕ) (held : Option SavedValue)
-    → store_content (span_of_settings settings) slot image ≡ store_content (span_of_settings settings) slot old
+    → layout_slot_content (span_of_settings settings) slot image ≡ layout_slot_content (span_of_settings settings) slot old
     → StoreSlotHolds settings slot old held → StoreSlotHolds settings slot image held
 store_slot_holds_same settings slot old image None same shut = same ∙ shut
 store_slot_holds_same settings slot old image (Some saved) same whole = (whole.0, same ∙ whole.1, whole.2)
@@ -60,7 +67,7 @@ pub record StoreIsReplaced (before closed written : Option SavedValue) (slot_wri
   pub slot_is : slot_written ≡ slot
 
 store_replaces_first : (first second : Option SavedValue) (saved : SavedValue) → IsNotNewestInStore 0 first second
-    → opened_store_sequence (newest_in_store first second) < saved.sequence
+    → store_sequence (newest_in_store first second) < saved.sequence
     → StoreIsReplaced (newest_in_store first second) (newest_in_store None second) (newest_in_store (Some saved) second)
     (newest_slot_in_store (Some saved) second) 0 saved
 store_replaces_first None None saved free lt = record { closed_is = refl; written_is = refl; slot_is = refl }
@@ -70,7 +77,7 @@ store_replaces_first (Some one) None saved free lt = absurd (⊎_elim (λ same. 
 store_replaces_first (Some one) (Some two) saved free lt = by_test (nat_lt one.sequence two.sequence) free lt
   where
     by_test : (b : Bool) → (0 ≡ other_slot_of_put (if b then 1 else 0)) ⊎ ((if b then Some two else Some one) ≡ None)
-        → opened_store_sequence (if b then Some two else Some one) < saved.sequence
+        → store_sequence (if b then Some two else Some one) < saved.sequence
         → StoreIsReplaced (if b then Some two else Some one) (Some two) (newest_in_store (Some saved) (Some two))
         (newest_slot_in_store (Some saved) (Some two)) 0 saved
     by_test true free lt =
@@ -78,7 +85,7 @@ store_replaces_first (Some one) (Some two) saved free lt = by_test (nat_lt one.s
     by_test false free lt = absurd (⊎_elim (λ same. cc same) (λ none. cc none) free)
 
 store_replaces_second : (first second : Option SavedValue) (saved : SavedValue) → IsNotNewestInStore 1 first second
-    → opened_store_sequence (newest_in_store first second) < saved.sequence
+    → store_sequence (newest_in_store first second) < saved.sequence
     → StoreIsReplaced (newest_in_store first second) (newest_in_store first None) (newest_in_store first (Some saved))
     (newest_slot_in_store first (Some saved)) 1 saved
 store_replaces_second None None saved free lt = record { closed_is = refl; written_is = refl; slot_is = refl }
@@ -88,7 +95,7 @@ store_replaces_second (Some one) None saved free lt =
 store_replaces_second (Some one) (Some two) saved free lt = by_test (nat_lt one.sequence two.sequence) free lt
   where
     by_test : (b : Bool) → (1 ≡ other_slot_of_put (if b then 1 else 0)) ⊎ ((if b then Some two else Some one) ≡ None)
-        → opened_store_sequence (if b then Some two else Some one) < saved.sequence
+        → store_sequence (if b then Some two else Some one) < saved.sequence
         → StoreIsReplaced (if b then Some two else Some one) (Some one) (newest_in_store (Some one) (Some saved))
         (newest_slot_in_store (Some one) (Some saved)) 1 saved
     by_test true free lt = absurd (⊎_elim (λ same. cc same) (λ none. cc none) free)
@@ -98,8 +105,8 @@ store_replaces_second (Some one) (Some two) saved free lt = by_test (nat_lt one.
 -- slot 0 of a sound store is written: the image is as the old store, or the slot is closed, or holds the new body
 store_with_first_written : (settings : StoreSettings) (saved : SavedValue) (body old image : List ℕ) (first second : Option SavedValue)
     → StoreHolds settings old first second → IsNotNewestInStore 0 first second → IsBody settings.shards settings.capacity saved body
-    → opened_store_sequence (newest_in_store first second) < saved.sequence → PutMayLeave (span_of_settings settings) 0 body old image
-    → StoreOpensOldOrNew settings old saved image
+    → store_sequence (newest_in_store first second) < saved.sequence → PutMayLeave (span_of_settings settings) 0 body old image
+    → StoreOpensAsOldOrNew settings old saved image
 store_with_first_written settings saved body old image first second holds free is lt may =
     let replaced = store_replaces_first first second saved free lt in
     let beside = store_slot_holds_same settings 1 old image second may.beside.other_slot holds.second_slot in
@@ -113,8 +120,8 @@ store_with_first_written settings saved body old image first second holds free i
 
 store_with_second_written : (settings : StoreSettings) (saved : SavedValue) (body old image : List ℕ) (first second : Option SavedValue)
     → StoreHolds settings old first second → IsNotNewestInStore 1 first second → IsBody settings.shards settings.capacity saved body
-    → opened_store_sequence (newest_in_store first second) < saved.sequence → PutMayLeave (span_of_settings settings) 1 body old image
-    → StoreOpensOldOrNew settings old saved image
+    → store_sequence (newest_in_store first second) < saved.sequence → PutMayLeave (span_of_settings settings) 1 body old image
+    → StoreOpensAsOldOrNew settings old saved image
 store_with_second_written settings saved body old image first second holds free is lt may =
     let replaced = store_replaces_second first second saved free lt in
     let beside = store_slot_holds_same settings 0 old image first may.beside.other_slot holds.first_slot in
@@ -126,7 +133,7 @@ store_with_second_written settings saved body old image first second holds free 
     (λ whole. inr (first, Some saved, store_of (Some saved) whole, replaced.written_is)) changed)
     (store_slot_may_hold_new settings 1 saved body old image second is holds.second_slot may)
 
-pub stores_open_old_or_new : PutsOpenOldOrNew
+pub stores_open_old_or_new : StorePutsOpenOldOrNew
 stores_open_old_or_new settings zero saved body old image first second within holds free is lt may =
     store_with_first_written settings saved body old image first second holds free is lt may
 stores_open_old_or_new settings (suc zero) saved body old image first second within holds free is lt may =
@@ -137,7 +144,7 @@ stores_open_old_or_new settings (suc (suc slot)) saved body old image first seco
 -- once a put is done, the slot is the newest, and holds the new body
 pub store_holds_new_body : (settings : StoreSettings) (slot : ℕ) (saved : SavedValue) (body old image : List ℕ)
     (first second : Option SavedValue) → slot < 2 → StoreHolds settings old first second → IsNotNewestInStore slot first second
-    → IsBody settings.shards settings.capacity saved body → opened_store_sequence (newest_in_store first second) < saved.sequence
+    → IsBody settings.shards settings.capacity saved body → store_sequence (newest_in_store first second) < saved.sequence
     → IsPut (span_of_settings settings) slot body old image → StoreHasNewest settings slot saved image
 store_holds_new_body settings zero saved body old image first second within holds free is lt put =
     let replaced = store_replaces_first first second saved free lt in
@@ -172,22 +179,22 @@ store_holds_new_body settings (suc zero) saved body old image first second withi
 store_holds_new_body settings (suc (suc slot)) saved body old image first second within holds free is lt put =
     absurd (omega (arith, within))
 
-pub stores_open_the_new : PutsOpenTheNew
+pub stores_open_the_new : StorePutsOpenNewBody
 stores_open_the_new settings slot saved body old image first second within holds free is lt put =
     let new = store_holds_new_body settings slot saved body old image first second within holds free is lt put in
     (new.first, new.second, new.holds, new.newest_is)
 
 -- a store whose gates are closed
-pub closed_store_holds : (settings : StoreSettings) (image : List ℕ) → store_front_bytes ≤ length image
-    → slots_of image ≡ closed_slots (header_of_settings settings) → StoreHolds settings image None None
+pub closed_store_holds : (settings : StoreSettings) (image : List ℕ) → layout_front_bytes ≤ length image
+    → known_slots_of image ≡ closed_known_slots (header_of_settings settings) → StoreHolds settings image None None
 closed_store_holds settings image long slots =
-    let shut_first : store_is_open 0 image ≡ false = ap (λ (s : SlotsState). s.first_open) slots in
-    let shut_second : store_is_open 1 image ≡ false = ap (λ (s : SlotsState). s.second_open) slots in
+    let shut_first : layout_gate_is_open 0 image ≡ false = ap (λ (s : KnownSlotsState). s.first_open) slots in
+    let shut_second : layout_gate_is_open 1 image ≡ false = ap (λ (s : KnownSlotsState). s.second_open) slots in
     record {
       long = long;
-      header = ap (λ (s : SlotsState). s.header) slots;
-      first_slot = ap (λ (b : Bool). if b then shown_in_store (stored_body (span_of_settings settings) 0 image) else Closed) shut_first;
-      second_slot = ap (λ (b : Bool). if b then shown_in_store (stored_body (span_of_settings settings) 1 image) else Closed) shut_second;
+      header = ap (λ (s : KnownSlotsState). s.header) slots;
+      first_slot = ap (λ (b : Bool). if b then shown_in_layout (layout_body (span_of_settings settings) 0 image) else Closed) shut_first;
+      second_slot = ap (λ (b : Bool). if b then shown_in_layout (layout_body (span_of_settings settings) 1 image) else Closed) shut_second;
     }
 
 pub formatted_stores_are_empty : FormattedStoresAreEmpty
@@ -196,7 +203,7 @@ formatted_stores_are_empty settings image long slots = (None, None, closed_store
 -- a slot that holds something is whole, and one that holds nothing is closed
 store_slot_is_sound : (settings : StoreSettings) (slot : ℕ) (image : List ℕ) (held : Option SavedValue)
     → StoreSlotHolds settings slot image held
-    → IsWholeForPut (store_content (span_of_settings settings) slot image) ⊎ (store_content (span_of_settings settings) slot image ≡ Closed)
+    → IsWholeForPut (layout_slot_content (span_of_settings settings) slot image) ⊎ (layout_slot_content (span_of_settings settings) slot image ≡ Closed)
 store_slot_is_sound settings slot image None shut = inr shut
 store_slot_is_sound settings slot image (Some saved) whole = inl (whole.0, whole.1)
 
@@ -241,13 +248,13 @@ store_slot_holds_one settings slot image (Some saved) (Some other_one) are holds
     ap Some (one_body_spells_one_value settings saved other_one holds.0 are holds.2
     (subst (IsBody settings.shards settings.capacity other_one) (sym same) holds_again.2))
 
-pub stores_hold_one : StoresHoldOne
+pub stores_hold_one : StoreSlotsHoldOneThing
 stores_hold_one settings image first second again other_one are holds holds_again = (
   store_slot_holds_one settings 0 image first again are holds.first_slot holds_again.first_slot,
   store_slot_holds_one settings 1 image second other_one are holds.second_slot holds_again.second_slot,
 )
 
-pub stores_open_to_one : StoresOpenToOne
+pub stores_open_to_one : StoresOpenToOneThing
 stores_open_to_one settings image opened again are opens opens_again =
     let same = stores_hold_one settings image opens.0 opens.1 opens_again.0 opens_again.1 are opens.2 opens_again.2 in
     sym opens.3 ∙ ap (λ (held : Option SavedValue). newest_in_store held opens.1) same.0
@@ -255,15 +262,15 @@ stores_open_to_one settings image opened again are opens opens_again =
 
 -- a body begins with its length
 store_body_says_length : (settings : StoreSettings) (saved : SavedValue) (body : List ℕ) → AreHeaderSettings settings
-    → IsBody settings.shards settings.capacity saved body → store_number_at 0 body ≡ length body
-unfolding store_number_at number_bytes
+    → IsBody settings.shards settings.capacity saved body → layout_number_at 0 body ≡ length body
+unfolding layout_number_at number_bytes
 store_body_says_length settings saved body are is =
     let long = body_parts_are_long settings.shards settings.capacity saved body is in
     let short = one_body_is_short settings saved body are is in
     let count = 8 + length (body_content_bytes saved) in
     ap (big_from 0 8) is.spelled ∙ big_number-reads_back 8 count (body_content_bytes saved) (omega (arith, long.1, short)) ∙ sym long.1
 
-pub store_has_room_for_body : BodiesFitSlots
+pub store_has_room_for_body : StoreBodiesFitSlots
 store_has_room_for_body settings saved body are is =
     let long = body_parts_are_long settings.shards settings.capacity saved body is in
     record {

@@ -4,23 +4,15 @@ use Rattle.std.specs.Prelude.{ℕ, ◌≡◌, ◌+◌, ◌^◌, ◌<◌, ◌≤�
 use Rattle.std.specs.List.{flat_map}
 use Rattle.space_saving.specs.declared.entry.Entry.{Entry}
 use Rattle.space_saving.specs.{table_total}
-use Rattle.shard_state.specs.{CutValue, IsCut, SnapshotValue}
-use Rattle.checkpoint.specs.declared.saved.Saved.{Saved}
+use Rattle.shard_state.specs.{IsCut, SnapshotValue}
 use Rattle.checkpoint.specs.NumberBytes.{number_bytes}
+use Rattle.checkpoint.specs.Saved.{SavedValue}
+use Rattle.checkpoint.specs.declared.settings.StoreSettings.{StoreSettings}
+use Rattle.checkpoint.specs.HeaderSettings.{AreHeaderSettings}
 
--- what a body spells: a sequence, the digest of the dealt records, and a cut
-pub record SavedValue : Type 0 where
-  pub sequence : ℕ
-  pub digest : List ℕ
-  pub cut : CutValue
-
--- what was decoded, as definitions see it
-abbrev pub saved_value : Saved → SavedValue
-saved_value saved = record { sequence = saved.sequence; digest = saved.digest; cut = saved.cut }
-
--- the last sequence
-abbrev pub last_body_sequence : ℕ
-last_body_sequence = 2 ^ 62
+-- the greatest sequence of a body
+abbrev pub greatest_body_sequence : ℕ
+greatest_body_sequence = 2 ^ 62
 
 -- how many bytes a digest has
 abbrev pub body_digest_length : ℕ
@@ -58,7 +50,7 @@ BodyKeysFit snapshot = All HasShortBodyKeys snapshot.tables
 -- what may be saved in a store of so many shards and this capacity
 pub record IsSavedBody (shards capacity : ℕ) (saved : SavedValue) : Type 0 where
   pub sequenced : 1 ≤ saved.sequence
-  pub early : saved.sequence ≤ last_body_sequence
+  pub early : saved.sequence ≤ greatest_body_sequence
   pub digest : length saved.digest ≡ body_digest_length
   pub shape : length saved.cut.shards ≡ shards
   pub alike : saved.cut.capacity ≡ capacity
@@ -69,3 +61,14 @@ pub record IsSavedBody (shards capacity : ℕ) (saved : SavedValue) : Type 0 whe
 pub record IsBody (shards capacity : ℕ) (saved : SavedValue) (bytes : List ℕ) : Type 0 where
   pub is_saved : IsSavedBody shards capacity saved
   pub spelled : bytes ≡ body_bytes saved
+
+-- no body begins another one: bodies that begin the same bytes are the same
+abbrev pub BodiesAreApart : Type 0
+BodiesAreApart = (settings others : StoreSettings) (saved other : SavedValue) (body second rest after : List ℕ)
+    → AreHeaderSettings settings → AreHeaderSettings others → IsBody settings.shards settings.capacity saved body
+    → IsBody others.shards others.capacity other second → body ++ rest ≡ second ++ after → body ≡ second
+
+-- under the settings of a store a body spells one sequence, one digest and one cut
+abbrev pub BodiesSpellOneThing : Type 0
+BodiesSpellOneThing = (settings : StoreSettings) (saved other : SavedValue) (body : List ℕ) → AreHeaderSettings settings
+    → IsBody settings.shards settings.capacity saved body → IsBody settings.shards settings.capacity other body → saved ≡ other

@@ -1,69 +1,69 @@
 -- A saver: what is known of a store that cuts are saved to.
 use Rattle.std.specs.Prelude.{ℕ, ◌≡◌, ◌+◌, ◌<◌, true, false, List, Option, Some, None}
 use Rattle.shard_state.specs.{CutValue, cut_positions}
-use Rattle.slot_disk.specs.{IfImageKnown, IsOnlyImage, SlotsState, known_slot_open, other_slot_of_put, slots_of, with_open_slot}
+use Rattle.slot_disk.specs.{IfImageKnown, IsOnlyImage, KnownSlotsState, known_slot_open, other_slot_of_put}
+use Rattle.slot_disk.specs.{known_slots_of, known_slots_after_opening}
 use Rattle.checkpoint.specs.declared.settings.StoreSettings.{StoreSettings}
 use Rattle.checkpoint.specs.declared.newest.Newest.{Newest}
-use Rattle.checkpoint.specs.Body.{SavedValue, IsSavedBody, saved_value}
-use Rattle.checkpoint.specs.Store.{StoreHolds, newest_in_store, newest_slot_in_store, opened_store_positions, opened_store_sequence}
+use Rattle.checkpoint.specs.Saved.{SavedValue}
+use Rattle.checkpoint.specs.Body.{IsSavedBody}
+use Rattle.checkpoint.specs.Store.{StoreHolds, newest_in_store, newest_slot_in_store, store_positions, store_sequence}
+use Rattle.checkpoint.specs.Saved.{saved_in}
 
 -- the settings of the store, its gates and header, the digest that saves write, and of the newest slot its number (1
 -- where no gate is open), its sequence and its positions (0 where no gate is open)
 pub record SaverState : Type 0 where
   pub settings : StoreSettings
-  pub slots : SlotsState
+  pub slots : KnownSlotsState
   pub digest : List ℕ
   pub newest_slot : ℕ
   pub sequence : ℕ
   pub positions : List ℕ
 
--- what the body of the newest slot spells
-abbrev pub saved_in : Newest → SavedValue
-saved_in newest_in_store = saved_value newest_in_store.saved
-
 -- this is the newest slot of a store, as far as its gates show: it is open and may have been saved, or no gate is open
-abbrev pub IsNewestForSaver : StoreSettings → SlotsState → Option Newest → Type 0
+abbrev pub IsNewestForSaver : StoreSettings → KnownSlotsState → Option Newest → Type 0
 IsNewestForSaver settings slots None = (slots.first_open ≡ false) × (slots.second_open ≡ false)
-IsNewestForSaver settings slots (Some newest_in_store) = (newest_in_store.slot < 2) × (known_slot_open slots newest_in_store.slot ≡ true)
-    × IsSavedBody settings.shards settings.capacity (saved_in newest_in_store)
+IsNewestForSaver settings slots (Some newest) = (newest.slot < 2) × (known_slot_open slots newest.slot ≡ true)
+    × IsSavedBody settings.shards settings.capacity (saved_in newest)
 
 -- the saver of a store with these gates, this digest and this newest slot
-abbrev pub saver_of : SlotsState → StoreSettings → List ℕ → Option Newest → SaverState
+abbrev pub saver_of : KnownSlotsState → StoreSettings → List ℕ → Option Newest → SaverState
 saver_of slots settings digest None = record {
   settings = settings;
   slots = slots;
   digest = digest;
   newest_slot = 1;
   sequence = 0;
-  positions = opened_store_positions settings None;
+  positions = store_positions settings None;
 }
-saver_of slots settings digest (Some newest_in_store) = record {
+saver_of slots settings digest (Some newest) = record {
   settings = settings;
   slots = slots;
   digest = digest;
-  newest_slot = newest_in_store.slot;
-  sequence = newest_in_store.saved.sequence;
-  positions = opened_store_positions settings (Some (saved_in newest_in_store));
+  newest_slot = newest.slot;
+  sequence = newest.saved.sequence;
+  positions = store_positions settings (Some (saved_in newest));
 }
 
 -- the bytes are a sound store as the saver knows it: its gates, its header and its newest slot
 pub record IsKnownToSaver (saver : SaverState) (image : List ℕ) : Type 0 where
-  pub slots_are : saver.slots ≡ slots_of image
+  pub slots_are : saver.slots ≡ known_slots_of image
   pub first : Option SavedValue
   pub second : Option SavedValue
   pub holds : StoreHolds saver.settings image first second
   pub slot_is : saver.newest_slot ≡ newest_slot_in_store first second
-  pub sequence_is : saver.sequence ≡ opened_store_sequence (newest_in_store first second)
-  pub positions_are : saver.positions ≡ opened_store_positions saver.settings (newest_in_store first second)
+  pub sequence_is : saver.sequence ≡ store_sequence (newest_in_store first second)
+  pub positions_are : saver.positions ≡ store_positions saver.settings (newest_in_store first second)
 
 -- the bytes are such a store, and a crash leaves nothing else
 pub record IsSafeForSaver (saver : SaverState) (possible : List ℕ → Type 0) (bytes : List ℕ) : Type 0 where
   pub is_known : IsKnownToSaver saver bytes
   pub only : IsOnlyImage bytes possible
 
--- the disk stands as the saver knows it: what a read gives, where it is known, is such a store
-abbrev pub StandsForSaver : Option (List ℕ) → (List ℕ → Type 0) → SaverState → Type 0
-StandsForSaver reads possible saver = IfImageKnown reads (IsSafeForSaver saver possible)
+-- the disk matches what the saver knows: what a read gives, where it is known, is such a store, and a crash leaves
+-- nothing else
+abbrev pub DiskMatchesSaver : Option (List ℕ) → (List ℕ → Type 0) → SaverState → Type 0
+DiskMatchesSaver reads possible saver = IfImageKnown reads (IsSafeForSaver saver possible)
 
 -- what the next save of a cut writes: the cut, under the next sequence and the saver's digest
 abbrev pub next_saved : SaverState → CutValue → SavedValue
@@ -72,7 +72,7 @@ next_saved saver cut = record { sequence = saver.sequence + 1; digest = saver.di
 -- the saver after a save of a cut: it is in the slot that wasn't the newest
 abbrev pub saver_after_save : SaverState → CutValue → SaverState
 saver_after_save saver cut = record saver {
-  slots = with_open_slot saver.slots (other_slot_of_put saver.newest_slot);
+  slots = known_slots_after_opening saver.slots (other_slot_of_put saver.newest_slot);
   newest_slot = other_slot_of_put saver.newest_slot;
   sequence = saver.sequence + 1;
   positions = cut_positions cut;

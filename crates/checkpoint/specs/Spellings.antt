@@ -15,7 +15,7 @@ abbrev pub BeginsWithNoSpelling : {A : Type 0} → (A → List ℕ) → (A → T
 BeginsWithNoSpelling {A = A} spell Fits bytes = (value : A) (rest : List ℕ) → BeginsWithSpelling spell Fits bytes value rest → ⊥
 
 -- so many values, each of which fits
-pub record AreManyForSpelling {A : Type 0} (Fits : A → Type 0) (count : ℕ) (values : List A) : Type 0 where
+pub record ListFitsSpelling {A : Type 0} (Fits : A → Type 0) (count : ℕ) (values : List A) : Type 0 where
   pub as_many : length values ≡ count
   pub each : All Fits values
 

@@ -1,23 +1,27 @@
 -- A store under its settings: what its two slots hold, and what it opens to.
 use Rattle.std.specs.Prelude.{ℕ, ◌≡◌, ◌≤◌, ◌⊎◌, ⊤, nat_lt, if◌then◌else◌, List, length, replicate, Option, Some, None}
+use Rattle.std.specs.Prelude.{◌<◌}
 use Rattle.prefix_lattice.specs.{RecordValue}
 use Rattle.shard_state.specs.{CutRepresents, cut_positions}
-use Rattle.slot_disk.specs.{Closed, Whole, store_content, store_front_bytes, header_of, other_slot_of_put}
+use Rattle.slot_disk.specs.{Closed, Whole, layout_slot_content, layout_front_bytes, layout_header, other_slot_of_put}
+use Rattle.slot_disk.specs.{FitsPutSlot, IsPut, IsReadyForPut, PutMayLeave, closed_known_slots, known_slots_of}
 use Rattle.checkpoint.specs.declared.settings.StoreSettings.{StoreSettings}
-use Rattle.checkpoint.specs.HeaderSettings.{header_of_settings, span_of_settings}
-use Rattle.checkpoint.specs.Body.{SavedValue, IsBody}
+use Rattle.checkpoint.specs.HeaderSettings.{header_of_settings, AreHeaderSettings}
+use Rattle.checkpoint.specs.Span.{span_of_settings}
+use Rattle.checkpoint.specs.Saved.{SavedValue}
+use Rattle.checkpoint.specs.Body.{IsBody}
 use Rattle.checkpoint.specs.Digest.{digest_of_lists}
 
 -- what a slot holds: nothing as its gate is closed, or what the body under its open gate spells
 abbrev pub StoreSlotHolds : StoreSettings → ℕ → List ℕ → Option SavedValue → Type 0
-StoreSlotHolds settings slot image None = store_content (span_of_settings settings) slot image ≡ Closed
+StoreSlotHolds settings slot image None = layout_slot_content (span_of_settings settings) slot image ≡ Closed
 StoreSlotHolds settings slot image (Some saved) =
-    (body : List ℕ) × (store_content (span_of_settings settings) slot image ≡ Whole body) × IsBody settings.shards settings.capacity saved body
+    (body : List ℕ) × (layout_slot_content (span_of_settings settings) slot image ≡ Whole body) × IsBody settings.shards settings.capacity saved body
 
 -- the bytes are a store with these settings in its header, and its slots hold these two
 pub record StoreHolds (settings : StoreSettings) (image : List ℕ) (first second : Option SavedValue) : Type 0 where
-  pub long : store_front_bytes ≤ length image
-  pub header : header_of image ≡ header_of_settings settings
+  pub long : layout_front_bytes ≤ length image
+  pub header : layout_header image ≡ header_of_settings settings
   pub first_slot : StoreSlotHolds settings 0 image first
   pub second_slot : StoreSlotHolds settings 1 image second
 
@@ -57,14 +61,14 @@ pub record StoreHasNewest (settings : StoreSettings) (slot : ℕ) (saved : Saved
   pub slot_is : newest_slot_in_store first second ≡ slot
 
 -- the positions that a store opens to, each 0 where no gate is open
-abbrev pub opened_store_positions : StoreSettings → Option SavedValue → List ℕ
-opened_store_positions settings None = replicate settings.shards 0
-opened_store_positions settings (Some saved) = cut_positions saved.cut
+abbrev pub store_positions : StoreSettings → Option SavedValue → List ℕ
+store_positions settings None = replicate settings.shards 0
+store_positions settings (Some saved) = cut_positions saved.cut
 
 -- the newest sequence of a store, 0 where no gate is open
-abbrev pub opened_store_sequence : Option SavedValue → ℕ
-opened_store_sequence None = 0
-opened_store_sequence (Some saved) = saved.sequence
+abbrev pub store_sequence : Option SavedValue → ℕ
+store_sequence None = 0
+store_sequence (Some saved) = saved.sequence
 
 -- what a store opens to is of these dealt lists: it has their digest, and its cut represents them
 abbrev pub IsStoreOfLists : StoreSettings → List (List RecordValue) → Option SavedValue → Type 0
@@ -78,10 +82,57 @@ StoreBelongs settings lists image =
     (opened : Option SavedValue) × StoreOpensTo settings image opened × IsStoreOfLists settings lists opened
 
 -- both are sound stores, and open to the same
-abbrev pub StoresOpenAlike : StoreSettings → List ℕ → List ℕ → Type 0
-StoresOpenAlike settings old image =
+abbrev pub StoresOpenToSame : StoreSettings → List ℕ → List ℕ → Type 0
+StoresOpenToSame settings old image =
     (opened : Option SavedValue) × StoreOpensTo settings old opened × StoreOpensTo settings image opened
 
 -- a save over the old store may leave these bytes: they are a sound store that opens as the old one did, or to the new one
-abbrev pub StoreOpensOldOrNew : StoreSettings → List ℕ → SavedValue → List ℕ → Type 0
-StoreOpensOldOrNew settings old saved image = StoresOpenAlike settings old image ⊎ StoreOpensTo settings image (Some saved)
+abbrev pub StoreOpensAsOldOrNew : StoreSettings → List ℕ → SavedValue → List ℕ → Type 0
+StoreOpensAsOldOrNew settings old saved image = StoresOpenToSame settings old image ⊎ StoreOpensTo settings image (Some saved)
+
+-- a header spells one set of settings
+abbrev pub StoreHeadersSpellOneThing : Type 0
+StoreHeadersSpellOneThing = (settings others : StoreSettings) → AreHeaderSettings settings → AreHeaderSettings others
+    → header_of_settings settings ≡ header_of_settings others → settings ≡ others
+
+-- under its settings each slot of a store holds one thing at most
+abbrev pub StoreSlotsHoldOneThing : Type 0
+StoreSlotsHoldOneThing = (settings : StoreSettings) (image : List ℕ) (first second again other_one : Option SavedValue)
+    → AreHeaderSettings settings → StoreHolds settings image first second → StoreHolds settings image again other_one
+    → (first ≡ again) × (second ≡ other_one)
+
+-- a store opens to one thing at most
+abbrev pub StoresOpenToOneThing : Type 0
+StoresOpenToOneThing = (settings : StoreSettings) (image : List ℕ) (opened again : Option SavedValue) → AreHeaderSettings settings
+    → StoreOpensTo settings image opened → StoreOpensTo settings image again → opened ≡ again
+
+-- what `format` leaves with the header of the settings is a sound store with no gate open
+abbrev pub FormattedStoresAreEmpty : Type 0
+FormattedStoresAreEmpty = (settings : StoreSettings) (image : List ℕ) → layout_front_bytes ≤ length image
+    → known_slots_of image ≡ closed_known_slots (header_of_settings settings) → StoreOpensTo settings image None
+
+-- a body fits a slot of the settings' span
+abbrev pub StoreBodiesFitSlots : Type 0
+StoreBodiesFitSlots = (settings : StoreSettings) (saved : SavedValue) (body : List ℕ) → AreHeaderSettings settings
+    → IsBody settings.shards settings.capacity saved body → FitsPutSlot (span_of_settings settings) body
+
+-- a sound store is ready for a put into a slot that isn't the newest
+abbrev pub StoresAreReady : Type 0
+StoresAreReady = (settings : StoreSettings) (slot : ℕ) (image : List ℕ) (first second : Option SavedValue)
+    → slot < 2 → StoreHolds settings image first second → IsNotNewestInStore slot first second
+    → IsReadyForPut (span_of_settings settings) slot image
+
+-- a put of a later body over a sound store, into a slot that isn't the newest: each image that it may leave is a sound
+-- store, and opens as the old one did, or to the new body
+abbrev pub StorePutsOpenOldOrNew : Type 0
+StorePutsOpenOldOrNew = (settings : StoreSettings) (slot : ℕ) (saved : SavedValue) (body old image : List ℕ)
+    (first second : Option SavedValue) → slot < 2 → StoreHolds settings old first second → IsNotNewestInStore slot first second
+    → IsBody settings.shards settings.capacity saved body → store_sequence (newest_in_store first second) < saved.sequence
+    → PutMayLeave (span_of_settings settings) slot body old image → StoreOpensAsOldOrNew settings old saved image
+
+-- once such a put is done, the store opens to the new body
+abbrev pub StorePutsOpenNewBody : Type 0
+StorePutsOpenNewBody = (settings : StoreSettings) (slot : ℕ) (saved : SavedValue) (body old image : List ℕ)
+    (first second : Option SavedValue) → slot < 2 → StoreHolds settings old first second → IsNotNewestInStore slot first second
+    → IsBody settings.shards settings.capacity saved body → store_sequence (newest_in_store first second) < saved.sequence
+    → IsPut (span_of_settings settings) slot body old image → StoreOpensTo settings image (Some saved)

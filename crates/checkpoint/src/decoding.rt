@@ -7,8 +7,10 @@ ghost use Rattle.space_saving.specs.declared.entry.Entry.{Entry};
 ghost use Rattle.prefix_lattice.specs.{node_count};
 ghost use Rattle.shard_state.specs.{IsCut, SnapshotValue, least_table_capacity, most_table_capacity};
 ghost use Rattle.checkpoint.specs.HeaderSettings.{AreHeaderSettings};
-ghost use Rattle.checkpoint.specs.Body.{SavedValue, IsBody, saved_value, body_entry_bytes, body_table_bytes, body_snapshot_bytes};
-ghost use Rattle.checkpoint.specs.Spellings.{AreManyForSpelling, BeginsWithSpelling, BeginsWithNoSpelling, EntryFitsSpelling, SnapshotFitsSpelling, TableFitsSpelling};
+ghost use Rattle.checkpoint.specs.Saved.{SavedValue, saved_value};
+ghost use Rattle.checkpoint.specs.Body.{IsBody, body_entry_bytes, body_table_bytes, body_snapshot_bytes};
+ghost use Rattle.checkpoint.specs.Spellings.{ListFitsSpelling, BeginsWithSpelling, BeginsWithNoSpelling};
+ghost use Rattle.checkpoint.specs.Spellings.{EntryFitsSpelling, SnapshotFitsSpelling, TableFitsSpelling};
 
 use crate::lengths::NODES;
 use crate::numbers::{first_count, first_digest, first_number};
@@ -61,9 +63,9 @@ fn read_cut(alloc: Global, settings: &StoreSettings, bytes: &[u8]) -> Result<Cut
     ensures cut { IfOk result IsCut }
     ensures capacity { IfOk result (λ cut. cut.capacity ≡ settings.now.capacity) }
     ensures read { IfOk result (λ cut. BeginsWithSpelling (flat_map body_snapshot_bytes)
-        (AreManyForSpelling (SnapshotFitsSpelling settings.now.capacity) settings.now.shards) bytes.now cut.shards []) }
+        (ListFitsSpelling (SnapshotFitsSpelling settings.now.capacity) settings.now.shards) bytes.now cut.shards []) }
     ensures damaged { IsErrOf result DecodeFault.Damaged → (shards : List SnapshotValue) → BeginsWithSpelling (flat_map body_snapshot_bytes)
-        (AreManyForSpelling (SnapshotFitsSpelling settings.now.capacity) settings.now.shards) bytes.now shards [] → ⊥ }
+        (ListFitsSpelling (SnapshotFitsSpelling settings.now.capacity) settings.now.shards) bytes.now shards [] → ⊥ }
 {
     let (cut, rest) = read_snapshots(alloc, settings, bytes)?;
     if !rest.is_empty() {
@@ -81,9 +83,9 @@ fn read_snapshots<'a>(
     requires { AreHeaderSettings settings.now }
     ensures capacity { IfOk result (λ read. read.0.capacity ≡ settings.now.capacity) }
     ensures read { IfOk result (λ read. BeginsWithSpelling (flat_map body_snapshot_bytes)
-        (AreManyForSpelling (SnapshotFitsSpelling settings.now.capacity) settings.now.shards) bytes.now read.0.shards read.1.now) }
+        (ListFitsSpelling (SnapshotFitsSpelling settings.now.capacity) settings.now.shards) bytes.now read.0.shards read.1.now) }
     ensures damaged { IsErrOf result DecodeFault.Damaged →
-        BeginsWithNoSpelling (flat_map body_snapshot_bytes) (AreManyForSpelling (SnapshotFitsSpelling settings.now.capacity) settings.now.shards) bytes.now }
+        BeginsWithNoSpelling (flat_map body_snapshot_bytes) (ListFitsSpelling (SnapshotFitsSpelling settings.now.capacity) settings.now.shards) bytes.now }
 {
     let mut cut = Cut::with_room(alloc, settings.shards, settings.capacity)?;
     let mut rest = bytes;
@@ -127,10 +129,10 @@ fn read_tables(
     requires least { least_table_capacity ≤ capacity }
     requires most { capacity ≤ most_table_capacity }
     ensures capacity { IfOk result (λ read. All (λ table. table.capacity ≡ capacity) read.0.items) }
-    ensures read { IfOk result (λ read. BeginsWithSpelling (flat_map body_table_bytes) (AreManyForSpelling (TableFitsSpelling capacity) node_count)
+    ensures read { IfOk result (λ read. BeginsWithSpelling (flat_map body_table_bytes) (ListFitsSpelling (TableFitsSpelling capacity) node_count)
         bytes.now (map (λ table. table.entries) read.0.items) read.1.now) }
     ensures damaged { IsErrOf result DecodeFault.Damaged →
-        BeginsWithNoSpelling (flat_map body_table_bytes) (AreManyForSpelling (TableFitsSpelling capacity) node_count) bytes.now }
+        BeginsWithNoSpelling (flat_map body_table_bytes) (ListFitsSpelling (TableFitsSpelling capacity) node_count) bytes.now }
 {
     let mut tables = Vec::with_capacity(alloc, usize::from(NODES))?;
     let mut rest = bytes;
@@ -177,8 +179,10 @@ fn read_entries(
 ) -> Result<(Vec<Entry>, &[u8]), DecodeFault>
     requires few { count ≤ capacity }
     ensures reserved { IfOk result (λ read. capacity ≤ vec_capacity read.0) }
-    ensures read { IfOk result (λ read. BeginsWithSpelling (flat_map body_entry_bytes) (AreManyForSpelling EntryFitsSpelling count) bytes.now read.0.items read.1.now) }
-    ensures damaged { IsErrOf result DecodeFault.Damaged → BeginsWithNoSpelling (flat_map body_entry_bytes) (AreManyForSpelling EntryFitsSpelling count) bytes.now }
+    ensures read { IfOk result (λ read. BeginsWithSpelling (flat_map body_entry_bytes) (ListFitsSpelling EntryFitsSpelling count)
+        bytes.now read.0.items read.1.now) }
+    ensures damaged { IsErrOf result DecodeFault.Damaged
+        → BeginsWithNoSpelling (flat_map body_entry_bytes) (ListFitsSpelling EntryFitsSpelling count) bytes.now }
 {
     let mut entries = Vec::with_capacity(alloc, capacity as usize)?;
     let mut rest = bytes;

@@ -6,7 +6,7 @@ ghost use Rattle.sha2.specs.Hashers.{Holds256};
 ghost use Rattle.checkpoint.specs.NumberBytes.{number_bytes};
 ghost use Rattle.checkpoint.specs.HeaderSettings.{AreHeaderSettings};
 ghost use Rattle.checkpoint.specs.Digest.{digest_of_lists, digested_list_bytes, digested_record_bytes};
-ghost use Rattle.prefix_lattice.specs.{most_records};
+ghost use Rattle.prefix_lattice.specs.{record_limit};
 
 use crate::{StoreSettings, header_of};
 use byteorder::{BigEndian, ByteOrder};
@@ -40,7 +40,7 @@ fn hash_lists(hasher: &mut Sha256, dealt: &Dealt)
 
 // Hashes the number of records of a shard, and the records in their order.
 fn hash_list(hasher: &mut Sha256, list: &RecordList)
-    requires { length list.now ≤ most_records }
+    requires { length list.now ≤ record_limit }
     ensures { (text : List ℕ) → Holds256 hasher.old text → Holds256 hasher.new (text ++ digested_list_bytes list.now) }
 {
     hash_number(hasher, list.len() as u32);

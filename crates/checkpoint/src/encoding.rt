@@ -2,11 +2,12 @@
 
 ghost use Rattle.std.specs.Prelude.{◌≡◌, ◌+◌, ◌*◌, ◌<◌, ◌≤◌, ◌^◌, ◌++◌, length, All, OnOk, IfOk};
 ghost use Rattle.std.specs.List.{flat_map};
-ghost use Rattle.prefix_lattice.specs.{most_shards};
+ghost use Rattle.prefix_lattice.specs.{shard_limit};
 ghost use Rattle.shard_state.specs.{IsSnapshot};
-ghost use Rattle.checkpoint.specs.HeaderSettings.{body_span_by_header_settings};
-ghost use Rattle.checkpoint.specs.Body.{body_entry_bytes, body_table_bytes, body_snapshot_bytes, HasShortBodyKeys, BodyKeysFit};
-ghost use Rattle.checkpoint.specs.Body.{IsBody, last_body_sequence};
+ghost use Rattle.checkpoint.specs.Span.{body_span};
+ghost use Rattle.checkpoint.specs.Body.{body_entry_bytes, body_table_bytes, body_snapshot_bytes, HasShortBodyKeys};
+ghost use Rattle.checkpoint.specs.Body.{BodyKeysFit};
+ghost use Rattle.checkpoint.specs.Body.{IsBody, greatest_body_sequence};
 
 use crate::lengths::{NODES, body_length};
 use crate::numbers::{push_count, push_number};
@@ -24,11 +25,11 @@ pub fn encode(
     cut: &Cut,
 ) -> Result<Vec<u8>, AllocError>
     requires sequenced { 1 ≤ sequence }
-    requires early { sequence ≤ last_body_sequence }
-    requires few { length cut.now.shards ≤ most_shards }
+    requires early { sequence ≤ greatest_body_sequence }
+    requires few { length cut.now.shards ≤ shard_limit }
     ensures body { IfOk result (λ body. IsBody (length cut.now.shards) cut.now.capacity
         (record { sequence = sequence; digest = digest.now; cut = cut.now }) body.items) }
-    ensures fits { IfOk result (λ body. length body.items ≤ body_span_by_header_settings (length cut.now.shards) cut.now.capacity) }
+    ensures fits { IfOk result (λ body. length body.items ≤ body_span (length cut.now.shards) cut.now.capacity) }
 {
     let length = body_length(cut);
     let mut body = Vec::with_capacity(alloc, length)?;

@@ -4,7 +4,8 @@ ghost use Rattle.std.specs.Prelude.{◌≡◌, ◌≤◌, ◌↔◌, None, Some,
 ghost use Rattle.deal_rules.specs.declared.deal_kind.DealKind.{DealKind};
 ghost use Rattle.frame_records.specs.declared.weigh.Weigh.{Weigh};
 ghost use Rattle.checkpoint.specs.declared.settings.StoreSettings.{StoreSettings};
-ghost use Rattle.checkpoint.specs.HeaderSettings.{AreHeaderSettings, header_of_settings, header_weigh_setting, header_deal_setting};
+ghost use Rattle.checkpoint.specs.HeaderSettings.{AreHeaderSettings, header_of_settings, header_weighing_byte};
+ghost use Rattle.checkpoint.specs.HeaderSettings.{header_dealing_byte};
 
 use crate::StoreSettings;
 use byteorder::{BigEndian, ByteOrder};
@@ -60,7 +61,7 @@ pub fn read_header(bytes: &[u8; 62]) -> Option<StoreSettings>
 
 // The byte of a way of weighing.
 fn weigh_byte(weigh: Weigh) -> u8
-    ensures { result ≡ header_weigh_setting weigh }
+    ensures { result ≡ header_weighing_byte weigh }
 {
     match weigh {
         Weigh::Bytes => 0,
@@ -70,7 +71,7 @@ fn weigh_byte(weigh: Weigh) -> u8
 
 // The way of weighing with this byte.
 fn weigh_of(byte: u8) -> Option<Weigh>
-    ensures { (weigh : Weigh) → (result ≡ Some weigh) ↔ (byte ≡ header_weigh_setting weigh) }
+    ensures { (weigh : Weigh) → (result ≡ Some weigh) ↔ (byte ≡ header_weighing_byte weigh) }
 {
     match byte {
         0 => Some(Weigh::Bytes),
@@ -81,7 +82,7 @@ fn weigh_of(byte: u8) -> Option<Weigh>
 
 // The byte of a kind of dealing.
 fn deal_byte(deal: DealKind) -> u8
-    ensures { result ≡ header_deal_setting deal }
+    ensures { result ≡ header_dealing_byte deal }
 {
     match deal {
         DealKind::RoundRobin => 0,
@@ -92,7 +93,7 @@ fn deal_byte(deal: DealKind) -> u8
 
 // The kind of dealing with this byte.
 fn deal_of(byte: u8) -> Option<DealKind>
-    ensures { (deal : DealKind) → (result ≡ Some deal) ↔ (byte ≡ header_deal_setting deal) }
+    ensures { (deal : DealKind) → (result ≡ Some deal) ↔ (byte ≡ header_dealing_byte deal) }
 {
     match byte {
         0 => Some(DealKind::RoundRobin),

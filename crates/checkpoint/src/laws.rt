@@ -1,8 +1,10 @@
 //! What holds of bodies and of stores, each law the contract of a function with an empty body.
 
-ghost use Rattle.checkpoint.specs.BodyLaws.{BodiesAreApart, BodiesSpellOne};
-ghost use Rattle.checkpoint.specs.StoreLaws.{BodiesFitSlots, FormattedStoresAreEmpty, HeadersSpellOne, PutsOpenOldOrNew};
-ghost use Rattle.checkpoint.specs.StoreLaws.{PutsOpenTheNew, StoresAreReady, StoresHoldOne, StoresOpenToOne};
+ghost use Rattle.checkpoint.specs.Body.{BodiesAreApart, BodiesSpellOneThing};
+ghost use Rattle.checkpoint.specs.Store.{StoreBodiesFitSlots, FormattedStoresAreEmpty, StoreHeadersSpellOneThing};
+ghost use Rattle.checkpoint.specs.Store.{StorePutsOpenOldOrNew};
+ghost use Rattle.checkpoint.specs.Store.{StorePutsOpenNewBody, StoresAreReady, StoreSlotsHoldOneThing};
+ghost use Rattle.checkpoint.specs.Store.{StoresOpenToOneThing};
 
 /// No body begins another one, whatever the settings. So bytes that follow a body don't change what is read.
 pub fn bodies_are_apart()
@@ -12,22 +14,22 @@ pub fn bodies_are_apart()
 /// A body spells one sequence, one digest and one cut under the settings of its store. So what `decode` reads from what
 /// `encode` wrote is what was written.
 pub fn bodies_spell_one()
-    ensures { BodiesSpellOne }
+    ensures { BodiesSpellOneThing }
 {}
 
 /// A header spells one set of settings.
 pub fn headers_spell_one()
-    ensures { HeadersSpellOne }
+    ensures { StoreHeadersSpellOneThing }
 {}
 
 /// Under its settings each slot of a store holds one thing at most.
 pub fn stores_hold_one()
-    ensures { StoresHoldOne }
+    ensures { StoreSlotsHoldOneThing }
 {}
 
 /// Under its settings a store opens to one thing at most.
 pub fn stores_open_to_one()
-    ensures { StoresOpenToOne }
+    ensures { StoresOpenToOneThing }
 {}
 
 /// What `format` of `slot_disk` leaves, where its header is that of the settings, is a sound store with no gate open.
@@ -37,7 +39,7 @@ pub fn formatted_stores_are_empty()
 
 /// A body fits a slot of the span of its settings, so it may be put there.
 pub fn bodies_fit_slots()
-    ensures { BodiesFitSlots }
+    ensures { StoreBodiesFitSlots }
 {}
 
 /// A sound store is ready for a put into a slot that isn't the newest.
@@ -48,10 +50,10 @@ pub fn stores_are_ready()
 /// A put of a later body over a sound store, into a slot that isn't the newest, leaves at any moment a sound store that
 /// opens as the old one did, or to the new body.
 pub fn puts_open_old_or_new()
-    ensures { PutsOpenOldOrNew }
+    ensures { StorePutsOpenOldOrNew }
 {}
 
 /// Once such a put is done, the store opens to the new body.
 pub fn puts_open_the_new()
-    ensures { PutsOpenTheNew }
+    ensures { StorePutsOpenNewBody }
 {}

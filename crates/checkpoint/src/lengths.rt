@@ -2,7 +2,7 @@
 
 ghost use Rattle.std.specs.Prelude.{◌≡◌, ◌+◌, ◌*◌, ◌≤◌, length};
 ghost use Rattle.std.specs.List.{flat_map};
-ghost use Rattle.prefix_lattice.specs.{most_shards};
+ghost use Rattle.prefix_lattice.specs.{shard_limit};
 ghost use Rattle.shard_state.specs.{IsCut, IsSnapshot};
 ghost use Rattle.checkpoint.specs.Body.{body_table_bytes, body_snapshot_bytes};
 
@@ -15,7 +15,7 @@ pub(crate) const NODES: u8 = 25;
 
 /// How many bytes the body of a cut of at most 16 shards has.
 pub(crate) fn body_length(cut: &Cut) -> usize
-    requires { length cut.now.shards ≤ most_shards }
+    requires { length cut.now.shards ≤ shard_limit }
     ensures is { result ≡ 48 + length (flat_map body_snapshot_bytes cut.now.shards) }
     ensures kept { IsCut cut.now }
 {

@@ -3,11 +3,12 @@
 ghost use Rattle.std.specs.Prelude.{◌≡◌, ◌<◌, ◌≤◌, ℕ, List, Some, Err, replicate, is_some, IfOk, IsErrOf, OnOk};
 ghost use Rattle.outside_io.specs.{FaultCountRose};
 ghost use Rattle.shard_state.specs.{AreCutPositionsNotPast, HasCoreShape, cut_positions};
-ghost use Rattle.slot_disk.specs.{IfImageKnown, Leaves, other_slot_of_put};
+ghost use Rattle.slot_disk.specs.{IfImageKnown, CrashLeavesAtAnyMoment, other_slot_of_put};
 ghost use Rattle.checkpoint.specs.HeaderSettings.{AreHeaderSettings, header_of_settings};
-ghost use Rattle.checkpoint.specs.Body.{last_body_sequence};
-ghost use Rattle.checkpoint.specs.Store.{StoreOpensOldOrNew, StoreOpensTo};
-ghost use Rattle.checkpoint.specs.Saver.{SaverState, StandsForSaver, IsNewestForSaver, saver_after_save, next_saved, saver_of};
+ghost use Rattle.checkpoint.specs.Body.{greatest_body_sequence};
+ghost use Rattle.checkpoint.specs.Store.{StoreOpensAsOldOrNew, StoreOpensTo};
+ghost use Rattle.checkpoint.specs.Saver.{SaverState, DiskMatchesSaver, IsNewestForSaver, saver_after_save, next_saved};
+ghost use Rattle.checkpoint.specs.Saver.{saver_of};
 
 use crate::{Newest, SaveFault, StoreSettings, encode, span};
 use shard_state::{Cut, Positions};
@@ -88,17 +89,17 @@ impl Saver {
     /// The memory for the body is taken before the first call of the disk: where there is none, the saver is handed back
     /// and the disk is unchanged. After `DiskFault` the store is opened again.
     pub fn save<D: Disk>(self, alloc: Global, disk: &mut D, cut: &Cut) -> Result<Saver, SaveFault>
-        requires early { self.sequence < last_body_sequence }
-        requires stands { StandsForSaver (D.reads disk.old) (D.image_now disk.old) self }
+        requires early { self.sequence < greatest_body_sequence }
+        requires stands { DiskMatchesSaver (D.reads disk.old) (D.image_now disk.old) self }
         requires shape { HasCoreShape self.settings.shards self.settings.capacity cut.now }
         requires no_earlier { AreCutPositionsNotPast self.positions (cut_positions cut.now) }
         ensures known { is_some (D.reads disk.new) ≡ is_some (D.reads disk.old) }
         ensures saved { IfOk result (λ saver. saver ≡ saver_after_save self cut.now) }
-        ensures stands { IfOk result (λ saver. StandsForSaver (D.reads disk.new) (D.image_now disk.new) saver) }
+        ensures stands { IfOk result (λ saver. DiskMatchesSaver (D.reads disk.new) (D.image_now disk.new) saver) }
         ensures opens { OnOk result (IfImageKnown (D.reads disk.new) (λ _. (image : List ℕ) → D.image_now disk.new image
             → StoreOpensTo self.settings image (Some (next_saved self cut.now)))) }
         ensures any_moment { IfImageKnown (D.reads disk.old)
-            (λ old. Leaves D.moment D.image_since disk.old disk.new (StoreOpensOldOrNew self.settings old (next_saved self cut.now))) }
+            (λ old. CrashLeavesAtAnyMoment D.moment D.image_since disk.old disk.new (StoreOpensAsOldOrNew self.settings old (next_saved self cut.now))) }
         ensures handed_back { (saver : SaverState) → result ≡ Err (SaveFault.OutOfMemory saver) → saver ≡ self }
         ensures untouched { (saver : SaverState) → result ≡ Err (SaveFault.OutOfMemory saver) → disk.new ≡ disk.old }
         ensures later { D.faults disk.old ≤ D.faults disk.new }

@@ -1,7 +1,8 @@
 //! The settings of a store.
 
 ghost use Rattle.std.specs.Prelude.{◌≡◌, ◌<◌, ◌^◌};
-ghost use Rattle.checkpoint.specs.HeaderSettings.{AreHeaderSettings, span_of_settings};
+ghost use Rattle.checkpoint.specs.HeaderSettings.{AreHeaderSettings};
+ghost use Rattle.checkpoint.specs.Span.{span_of_settings};
 
 use deal_rules::DealKind;
 use frame_records::Weigh;

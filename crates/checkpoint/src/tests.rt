@@ -1,7 +1,7 @@
 ghost use Rattle.std.specs.Prelude.{◌≡◌, ◌≤◌, ◌%◌, ◌^◌, [], ◌∷◌, length, IfOk};
-ghost use Rattle.deal_rules.specs.{IsAskedOfRule};
+ghost use Rattle.deal_rules.specs.{IsAskedOfDealRule};
 ghost use Rattle.shard_state.specs.{cut_positions};
-ghost use Rattle.checkpoint.specs.Saver.{StandsForSaver};
+ghost use Rattle.checkpoint.specs.Saver.{DiskMatchesSaver};
 
 use super::*;
 use deal_rules::{DealKind, Dealer, deal};
@@ -106,7 +106,7 @@ fn other_headers_are_refused(rt: HostRuntime) {
 }
 
 fn by_place(place: u64, rec: Record, shards: u32) -> u32
-    requires { IsAskedOfRule place rec shards }
+    requires { IsAskedOfDealRule place rec shards }
     ensures { result ≡ place % shards }
 {
     (place % u64::from(shards)) as u32
@@ -281,7 +281,7 @@ fn disk_of(alloc: Global, bytes: Vec<u8>, fuse: Option<u64>) -> Result<MemoryDis
 
 // Makes a store, and a saver of it: calls 0 to 3 of the disk.
 fn make_store<D: Disk>(alloc: Global, disk: &mut D) -> Result<Saver, Fail>
-    ensures stands { IfOk result (λ saver. StandsForSaver (D.reads disk.new) (D.image_now disk.new) saver) }
+    ensures stands { IfOk result (λ saver. DiskMatchesSaver (D.reads disk.new) (D.image_now disk.new) saver) }
     ensures settings { IfOk result (λ saver. saver.settings ≡ SMALLEST) }
     ensures sequence { IfOk result (λ saver. saver.sequence ≡ 0) }
     ensures positions { IfOk result (λ saver. saver.positions ≡ 0 ∷ []) }
@@ -314,7 +314,7 @@ fn packets(alloc: Global, count: usize) -> Result<RecordList, AllocError>
 
 // Saves a cut of one packet: calls 4 to 9 of the disk.
 fn save_first<D: Disk>(alloc: Global, disk: &mut D) -> Result<Saver, Fail>
-    ensures stands { IfOk result (λ saver. StandsForSaver (D.reads disk.new) (D.image_now disk.new) saver) }
+    ensures stands { IfOk result (λ saver. DiskMatchesSaver (D.reads disk.new) (D.image_now disk.new) saver) }
     ensures settings { IfOk result (λ saver. saver.settings ≡ SMALLEST) }
     ensures sequence { IfOk result (λ saver. saver.sequence ≡ 1) }
     ensures positions { IfOk result (λ saver. saver.positions ≡ 1 ∷ []) }

@@ -4,20 +4,21 @@ use Rattle.std.proofs.Common.{ℕ, Option, Some, arith}
 use Rattle.std.specs.List.{Contains}
 use Rattle.std.proofs.lemmas.List.{take_rest, drop-drop, nil_from_length}
 use Rattle.std.proofs.lemmas.List.Elements.{Contains-append_right}
-use Rattle.command_words.specs.Arguments.{Text, Argument, positional, option, BeginWithArgument, SpellAllArguments, names_in_arguments}
+use Rattle.command_words.specs.Arguments.{ArgumentText, Argument, positional, option, BeginWithArgument}
+use Rattle.command_words.specs.Arguments.{SpellAllArguments, names_in_arguments}
 use Rattle.command_words.specs.Scanning.{scanned_option_name}
-use Rattle.command_words.specs.Words.{texts}
+use Rattle.command_words.specs.Arguments.{argument_texts}
 use Rattle.command_words.proofs.TextSearchLemmas.{text_search_skips_first}
 use Rattle.command_words.proofs.OneReadingLemmas.{one_reading_of_first_argument, one_reading_of_no_words}
 
 -- arguments whose first is known: the others stand behind it
-pub record HasArgumentTail (argument : Argument) (others : List Text) (arguments : List Argument) : Type 0 where
+pub record HasArgumentTail (argument : Argument) (others : List ArgumentText) (arguments : List Argument) : Type 0 where
   pub rest : List Argument
   pub are : arguments ≡ argument ∷ rest
   pub spelled : SpellAllArguments others rest
 
 -- words that begin with an argument spell no list but those that begin with it
-pub argument_tail_follows : (words others : List Text) (argument : Argument) (arguments : List Argument)
+pub argument_tail_follows : (words others : List ArgumentText) (argument : Argument) (arguments : List Argument)
     → BeginWithArgument words argument others → SpellAllArguments words arguments → HasArgumentTail argument others arguments
 argument_tail_follows words others argument [] begins spelled =
     absurd (one_reading_of_no_words argument others (subst (λ ws. BeginWithArgument ws argument others) spelled begins))
@@ -30,20 +31,20 @@ argument_tail_follows words others argument (first ∷ rest) begins spelled =
     }
 
 -- words that begin with no argument spell none
-pub argument_tail_is_empty : (words : List Text) (arguments : List Argument)
-    → ((argument : Argument) (others : List Text) → BeginWithArgument words argument others → ⊥) → SpellAllArguments words arguments
+pub argument_tail_is_empty : (words : List ArgumentText) (arguments : List Argument)
+    → ((argument : Argument) (others : List ArgumentText) → BeginWithArgument words argument others → ⊥) → SpellAllArguments words arguments
     → arguments ≡ []
 argument_tail_is_empty words [] never spelled = refl
 argument_tail_is_empty words (first ∷ rest) never spelled = absurd (never first spelled.0 spelled.1)
 
 -- the name of an option at the front is the first name
-pub named_argument_before_tail : (argument : Argument) (rest : List Argument) (name : Text) → scanned_option_name argument ≡ Some name
+pub named_argument_before_tail : (argument : Argument) (rest : List Argument) (name : ArgumentText) → scanned_option_name argument ≡ Some name
     → names_in_arguments (argument ∷ rest) ≡ name ∷ names_in_arguments rest
 named_argument_before_tail (positional text) rest name is = cc
 named_argument_before_tail (option other value) rest name is = let same : other ≡ name = cc in ap (λ n. n ∷ names_in_arguments rest) same
 
 -- an argument of another name than this changes nothing about where this name stands
-pub argument_keeps_tail_names : (argument : Argument) (rest : List Argument) (name : Text) → (scanned_option_name argument ≡ Some name → ⊥)
+pub argument_keeps_tail_names : (argument : Argument) (rest : List Argument) (name : ArgumentText) → (scanned_option_name argument ≡ Some name → ⊥)
     → Contains (names_in_arguments (argument ∷ rest)) name ↔ Contains (names_in_arguments rest) name
 argument_keeps_tail_names (positional text) rest name other = (λ h. h, λ h. h)
 argument_keeps_tail_names (option first value) rest name other = (
@@ -52,18 +53,18 @@ argument_keeps_tail_names (option first value) rest name other = (
 )
 
 -- the rest of some arguments, which the words spell, and in which a name stands just where it stands in all of them
-pub record ArgumentTailKeepsName (words : List Text) (arguments : List Argument) (name : Text) : Type 0 where
+pub record ArgumentTailKeepsName (words : List ArgumentText) (arguments : List Argument) (name : ArgumentText) : Type 0 where
   pub rest : List Argument
   pub spelled : SpellAllArguments words rest
   pub same : Contains (names_in_arguments arguments) name ↔ Contains (names_in_arguments rest) name
 
 -- all of them, at the start
-pub whole_argument_tail_keeps_name : (words : List Text) (arguments : List Argument) (name : Text) → SpellAllArguments words arguments
+pub whole_argument_tail_keeps_name : (words : List ArgumentText) (arguments : List Argument) (name : ArgumentText) → SpellAllArguments words arguments
     → ArgumentTailKeepsName words arguments name
 whole_argument_tail_keeps_name words arguments name spelled = record { rest = arguments; spelled = spelled; same = (λ h. h, λ h. h) }
 
 -- and the others, behind an argument of another name
-pub next_argument_tail_keeps_name : (words others : List Text) (argument : Argument) (arguments : List Argument) (name : Text)
+pub next_argument_tail_keeps_name : (words others : List ArgumentText) (argument : Argument) (arguments : List Argument) (name : ArgumentText)
     → BeginWithArgument words argument others → (scanned_option_name argument ≡ Some name → ⊥)
     → ArgumentTailKeepsName words arguments name → ArgumentTailKeepsName others arguments name
 next_argument_tail_keeps_name words others argument arguments name begins other leaves =
@@ -79,7 +80,7 @@ next_argument_tail_keeps_name words others argument arguments name begins other 
     }
 
 -- a name stands where the argument at the front has it
-pub name_stands_before_argument_tail : (words others : List Text) (argument : Argument) (arguments : List Argument) (name : Text)
+pub name_stands_before_argument_tail : (words others : List ArgumentText) (argument : Argument) (arguments : List Argument) (name : ArgumentText)
     → BeginWithArgument words argument others → scanned_option_name argument ≡ Some name
     → ArgumentTailKeepsName words arguments name → Contains (names_in_arguments arguments) name
 name_stands_before_argument_tail words others argument arguments name begins is leaves =
@@ -88,8 +89,8 @@ name_stands_before_argument_tail words others argument arguments name begins is 
     (sym (ap names_in_arguments behind.are ∙ named_argument_before_tail argument behind.rest name is)) (0, omega arith, refl))
 
 -- and nowhere once no argument is left
-pub empty_argument_tail_lacks_name : (words : List Text) (arguments : List Argument) (name : Text)
-    → ((argument : Argument) (others : List Text) → BeginWithArgument words argument others → ⊥)
+pub empty_argument_tail_lacks_name : (words : List ArgumentText) (arguments : List Argument) (name : ArgumentText)
+    → ((argument : Argument) (others : List ArgumentText) → BeginWithArgument words argument others → ⊥)
     → ArgumentTailKeepsName words arguments name → Contains (names_in_arguments arguments) name → ⊥
 empty_argument_tail_lacks_name words arguments name never leaves h =
     let none =
@@ -98,41 +99,41 @@ empty_argument_tail_lacks_name words arguments name never leaves h =
     omega (arith, none.1)
 
 -- the argument at the front of the words from a place on, in the form that a range has, begins those words
-pub argument_begins_tail_range : (words : List (Bor Text)) (from step : ℕ) (found : Option Text)
+pub argument_begins_tail_range : (words : List (Bor ArgumentText)) (from step : ℕ) (found : Option ArgumentText)
     → (argument : Argument)
-    × BeginWithArgument (texts (take (length words - from) (drop from words))) argument
-    (texts (drop step (take (length words - from) (drop from words)))) × (found ≡ scanned_option_name argument)
-    → (argument : Argument) × BeginWithArgument (texts (drop from words)) argument (texts (drop (from + step) words))
+    × BeginWithArgument (argument_texts (take (length words - from) (drop from words))) argument
+    (argument_texts (drop step (take (length words - from) (drop from words)))) × (found ≡ scanned_option_name argument)
+    → (argument : Argument) × BeginWithArgument (argument_texts (drop from words)) argument (argument_texts (drop (from + step) words))
     × (found ≡ scanned_option_name argument)
 argument_begins_tail_range words from step found (argument, begins, is) = (
   argument,
-  subst (λ ws. BeginWithArgument (texts (drop from words)) argument (texts ws)) (drop-drop step from words)
-      (subst (λ ws. BeginWithArgument (texts ws) argument (texts (drop step ws))) (take_rest words from) begins),
+  subst (λ ws. BeginWithArgument (argument_texts (drop from words)) argument (argument_texts ws)) (drop-drop step from words)
+      (subst (λ ws. BeginWithArgument (argument_texts ws) argument (argument_texts (drop step ws))) (take_rest words from) begins),
   is,
 )
 
 -- and where none stands there, none begins them
-pub no_argument_begins_tail_range : (words : List (Bor Text)) (from : ℕ)
-    → ((argument : Argument) (others : List Text)
-    → BeginWithArgument (texts (take (length words - from) (drop from words))) argument others → ⊥)
-    → (argument : Argument) (others : List Text) → BeginWithArgument (texts (drop from words)) argument others → ⊥
+pub no_argument_begins_tail_range : (words : List (Bor ArgumentText)) (from : ℕ)
+    → ((argument : Argument) (others : List ArgumentText)
+    → BeginWithArgument (argument_texts (take (length words - from) (drop from words))) argument others → ⊥)
+    → (argument : Argument) (others : List ArgumentText) → BeginWithArgument (argument_texts (drop from words)) argument others → ⊥
 no_argument_begins_tail_range words from never argument others begins =
-    never argument others (subst (λ ws. BeginWithArgument (texts ws) argument others) (sym (take_rest words from)) begins)
+    never argument others (subst (λ ws. BeginWithArgument (argument_texts ws) argument others) (sym (take_rest words from)) begins)
 
 -- the argument at the front of all the words, with those behind it in the form that a range has
-pub argument_leaves_tail_range : (words : List (Bor Text)) (step : ℕ) (found : Option Text)
-    → (argument : Argument) × BeginWithArgument (texts words) argument (texts (drop step words))
+pub argument_leaves_tail_range : (words : List (Bor ArgumentText)) (step : ℕ) (found : Option ArgumentText)
+    → (argument : Argument) × BeginWithArgument (argument_texts words) argument (argument_texts (drop step words))
     × (found ≡ scanned_option_name argument)
-    → (argument : Argument) × BeginWithArgument (texts words) argument (texts (take (length words - step) (drop step words)))
+    → (argument : Argument) × BeginWithArgument (argument_texts words) argument (argument_texts (take (length words - step) (drop step words)))
     × (found ≡ scanned_option_name argument)
 argument_leaves_tail_range words step found (argument, begins, is) =
-    (argument, subst (λ ws. BeginWithArgument (texts words) argument (texts ws)) (sym (take_rest words step)) begins, is)
+    (argument, subst (λ ws. BeginWithArgument (argument_texts words) argument (argument_texts ws)) (sym (take_rest words step)) begins, is)
 
 -- no words have no texts
-pub argument_tail_has_no_texts : (words : List (Bor Text)) → length words ≡ 0 → texts words ≡ []
-argument_tail_has_no_texts words none = ap texts (nil_from_length words none)
+pub argument_tail_has_no_texts : (words : List (Bor ArgumentText)) → length words ≡ 0 → argument_texts words ≡ []
+argument_tail_has_no_texts words none = ap argument_texts (nil_from_length words none)
 
 -- and no texts stand for no words
-pub argument_tail_has_no_words : (words : List (Bor Text)) → texts words ≡ [] → length words ≡ 0
+pub argument_tail_has_no_words : (words : List (Bor ArgumentText)) → argument_texts words ≡ [] → length words ≡ 0
 argument_tail_has_no_words [] none = refl
 argument_tail_has_no_words (word ∷ words) none = cc

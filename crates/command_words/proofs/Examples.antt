@@ -3,18 +3,22 @@ use Rattle.std.proofs.Common.{◌≡◌, ◌≢◌, ℕ, List, [], ◌∷◌, So
 use Rattle.std.proofs.lemmas.List.Elements.{All-cons, All-nil}
 use Rattle.std.proofs.lemmas.List.Kept.{AllPairs-cons}
 use Rattle.std.specs.List.{All, AllPairs, Contains}
-use Rattle.command_words.specs.Arguments.{Text, Argument, positional, option, argument_hyphen, argument_equals_sign, IsArgumentValue, IsArgumentName}
-use Rattle.command_words.specs.Arguments.{long, SpellsArgument, BeginWithArgument, SpellAllArguments, positionals_in_arguments, names_in_arguments, argument_value_of, named_arguments}
+use Rattle.command_words.specs.Arguments.{ArgumentText, Argument, positional, option, argument_hyphen}
+use Rattle.command_words.specs.Arguments.{argument_equals_sign, IsArgumentValue, IsArgumentName}
+use Rattle.command_words.specs.Arguments.{long_argument, SpellsArgument, BeginWithArgument, SpellAllArguments}
+use Rattle.command_words.specs.Arguments.{positionals_in_arguments, names_in_arguments, argument_value_of}
+use Rattle.command_words.specs.Arguments.{named_arguments}
 use Rattle.command_words.specs.Arguments.{ArgumentForm}
 use Rattle.command_words.specs.Arguments.{AreArgumentsOfForm, AreWellFormedArguments}
 use Rattle.command_words.specs.Scanning.{scanned_form, scanned_option_name, scanned_text_at, FitsScannedRest}
 use Rattle.command_words.specs.Forms.{form_of}
-use Rattle.command_words.specs.Words.{texts}
+use Rattle.command_words.specs.Arguments.{argument_texts}
 use Rattle.command_words.specs.declared.command_word.CommandWord.TheVariants.{Weigh, Report}
-use Rattle.command_words.proofs.TextSearchLemmas.{text_search_finds_contained, text_search_finds_none, text_search_tells_apart, text_search_shows_name}
+use Rattle.command_words.proofs.TextSearchLemmas.{text_search_finds_contained, text_search_finds_none}
+use Rattle.command_words.proofs.TextSearchLemmas.{text_search_tells_apart, text_search_shows_name}
 
 -- the two signs that part words
-pub two_hyphens_before_a_name : long (codes "phi") ≡ codes "--phi"
+pub two_hyphens_before_a_name : long_argument (codes "phi") ≡ codes "--phi"
 two_hyphens_before_a_name = refl
 
 pub hyphen_and_equals_sign : argument_hyphen ∷ argument_equals_sign ∷ [] ≡ codes "-="
@@ -46,7 +50,7 @@ pub option_in_two_words : SpellsArgument (codes "--x" ∷ codes "7" ∷ []) (opt
 option_in_two_words = (text_search_shows_name (codes "x") refl, λ same. omega (arith, same), inl refl)
 
 -- what stands in `--weigh=packets 10.0.0.0/8 --capture a.pcap 20.0.0.0/8`
-abbrev pub words : List Text
+abbrev pub words : List ArgumentText
 words = codes "--weigh=packets" ∷ codes "10.0.0.0/8" ∷ codes "--capture" ∷ codes "a.pcap" ∷ codes "20.0.0.0/8" ∷ []
 
 abbrev pub arguments : List Argument
@@ -115,10 +119,10 @@ name_of_an_option = refl
 pub positional_has_no_name : scanned_option_name (positional (codes "20.0.0.0/8")) ≡ None
 positional_has_no_name = refl
 
-pub text_behind_a_reference : (word : Bor Text) → scanned_text_at (Some word) ≡ Some word.now
+pub text_behind_a_reference : (word : Bor ArgumentText) → scanned_text_at (Some word) ≡ Some word.now
 text_behind_a_reference word = refl
 
-pub form_of_names : (name : Bor Text) (at : ℕ × ℕ)
+pub form_of_names : (name : Bor ArgumentText) (at : ℕ × ℕ)
     → scanned_form (record {
       positionals = record { ref_ptr = at; now = [] };
       options = record { ref_ptr = at; now = name ∷ [] };
@@ -126,7 +130,7 @@ pub form_of_names : (name : Bor Text) (at : ℕ × ℕ)
     }) ≡ record { positionals = []; options = name.now ∷ []; required = name.now ∷ [] }
 form_of_names name at = refl
 
-pub texts_of_two_words : (word other : Bor Text) → texts (word ∷ other ∷ []) ≡ word.now ∷ other.now ∷ []
+pub texts_of_two_words : (word other : Bor ArgumentText) → argument_texts (word ∷ other ∷ []) ≡ word.now ∷ other.now ∷ []
 texts_of_two_words word other = refl
 
 -- the options stand once each

@@ -4,7 +4,8 @@ use Rattle.clap.specs.Words.{found_of, first_value, new_rule}
 use Rattle.clap.specs.declared.parser.matches.ArgMatches.{ArgMatches}
 use Rattle.command_words.specs.Forms.{form_of}
 use Rattle.command_words.specs.Matches.{AreMatchesOf, AreMatchesOfWords, values_in_matches}
-use Rattle.command_words.specs.Parser.{parser_rule_for, bare_parser, parser_with_positionals, parser_with_options, parser_for}
+use Rattle.command_words.specs.Parser.{parser_rule_for, bare_parser, parser_with_positionals, parser_with_options}
+use Rattle.command_words.specs.Parser.{parser_for}
 use Rattle.command_words.specs.declared.command_word.CommandWord.TheVariants.{Weigh}
 use Rattle.command_words.specs.declared.opt.Opt.TheVariants as opt
 use Rattle.command_words.proofs.TextSearchLemmas.{text_search_finds_none}

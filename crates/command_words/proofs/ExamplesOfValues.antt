@@ -7,14 +7,19 @@ use Rattle.std.proofs.lemmas.Fmt.{first_decimal, decimal_injective}
 use Rattle.frame_records.specs.declared.weigh.Weigh.TheVariants.{Bytes, Packets}
 use Rattle.deal_rules.specs.declared.deal_kind.DealKind.TheVariants.{RoundRobin, Free}
 use Rattle.command_words.specs.Arguments.{Argument, positional, option}
-use Rattle.command_words.specs.Options.{option_name_of, option_place_of, OptionKind, number, choice, option_kind_of, IsOptionNumber, IsAllowedByOption}
-use Rattle.command_words.specs.Options.{IsGoodOptionText, IsGoodOption, IsNoOptionNumber, IsOutsideOptionLimits, IsNoOptionChoice}
+use Rattle.command_words.specs.Options.{option_name_of, option_place_of, OptionKind, number, choice, option_kind_of}
+use Rattle.command_words.specs.Options.{IsOptionNumber, IsAllowedByOption}
+use Rattle.command_words.specs.Options.{IsGoodOptionText, IsGoodOption, IsNoOptionNumber, IsOutsideOptionLimits}
+use Rattle.command_words.specs.Options.{IsNoOptionChoice}
 use Rattle.command_words.specs.Options.{capacity_option_limit, phi_option_limit, seed_option_limit, frames_option_limit}
-use Rattle.command_words.specs.Settings.{SettingValues, setting_values_in, store_setting_in, SetsNumberSetting, SetsWeighSetting, SetsDealSetting, SetsStoreSetting}
+use Rattle.command_words.specs.Settings.{SettingValues, setting_values_in, store_setting_in, SetsNumberSetting}
+use Rattle.command_words.specs.Settings.{SetsWeighSetting, SetsDealSetting, SetsStoreSetting}
 use Rattle.command_words.specs.Settings.{weigh_setting_word, deal_setting_word}
-use Rattle.command_words.specs.Settings.{SetsSettings, AreWideSettings, AreLimitedSettings, GivesNumberSetting, GivesTrafficSettings, AreTrafficSettings}
-use Rattle.command_words.specs.Options.{block_option_limit, workers_option_limit, callers_option_limit, rounds_option_limit}
-use Rattle.command_words.specs.Words.{AreGoodValues, IsFirstBadValue, HasValueFault}
+use Rattle.command_words.specs.Settings.{SetsSettings, AreWideSettings, AreLimitedSettings, GivesNumberSetting}
+use Rattle.command_words.specs.Settings.{GivesTrafficSettings, AreTrafficSettings}
+use Rattle.command_words.specs.Options.{block_option_limit, workers_option_limit, callers_option_limit}
+use Rattle.command_words.specs.Options.{rounds_option_limit}
+use Rattle.command_words.specs.Values.{AreGoodValues, IsFirstBadValue, HasValueFault}
 use Rattle.command_words.specs.GivenValues.{IsBadGivenNumber, IsBadGivenChoice, SetsGiven}
 use Rattle.command_words.specs.declared.command_word.CommandWord.TheVariants as command
 use Rattle.command_words.specs.declared.opt.Opt.{Opt}

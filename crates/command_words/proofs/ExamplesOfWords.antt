@@ -12,15 +12,18 @@ use Rattle.prefix_lattice.specs.{AreLeadingBytes, PrefixValue, SpellsPrefix}
 use Rattle.prefix_lattice.specs.declared.prefix_fault.Side.TheVariants.{Source}
 use Rattle.prefix_lattice.specs.declared.prefix_fault.PrefixFault.TheVariants.{LooseBits}
 use Rattle.frame_records.specs.declared.weigh.Weigh.TheVariants.{Packets}
-use Rattle.command_words.specs.Arguments.{Text, Argument, positional, option, IsArgumentValue, SpellAllArguments}
+use Rattle.command_words.specs.Arguments.{ArgumentText, Argument, positional, option, IsArgumentValue}
+use Rattle.command_words.specs.Arguments.{SpellAllArguments}
 use Rattle.command_words.specs.Arguments.{names_in_arguments, AreWellFormedArguments}
 use Rattle.command_words.specs.Forms.{form_word_of, form_of, AreFormWords}
 use Rattle.command_words.specs.NamedPaths.{NamesPaths}
 use Rattle.command_words.specs.Settings.{setting_values_in}
-use Rattle.command_words.specs.Words.{WordsHaveSides, WordsAskToWeigh, WordsAskToReport, WordsAskToFormat, WordsAskToAudit, AskFor, AreLimitedWords}
-use Rattle.command_words.specs.Words.{WordsAskToMake, WordsAskToDemo, AreGoodValues}
-use Rattle.command_words.specs.Words.{WordsHaveGoodPositionals, IsBoundedCommand}
-use Rattle.command_words.specs.Words.{WordsHaveBadPrefix, WordsHaveBadValue, WordsAreTooNarrow, HasWordsFault}
+use Rattle.command_words.specs.AskedCommand.{CommandHasSides, WordsAskToWeigh, WordsAskToReport, WordsAskToFormat}
+use Rattle.command_words.specs.AskedCommand.{WordsAskToAudit, AskForCommand, IsLimitedCommand}
+use Rattle.command_words.specs.AskedCommand.{WordsAskToMake, WordsAskToDemo}
+use Rattle.command_words.specs.Values.{AreGoodValues}
+use Rattle.command_words.specs.AskedCommand.{CommandHasGoodPositionals, IsBoundedCommand}
+use Rattle.command_words.specs.WordsFault.{WordsHaveBadPrefix, WordsHaveBadValue, WordsHaveNarrowTables, HasWordsFault}
 use Rattle.command_words.specs.Options.{option_place_of, IsGoodOption}
 use Rattle.command_words.specs.declared.command.Command.TheVariants as command
 use Rattle.command_words.specs.declared.command_word.CommandWord.{CommandWord}
@@ -30,7 +33,8 @@ use Rattle.command_words.specs.declared.opt.Opt.TheVariants as opt
 use Rattle.command_words.specs.declared.settings.Settings.{Settings}
 use Rattle.command_words.specs.declared.words_kind.WordsKind.TheVariants.{NoCommand, UnknownCommand, Refused}
 use Rattle.command_words.specs.declared.words_kind.WordsKind.TheVariants.{BadPrefix, OutOfLimits, Bound}
-use Rattle.command_words.proofs.TextSearchLemmas.{text_search_finds_contained, text_search_finds_none, text_search_tells_apart, text_search_shows_name}
+use Rattle.command_words.proofs.TextSearchLemmas.{text_search_finds_contained, text_search_finds_none}
+use Rattle.command_words.proofs.TextSearchLemmas.{text_search_tells_apart, text_search_shows_name}
 use Rattle.command_words.proofs.OneReadingLemmas.{one_reading}
 use Rattle.command_words.proofs.Examples.{words, arguments, words_of_weigh}
 use Rattle.command_words.proofs.ExamplesOfValues.{defaults, nothing_sets_the_defaults}
@@ -41,18 +45,18 @@ use Rattle.command_words.proofs.ExamplesOfValues.{traffic_arguments, three_frame
 pub word_of_a_command : form_word_of Report ≡ codes "report"
 word_of_a_command = refl
 
-option_of : (command : CommandWord) (name : Text) → list_any (λ other. bytes_eq other name) (form_of command).options ≡ true
+option_of : (command : CommandWord) (name : ArgumentText) → list_any (λ other. bytes_eq other name) (form_of command).options ≡ true
     → Contains (form_of command).options name
 option_of command name found = (text_search_finds_contained (form_of command).options name).0 found
 
 -- `weigh --weigh=packets 10.0.0.0/8 --capture a.pcap 20.0.0.0/8`
-abbrev pub weigh_line : List Text
+abbrev pub weigh_line : List ArgumentText
 weigh_line = codes "weigh" ∷ words
 
 pub words_of_a_command : AreFormWords weigh_line Weigh arguments
 words_of_a_command = record { behind = words; begun = refl; well_formed = words_of_weigh }
 
-pub sides_of_the_prefix : WordsHaveSides arguments (codes "10.0.0.0/8") (codes "20.0.0.0/8")
+pub sides_of_the_prefix : CommandHasSides arguments (codes "10.0.0.0/8") (codes "20.0.0.0/8")
 sides_of_the_prefix = refl
 
 -- 10.0.0.0/8 20.0.0.0/8
@@ -98,13 +102,13 @@ asks_for_a_weight = record {
   };
 }
 
-pub asks_for_the_command : AskFor weigh_line (command.Weigh prefix by_packets)
+pub asks_for_the_command : AskForCommand weigh_line (command.Weigh prefix by_packets)
 asks_for_the_command = asks_for_a_weight
 
-pub good_positionals : WordsHaveGoodPositionals Weigh arguments
+pub good_positionals : CommandHasGoodPositionals Weigh arguments
 good_positionals = (codes "10.0.0.0/8", codes "20.0.0.0/8", sides_of_the_prefix, (prefix, prefix_is_spelled))
 
-pub report_has_no_positionals : WordsHaveGoodPositionals Report []
+pub report_has_no_positionals : CommandHasGoodPositionals Report []
 report_has_no_positionals = tt
 
 -- `weigh` has a capture, and no store
@@ -119,7 +123,7 @@ capture_that_is_named = record {
 }
 
 -- `report`
-abbrev report_line : List Text
+abbrev report_line : List ArgumentText
 report_line = codes "report" ∷ []
 
 no_words_of_report : AreFormWords report_line Report []
@@ -145,7 +149,7 @@ asks_for_a_report = record {
   wide = defaults_are_wide;
 }
 
-pub settings_of_the_report_are_limited : AreLimitedWords (command.Report defaults)
+pub settings_of_the_report_are_limited : IsLimitedCommand (command.Report defaults)
 settings_of_the_report_are_limited = (defaults_are_within_their_limits, defaults_are_wide)
 
 pub standard_input_is_named_by_default : NamesPaths report_line
@@ -160,7 +164,7 @@ standard_input_is_named_by_default = record {
 }
 
 -- `format --capacity 2 --store=S`
-abbrev store_words : List Text
+abbrev store_words : List ArgumentText
 store_words = codes "--capacity" ∷ codes "2" ∷ codes "--store=S" ∷ []
 
 abbrev store_arguments : List Argument
@@ -233,7 +237,7 @@ asks_for_a_store = record {
   };
 }
 
-pub asks_for_the_store_by_its_command : AskFor (codes "format" ∷ store_words) (command.Format small_store)
+pub asks_for_the_store_by_its_command : AskForCommand (codes "format" ∷ store_words) (command.Format small_store)
 asks_for_the_store_by_its_command = asks_for_a_store
 
 pub shares_of_reports_alone_are_bounded : IsBoundedCommand Format → ⊥
@@ -266,7 +270,7 @@ pub store_is_lacking : HasWordsFault (codes "format" ∷ []) Refused
 store_is_lacking = (Format, [], refl, lacks_a_store)
 
 -- `audit --report R`
-abbrev audit_words : List Text
+abbrev audit_words : List ArgumentText
 audit_words = codes "--report" ∷ codes "R" ∷ []
 
 abbrev audit_arguments : List Argument
@@ -319,7 +323,7 @@ asks_for_an_audit = record {
   wide = defaults_are_wide;
 }
 
-pub asks_for_the_audit_by_its_command : AskFor (codes "audit" ∷ audit_words) (command.Audit defaults)
+pub asks_for_the_audit_by_its_command : AskForCommand (codes "audit" ∷ audit_words) (command.Audit defaults)
 asks_for_the_audit_by_its_command = asks_for_an_audit
 
 -- `audit` compares a text with a capture, which the standard input is by default, and has no store
@@ -372,7 +376,7 @@ pub positionals_are_lacking : HasWordsFault (codes "weigh" ∷ []) Refused
 positionals_are_lacking = (Weigh, [], refl, lacks_positionals)
 
 -- `weigh 10.1.2.0/16 0.0.0.0/0`: the third byte is past the length
-abbrev loose_words : List Text
+abbrev loose_words : List ArgumentText
 loose_words = codes "10.1.2.0/16" ∷ codes "0.0.0.0/0" ∷ []
 
 abbrev loose_arguments : List Argument
@@ -423,7 +427,7 @@ pub prefix_is_the_fault : HasWordsFault (codes "weigh" ∷ loose_words) (BadPref
 prefix_is_the_fault = bits_past_the_length
 
 -- an option of `report`
-abbrev IsOption : Text → Type 0
+abbrev IsOption : ArgumentText → Type 0
 IsOption name = Contains (form_of Report).options name
 
 -- `report --shards=17`
@@ -479,7 +483,7 @@ more_shards_than_there_may_be = record {
 }
 
 -- `report --phi 117647 --capacity 17`
-abbrev narrow_words : List Text
+abbrev narrow_words : List ArgumentText
 narrow_words = codes "--phi" ∷ codes "117647" ∷ codes "--capacity" ∷ codes "17" ∷ []
 
 abbrev narrow_arguments : List Argument
@@ -537,7 +541,7 @@ narrow_values_are_good opt.Workers = tt
 narrow_values_are_good opt.Callers = tt
 narrow_values_are_good opt.Rounds = tt
 
-pub tables_are_too_narrow : WordsAreTooNarrow (codes "report" ∷ narrow_words)
+pub tables_are_too_narrow : WordsHaveNarrowTables (codes "report" ∷ narrow_words)
 unfolding digits
 tables_are_too_narrow = record {
   command = Report;
@@ -565,10 +569,10 @@ pub bound_is_the_fault : HasWordsFault (codes "report" ∷ narrow_words) Bound
 bound_is_the_fault = tables_are_too_narrow
 
 -- `make 7 3`
-abbrev traffic_words : List Text
+abbrev traffic_words : List ArgumentText
 traffic_words = codes "7" ∷ codes "3" ∷ []
 
-two_numbers_are_spelled : (frames : Text) → IsArgumentValue frames → SpellAllArguments (codes "7" ∷ frames ∷ [])
+two_numbers_are_spelled : (frames : ArgumentText) → IsArgumentValue frames → SpellAllArguments (codes "7" ∷ frames ∷ [])
     (positional (codes "7") ∷ positional frames ∷ [])
 two_numbers_are_spelled frames is_value = (
   frames ∷ [],
@@ -576,7 +580,7 @@ two_numbers_are_spelled frames is_value = (
   ([], record { front = frames ∷ []; parted = refl; spelled = (is_value, refl) }, refl),
 )
 
-two_numbers : (command : CommandWord) (frames : Text) → IsArgumentValue frames → length (form_of command).positionals ≡ 2
+two_numbers : (command : CommandWord) (frames : ArgumentText) → IsArgumentValue frames → length (form_of command).positionals ≡ 2
     → (form_of command).required ≡ []
     → AreFormWords (form_word_of command ∷ codes "7" ∷ frames ∷ []) command
     (positional (codes "7") ∷ positional frames ∷ [])
@@ -601,7 +605,7 @@ asks_for_made_traffic = record {
   made = three_frames_of_seed_seven;
 }
 
-pub asks_for_made_traffic_by_its_command : AskFor (codes "make" ∷ traffic_words) (command.Make 7 3)
+pub asks_for_made_traffic_by_its_command : AskForCommand (codes "make" ∷ traffic_words) (command.Make 7 3)
 asks_for_made_traffic_by_its_command = asks_for_made_traffic
 
 -- `make` has no options, so it names no path
@@ -636,7 +640,7 @@ asks_for_a_demo = record {
   wide = defaults_are_wide;
 }
 
-pub asks_for_the_demo_by_its_command : AskFor (codes "demo" ∷ traffic_words) (command.Demo 7 3 defaults)
+pub asks_for_the_demo_by_its_command : AskForCommand (codes "demo" ∷ traffic_words) (command.Demo 7 3 defaults)
 asks_for_the_demo_by_its_command = asks_for_a_demo
 
 -- `make 7 0`: the seed is good, and no frame is too few

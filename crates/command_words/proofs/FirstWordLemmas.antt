@@ -2,10 +2,11 @@
 use Rattle.std.proofs.Common.{◌≡◌, ◌≢◌, ◌↔◌, Bool, List, ◌∷◌, Bor, Err, Result, ap, ◌∙◌, subst}
 use Rattle.clap.specs.declared.parser.matches.ArgMatches.{ArgMatches}
 use Rattle.std.specs.Bool.{IsTrue}
-use Rattle.command_words.specs.Arguments.{Text, Argument, ArgumentForm, AreWellFormedArguments}
+use Rattle.command_words.specs.Arguments.{ArgumentText, Argument, ArgumentForm, AreWellFormedArguments}
 use Rattle.command_words.specs.Forms.{form_word_of, form_of}
 use Rattle.command_words.specs.Matches.{AreMatchesOf, AreMatchesOfWords}
-use Rattle.command_words.specs.Words.{texts, HasWordsFault}
+use Rattle.command_words.specs.Arguments.{argument_texts}
+use Rattle.command_words.specs.WordsFault.{HasWordsFault}
 use Rattle.command_words.specs.declared.command_word.CommandWord.{CommandWord}
 use Rattle.command_words.specs.declared.words_kind.WordsKind.{WordsKind}
 use Rattle.command_words.specs.declared.words_kind.WordsKind.TheVariants.{UnknownCommand, Refused}
@@ -13,42 +14,42 @@ use Rattle.command_words.specs.declared.words_kind.WordsRefusal.{WordsRefusal}
 use Rattle.command_words.specs.declared.words_kind.WordsRefusal.TheVariants.{Bad}
 
 -- words that begin with a command's word
-first_word_begins_texts : (words : List (Bor Text)) (first : Bor Text) (others : List (Bor Text)) (word : CommandWord)
+first_word_begins_texts : (words : List (Bor ArgumentText)) (first : Bor ArgumentText) (others : List (Bor ArgumentText)) (word : CommandWord)
     → words ≡ first ∷ others → first.now ≡ form_word_of word
-    → texts words ≡ form_word_of word ∷ texts others
-first_word_begins_texts words first others word are first_is = ap texts are ∙ ap (λ text. text ∷ texts others) first_is
+    → argument_texts words ≡ form_word_of word ∷ argument_texts others
+first_word_begins_texts words first others word are first_is = ap argument_texts are ∙ ap (λ text. text ∷ argument_texts others) first_is
 
 -- a first word that is no command's is a fault
-pub unknown_first_word_is_fault : (words : List (Bor Text)) (first : Bor Text) (others : List (Bor Text)) → words ≡ first ∷ others
+pub unknown_first_word_is_fault : (words : List (Bor ArgumentText)) (first : Bor ArgumentText) (others : List (Bor ArgumentText)) → words ≡ first ∷ others
     → ((word : CommandWord) → first.now ≢ form_word_of word)
-    → HasWordsFault (texts words) UnknownCommand
-unknown_first_word_is_fault words first others are no_command = (first.now, texts others, ap texts are, no_command)
+    → HasWordsFault (argument_texts words) UnknownCommand
+unknown_first_word_is_fault words first others are no_command = (first.now, argument_texts others, ap argument_texts are, no_command)
 
 -- what a test says of one form, it says of the same form
-pub same_form_by_first_word : (test : Bool) (form other : ArgumentForm) (words : List Text) → form ≡ other
+pub same_form_by_first_word : (test : Bool) (form other : ArgumentForm) (words : List ArgumentText) → form ≡ other
     → (IsTrue test ↔ ((arguments : List Argument) × AreWellFormedArguments form words arguments))
     → IsTrue test ↔ ((arguments : List Argument) × AreWellFormedArguments other words arguments)
 same_form_by_first_word test form other words same says =
     subst (λ f. IsTrue test ↔ ((arguments : List Argument) × AreWellFormedArguments f words arguments)) same says
 
 -- words behind a command's word that are not well formed are a fault
-pub refused_behind_first_word : (words : List (Bor Text)) (first : Bor Text) (others : List (Bor Text)) (word : CommandWord)
+pub refused_behind_first_word : (words : List (Bor ArgumentText)) (first : Bor ArgumentText) (others : List (Bor ArgumentText)) (word : CommandWord)
     → words ≡ first ∷ others → first.now ≡ form_word_of word
-    → ((arguments : List Argument) → AreWellFormedArguments (form_of word) (texts others) arguments → ⊥)
-    → HasWordsFault (texts words) Refused
+    → ((arguments : List Argument) → AreWellFormedArguments (form_of word) (argument_texts others) arguments → ⊥)
+    → HasWordsFault (argument_texts words) Refused
 refused_behind_first_word words first others word are first_is no_form =
-    (word, texts others, first_word_begins_texts words first others word are first_is, no_form)
+    (word, argument_texts others, first_word_begins_texts words first others word are first_is, no_form)
 
 -- the matches of what stands behind a command's word tell the words
-pub matches_behind_first_word : (words : List (Bor Text)) (first : Bor Text) (others : List (Bor Text)) (word : CommandWord)
+pub matches_behind_first_word : (words : List (Bor ArgumentText)) (first : Bor ArgumentText) (others : List (Bor ArgumentText)) (word : CommandWord)
     (matches : ArgMatches) → words ≡ first ∷ others → first.now ≡ form_word_of word
-    → (arguments : List Argument) × AreWellFormedArguments (form_of word) (texts others) arguments
-    → ((arguments : List Argument) → AreWellFormedArguments (form_of word) (texts others) arguments
-    → AreMatchesOf (form_of word) arguments matches) → AreMatchesOfWords (texts words) word matches
+    → (arguments : List Argument) × AreWellFormedArguments (form_of word) (argument_texts others) arguments
+    → ((arguments : List Argument) → AreWellFormedArguments (form_of word) (argument_texts others) arguments
+    → AreMatchesOf (form_of word) arguments matches) → AreMatchesOfWords (argument_texts words) word matches
 matches_behind_first_word words first others word matches are first_is well tells = record {
   arguments = well.0;
   are_words = record {
-    behind = texts others;
+    behind = argument_texts others;
     begun = first_word_begins_texts words first others word are first_is;
     well_formed = well.1;
   };
@@ -56,7 +57,7 @@ matches_behind_first_word words first others word matches are first_is well tell
 }
 
 -- what is told as bad is the fault that was found
-pub first_word_fault_is_told : {T : Type 0} (words : List Text) (first kind : WordsKind) → HasWordsFault words first
+pub first_word_fault_is_told : {T : Type 0} (words : List ArgumentText) (first kind : WordsKind) → HasWordsFault words first
     → Path (Result T WordsRefusal) (Err (Bad first)) (Err (Bad kind)) → HasWordsFault words kind
 first_word_fault_is_told {T} words first kind has same = subst (λ k. HasWordsFault words k) (same_kind first kind same) has
   where

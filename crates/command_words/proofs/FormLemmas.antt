@@ -3,18 +3,19 @@ use Rattle.std.proofs.Common.{◌≡◌, ◌≢◌, ◌-◌, ◌<◌, sym, ap, �
 use Rattle.std.specs.List.{All, AllPairs, Contains}
 use Rattle.std.proofs.lemmas.List.Elements.{All-nil, All-cons, All-head, All-tail, All-contains, Contains-get_or}
 use Rattle.std.proofs.lemmas.List.Kept.{AllPairs-cons}
-use Rattle.command_words.specs.Arguments.{Text, Argument, positional, option, ArgumentForm, AreWellFormedArguments, BeginWithArgument}
+use Rattle.command_words.specs.Arguments.{ArgumentText, Argument, positional, option, ArgumentForm}
+use Rattle.command_words.specs.Arguments.{AreWellFormedArguments, BeginWithArgument}
 use Rattle.command_words.specs.Arguments.{SpellAllArguments, positionals_in_arguments, names_in_arguments}
 use Rattle.command_words.specs.Scanning.{scanned_option_name, FitsScannedRest}
 use Rattle.command_words.proofs.ArgumentTailLemmas.{argument_tail_follows, argument_tail_is_empty}
 use Rattle.prefix_lattice.proofs.ListLemmas.{AllPairs-list_head, AllPairs-list_tail}
 
 -- the words spell so many positionals, and options of the form, none of them twice
-abbrev pub FitForm : ArgumentForm → ℕ → List Text → Type 0
+abbrev pub FitForm : ArgumentForm → ℕ → List ArgumentText → Type 0
 FitForm form positionals words = (arguments : List Argument) × FitsScannedRest form positionals words arguments
 
 -- no words fit where nothing is asked for
-pub empty_words_fit_form : (form : ArgumentForm) (positionals : ℕ) (words : List Text) → words ≡ [] → positionals ≡ 0
+pub empty_words_fit_form : (form : ArgumentForm) (positionals : ℕ) (words : List ArgumentText) → words ≡ [] → positionals ≡ 0
     → FitForm form positionals words
 empty_words_fit_form form positionals words none zero = (
   [],
@@ -27,15 +28,15 @@ empty_words_fit_form form positionals words none zero = (
 )
 
 -- words that begin with no argument fit only so
-pub form_fit_without_argument : (form : ArgumentForm) (positionals : ℕ) (words : List Text)
-    → ((argument : Argument) (others : List Text) → BeginWithArgument words argument others → ⊥) → FitForm form positionals words
+pub form_fit_without_argument : (form : ArgumentForm) (positionals : ℕ) (words : List ArgumentText)
+    → ((argument : Argument) (others : List ArgumentText) → BeginWithArgument words argument others → ⊥) → FitForm form positionals words
     → (words ≡ []) × (positionals ≡ 0)
 form_fit_without_argument form positionals words never (arguments, fits) =
     let none = argument_tail_is_empty words arguments never fits.spelled in
     (subst (SpellAllArguments words) none fits.spelled, sym fits.as_many ∙ ap (λ list. length (positionals_in_arguments list)) none)
 
 -- words with a positional at their front fit where those behind it fit with one positional less
-pub positional_fits_form : (form : ArgumentForm) (positionals : ℕ) (words others : List Text) (argument : Argument)
+pub positional_fits_form : (form : ArgumentForm) (positionals : ℕ) (words others : List ArgumentText) (argument : Argument)
     → BeginWithArgument words argument others → None ≡ scanned_option_name argument → 0 < positionals
     → FitForm form (positionals - 1) others → FitForm form positionals words
 positional_fits_form form positionals words others (positional text) begins is more (arguments, fits) = (
@@ -50,7 +51,7 @@ positional_fits_form form positionals words others (positional text) begins is m
 positional_fits_form form positionals words others (option name value) begins is more fits = cc
 
 -- and only where they do
-pub form_fit_behind_positional : (form : ArgumentForm) (positionals : ℕ) (words others : List Text) (argument : Argument)
+pub form_fit_behind_positional : (form : ArgumentForm) (positionals : ℕ) (words others : List ArgumentText) (argument : Argument)
     → BeginWithArgument words argument others → None ≡ scanned_option_name argument
     → FitForm form positionals words → (0 < positionals) × FitForm form (positionals - 1) others
 form_fit_behind_positional form positionals words others (option name value) begins is fits = cc
@@ -71,7 +72,7 @@ form_fit_behind_positional form positionals words others (positional text) begin
     )
 
 -- words with an option at their front fit where the form knows it, those behind it fit, and it doesn't stand among them
-pub option_fits_form : (form : ArgumentForm) (positionals : ℕ) (words others : List Text) (argument : Argument) (name : Text)
+pub option_fits_form : (form : ArgumentForm) (positionals : ℕ) (words others : List ArgumentText) (argument : Argument) (name : ArgumentText)
     → BeginWithArgument words argument others → Some name ≡ scanned_option_name argument
     → Contains form.options name
     → ((arguments : List Argument) → SpellAllArguments others arguments → Contains (names_in_arguments arguments) name → ⊥)
@@ -95,14 +96,14 @@ option_fits_form form positionals words others (option first value) name begins 
     )
 
 -- the form knows a name, and the arguments that fit behind it don't have it
-pub record FitsFormBehindOption (form : ArgumentForm) (positionals : ℕ) (others : List Text) (name : Text) : Type 0 where
+pub record FitsFormBehindOption (form : ArgumentForm) (positionals : ℕ) (others : List ArgumentText) (name : ArgumentText) : Type 0 where
   pub known : Contains form.options name
   pub rest : List Argument
   pub fits : FitsScannedRest form positionals others rest
   pub apart : Contains (names_in_arguments rest) name → ⊥
 
 -- words with an option at their front fit only so
-pub form_fit_behind_option : (form : ArgumentForm) (positionals : ℕ) (words others : List Text) (argument : Argument) (name : Text)
+pub form_fit_behind_option : (form : ArgumentForm) (positionals : ℕ) (words others : List ArgumentText) (argument : Argument) (name : ArgumentText)
     → BeginWithArgument words argument others → Some name ≡ scanned_option_name argument
     → FitForm form positionals words → FitsFormBehindOption form positionals others name
 form_fit_behind_option form positionals words others (positional text) name begins is fits = cc
@@ -132,7 +133,7 @@ abbrev pub HaveAllFormRequires : ArgumentForm → List Argument → Type 0
 HaveAllFormRequires form arguments = All (λ name. Contains (names_in_arguments arguments) name) form.required
 
 -- words that fit with as many positionals as the form has, and that spell its required options, are well formed
-pub form_fit_is_well_formed : (form : ArgumentForm) (positionals : ℕ) (words : List Text) → positionals ≡ length form.positionals
+pub form_fit_is_well_formed : (form : ArgumentForm) (positionals : ℕ) (words : List ArgumentText) → positionals ≡ length form.positionals
     → FitForm form positionals words → ((arguments : List Argument) → SpellAllArguments words arguments → HaveAllFormRequires form arguments)
     → (arguments : List Argument) × AreWellFormedArguments form words arguments
 form_fit_is_well_formed form positionals words count (arguments, fits) complete = (
@@ -149,7 +150,7 @@ form_fit_is_well_formed form positionals words count (arguments, fits) complete 
 )
 
 -- and well-formed words fit
-pub well_formed_words_fit_form : (form : ArgumentForm) (positionals : ℕ) (words : List Text) (arguments : List Argument)
+pub well_formed_words_fit_form : (form : ArgumentForm) (positionals : ℕ) (words : List ArgumentText) (arguments : List Argument)
     → positionals ≡ length form.positionals → AreWellFormedArguments form words arguments → FitForm form positionals words
 well_formed_words_fit_form form positionals words arguments count formed = (
   arguments,

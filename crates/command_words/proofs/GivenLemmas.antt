@@ -5,14 +5,17 @@ use Rattle.std.specs.List.{All, Contains, list_any}
 use Rattle.std.specs.Str.{bytes_eq}
 use Rattle.frame_records.specs.declared.weigh.Weigh.TheVariants.{Bytes}
 use Rattle.deal_rules.specs.declared.deal_kind.DealKind.TheVariants.{RoundRobin}
-use Rattle.command_words.specs.Arguments.{Text, Argument, positional, option, AreArgumentsOfForm, names_in_arguments, argument_value_of, named_arguments}
+use Rattle.command_words.specs.Arguments.{ArgumentText, Argument, positional, option, AreArgumentsOfForm}
+use Rattle.command_words.specs.Arguments.{names_in_arguments, argument_value_of, named_arguments}
 use Rattle.command_words.specs.Forms.{form_of}
 use Rattle.command_words.specs.GivenValues.{SetsGiven}
-use Rattle.command_words.specs.Options.{OptionKind, number, option_name_of, option_kind_of, IsAllowedByOption, IsGoodOption, IsGoodOptionText}
+use Rattle.command_words.specs.Options.{OptionKind, number, option_name_of, option_kind_of, IsAllowedByOption}
+use Rattle.command_words.specs.Options.{IsGoodOption, IsGoodOptionText}
 use Rattle.command_words.specs.Options.{seed_option_limit, frames_option_limit}
-use Rattle.command_words.specs.Settings.{SettingValues, SetsNumberSetting, SetsWeighSetting, SetsDealSetting, SetsStoreSetting, SetsSettings}
+use Rattle.command_words.specs.Settings.{SettingValues, SetsNumberSetting, SetsWeighSetting, SetsDealSetting}
+use Rattle.command_words.specs.Settings.{SetsStoreSetting, SetsSettings}
 use Rattle.command_words.specs.Settings.{GivesNumberSetting, GivesTrafficSettings, setting_values_in, store_setting_in}
-use Rattle.command_words.specs.Words.{AreGoodValues}
+use Rattle.command_words.specs.Values.{AreGoodValues}
 use Rattle.command_words.specs.declared.command_word.CommandWord.{CommandWord}
 use Rattle.command_words.specs.declared.command_word.CommandWord.TheVariants.{Make}
 use Rattle.command_words.specs.declared.opt.Opt.{Opt}
@@ -23,12 +26,12 @@ use Rattle.command_words.proofs.TextSearchLemmas.{text_search_finds_none}
 use Rattle.command_words.proofs.MatchRowLemmas.{match_row_name_is_other}
 
 -- an argument of another name in front gives nothing
-not_given_behind_option : (other value : Text) (arguments : List Argument) (name : Text) → other ≢ name
+not_given_behind_option : (other value : ArgumentText) (arguments : List Argument) (name : ArgumentText) → other ≢ name
     → argument_value_of name arguments ≡ None → argument_value_of name (option other value ∷ arguments) ≡ None
 not_given_behind_option other value arguments name apart behind = rw (match_row_name_is_other other name apart) behind
 
 -- an option that no argument gives has no value
-not_given_without_option : (arguments : List Argument) (name : Text) → (Contains (names_in_arguments arguments) name → ⊥)
+not_given_without_option : (arguments : List Argument) (name : ArgumentText) → (Contains (names_in_arguments arguments) name → ⊥)
     → argument_value_of name arguments ≡ None
 not_given_without_option [] name lacks = refl
 not_given_without_option (positional text ∷ arguments) name lacks = not_given_without_option arguments name lacks
@@ -37,7 +40,7 @@ not_given_without_option (option other value ∷ arguments) name lacks =
     (not_given_without_option arguments name (λ has. lacks (suc has.0, omega (arith, has.1), has.2)))
 
 -- a name that neither a positional nor an option has gives nothing
-not_given_without_name : (names : List Text) (arguments : List Argument) (name : Text) → (Contains names name → ⊥)
+not_given_without_name : (names : List ArgumentText) (arguments : List Argument) (name : ArgumentText) → (Contains names name → ⊥)
     → (Contains (names_in_arguments arguments) name → ⊥) → argument_value_of name (named_arguments names arguments) ≡ None
 not_given_without_name names [] name apart lacks = refl
 not_given_without_name [] (positional text ∷ arguments) name apart lacks = not_given_without_name [] arguments name apart lacks
@@ -51,7 +54,7 @@ not_given_without_name names (option other value ∷ arguments) name apart lacks
     (not_given_without_name names arguments name apart (λ has. lacks (suc has.0, omega (arith, has.1), has.2)))
 
 -- a name that a form lacks is none of its arguments' names
-unknown_name_is_not_given : (options names : List Text) (name : Text) → All (λ n. Contains options n) names
+unknown_name_is_not_given : (options names : List ArgumentText) (name : ArgumentText) → All (λ n. Contains options n) names
     → (Contains options name → ⊥) → Contains names name → ⊥
 unknown_name_is_not_given options names name known lacks has =
     lacks (subst (λ n. Contains options n) has.2 (known has.0 name has.1))
@@ -68,7 +71,7 @@ not_given_outside_form word arguments at of_form apart lacks =
     (text_search_finds_none (form_of word).options (option_name_of at) lacks))
 
 -- what is missing sets the default
-not_given_sets_default : (at : Opt) (default : ℕ) (told : Option Text) → told ≡ None → SetsNumberSetting at default told default
+not_given_sets_default : (at : Opt) (default : ℕ) (told : Option ArgumentText) → told ≡ None → SetsNumberSetting at default told default
 not_given_sets_default at default told none = subst (λ t. SetsNumberSetting at default t default) (sym none) refl
 
 -- a command without made traffic
@@ -135,13 +138,13 @@ make_is_given_no_settings arguments of_form = record {
         (unknown_name_is_not_given [] (names_in_arguments arguments) (codes "store") of_form.known (λ has. omega (arith, has.1)))
 
 -- a number that is given is set
-given_sets : (at : Opt) (default : ℕ) (told : Option Text) (value : ℕ) → GivesNumberSetting at told value
+given_sets : (at : Opt) (default : ℕ) (told : Option ArgumentText) (value : ℕ) → GivesNumberSetting at told value
     → SetsNumberSetting at default told value
 given_sets at default None value gives = absurd gives
 given_sets at default (Some text) value gives = gives
 
 -- traffic that is given, beside settings that are set
-pub traffic_given : (values : SettingValues) (path : Option Text) (seed frames : ℕ) (settings : Settings)
+pub traffic_given : (values : SettingValues) (path : Option ArgumentText) (seed frames : ℕ) (settings : Settings)
     → GivesTrafficSettings values seed frames → SetsSettings values path settings
     → SetsGiven values path (record { seed = seed; frames = frames; settings = settings })
 traffic_given values path seed frames settings gives set = record {
@@ -151,7 +154,7 @@ traffic_given values path seed frames settings gives set = record {
 }
 
 -- a good number sets something
-good_number_is_given : (at : Opt) (least greatest default : ℕ) (told : Option Text) → option_kind_of at ≡ number least greatest
+good_number_is_given : (at : Opt) (least greatest default : ℕ) (told : Option ArgumentText) → option_kind_of at ≡ number least greatest
     → IsGoodOption at told → (value : ℕ) × SetsNumberSetting at default told value
 good_number_is_given at least greatest default None kind good = (default, refl)
 good_number_is_given at least greatest default (Some text) kind good =
@@ -159,12 +162,12 @@ good_number_is_given at least greatest default (Some text) kind good =
     (within.0, (within.1, subst (λ (k : OptionKind). IsAllowedByOption k within.0) (sym kind) within.2))
 
 -- values that are good give something, if they set settings
-pub record HaveGivenSettings (values : SettingValues) (path : Option Text) (settings : Settings) : Type 0 where
+pub record HaveGivenSettings (values : SettingValues) (path : Option ArgumentText) (settings : Settings) : Type 0 where
   pub given : Given
   pub same : given.settings ≡ settings
   pub gives : SetsGiven values path given
 
-pub given_by_good_values : (values : SettingValues) (path : Option Text) (settings : Settings) → AreGoodValues values
+pub given_by_good_values : (values : SettingValues) (path : Option ArgumentText) (settings : Settings) → AreGoodValues values
     → SetsSettings values path settings → HaveGivenSettings values path settings
 given_by_good_values values path settings good set =
     let seed = good_number_is_given opt.Seed 0 seed_option_limit 0 (values opt.Seed) refl (good opt.Seed) in

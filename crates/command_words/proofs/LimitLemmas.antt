@@ -1,10 +1,11 @@
 -- What the words of a command line set is within limits.
 use Rattle.std.proofs.Common.{◌≡◌, ◌<◌, ◌≤◌, ◌^◌, ℕ, List, Option, Some, None, refl, sym, subst, arith}
-use Rattle.command_words.specs.Arguments.{Text}
+use Rattle.command_words.specs.Arguments.{ArgumentText}
 use Rattle.command_words.specs.Options.{OptionKind, number, option_kind_of, IsAllowedByOption, frames_option_limit}
-use Rattle.command_words.specs.Settings.{SettingValues, SetsNumberSetting, SetsSettings, GivesNumberSetting, GivesTrafficSettings, AreLimitedSettings}
+use Rattle.command_words.specs.Settings.{SettingValues, SetsNumberSetting, SetsSettings, GivesNumberSetting}
+use Rattle.command_words.specs.Settings.{GivesTrafficSettings, AreLimitedSettings}
 use Rattle.command_words.specs.Settings.{AreTrafficSettings}
-use Rattle.command_words.specs.Words.{AskFor, AreLimitedWords}
+use Rattle.command_words.specs.AskedCommand.{AskForCommand, IsLimitedCommand}
 use Rattle.command_words.specs.declared.command.Command.{Command}
 use Rattle.command_words.specs.declared.command.Command.TheVariants.{Weigh, Report, Format, Audit, Make, Demo}
 use Rattle.command_words.specs.declared.opt.Opt.{Opt}
@@ -13,7 +14,7 @@ use Rattle.command_words.specs.declared.opt.Opt.TheVariants.{Callers, Rounds}
 use Rattle.command_words.specs.declared.settings.Settings.{Settings}
 
 -- a number that an option sets is within its limits, if the default is
-set_number_is_in_limits : (opt : Opt) (default least greatest : ℕ) (text : Option Text) (value : ℕ)
+set_number_is_in_limits : (opt : Opt) (default least greatest : ℕ) (text : Option ArgumentText) (value : ℕ)
     → option_kind_of opt ≡ number least greatest → least ≤ default → default ≤ greatest
     → SetsNumberSetting opt default text value → (least ≤ value) × (value ≤ greatest)
 set_number_is_in_limits opt default least greatest None value kind low high set =
@@ -22,7 +23,7 @@ set_number_is_in_limits opt default least greatest (Some text) value kind low hi
     subst (λ (k : OptionKind). IsAllowedByOption k value) kind set.1
 
 -- settings that values set are within their limits
-set_settings_are_in_limits : (values : SettingValues) (path : Option Text) (settings : Settings) → SetsSettings values path settings
+set_settings_are_in_limits : (values : SettingValues) (path : Option ArgumentText) (settings : Settings) → SetsSettings values path settings
     → AreLimitedSettings settings
 set_settings_are_in_limits values path settings set =
     let shards = set_number_is_in_limits Shards 4 1 16 (values Shards) settings.shards refl (omega arith) (omega arith) set.shards in
@@ -54,11 +55,11 @@ set_settings_are_in_limits values path settings set =
     }
 
 -- a number that is given is below 2^64, and within its limits
-given_number_has_limit : (opt : Opt) (text : Option Text) (value : ℕ) → GivesNumberSetting opt text value → value < 2 ^ 64
+given_number_has_limit : (opt : Opt) (text : Option ArgumentText) (value : ℕ) → GivesNumberSetting opt text value → value < 2 ^ 64
 given_number_has_limit opt None value gives = absurd gives
 given_number_has_limit opt (Some text) value gives = gives.0.bounded
 
-given_number_is_in_limits : (opt : Opt) (least greatest : ℕ) (text : Option Text) (value : ℕ) → option_kind_of opt ≡ number least greatest
+given_number_is_in_limits : (opt : Opt) (least greatest : ℕ) (text : Option ArgumentText) (value : ℕ) → option_kind_of opt ≡ number least greatest
     → GivesNumberSetting opt text value → (least ≤ value) × (value ≤ greatest)
 given_number_is_in_limits opt least greatest None value kind gives = absurd gives
 given_number_is_in_limits opt least greatest (Some text) value kind gives = subst (λ (k : OptionKind). IsAllowedByOption k value) kind gives.1
@@ -74,7 +75,7 @@ given_traffic_is_in_limits values seed frames gives =
     }
 
 -- so the settings of what is asked for are
-pub asked_command_is_in_limits : (words : List Text) (command : Command) → AskFor words command → AreLimitedWords command
+pub asked_command_is_in_limits : (words : List ArgumentText) (command : Command) → AskForCommand words command → IsLimitedCommand command
 asked_command_is_in_limits words (Weigh prefix settings) asked = set_settings_are_in_limits _ _ settings asked.set
 asked_command_is_in_limits words (Report settings) asked = (set_settings_are_in_limits _ _ settings asked.set, asked.wide)
 asked_command_is_in_limits words (Format settings) asked = set_settings_are_in_limits _ _ settings asked.set

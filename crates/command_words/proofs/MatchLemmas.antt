@@ -6,17 +6,21 @@ use Rattle.std.proofs.Math.Path.{fun_ext}
 use Rattle.std.specs.Prelude.{slice_get, Contains, IsSome, unwrap_or}
 use Rattle.clap.specs.Words.{found_of, first_value}
 use Rattle.clap.specs.declared.parser.matches.ArgMatches.{ArgMatches}
-use Rattle.command_words.specs.Arguments.{Text, Argument, ArgumentForm, positionals_in_arguments, argument_value_of}
+use Rattle.command_words.specs.Arguments.{ArgumentText, Argument, ArgumentForm, positionals_in_arguments}
+use Rattle.command_words.specs.Arguments.{argument_value_of}
 use Rattle.command_words.specs.Scanning.{scanned_text_at}
 use Rattle.command_words.specs.Forms.{form_of}
 use Rattle.command_words.specs.Options.{option_name_of}
-use Rattle.command_words.specs.Settings.{setting_values_in, store_setting_in, SetsNumberSetting, SetsSettings, GivesNumberSetting, GivesTrafficSettings}
+use Rattle.command_words.specs.Settings.{setting_values_in, store_setting_in, SetsNumberSetting, SetsSettings}
+use Rattle.command_words.specs.Settings.{GivesNumberSetting, GivesTrafficSettings}
 use Rattle.command_words.specs.Settings.{AreWideSettings}
 use Rattle.command_words.specs.GivenValues.{SetsGiven}
 use Rattle.command_words.specs.Matches.{AreMatchesOf, AreMatchesOfWords, values_in_matches, store_in_matches}
 use Rattle.command_words.specs.NamedPaths.{NamesPath}
-use Rattle.command_words.specs.Words.{AreGoodValues, WordsHaveSides, WordsHaveGoodPositionals, HasValueFault, HasWordsFault}
-use Rattle.command_words.specs.Words.{WordsAskToMake, WordsAskToDemo, IsBoundedCommand}
+use Rattle.command_words.specs.Values.{AreGoodValues, HasValueFault}
+use Rattle.command_words.specs.AskedCommand.{CommandHasSides, CommandHasGoodPositionals}
+use Rattle.command_words.specs.WordsFault.{HasWordsFault}
+use Rattle.command_words.specs.AskedCommand.{WordsAskToMake, WordsAskToDemo, IsBoundedCommand}
 use Rattle.command_words.specs.declared.command_word.CommandWord.{CommandWord}
 use Rattle.command_words.specs.declared.command_word.CommandWord.TheVariants.{Weigh, Report, Format, Audit, Make, Demo}
 use Rattle.command_words.specs.declared.opt.Opt.{Opt}
@@ -27,12 +31,12 @@ use Rattle.command_words.specs.declared.words_kind.WordsKind.TheVariants.{BadNum
 use Rattle.command_words.specs.declared.opt.Opt.TheVariants as opt
 
 -- the byte that a name begins with: what a positional is for begins with a capital letter, which is at most 90
-abbrev pub match_name_first_byte : Text → ℕ
+abbrev pub match_name_first_byte : ArgumentText → ℕ
 match_name_first_byte [] = 0
 match_name_first_byte (first ∷ rest) = first
 
 -- a name that begins with a small letter is none of two that don't
-small_match_name_is_neither : (one two name : Text) → 90 < match_name_first_byte name → Contains (one ∷ two ∷ []) name → match_name_first_byte one ≤ 90
+small_match_name_is_neither : (one two name : ArgumentText) → 90 < match_name_first_byte name → Contains (one ∷ two ∷ []) name → match_name_first_byte one ≤ 90
     → match_name_first_byte two ≤ 90 → ⊥
 small_match_name_is_neither one two name small has large other = go has.0 has.1 has.2
   where
@@ -42,7 +46,7 @@ small_match_name_is_neither one two name small has large other = go has.0 has.1 
     go (suc (suc place)) below same = omega arith
 
 -- a name that begins with a small letter is not that of a positional
-match_name_is_no_positional : (word : CommandWord) (name : Text) → 90 < match_name_first_byte name → Contains (form_of word).positionals name → ⊥
+match_name_is_no_positional : (word : CommandWord) (name : ArgumentText) → 90 < match_name_first_byte name → Contains (form_of word).positionals name → ⊥
 match_name_is_no_positional Weigh name small has = small_match_name_is_neither (codes "SRC") (codes "DST") name small has (omega arith) (omega arith)
 match_name_is_no_positional Report name small has = omega (arith, has.1)
 match_name_is_no_positional Format name small has = omega (arith, has.1)
@@ -63,14 +67,14 @@ matches_tell_good_values word arguments matches told good =
     subst (λ values. AreGoodValues values) (matches_tell_values word arguments matches told) good
 
 -- what is told of a path is what the arguments give
-pub matches_tell_path : (word : CommandWord) (arguments : List Argument) (matches : ArgMatches) (name : Text)
+pub matches_tell_path : (word : CommandWord) (arguments : List Argument) (matches : ArgMatches) (name : ArgumentText)
     → AreMatchesOf (form_of word) arguments matches → 90 < match_name_first_byte name
     → first_value (found_of matches) name ≡ argument_value_of name arguments
 matches_tell_path word arguments matches name told small = told.options name (match_name_is_no_positional word name small)
 
 -- the text that is told of a path is the one that the arguments name
 pub matches_tell_named_path : (word : CommandWord) (arguments : List Argument) (matches : ArgMatches)
-    (name default text : Text) → AreMatchesOf (form_of word) arguments matches → 90 < match_name_first_byte name
+    (name default text : ArgumentText) → AreMatchesOf (form_of word) arguments matches → 90 < match_name_first_byte name
     → (Contains (form_of word).options name → text ≡ unwrap_or (first_value (found_of matches) name) default)
     → ((Contains (form_of word).options name → ⊥) → text ≡ [])
     → NamesPath (form_of word) arguments name default text
@@ -91,8 +95,8 @@ matches_tell_settings word arguments matches settings told set =
     (matches_tell_values word arguments matches told) set)
 
 -- a value that is bad among those that are told is what is wrong with the words
-pub matches_tell_fault : (words : List Text) (word : CommandWord) (matches : ArgMatches)
-    (tells : AreMatchesOfWords words word matches) (kind : WordsKind) → WordsHaveGoodPositionals word tells.arguments
+pub matches_tell_fault : (words : List ArgumentText) (word : CommandWord) (matches : ArgMatches)
+    (tells : AreMatchesOfWords words word matches) (kind : WordsKind) → CommandHasGoodPositionals word tells.arguments
     → HasValueFault (values_in_matches matches) kind → HasWordsFault words kind
 matches_tell_fault words word matches tells kind good has =
     go kind (subst (λ values. HasValueFault values kind) (matches_tell_values word tells.arguments matches tells.told) has)
@@ -122,7 +126,7 @@ matches_tell_fault words word matches tells kind good has =
     go _ fault = absurd fault
 
 -- settings that are told to be too narrow are what is wrong with the words
-pub matches_tell_narrow_settings : (words : List Text) (word : CommandWord) (matches : ArgMatches)
+pub matches_tell_narrow_settings : (words : List ArgumentText) (word : CommandWord) (matches : ArgMatches)
     (tells : AreMatchesOfWords words word matches) (settings : Settings) (kind : WordsKind) → IsBoundedCommand word
     → AreGoodValues (values_in_matches matches)
     → SetsSettings (values_in_matches matches) (store_in_matches matches) settings
@@ -140,20 +144,20 @@ matches_tell_narrow_settings words word matches tells settings kind bounded good
     }
 
 -- two positionals, and that they are told by their names
-pub record MatchesTellTwo (arguments : List Argument) (matches : ArgMatches) (one two : Text) : Type 0 where
-  pub first : Text
-  pub second : Text
+pub record MatchesTellTwo (arguments : List Argument) (matches : ArgMatches) (one two : ArgumentText) : Type 0 where
+  pub first : ArgumentText
+  pub second : ArgumentText
   pub are : positionals_in_arguments arguments ≡ first ∷ second ∷ []
   pub first_told : first_value (found_of matches) one ≡ Some first
   pub second_told : first_value (found_of matches) two ≡ Some second
 
 -- the positionals of a form that has two are told
-matches_tell_two_positionals : (form : ArgumentForm) (arguments : List Argument) (matches : ArgMatches) (one two : Text)
+matches_tell_two_positionals : (form : ArgumentForm) (arguments : List Argument) (matches : ArgMatches) (one two : ArgumentText)
     → form.positionals ≡ one ∷ two ∷ [] → length (positionals_in_arguments arguments) ≡ 2
     → AreMatchesOf form arguments matches → MatchesTellTwo arguments matches one two
 matches_tell_two_positionals form arguments matches one two has many told = go (positionals_in_arguments arguments) refl many
   where
-    go : (texts : List Text) → positionals_in_arguments arguments ≡ texts → length texts ≡ 2
+    go : (texts : List ArgumentText) → positionals_in_arguments arguments ≡ texts → length texts ≡ 2
         → MatchesTellTwo arguments matches one two
     go [] are many = absurd (omega arith)
     go (first ∷ []) are many = absurd (omega arith)
@@ -173,7 +177,7 @@ matches_tell_sides arguments matches two told =
     matches_tell_two_positionals (form_of Weigh) arguments matches (codes "SRC") (codes "DST") refl two told
 
 -- a number that is set by a text is given
-match_sets_given_number : (at : Opt) (default : ℕ) (told : Option Text) (text : Text) (value : ℕ) → told ≡ Some text
+match_sets_given_number : (at : Opt) (default : ℕ) (told : Option ArgumentText) (text : ArgumentText) (value : ℕ) → told ≡ Some text
     → SetsNumberSetting at default told value → GivesNumberSetting at told value
 match_sets_given_number at default None text value is set = cc
 match_sets_given_number at default (Some other) text value is set = set
@@ -192,7 +196,7 @@ matches_tell_traffic word arguments matches given has many told sets =
     }
 
 -- so words ask for it, behind `make`
-pub matches_tell_make : (words : List Text) (matches : ArgMatches) (tells : AreMatchesOfWords words Make matches)
+pub matches_tell_make : (words : List ArgumentText) (matches : ArgMatches) (tells : AreMatchesOfWords words Make matches)
     (given : Given) → SetsGiven (values_in_matches matches) (store_in_matches matches) given
     → WordsAskToMake words given.seed given.frames
 matches_tell_make words matches tells given sets = record {
@@ -203,7 +207,7 @@ matches_tell_make words matches tells given sets = record {
 }
 
 -- and for a demo of it, behind `demo`
-pub matches_tell_demo : (words : List Text) (matches : ArgMatches) (tells : AreMatchesOfWords words Demo matches)
+pub matches_tell_demo : (words : List ArgumentText) (matches : ArgMatches) (tells : AreMatchesOfWords words Demo matches)
     (given : Given) → SetsGiven (values_in_matches matches) (store_in_matches matches) given
     → AreWideSettings given.settings → WordsAskToDemo words given.seed given.frames given.settings
 matches_tell_demo words matches tells given sets wide = record {
@@ -216,28 +220,28 @@ matches_tell_demo words matches tells given sets wide = record {
 }
 
 -- a text that is told is found
-pub match_told_is_found : (found : Option (Bor Text)) (told : Option Text) (text : Text) → scanned_text_at found ≡ told
+pub match_told_is_found : (found : Option (Bor ArgumentText)) (told : Option ArgumentText) (text : ArgumentText) → scanned_text_at found ≡ told
     → told ≡ Some text → IsSome found
 match_told_is_found None told text is told_is = cc
 match_told_is_found (Some word) told text is told_is = refl
 
 -- what is found is the text that is told
-match_found_is_told : (found : Option (Bor Text)) (told : Option Text) (text : Text) (word : Bor Text)
+match_found_is_told : (found : Option (Bor ArgumentText)) (told : Option ArgumentText) (text : ArgumentText) (word : Bor ArgumentText)
     → scanned_text_at found ≡ told → told ≡ Some text → found ≡ Some word → word.now ≡ text
 match_found_is_told found told text word is told_is found_is =
     same_some word.now text (sym (ap scanned_text_at found_is) ∙ is ∙ told_is)
   where
-    same_some : (text other : Text) → Path (Option Text) (Some text) (Some other) → text ≡ other
+    same_some : (text other : ArgumentText) → Path (Option ArgumentText) (Some text) (Some other) → text ≡ other
     same_some text other same = cc
 
 -- what is found behind `weigh` is its sides
-pub matches_found_are_sides : (words : List Text) (matches : ArgMatches) (tells : AreMatchesOfWords words Weigh matches)
-    (found_source found_dest : Option (Bor Text)) (source dest : Bor Text)
+pub matches_found_are_sides : (words : List ArgumentText) (matches : ArgMatches) (tells : AreMatchesOfWords words Weigh matches)
+    (found_source found_dest : Option (Bor ArgumentText)) (source dest : Bor ArgumentText)
     → scanned_text_at found_source ≡ first_value (found_of matches) (codes "SRC")
     → scanned_text_at found_dest ≡ first_value (found_of matches) (codes "DST")
-    → found_source ≡ Some source → found_dest ≡ Some dest → (source_text dest_text : Text)
+    → found_source ≡ Some source → found_dest ≡ Some dest → (source_text dest_text : ArgumentText)
     → source_text ≡ source.now → dest_text ≡ dest.now
-    → WordsHaveSides tells.arguments source_text dest_text
+    → CommandHasSides tells.arguments source_text dest_text
 matches_found_are_sides words matches tells found_source found_dest source dest source_is dest_is source_found dest_found
     source_text dest_text same_source same_dest =
     let told = matches_tell_sides tells.arguments matches tells.are_words.well_formed.of_form.as_many tells.told in

@@ -9,45 +9,46 @@ use Rattle.std.proofs.lemmas.Slice.Eq.{bytes_eq-Decides}
 use Rattle.clap.specs.Words.{Row, first_of}
 use Rattle.clap.specs.declared.builder.value_parser.Reading.TheVariants.{AsWritten}
 use Rattle.clap.specs.declared.parser.matches.ValueSource.TheVariants.{CommandLine}
-use Rattle.command_words.specs.Arguments.{Text, Argument, positional, option, positionals_in_arguments, names_in_arguments, argument_value_of}
+use Rattle.command_words.specs.Arguments.{ArgumentText, Argument, positional, option, positionals_in_arguments}
+use Rattle.command_words.specs.Arguments.{names_in_arguments, argument_value_of}
 use Rattle.command_words.specs.Arguments.{named_arguments}
 use Rattle.prefix_lattice.proofs.ListLemmas.{AllPairs-list_head, AllPairs-list_tail}
 
 -- a text is equal to itself, and to no other
-pub match_row_name_is_same : (text : Text) → bytes_eq text text ≡ true
+pub match_row_name_is_same : (text : ArgumentText) → bytes_eq text text ≡ true
 match_row_name_is_same text = (bytes_eq-Decides text text).1 refl
 
-pub match_row_name_is_other : (text other : Text) → text ≢ other → bytes_eq text other ≡ false
+pub match_row_name_is_other : (text other : ArgumentText) → text ≢ other → bytes_eq text other ≡ false
 match_row_name_is_other text other apart = false_from_ne_true _ (λ same. apart ((bytes_eq-Decides text other).0 same))
 
 -- what holds of each text holds of the one at a place
-pub match_row_name_at_place : (P : Text → Type 0) (place : ℕ) (name : Text) (texts : List Text) → slice_get texts place ≡ Some name
+pub match_row_name_at_place : (P : ArgumentText → Type 0) (place : ℕ) (name : ArgumentText) (texts : List ArgumentText) → slice_get texts place ≡ Some name
     → All P texts → P name
 match_row_name_at_place P place name [] at all = let wrong : ⊥ = cc in absurd wrong
 match_row_name_at_place P zero name (text ∷ texts) at all = let same : text ≡ name = cc in subst P same (All-head P text texts all)
 match_row_name_at_place P (suc place) name (text ∷ texts) at all = match_row_name_at_place P place name texts at (All-tail P text texts all)
 
 -- what is found for a name that has this value
-abbrev pub match_row : Text → Text → Row
+abbrev pub match_row : ArgumentText → ArgumentText → Row
 match_row name value = record { id = name; values = value ∷ []; count = None; source = Some CommandLine; reading = AsWritten }
 
 -- the rows that arguments give, where the positionals have these names
-abbrev pub match_rows_of : List Text → List Argument → List Row
+abbrev pub match_rows_of : List ArgumentText → List Argument → List Row
 match_rows_of ids [] = []
 match_rows_of [] (positional text ∷ arguments) = match_rows_of [] arguments
 match_rows_of (id ∷ ids) (positional text ∷ arguments) = match_row id text ∷ match_rows_of ids arguments
 match_rows_of ids (option name value ∷ arguments) = match_row name value ∷ match_rows_of ids arguments
 
 -- what is found first, by whether the row in front has the name
-match_row_is_found_first : (name id value : Text) (rows : List Row) → id ≡ name → first_of name (match_row id value ∷ rows) ≡ Some value
+match_row_is_found_first : (name id value : ArgumentText) (rows : List Row) → id ≡ name → first_of name (match_row id value ∷ rows) ≡ Some value
 match_row_is_found_first name id value rows same = rw (same, match_row_name_is_same name) refl
 
-match_row_is_found_behind : (name id value : Text) (rows : List Row) → id ≢ name
+match_row_is_found_behind : (name id value : ArgumentText) (rows : List Row) → id ≢ name
     → first_of name (match_row id value ∷ rows) ≡ first_of name rows
 match_row_is_found_behind name id value rows apart = rw (match_row_name_is_other id name apart) refl
 
 -- what is found first among rows is what is found first among arguments, if it is so behind the first of them
-match_row_named_behind : (name other value : Text) (rows : List Row) (arguments : List Argument)
+match_row_named_behind : (name other value : ArgumentText) (rows : List Row) (arguments : List Argument)
     → first_of name rows ≡ argument_value_of name arguments
     → first_of name (match_row other value ∷ rows) ≡ argument_value_of name (option other value ∷ arguments)
 match_row_named_behind name other value rows arguments behind = go (bytes_eq other name) refl
@@ -58,7 +59,7 @@ match_row_named_behind name other value rows arguments behind = go (bytes_eq oth
     go false is = rw is behind
 
 -- a name gives the value of the argument of that name
-pub match_rows_give_named_value : (name : Text) (ids : List Text) (arguments : List Argument)
+pub match_rows_give_named_value : (name : ArgumentText) (ids : List ArgumentText) (arguments : List Argument)
     → first_of name (match_rows_of ids arguments) ≡ argument_value_of name (named_arguments ids arguments)
 match_rows_give_named_value name ids [] = refl
 match_rows_give_named_value name [] (positional text ∷ arguments) = match_rows_give_named_value name [] arguments
@@ -68,7 +69,7 @@ match_rows_give_named_value name ids (option other value ∷ arguments) =
     match_row_named_behind name other value (match_rows_of ids arguments) (named_arguments ids arguments) (match_rows_give_named_value name ids arguments)
 
 -- a name of an option gives its value
-pub match_rows_give_option : (name : Text) (ids : List Text) (arguments : List Argument) → All (λ id. id ≢ name) ids
+pub match_rows_give_option : (name : ArgumentText) (ids : List ArgumentText) (arguments : List Argument) → All (λ id. id ≢ name) ids
     → first_of name (match_rows_of ids arguments) ≡ argument_value_of name arguments
 match_rows_give_option name ids [] apart = refl
 match_rows_give_option name [] (positional text ∷ arguments) apart = match_rows_give_option name [] arguments apart
@@ -79,7 +80,7 @@ match_rows_give_option name ids (option other value ∷ arguments) apart =
     match_row_named_behind name other value (match_rows_of ids arguments) arguments (match_rows_give_option name ids arguments apart)
 
 -- a name of a positional gives the one in its place
-pub match_rows_give_positional : (place : ℕ) (name : Text) (ids : List Text) (arguments : List Argument)
+pub match_rows_give_positional : (place : ℕ) (name : ArgumentText) (ids : List ArgumentText) (arguments : List Argument)
     → slice_get ids place ≡ Some name → AllPairs (λ a b. a ≢ b) ids
     → All (λ other. other ≢ name) (names_in_arguments arguments)
     → first_of name (match_rows_of ids arguments) ≡ slice_get (positionals_in_arguments arguments) place

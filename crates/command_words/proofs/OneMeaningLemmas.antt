@@ -3,15 +3,18 @@ use Rattle.std.proofs.Common.{◌≡◌, ◌≢◌, ◌⊎◌, inl, inr, ◌==�
 use Rattle.std.proofs.Common.{Err}
 use Rattle.std.proofs.Common.{Result, refl, sym, ap, ap₂, ◌∙◌, subst}
 use Rattle.std.specs.Result.{IfOk, IsOk}
-use Rattle.prefix_lattice.specs.{PrefixValue, SpellsPrefix, HasPrefixFault}
+use Rattle.prefix_lattice.specs.{PrefixValue, SpellsPrefix, HasPrefixTextFault}
 use Rattle.prefix_lattice.specs.declared.prefix_fault.PrefixFault.{PrefixFault}
-use Rattle.command_words.specs.Arguments.{Text, Argument, SpellAllArguments, AreWellFormedArguments}
+use Rattle.command_words.specs.Arguments.{ArgumentText, Argument, SpellAllArguments, AreWellFormedArguments}
 use Rattle.command_words.specs.Forms.{form_word_of, form_of, AreFormWords}
 use Rattle.command_words.specs.GivenValues.{SetsGiven}
 use Rattle.command_words.specs.Settings.{SettingValues, SetsSettings}
 use Rattle.command_words.specs.Settings.{setting_values_in, store_setting_in, AreWideSettings}
-use Rattle.command_words.specs.Words.{AskFor, WordsHaveSides, WordsHaveGoodPositionals, HasValueFault, WordsHaveBadValue, HasWordsFault}
-use Rattle.command_words.specs.Words.{AreGoodValues, IsBoundedCommand}
+use Rattle.command_words.specs.AskedCommand.{AskForCommand, CommandHasSides, CommandHasGoodPositionals}
+use Rattle.command_words.specs.Values.{HasValueFault}
+use Rattle.command_words.specs.WordsFault.{WordsHaveBadValue, HasWordsFault}
+use Rattle.command_words.specs.Values.{AreGoodValues}
+use Rattle.command_words.specs.AskedCommand.{IsBoundedCommand}
 use Rattle.command_words.specs.declared.command.Command.{Command}
 use Rattle.command_words.specs.declared.command_word.CommandWord.{CommandWord}
 use Rattle.command_words.specs.declared.command_word.CommandWord.TheVariants.{Weigh, Report, Format, Audit, Make, Demo}
@@ -23,27 +26,30 @@ use Rattle.command_words.specs.declared.words_kind.WordsKind.TheVariants.{BadPre
 use Rattle.command_words.specs.declared.words_kind.WordsKind.TheVariants.{BadChoice, Bound}
 use Rattle.command_words.specs.declared.words_kind.WordsRefusal.{WordsRefusal}
 use Rattle.command_words.specs.declared.words_kind.WordsRefusal.TheVariants.{Bad, OutOfMemory}
-use Rattle.command_words.proofs.GivenLemmas.{given_settings_alone, default_given_settings, settings_given, make_is_given_no_settings, traffic_given}
+use Rattle.command_words.proofs.GivenLemmas.{given_settings_alone, default_given_settings, settings_given}
+use Rattle.command_words.proofs.GivenLemmas.{make_is_given_no_settings, traffic_given}
 use Rattle.command_words.proofs.GivenLemmas.{given_by_good_values}
-use Rattle.command_words.proofs.OneReadingLemmas.{one_reading_of_head, one_reading_of_rest, one_reading_of_empty_list, one_reading}
-use Rattle.command_words.proofs.OneValueFaultLemmas.{one_value_fault, no_value_fault, given_values_have_no_fault, values_give_one_thing}
+use Rattle.command_words.proofs.OneReadingLemmas.{one_reading_of_head, one_reading_of_rest, one_reading_of_empty_list}
+use Rattle.command_words.proofs.OneReadingLemmas.{one_reading}
+use Rattle.command_words.proofs.OneValueFaultLemmas.{one_value_fault, no_value_fault, given_values_have_no_fault}
+use Rattle.command_words.proofs.OneValueFaultLemmas.{values_give_one_thing}
 use Rattle.command_words.specs.declared.command.Command.TheVariants as command
 
 -- what the texts of a prefix mean is told once
 pub record PrefixHasOneMeaning : Type 0 where
-  pub one_prefix : (source dest : Text) (prefix other : PrefixValue) → SpellsPrefix source dest prefix
+  pub one_prefix : (source dest : ArgumentText) (prefix other : PrefixValue) → SpellsPrefix source dest prefix
       → SpellsPrefix source dest other → prefix ≡ other
-  pub no_fault : (source dest : Text) (prefix : PrefixValue) (fault : PrefixFault) → SpellsPrefix source dest prefix
-      → HasPrefixFault source dest fault → ⊥
-  pub one_fault : (source dest : Text) (fault other : PrefixFault) → HasPrefixFault source dest fault
-      → HasPrefixFault source dest other → fault ≡ other
+  pub no_fault : (source dest : ArgumentText) (prefix : PrefixValue) (fault : PrefixFault) → SpellsPrefix source dest prefix
+      → HasPrefixTextFault source dest fault → ⊥
+  pub one_fault : (source dest : ArgumentText) (fault other : PrefixFault) → HasPrefixTextFault source dest fault
+      → HasPrefixTextFault source dest other → fault ≡ other
 
 -- what words come to: a command that they ask for, or a fault
 abbrev MeaningOfWords : Type 0
 MeaningOfWords = Result Command WordsKind
 
 -- the command whose word begins with a byte
-abbrev meaning_by_command_word : Text → CommandWord
+abbrev meaning_by_command_word : ArgumentText → CommandWord
 meaning_by_command_word [] = Report
 meaning_by_command_word (first ∷ rest) =
     cond (first == 119) Weigh (cond (first == 102) Format
@@ -62,7 +68,7 @@ command_word_has_one_meaning : (word other : CommandWord) → form_word_of word 
 command_word_has_one_meaning word other same = sym (meaning_by_command_word-own word) ∙ ap meaning_by_command_word same ∙ meaning_by_command_word-own other
 
 -- the words of two commands' words are of one command, and spell the same arguments
-command_line_has_one_meaning : (words : List Text) (word other : CommandWord) (arguments more : List Argument)
+command_line_has_one_meaning : (words : List ArgumentText) (word other : CommandWord) (arguments more : List Argument)
     → AreFormWords words word arguments → AreFormWords words other more
     → (word ≡ other) × (arguments ≡ more)
 command_line_has_one_meaning words word other arguments more one two =
@@ -73,12 +79,12 @@ command_line_has_one_meaning words word other arguments more one two =
     )
 
 -- what values and the path of a store come to: what they give, or the first fault of the values
-abbrev IsOneMeaningOfValues : SettingValues → Option Text → Result Given WordsKind → Type 0
+abbrev IsOneMeaningOfValues : SettingValues → Option ArgumentText → Result Given WordsKind → Type 0
 IsOneMeaningOfValues values path (Ok given) = SetsGiven values path given
 IsOneMeaningOfValues values path (Err kind) = HasValueFault values kind
 
 -- values come to one thing
-values_have_one_meaning : (values : SettingValues) (path : Option Text) (read other : Result Given WordsKind)
+values_have_one_meaning : (values : SettingValues) (path : Option ArgumentText) (read other : Result Given WordsKind)
     → IsOneMeaningOfValues values path read → IsOneMeaningOfValues values path other → read ≡ other
 values_have_one_meaning values path (Ok given) (Ok other) one two = ap Ok (values_give_one_thing values path given other one two)
 values_have_one_meaning values path (Ok given) (Err kind) one two =
@@ -122,17 +128,17 @@ demo_command_meaning given = command.Demo given.seed given.frames given.settings
 
 -- what the arguments of `weigh` come to
 data WeighHasMeaning (arguments : List Argument) (outcome : MeaningOfWords) : Type 0 where
-  badly : (source dest : Text) (fault : PrefixFault) → WordsHaveSides arguments source dest
-      → HasPrefixFault source dest fault → outcome ≡ Err (BadPrefix fault)
+  badly : (source dest : ArgumentText) (fault : PrefixFault) → CommandHasSides arguments source dest
+      → HasPrefixTextFault source dest fault → outcome ≡ Err (BadPrefix fault)
       → WeighHasMeaning arguments outcome
-  well : (source dest : Text) (prefix : PrefixValue) (read : Result Given WordsKind)
-      → WordsHaveSides arguments source dest → SpellsPrefix source dest prefix
+  well : (source dest : ArgumentText) (prefix : PrefixValue) (read : Result Given WordsKind)
+      → CommandHasSides arguments source dest → SpellsPrefix source dest prefix
       → IsMeaningOfCommandValues Weigh arguments read → outcome ≡ command_meaning_of_values (weigh_command_meaning prefix) read
       → WeighHasMeaning arguments outcome
 
 -- what is said of the two sides is said of the same two texts
-meaning_of_same_sides : (P : Text → Text → Type 0) (arguments : List Argument) (source dest other more : Text)
-    → WordsHaveSides arguments source dest → WordsHaveSides arguments other more
+meaning_of_same_sides : (P : ArgumentText → ArgumentText → Type 0) (arguments : List Argument) (source dest other more : ArgumentText)
+    → CommandHasSides arguments source dest → CommandHasSides arguments other more
     → P other more → P source dest
 meaning_of_same_sides P arguments source dest other more one two holds =
     let same = sym one ∙ two in
@@ -146,7 +152,7 @@ weigh_has_one_meaning reading arguments outcome other (badly source dest fault s
     (badly source' dest' fault' sides' has' is') =
     let same =
     reading.one_fault source dest fault fault' has
-    (meaning_of_same_sides (λ s d. HasPrefixFault s d fault') arguments source dest source' dest' sides sides' has') in
+    (meaning_of_same_sides (λ s d. HasPrefixTextFault s d fault') arguments source dest source' dest' sides sides' has') in
     is ∙ ap (λ f. Err (BadPrefix f)) same ∙ sym is'
 weigh_has_one_meaning reading arguments outcome other (badly source dest fault sides has is)
     (well source' dest' prefix' read' sides' spelled' told' is') =
@@ -155,7 +161,7 @@ weigh_has_one_meaning reading arguments outcome other (badly source dest fault s
 weigh_has_one_meaning reading arguments outcome other (well source dest prefix read sides spelled told is)
     (badly source' dest' fault' sides' has' is') =
     absurd (reading.no_fault source dest prefix fault' spelled
-    (meaning_of_same_sides (λ s d. HasPrefixFault s d fault') arguments source dest source' dest' sides sides' has'))
+    (meaning_of_same_sides (λ s d. HasPrefixTextFault s d fault') arguments source dest source' dest' sides sides' has'))
 weigh_has_one_meaning reading arguments outcome other (well source dest prefix read sides spelled told is)
     (well source' dest' prefix' read' sides' spelled' told' is') =
     let same =
@@ -234,28 +240,28 @@ arguments_have_one_meaning reading Demo arguments outcome other one two =
     bounded_has_one_meaning Demo demo_command_meaning arguments outcome other one two
 
 -- what words come to, by the first thing that settles it
-data WordsHaveMeaning (words : List Text) (outcome : MeaningOfWords) : Type 0 where
+data WordsHaveMeaning (words : List ArgumentText) (outcome : MeaningOfWords) : Type 0 where
   nothing : words ≡ [] → outcome ≡ Err NoCommand → WordsHaveMeaning words outcome
-  unknown : (first : Text) (behind : List Text) → words ≡ first ∷ behind
+  unknown : (first : ArgumentText) (behind : List ArgumentText) → words ≡ first ∷ behind
       → ((word : CommandWord) → first ≢ form_word_of word) → outcome ≡ Err UnknownCommand → WordsHaveMeaning words outcome
-  refused : (word : CommandWord) (behind : List Text) → words ≡ form_word_of word ∷ behind
+  refused : (word : CommandWord) (behind : List ArgumentText) → words ≡ form_word_of word ∷ behind
       → ((arguments : List Argument) → AreWellFormedArguments (form_of word) behind arguments → ⊥)
       → outcome ≡ Err Refused → WordsHaveMeaning words outcome
   told : (word : CommandWord) (arguments : List Argument) → AreFormWords words word arguments
       → ArgumentsHaveMeaning word arguments outcome → WordsHaveMeaning words outcome
 
 -- words with a first word are some
-meaning_of_no_words_differs : (words : List Text) (first : Text) (behind : List Text) → words ≡ [] → words ≡ first ∷ behind → ⊥
+meaning_of_no_words_differs : (words : List ArgumentText) (first : ArgumentText) (behind : List ArgumentText) → words ≡ [] → words ≡ first ∷ behind → ⊥
 meaning_of_no_words_differs words first behind none are = one_reading_of_empty_list _ _ (sym none ∙ are)
 
 -- a word that is no command's is not the first
-unknown_word_has_no_meaning : (words : List Text) (first : Text) (behind others : List Text) (word : CommandWord)
+unknown_word_has_no_meaning : (words : List ArgumentText) (first : ArgumentText) (behind others : List ArgumentText) (word : CommandWord)
     → words ≡ first ∷ behind → ((word : CommandWord) → first ≢ form_word_of word)
     → words ≡ form_word_of word ∷ others → ⊥
 unknown_word_has_no_meaning words first behind others word are is_no_word begun = is_no_word word (one_reading_of_head _ _ _ _ (sym are ∙ begun))
 
 -- words that are refused are no command's
-refused_words_lack_meaning : (words behind : List Text) (word other : CommandWord) (arguments : List Argument)
+refused_words_lack_meaning : (words behind : List ArgumentText) (word other : CommandWord) (arguments : List Argument)
     → words ≡ form_word_of word ∷ behind
     → ((arguments : List Argument) → AreWellFormedArguments (form_of word) behind arguments → ⊥)
     → AreFormWords words other arguments → ⊥
@@ -266,7 +272,7 @@ refused_words_lack_meaning words behind word other arguments begun is_refused ar
     (subst (λ b. AreWellFormedArguments (form_of other) b arguments) (one_reading_of_rest _ _ _ _ same) are_words.well_formed))
 
 -- words come to one thing
-words_have_one_meaning : PrefixHasOneMeaning → (words : List Text) (outcome other : MeaningOfWords) → WordsHaveMeaning words outcome
+words_have_one_meaning : PrefixHasOneMeaning → (words : List ArgumentText) (outcome other : MeaningOfWords) → WordsHaveMeaning words outcome
     → WordsHaveMeaning words other
     → outcome ≡ other
 words_have_one_meaning reading words outcome other (nothing none is) (nothing none' is') = is ∙ sym is'
@@ -309,7 +315,7 @@ words_have_one_meaning reading words outcome other (told word arguments are_word
     (subst (λ a. ArgumentsHaveMeaning word' a other) (sym same.1) tell'))
 
 -- what words ask for is what they come to
-asked_command_is_meaning : (words : List Text) (asked : Command) → AskFor words asked → WordsHaveMeaning words (Ok asked)
+asked_command_is_meaning : (words : List ArgumentText) (asked : Command) → AskForCommand words asked → WordsHaveMeaning words (Ok asked)
 asked_command_is_meaning words (command.Weigh prefix settings) asks =
     told Weigh asks.arguments asks.are_words
     (well asks.source asks.dest prefix (Ok (given_settings_alone settings)) asks.sides asks.spelled
@@ -362,7 +368,7 @@ asked_command_is_meaning words (command.Demo seed frames settings) asks =
 
 -- a bad value is what arguments come to
 bad_value_is_argument_meaning : (word : CommandWord) (arguments : List Argument) (kind : WordsKind)
-    → WordsHaveGoodPositionals word arguments → HasValueFault (setting_values_in word arguments) kind
+    → CommandHasGoodPositionals word arguments → HasValueFault (setting_values_in word arguments) kind
     → ArgumentsHaveMeaning word arguments (Err kind)
 bad_value_is_argument_meaning Weigh arguments kind good has = well good.0 good.1 good.3.0 (Err kind) good.2 good.3.1 has refl
 bad_value_is_argument_meaning Report arguments kind good has = record { read = Err kind; told = has; comes_to = refl }
@@ -371,7 +377,7 @@ bad_value_is_argument_meaning Audit arguments kind good has = record { read = Er
 bad_value_is_argument_meaning Make arguments kind good has = record { read = Err kind; told = has; comes_to = refl }
 bad_value_is_argument_meaning Demo arguments kind good has = record { read = Err kind; told = has; comes_to = refl }
 
-bad_value_is_meaning : (words : List Text) (kind : WordsKind) → WordsHaveBadValue words kind → WordsHaveMeaning words (Err kind)
+bad_value_is_meaning : (words : List ArgumentText) (kind : WordsKind) → WordsHaveBadValue words kind → WordsHaveMeaning words (Err kind)
 bad_value_is_meaning words kind has =
     told has.command has.arguments has.are_words
     (bad_value_is_argument_meaning has.command has.arguments kind has.positionals has.has_fault)
@@ -402,7 +408,7 @@ narrow_is_argument_meaning Demo arguments settings bounded good set narrow =
     narrow_is_bounded_meaning Demo demo_command_meaning arguments settings good set narrow
 
 -- the fault of words is what they come to
-words_fault_is_meaning : (words : List Text) (kind : WordsKind) → HasWordsFault words kind → WordsHaveMeaning words (Err kind)
+words_fault_is_meaning : (words : List ArgumentText) (kind : WordsKind) → HasWordsFault words kind → WordsHaveMeaning words (Err kind)
 words_fault_is_meaning words NoCommand has = nothing has refl
 words_fault_is_meaning words UnknownCommand has = unknown has.0 has.1 has.2 has.3 refl
 words_fault_is_meaning words Refused has = refused has.0 has.1 has.2 has.3 refl
@@ -416,8 +422,8 @@ words_fault_is_meaning words Bound has =
     (narrow_is_argument_meaning has.command has.arguments has.settings has.bounded has.good has.set has.narrow)
 
 -- words ask for one command at most
-pub asked_meaning_is_one_command : PrefixHasOneMeaning → (words : List Text) (asked other : Command) → AskFor words asked
-    → AskFor words other → asked ≡ other
+pub asked_meaning_is_one_command : PrefixHasOneMeaning → (words : List ArgumentText) (asked other : Command) → AskForCommand words asked
+    → AskForCommand words other → asked ≡ other
 asked_meaning_is_one_command reading words asked other one two =
     same_ok asked other
     (words_have_one_meaning reading words (Ok asked) (Ok other) (asked_command_is_meaning words asked one) (asked_command_is_meaning words other two))
@@ -426,7 +432,7 @@ asked_meaning_is_one_command reading words asked other one two =
     same_ok asked other same = cc
 
 -- words that ask have no fault
-pub asked_meaning_is_faultless : PrefixHasOneMeaning → (words : List Text) (asked : Command) (kind : WordsKind) → AskFor words asked
+pub asked_meaning_is_faultless : PrefixHasOneMeaning → (words : List ArgumentText) (asked : Command) (kind : WordsKind) → AskForCommand words asked
     → HasWordsFault words kind → ⊥
 asked_meaning_is_faultless reading words asked kind asks has =
     not_both asked kind
@@ -436,7 +442,7 @@ asked_meaning_is_faultless reading words asked kind asks has =
     not_both asked kind same = cc
 
 -- words have one fault at most
-pub faulty_meaning_is_one_fault : PrefixHasOneMeaning → (words : List Text) (kind other : WordsKind) → HasWordsFault words kind
+pub faulty_meaning_is_one_fault : PrefixHasOneMeaning → (words : List ArgumentText) (kind other : WordsKind) → HasWordsFault words kind
     → HasWordsFault words other → kind ≡ other
 faulty_meaning_is_one_fault reading words kind other one two =
     same_err kind other
@@ -446,26 +452,26 @@ faulty_meaning_is_one_fault reading words kind other one two =
     same_err kind other same = cc
 
 -- who reads words soundly, and answers, reads all that ask
-pub asked_command_meaning_is_read : PrefixHasOneMeaning → (words : List Text) (read : Result Command WordsRefusal) → IfOk read (AskFor words)
+pub asked_command_meaning_is_read : PrefixHasOneMeaning → (words : List ArgumentText) (read : Result Command WordsRefusal) → IfOk read (AskForCommand words)
     → ((kind : WordsKind) → read ≡ Err (Bad kind) → HasWordsFault words kind) → (asked : Command)
-    → AskFor words asked → (read ≡ Ok asked) ⊎ (read ≡ Err OutOfMemory)
+    → AskForCommand words asked → (read ≡ Ok asked) ⊎ (read ≡ Err OutOfMemory)
 asked_command_meaning_is_read reading words (Ok other) ok bad asked asks = inl (ap Ok (asked_meaning_is_one_command reading words other asked ok asks))
 asked_command_meaning_is_read reading words (Err (Bad kind)) ok bad asked asks =
     absurd (asked_meaning_is_faultless reading words asked kind asks (bad kind refl))
 asked_command_meaning_is_read reading words (Err OutOfMemory) ok bad asked asks = inr refl
 
 -- who accepts words soundly, and answers, accepts all that ask
-pub asked_command_meaning_is_accepted : {T : Type 0} → PrefixHasOneMeaning → (words : List Text) (read : Result T WordsRefusal)
+pub asked_command_meaning_is_accepted : {T : Type 0} → PrefixHasOneMeaning → (words : List ArgumentText) (read : Result T WordsRefusal)
     → ((kind : WordsKind) → read ≡ Err (Bad kind) → HasWordsFault words kind)
-    → (asked : Command) → AskFor words asked → IsOk read ⊎ (read ≡ Err OutOfMemory)
+    → (asked : Command) → AskForCommand words asked → IsOk read ⊎ (read ≡ Err OutOfMemory)
 asked_command_meaning_is_accepted reading words (Ok value) bad asked asks = inl refl
 asked_command_meaning_is_accepted reading words (Err (Bad kind)) bad asked asks =
     absurd (asked_meaning_is_faultless reading words asked kind asks (bad kind refl))
 asked_command_meaning_is_accepted reading words (Err OutOfMemory) bad asked asks = inr refl
 
 -- who accepts words soundly, and tells faults, tells each fault
-pub faulty_meaning_is_always_told : {T : Type 0} → PrefixHasOneMeaning → (words : List Text) (read : Result T WordsRefusal)
-    → IfOk read (λ _. (asked : Command) × AskFor words asked)
+pub faulty_meaning_is_always_told : {T : Type 0} → PrefixHasOneMeaning → (words : List ArgumentText) (read : Result T WordsRefusal)
+    → IfOk read (λ _. (asked : Command) × AskForCommand words asked)
     → ((kind : WordsKind) → read ≡ Err (Bad kind) → HasWordsFault words kind) → (kind : WordsKind)
     → HasWordsFault words kind
     → (read ≡ Err (Bad kind)) ⊎ (read ≡ Err OutOfMemory)

@@ -1,8 +1,9 @@
 -- Words spell one list of arguments at most.
 use Rattle.std.proofs.Common.{◌≡◌, ◌≢◌, ◌⊎◌, inl, inr, refl, sym, ap, ap₂, ◌∙◌, subst, ◌++◌, List, [], ◌∷◌}
 use Rattle.std.proofs.lemmas.List.Elements.{All-head, All-tail}
-use Rattle.command_words.specs.Arguments.{Text, Argument, positional, option, argument_hyphen, argument_equals_sign, IsArgumentValue, IsArgumentName}
-use Rattle.command_words.specs.Arguments.{long, BeginWithArgument, SpellAllArguments}
+use Rattle.command_words.specs.Arguments.{ArgumentText, Argument, positional, option, argument_hyphen}
+use Rattle.command_words.specs.Arguments.{argument_equals_sign, IsArgumentValue, IsArgumentName}
+use Rattle.command_words.specs.Arguments.{long_argument, BeginWithArgument, SpellAllArguments}
 
 -- equal lists have equal heads
 pub one_reading_of_head : {A : Type 0} (x y : A) (xs ys : List A) → Path (List A) (x ∷ xs) (y ∷ ys) → x ≡ y
@@ -17,7 +18,7 @@ pub one_reading_of_empty_list : {A : Type 0} (x : A) (xs : List A) → Path (Lis
 one_reading_of_empty_list x xs same = cc
 
 -- a name isn't what has an `=`
-pub one_reading_of_name : (name other value : Text) → IsArgumentName name → name ≡ other ++ argument_equals_sign ∷ value → ⊥
+pub one_reading_of_name : (name other value : ArgumentText) → IsArgumentName name → name ≡ other ++ argument_equals_sign ∷ value → ⊥
 one_reading_of_name [] [] value is_name same = one_reading_of_empty_list _ _ same
 one_reading_of_name [] (x ∷ other) value is_name same = one_reading_of_empty_list _ _ same
 one_reading_of_name (byte ∷ name) [] value is_name same =
@@ -26,7 +27,7 @@ one_reading_of_name (byte ∷ name) (x ∷ other) value is_name same =
     one_reading_of_name name other value (All-tail (λ b. b ≢ argument_equals_sign) byte name is_name) (one_reading_of_rest _ _ _ _ same)
 
 -- what stands before the first `=`, and what stands behind it, are told apart
-pub one_reading_of_equals_sign : (name other value more : Text) → IsArgumentName name → IsArgumentName other
+pub one_reading_of_equals_sign : (name other value more : ArgumentText) → IsArgumentName name → IsArgumentName other
     → name ++ argument_equals_sign ∷ value ≡ other ++ argument_equals_sign ∷ more → (name ≡ other) × (value ≡ more)
 one_reading_of_equals_sign [] [] value more is_name is_other same = (refl, one_reading_of_rest _ _ _ _ same)
 one_reading_of_equals_sign [] (x ∷ other) value more is_name is_other same =
@@ -40,40 +41,41 @@ one_reading_of_equals_sign (byte ∷ name) (x ∷ other) value more is_name is_o
     (ap₂ (λ b bs. b ∷ bs) (one_reading_of_head _ _ _ _ same) behind.0, behind.1)
 
 -- a value is no word that begins with a hyphen
-pub one_reading_of_value : (text rest : Text) → IsArgumentValue text → text ≡ argument_hyphen ∷ rest → ⊥
+pub one_reading_of_value : (text rest : ArgumentText) → IsArgumentValue text → text ≡ argument_hyphen ∷ rest → ⊥
 one_reading_of_value [] rest is_value same = is_value
 one_reading_of_value (byte ∷ text) rest is_value same = is_value (one_reading_of_head _ _ _ _ same)
 
 -- words that begin with an argument begin with one of its spellings
-pub one_reading_by_spelling : (words front others spelling : List Text) → words ≡ front ++ others → front ≡ spelling
+pub one_reading_by_spelling : (words front others spelling : List ArgumentText) → words ≡ front ++ others → front ≡ spelling
     → words ≡ spelling ++ others
 one_reading_by_spelling words front others spelling parted same = parted ∙ ap (λ f. f ++ others) same
 
 -- two positionals
-one_reading_of_positional : (words others more : List Text) (text other : Text) → words ≡ text ∷ others
+one_reading_of_positional : (words others more : List ArgumentText) (text other : ArgumentText) → words ≡ text ∷ others
     → words ≡ other ∷ more → (positional text ≡ positional other) × (others ≡ more)
 one_reading_of_positional words others more text other one two =
     (ap positional (one_reading_of_head _ _ _ _ (sym one ∙ two)), one_reading_of_rest _ _ _ _ (sym one ∙ two))
 
 -- a positional is no option
-one_reading_not_as_option : (words others more : List Text) (text name value : Text) → IsArgumentValue text → words ≡ text ∷ others
-    → (words ≡ long name ∷ value ∷ more) ⊎ (words ≡ (long name ++ argument_equals_sign ∷ value) ∷ more) → ⊥
+one_reading_not_as_option : (words others more : List ArgumentText) (text name value : ArgumentText) → IsArgumentValue text → words ≡ text ∷ others
+    → (words ≡ long_argument name ∷ value ∷ more) ⊎ (words ≡ (long_argument name ++ argument_equals_sign ∷ value) ∷ more) → ⊥
 one_reading_not_as_option words others more text name value is_value one (inl two) =
     one_reading_of_value text (argument_hyphen ∷ name) is_value (one_reading_of_head _ _ _ _ (sym one ∙ two))
 one_reading_not_as_option words others more text name value is_value one (inr two) =
     one_reading_of_value text (argument_hyphen ∷ (name ++ argument_equals_sign ∷ value)) is_value (one_reading_of_head _ _ _ _ (sym one ∙ two))
 
 -- the two forms of an option
-abbrev pub HaveOneOptionReading : List Text → Text → Text → List Text → Type 0
+abbrev pub HaveOneOptionReading : List ArgumentText → ArgumentText → ArgumentText → List ArgumentText → Type 0
 HaveOneOptionReading words name value others =
-    (words ≡ long name ∷ value ∷ others) ⊎ (words ≡ (long name ++ argument_equals_sign ∷ value) ∷ others)
+    (words ≡ long_argument name ∷ value ∷ others) ⊎ (words ≡ (long_argument name ++ argument_equals_sign ∷ value) ∷ others)
 
 -- equal words have equal texts behind their hyphens
-pub one_reading_behind_hyphens : (text other : Text) → Path Text (argument_hyphen ∷ argument_hyphen ∷ text) (argument_hyphen ∷ argument_hyphen ∷ other)
+pub one_reading_behind_hyphens : (text other : ArgumentText)
+    → Path ArgumentText (argument_hyphen ∷ argument_hyphen ∷ text) (argument_hyphen ∷ argument_hyphen ∷ other)
     → text ≡ other
 one_reading_behind_hyphens text other same = cc
 
-one_reading_of_option : (words others more : List Text) (name value other worth : Text) → IsArgumentName name → IsArgumentName other
+one_reading_of_option : (words others more : List ArgumentText) (name value other worth : ArgumentText) → IsArgumentName name → IsArgumentName other
     → HaveOneOptionReading words name value others → HaveOneOptionReading words other worth more
     → (option name value ≡ option other worth) × (others ≡ more)
 one_reading_of_option words others more name value other worth is_name is_other (inl one) (inl two) =
@@ -91,14 +93,14 @@ one_reading_of_option words others more name value other worth is_name is_other 
     (ap₂ option apart.0 apart.1, one_reading_of_rest _ _ _ _ same)
 
 -- words that begin with an option begin with one of its two forms
-pub one_reading_by_option_form : (words front others : List Text) (name value : Text) → words ≡ front ++ others
-    → (front ≡ long name ∷ value ∷ []) ⊎ (front ≡ (long name ++ argument_equals_sign ∷ value) ∷ [])
+pub one_reading_by_option_form : (words front others : List ArgumentText) (name value : ArgumentText) → words ≡ front ++ others
+    → (front ≡ long_argument name ∷ value ∷ []) ⊎ (front ≡ (long_argument name ++ argument_equals_sign ∷ value) ∷ [])
     → HaveOneOptionReading words name value others
 one_reading_by_option_form words front others name value parted (inl one) = inl (one_reading_by_spelling words front others _ parted one)
 one_reading_by_option_form words front others name value parted (inr one) = inr (one_reading_by_spelling words front others _ parted one)
 
 -- words begin with one argument at most, and leave the same words behind it
-pub one_reading_of_first_argument : (words others more : List Text) (argument other : Argument) → BeginWithArgument words argument others
+pub one_reading_of_first_argument : (words others more : List ArgumentText) (argument other : Argument) → BeginWithArgument words argument others
     → BeginWithArgument words other more → (argument ≡ other) × (others ≡ more)
 one_reading_of_first_argument words others more (positional text) (positional other) one two =
     one_reading_of_positional words others more text other (one_reading_by_spelling words one.front others _ one.parted one.spelled.1)
@@ -117,7 +119,7 @@ one_reading_of_first_argument words others more (option name value) (option othe
     (one_reading_by_option_form words two.front more other worth two.parted two.spelled.2)
 
 -- no words begin with an argument where there are none
-pub one_reading_of_no_words : (argument : Argument) (others : List Text) → BeginWithArgument [] argument others → ⊥
+pub one_reading_of_no_words : (argument : Argument) (others : List ArgumentText) → BeginWithArgument [] argument others → ⊥
 one_reading_of_no_words (positional text) others begins =
     one_reading_of_empty_list _ _ (one_reading_by_spelling [] begins.front others _ begins.parted begins.spelled.1)
 one_reading_of_no_words (option name value) others begins =
@@ -128,7 +130,7 @@ one_reading_of_no_words (option name value) others begins =
     go (inr one) = one_reading_of_empty_list _ _ one
 
 -- words spell one list of arguments at most
-pub one_reading : (words : List Text) (arguments others : List Argument) → SpellAllArguments words arguments
+pub one_reading : (words : List ArgumentText) (arguments others : List Argument) → SpellAllArguments words arguments
     → SpellAllArguments words others → arguments ≡ others
 one_reading words [] [] one two = refl
 one_reading words [] (other ∷ others) one two =

@@ -1,34 +1,38 @@
 -- Values set one thing at most, or have one first fault at most, and never both.
-use Rattle.std.proofs.Common.{◌≡◌, ◌<◌, ◌≤◌, ◌⊎◌, inl, inr, ℕ, Bool, Option, Some, None, refl, sym, ap, ◌∙◌, subst, arith}
+use Rattle.std.proofs.Common.{◌≡◌, ◌<◌, ◌≤◌, ◌⊎◌, inl, inr, ℕ, Bool, Option, Some, None, refl, sym, ap, ◌∙◌, subst}
+use Rattle.std.proofs.Common.{arith}
 use Rattle.std.proofs.lemmas.Bool.{cases_lt}
 use Rattle.std.proofs.lemmas.Fmt.{decimal_injective}
 use Rattle.frame_records.specs.declared.weigh.Weigh.{Weigh}
 use Rattle.deal_rules.specs.declared.deal_kind.DealKind.{DealKind}
-use Rattle.command_words.specs.Arguments.{Text}
-use Rattle.command_words.specs.Options.{OptionKind, number, choice, option_kind_of, option_place_of, IsOptionNumber, IsGoodOptionText, IsGoodOption}
+use Rattle.command_words.specs.Arguments.{ArgumentText}
+use Rattle.command_words.specs.Options.{OptionKind, number, choice, option_kind_of, option_place_of, IsOptionNumber}
+use Rattle.command_words.specs.Options.{IsGoodOptionText, IsGoodOption}
 use Rattle.command_words.specs.Options.{IsNoOptionNumber, IsNoOptionChoice, IsOutsideOptionLimits}
-use Rattle.command_words.specs.Settings.{SettingValues, SetsNumberSetting, SetsWeighSetting, SetsDealSetting, SetsStoreSetting, SetsSettings}
+use Rattle.command_words.specs.Settings.{SettingValues, SetsNumberSetting, SetsWeighSetting, SetsDealSetting}
+use Rattle.command_words.specs.Settings.{SetsStoreSetting, SetsSettings}
 use Rattle.command_words.specs.Settings.{weigh_setting_word, deal_setting_word}
-use Rattle.command_words.specs.Words.{AreGoodValues, IsFirstBadValue, HasValueFault}
+use Rattle.command_words.specs.Values.{AreGoodValues, IsFirstBadValue, HasValueFault}
 use Rattle.command_words.specs.GivenValues.{SetsGiven}
 use Rattle.command_words.specs.declared.opt.Opt.{Opt}
 use Rattle.command_words.specs.declared.settings.Settings.{Settings}
 use Rattle.command_words.specs.declared.values.Given.{Given}
 use Rattle.command_words.specs.declared.words_kind.WordsKind.{WordsKind}
 use Rattle.command_words.specs.declared.words_kind.WordsKind.TheVariants.{BadNumber, OutOfLimits, BadChoice}
-use Rattle.command_words.proofs.ValueLemmas.{value_check_tells_option, numeric_value_is_good, weigh_value_is_good, deal_value_is_good}
+use Rattle.command_words.proofs.ValueLemmas.{value_check_tells_option, numeric_value_is_good, weigh_value_is_good}
+use Rattle.command_words.proofs.ValueLemmas.{deal_value_is_good}
 use Rattle.frame_records.specs.declared.weigh.Weigh.TheVariants as weighing
 use Rattle.deal_rules.specs.declared.deal_kind.DealKind.TheVariants as dealing
 use Rattle.command_words.specs.declared.opt.Opt.TheVariants as opt
 
 -- a text is one number at most
-one_value_per_number_text : (text : Text) (value other : ℕ) → IsOptionNumber text value → IsOptionNumber text other → value ≡ other
+one_value_per_number_text : (text : ArgumentText) (value other : ℕ) → IsOptionNumber text value → IsOptionNumber text other → value ≡ other
 one_value_per_number_text text value other one two =
     decimal_injective value other one.bounded two.bounded (sym one.spelled ∙ two.spelled)
 
 -- what a bad value is: it is no good one
-abbrev IsValueFault : (OptionKind → Text → Type 0) → Type 0
-IsValueFault IsBad = (kind : OptionKind) (text : Text) → IsGoodOptionText kind text → IsBad kind text → ⊥
+abbrev IsValueFault : (OptionKind → ArgumentText → Type 0) → Type 0
+IsValueFault IsBad = (kind : OptionKind) (text : ArgumentText) → IsGoodOptionText kind text → IsBad kind text → ⊥
 
 -- a text that is no number is not good
 no_number_is_value_fault : IsValueFault IsNoOptionNumber
@@ -50,8 +54,8 @@ no_choice_is_value_fault (number least greatest) text good bad = bad
 no_choice_is_value_fault (choice words) text good bad = bad good
 
 -- bad in two ways that can't both be
-abbrev AreApartValueFaults : (OptionKind → Text → Type 0) → (OptionKind → Text → Type 0) → Type 0
-AreApartValueFaults IsBad IsWorse = (kind : OptionKind) (text : Text) → IsBad kind text → IsWorse kind text → ⊥
+abbrev AreApartValueFaults : (OptionKind → ArgumentText → Type 0) → (OptionKind → ArgumentText → Type 0) → Type 0
+AreApartValueFaults IsBad IsWorse = (kind : OptionKind) (text : ArgumentText) → IsBad kind text → IsWorse kind text → ⊥
 
 -- no number is outside the limits
 value_fault_number_or_outside : AreApartValueFaults IsNoOptionNumber IsOutsideOptionLimits
@@ -68,13 +72,13 @@ value_fault_outside_or_choice (number least greatest) text bad worse = worse
 value_fault_outside_or_choice (choice words) text bad worse = bad
 
 -- an option with a bad value has no good one
-value_fault_is_not_good : (IsBad : OptionKind → Text → Type 0) (values : SettingValues) (opt : Opt) → IsValueFault IsBad
+value_fault_is_not_good : (IsBad : OptionKind → ArgumentText → Type 0) (values : SettingValues) (opt : Opt) → IsValueFault IsBad
     → IsFirstBadValue IsBad values opt → IsGoodOption opt (values opt) → ⊥
 value_fault_is_not_good IsBad values opt is_no_good bad good =
     is_no_good (option_kind_of opt) bad.text (subst (λ told. IsGoodOption opt told) bad.value good) bad.is_bad
 
 -- two first bad values are those of one option
-value_faults_at_one_place : (IsBad IsWorse : OptionKind → Text → Type 0) (values : SettingValues) (opt other : Opt) → IsValueFault IsBad
+value_faults_at_one_place : (IsBad IsWorse : OptionKind → ArgumentText → Type 0) (values : SettingValues) (opt other : Opt) → IsValueFault IsBad
     → IsValueFault IsWorse
     → IsFirstBadValue IsBad values opt → IsFirstBadValue IsWorse values other → opt ≡ other
 value_faults_at_one_place IsBad IsWorse values opt other bad_no_good worse_no_good bad worse =
@@ -88,18 +92,18 @@ value_faults_at_one_place IsBad IsWorse values opt other bad_no_good worse_no_go
     go (inr after) (inr before) = value_check_tells_option opt other (omega arith)
 
 -- one option's value is not bad in two ways that are apart
-value_fault_of_one_option : (IsBad IsWorse : OptionKind → Text → Type 0) (values : SettingValues) (opt : Opt) → AreApartValueFaults IsBad IsWorse
+value_fault_of_one_option : (IsBad IsWorse : OptionKind → ArgumentText → Type 0) (values : SettingValues) (opt : Opt) → AreApartValueFaults IsBad IsWorse
     → IsFirstBadValue IsBad values opt → IsFirstBadValue IsWorse values opt → ⊥
 value_fault_of_one_option IsBad IsWorse values opt apart bad worse =
     apart (option_kind_of opt) bad.text bad.is_bad
     (subst (λ t. IsWorse (option_kind_of opt) t) (same_some worse.text bad.text (sym worse.value ∙ bad.value))
     worse.is_bad)
   where
-    same_some : (text other : Text) → Path (Option Text) (Some text) (Some other) → text ≡ other
+    same_some : (text other : ArgumentText) → Path (Option ArgumentText) (Some text) (Some other) → text ≡ other
     same_some text other same = cc
 
 -- values don't have two first faults that are apart
-value_faults_in_one_way : (IsBad IsWorse : OptionKind → Text → Type 0) (values : SettingValues) (opt other : Opt) → IsValueFault IsBad
+value_faults_in_one_way : (IsBad IsWorse : OptionKind → ArgumentText → Type 0) (values : SettingValues) (opt other : Opt) → IsValueFault IsBad
     → IsValueFault IsWorse → AreApartValueFaults IsBad IsWorse
     → IsFirstBadValue IsBad values opt → IsFirstBadValue IsWorse values other → ⊥
 value_faults_in_one_way IsBad IsWorse values opt other bad_no_good worse_no_good apart bad worse =
@@ -144,7 +148,7 @@ one_value_fault values (BadChoice at) _ one two = absurd two
 one_value_fault values _ other one two = absurd one
 
 -- values that give something are all good
-pub given_values_have_no_fault : (values : SettingValues) (path : Option Text) (given : Given) → SetsGiven values path given
+pub given_values_have_no_fault : (values : SettingValues) (path : Option ArgumentText) (given : Given) → SetsGiven values path given
     → AreGoodValues values
 given_values_have_no_fault values path given gives = go gives.settings_set
   where
@@ -172,7 +176,7 @@ no_value_fault values (BadChoice at) good has = value_fault_is_not_good IsNoOpti
 no_value_fault values _ good has = has
 
 -- a value sets one number at most
-one_value_sets_one_number : (at : Opt) (default : ℕ) (told : Option Text) (value other : ℕ) → SetsNumberSetting at default told value
+one_value_sets_one_number : (at : Opt) (default : ℕ) (told : Option ArgumentText) (value other : ℕ) → SetsNumberSetting at default told value
     → SetsNumberSetting at default told other → value ≡ other
 one_value_sets_one_number at default None value other one two = one ∙ sym two
 one_value_sets_one_number at default (Some text) value other one two = one_value_per_number_text text value other one.0 two.0
@@ -183,7 +187,7 @@ one_value_per_weigh_word weighing.Bytes weighing.Packets same = cc
 one_value_per_weigh_word weighing.Packets weighing.Bytes same = cc
 one_value_per_weigh_word weighing.Packets weighing.Packets same = refl
 
-one_value_sets_one_weigh : (told : Option Text) (weigh other : Weigh) → SetsWeighSetting told weigh → SetsWeighSetting told other → weigh ≡ other
+one_value_sets_one_weigh : (told : Option ArgumentText) (weigh other : Weigh) → SetsWeighSetting told weigh → SetsWeighSetting told other → weigh ≡ other
 one_value_sets_one_weigh None weigh other one two = one ∙ sym two
 one_value_sets_one_weigh (Some text) weigh other one two = one_value_per_weigh_word weigh other (sym one ∙ two)
 
@@ -193,16 +197,16 @@ one_value_per_deal_word dealing.BySource dealing.BySource same = refl
 one_value_per_deal_word dealing.Free dealing.Free same = refl
 one_value_per_deal_word _ _ same = cc
 
-one_value_sets_one_deal : (told : Option Text) (deal other : DealKind) → SetsDealSetting told deal → SetsDealSetting told other → deal ≡ other
+one_value_sets_one_deal : (told : Option ArgumentText) (deal other : DealKind) → SetsDealSetting told deal → SetsDealSetting told other → deal ≡ other
 one_value_sets_one_deal None deal other one two = one ∙ sym two
 one_value_sets_one_deal (Some text) deal other one two = one_value_per_deal_word deal other (sym one ∙ two)
 
-one_value_sets_one_store : (path : Option Text) (store other : Bool) → SetsStoreSetting path store → SetsStoreSetting path other → store ≡ other
+one_value_sets_one_store : (path : Option ArgumentText) (store other : Bool) → SetsStoreSetting path store → SetsStoreSetting path other → store ≡ other
 one_value_sets_one_store None store other one two = one ∙ sym two
 one_value_sets_one_store (Some path) store other one two = one ∙ sym two
 
 -- values set one thing at most
-pub values_set_one_settings : (values : SettingValues) (path : Option Text) (settings other : Settings) → SetsSettings values path settings
+pub values_set_one_settings : (values : SettingValues) (path : Option ArgumentText) (settings other : Settings) → SetsSettings values path settings
     → SetsSettings values path other → settings ≡ other
 values_set_one_settings values path settings other one two =
     λ i. record {
@@ -223,7 +227,7 @@ values_set_one_settings values path settings other one two =
     }
 
 -- values give one thing at most
-pub values_give_one_thing : (values : SettingValues) (path : Option Text) (given other : Given) → SetsGiven values path given
+pub values_give_one_thing : (values : SettingValues) (path : Option ArgumentText) (given other : Given) → SetsGiven values path given
     → SetsGiven values path other → given ≡ other
 values_give_one_thing values path given other one two =
     λ i. record {

@@ -16,21 +16,25 @@ use Rattle.clap.proofs.WalkLemmas.{first_value-rows}
 use Rattle.clap.specs.Words.{App, first_of, found_of, matches_of, rows_of}
 use Rattle.clap.specs.declared.builder.value_parser.Reading.{Reading}
 use Rattle.clap.specs.declared.parser.matches.ArgMatches.{ArgMatches}
-use Rattle.command_words.specs.Arguments.{Text, Argument, AreArgumentsOfForm, AreWellFormedArguments}
+use Rattle.command_words.specs.Arguments.{ArgumentText, Argument, AreArgumentsOfForm, AreWellFormedArguments}
 use Rattle.command_words.specs.Forms.{form_of, form_word_of}
 use Rattle.command_words.specs.Matches.{AreMatchesOf}
 use Rattle.command_words.specs.Parser.{parser_for}
 use Rattle.command_words.specs.declared.command_word.CommandWord.{CommandWord}
 use Rattle.command_words.specs.declared.command_word.CommandWord.TheVariants.{Weigh, Report, Format, Audit, Make, Demo}
-use Rattle.command_words.proofs.ParserNameLemmas.{AreNoParserOptionNames, IsNoParserOptionName, ParserPlacesNames, arguments_fit_parser_names}
+use Rattle.command_words.proofs.ParserNameLemmas.{AreNoParserOptionNames, IsNoParserOptionName, ParserPlacesNames}
+use Rattle.command_words.proofs.ParserNameLemmas.{arguments_fit_parser_names}
 use Rattle.command_words.proofs.OneReadingLemmas.{one_reading_of_empty_list}
-use Rattle.command_words.proofs.MatchRowLemmas.{match_row_name_at_place, match_row_name_is_same, match_rows_of, match_rows_give_named_value, match_rows_give_option, match_rows_give_positional}
-use Rattle.command_words.proofs.ParserWalkLemmas.{WalkKnowsOption, WalkReaches, parser_walk_option, parser_walk_final_position, walk_reaches_all_arguments, standing_walk}
+use Rattle.command_words.proofs.MatchRowLemmas.{match_row_name_at_place, match_row_name_is_same, match_rows_of}
+use Rattle.command_words.proofs.MatchRowLemmas.{match_rows_give_named_value, match_rows_give_option}
+use Rattle.command_words.proofs.MatchRowLemmas.{match_rows_give_positional}
+use Rattle.command_words.proofs.ParserWalkLemmas.{WalkKnowsOption, WalkReaches, parser_walk_option}
+use Rattle.command_words.proofs.ParserWalkLemmas.{parser_walk_final_position, walk_reaches_all_arguments, standing_walk}
 
 -- ---- after the walk
 
 -- an argument with no default value gets no row
-parser_default_adds_no_row : (values : List Text) (b : Bool) (id : Text) (how : Reading) (rows : List Row) → is_empty values ≡ true
+parser_default_adds_no_row : (values : List ArgumentText) (b : Bool) (id : ArgumentText) (how : Reading) (rows : List Row) → is_empty values ≡ true
     → cond b rows (default_rows id how values rows) ≡ rows
 parser_default_adds_no_row values true id how rows empty = refl
 parser_default_adds_no_row [] false id how rows empty = refl
@@ -51,11 +55,11 @@ pub record ParserDemandsNothing (s : Shape) : Type 0 where
   pub passes : list_all default_passes s.rules ≡ true
   pub valid : (rows : List Row) → is_valid s rows false ≡ true
 
-module _ (s : Shape) (parser_demands_nothing : ParserDemandsNothing s) (words : List Text) (position : ℕ) (rows : List Row)
+module _ (s : Shape) (demands_nothing : ParserDemandsNothing s) (words : List ArgumentText) (position : ℕ) (rows : List Row)
     (reached : WalkReaches s (standing_walk nothing_held 1) words position rows) where
   -- nothing comes to the rows at the end
   pub parser_reaches_rows : rows_after s.rules [] words ≡ rows
-  parser_reaches_rows = rw reached.ends (parser_defaults_add_no_rows s.rules _ parser_demands_nothing.empty ∙ reached.holds.rows_are)
+  parser_reaches_rows = rw reached.ends (parser_defaults_add_no_rows s.rules _ demands_nothing.empty ∙ reached.holds.rows_are)
 
   -- no word is a subcommand
   pub parser_never_stops : stop_after s.rules [] words ≡ None
@@ -64,8 +68,8 @@ module _ (s : Shape) (parser_demands_nothing : ParserDemandsNothing s) (words : 
   -- and the parse passes
   pub parser_level_passes : level_passes s [] nothing_held words false ≡ true
   parser_level_passes =
-      rw (reached.passes, reached.ends, reached.holds.passes, parser_demands_nothing.passes)
-      (parser_demands_nothing.valid (finished s.rules reached.held))
+      rw (reached.passes, reached.ends, reached.holds.passes, demands_nothing.passes)
+      (demands_nothing.valid (finished s.rules reached.held))
 
 -- ---- the commands
 
@@ -86,15 +90,15 @@ parser_demands_nothing Make = record { empty = refl; passes = refl; valid = λ r
 parser_demands_nothing Demo = record { empty = refl; passes = refl; valid = λ rows. refl }
 
 -- two texts that differ in a byte
-parser_texts_are_apart : (text other : Text) → bytes_eq text other ≡ false → text ≢ other
+parser_texts_are_apart : (text other : ArgumentText) → bytes_eq text other ≡ false → text ≢ other
 parser_texts_are_apart text other differ same = true≢false (sym (match_row_name_is_same other) ∙ ap (λ t. bytes_eq t other) (sym same) ∙ differ)
 
 -- what holds of each text holds of those that a list contains
-parser_all_holds_of_each : (P : Text → Type 0) (texts : List Text) (name : Text) → All P texts → Contains texts name → P name
+parser_all_holds_of_each : (P : ArgumentText → Type 0) (texts : List ArgumentText) (name : ArgumentText) → All P texts → Contains texts name → P name
 parser_all_holds_of_each P texts name all within = subst P within.2 (all within.0 name within.1)
 
 -- an option that a look-up finds
-parser_knows_found_option : (s : Shape) (byte : ℕ) (name : Text) → arg_by_long s.rules (byte ∷ name) ≡ Some (parser_walk_option (byte ∷ name))
+parser_knows_found_option : (s : Shape) (byte : ℕ) (name : ArgumentText) → arg_by_long s.rules (byte ∷ name) ≡ Some (parser_walk_option (byte ∷ name))
     → arg_by_id s.rules (byte ∷ name) ≡ Some (parser_walk_option (byte ∷ name)) → WalkKnowsOption s (byte ∷ name)
 parser_knows_found_option s byte name met known = record { met = met; known = known; named = λ same. one_reading_of_empty_list byte name (sym same) }
 
@@ -154,7 +158,7 @@ parser_has_positional_places Make = (record { placed = refl; known = refl }, (re
 parser_has_positional_places Demo = (record { placed = refl; known = refl }, (record { placed = refl; known = refl }, tt))
 
 -- a positional of `weigh` is none of its options
-no_option_of_weigh_parser : (id : Text) → bytes_eq id (codes "capture") ≡ false → bytes_eq id (codes "weigh") ≡ false
+no_option_of_weigh_parser : (id : ArgumentText) → bytes_eq id (codes "capture") ≡ false → bytes_eq id (codes "weigh") ≡ false
     → IsNoParserOptionName (form_of Weigh).options id
 no_option_of_weigh_parser id capture weigh name within =
     parser_all_holds_of_each (λ other. id ≢ other) (form_of Weigh).options name
@@ -162,7 +166,7 @@ no_option_of_weigh_parser id capture weigh name within =
     (parser_texts_are_apart id _ capture, (parser_texts_are_apart id _ weigh, tt))) within
 
 -- nor is a positional of `demo` one of its
-no_option_of_demo_parser : (id : Text) → bytes_eq id (codes "shards") ≡ false → bytes_eq id (codes "capacity") ≡ false
+no_option_of_demo_parser : (id : ArgumentText) → bytes_eq id (codes "shards") ≡ false → bytes_eq id (codes "capacity") ≡ false
     → bytes_eq id (codes "phi") ≡ false → bytes_eq id (codes "deal") ≡ false
     → bytes_eq id (codes "block") ≡ false → bytes_eq id (codes "workers") ≡ false
     → IsNoParserOptionName (form_of Demo).options id
@@ -194,10 +198,10 @@ no_options_of_parser Demo =
       (no_option_of_demo_parser _ refl refl refl refl refl refl, tt),
     )
 
-empty_parser_texts_are_apart : AllPairs {X = Text} (λ a b. a ≢ b) []
+empty_parser_texts_are_apart : AllPairs {X = ArgumentText} (λ a b. a ≢ b) []
 empty_parser_texts_are_apart = λ earlier later default before within. absurd (omega arith)
 
-two_parser_texts_are_apart : (one two : Text) → bytes_eq one two ≡ false → AllPairs (λ a b. a ≢ b) (one ∷ two ∷ [])
+two_parser_texts_are_apart : (one two : ArgumentText) → bytes_eq one two ≡ false → AllPairs (λ a b. a ≢ b) (one ∷ two ∷ [])
 two_parser_texts_are_apart one two differ = AllPairs-cons (λ a b. a ≢ b) one (two ∷ [])
     (All-from_recursion (λ b. one ≢ b) (two ∷ []) (parser_texts_are_apart one two differ, tt))
     (AllPairs-cons (λ a b. a ≢ b) two [] (All-nil (λ b. two ≢ b)) empty_parser_texts_are_apart)
@@ -212,14 +216,14 @@ parser_positionals_are_apart Make = two_parser_texts_are_apart (codes "SEED") (c
 parser_positionals_are_apart Demo = two_parser_texts_are_apart (codes "SEED") (codes "FRAMES") refl
 
 -- well-formed words bring the walk to the rows of their arguments
-module _ (command : CommandWord) (words : List Text) (arguments : List Argument)
+module _ (command : CommandWord) (words : List ArgumentText) (arguments : List Argument)
     (well_formed : AreWellFormedArguments (form_of command) words arguments) where
   parser_reaches_form_rows : WalkReaches (parser_shape command) (standing_walk nothing_held 1) words (parser_walk_final_position 1 arguments)
       (match_rows_of (form_of command).positionals arguments)
   parser_reaches_form_rows =
       let of_form = well_formed.of_form in
       let knows =
-      λ (name : Text) (within : Contains (form_of command).options name).
+      λ (name : ArgumentText) (within : Contains (form_of command).options name).
       parser_all_holds_of_each (WalkKnowsOption (parser_shape command)) (form_of command).options name (parser_knows_each_option command) within in
       let fits = arguments_fit_parser_names (form_of command).options (parser_shape command) knows 1 (form_of command).positionals [] arguments
       (parser_has_positional_places command) (no_options_of_parser command) (parser_positionals_are_apart command) of_form.as_many of_form.known
@@ -228,7 +232,7 @@ module _ (command : CommandWord) (words : List Text) (arguments : List Argument)
       well_formed.spelled fits (record { passes = refl; rows_are = refl })
 
 -- the parser takes the words
-pub parser_takes_well_formed : (command : CommandWord) (words : List Text) (arguments : List Argument)
+pub parser_takes_well_formed : (command : CommandWord) (words : List ArgumentText) (arguments : List Argument)
     → AreWellFormedArguments (form_of command) words arguments → takes (parser command) words ≡ true
 parser_takes_well_formed Weigh words arguments well_formed =
     let reached = parser_reaches_form_rows Weigh words arguments well_formed in
@@ -256,7 +260,7 @@ parser_takes_well_formed Demo words arguments well_formed =
     (parser_level_passes (parser_shape Demo) (parser_demands_nothing Demo) words _ _ reached)
 
 -- and finds the rows of their arguments
-pub parser_finds_well_formed : (command : CommandWord) (words : List Text) (arguments : List Argument)
+pub parser_finds_well_formed : (command : CommandWord) (words : List ArgumentText) (arguments : List Argument)
     → AreWellFormedArguments (form_of command) words arguments
     → matches_of (parser command) words ≡ match_rows_of (form_of command).positionals arguments
 parser_finds_well_formed Weigh words arguments well_formed =
@@ -283,7 +287,7 @@ simple_parser Demo = refl
 
 -- ---- what the matches tell
 
-parser_texts_all_differ : (texts : List Text) (name : Text) → (Contains texts name → ⊥) → All (λ text. text ≢ name) texts
+parser_texts_all_differ : (texts : List ArgumentText) (name : ArgumentText) → (Contains texts name → ⊥) → All (λ text. text ≢ name) texts
 parser_texts_all_differ texts name never = λ place default within same.
     never (place, within, get_or_default texts place name default within ∙ same)
 

@@ -8,13 +8,14 @@ use Rattle.std.proofs.lemmas.List.Elements.{All-head, All-tail}
 use Rattle.clap.specs.Lexer.{usize_max}
 use Rattle.clap.specs.Simple.{Shape}
 use Rattle.clap.specs.Walk.{Row, has_row}
-use Rattle.command_words.specs.Arguments.{Text, Argument, positional, option, positionals_in_arguments, names_in_arguments}
+use Rattle.command_words.specs.Arguments.{ArgumentText, Argument, positional, option, positionals_in_arguments}
+use Rattle.command_words.specs.Arguments.{names_in_arguments}
 use Rattle.prefix_lattice.proofs.ListLemmas.{AllPairs-list_head, AllPairs-list_tail}
 use Rattle.command_words.proofs.MatchRowLemmas.{match_row_name_is_other, match_row}
 use Rattle.command_words.proofs.ParserWalkLemmas.{FitParserWalk, WalkKnowsPositional, IsNewInWalk, WalkKnowsOption}
 
 -- one more row is of no other name
-parser_name_stays_new : (name id value : Text) (rows : List Row) → has_row name rows ≡ false → id ≢ name
+parser_name_stays_new : (name id value : ArgumentText) (rows : List Row) → has_row name rows ≡ false → id ≢ name
     → has_row name (rows ++ match_row id value ∷ []) ≡ false
 parser_name_stays_new name id value [] none apart = or_from _ _ (match_row_name_is_other id name apart) refl
 parser_name_stays_new name id value (r ∷ rows) none apart =
@@ -22,38 +23,38 @@ parser_name_stays_new name id value (r ∷ rows) none apart =
     or_from _ _ parts.0 (parser_name_stays_new name id value rows parts.1 apart)
 
 -- none of the names has a row
-abbrev pub AreNewParserNames : List Row → List Text → Type 0
+abbrev pub AreNewParserNames : List Row → List ArgumentText → Type 0
 AreNewParserNames rows names = All (IsNewInWalk rows) names
 
-parser_names_stay_new : (id value : Text) (rows : List Row) (names : List Text) → AreNewParserNames rows names
+parser_names_stay_new : (id value : ArgumentText) (rows : List Row) (names : List ArgumentText) → AreNewParserNames rows names
     → All (λ name. id ≢ name) names → AreNewParserNames (rows ++ match_row id value ∷ []) names
 parser_names_stay_new id value rows names none apart = λ place default within.
     parser_name_stays_new _ id value rows (none place default within) (apart place default within)
 
 -- positionals stand in a parser from a place on
-abbrev pub ParserPlacesNames : Shape → ℕ → List Text → Type 0
+abbrev pub ParserPlacesNames : Shape → ℕ → List ArgumentText → Type 0
 ParserPlacesNames s position [] = ⊤
 ParserPlacesNames s position (id ∷ ids) = WalkKnowsPositional s position id × ParserPlacesNames s (min (position + 1) usize_max) ids
 
-module _ (options : List Text) where
+module _ (options : List ArgumentText) where
   -- a name is no option's
-  abbrev pub IsNoParserOptionName : Text → Type 0
-  IsNoParserOptionName id = (name : Text) → Contains options name → id ≢ name
+  abbrev pub IsNoParserOptionName : ArgumentText → Type 0
+  IsNoParserOptionName id = (name : ArgumentText) → Contains options name → id ≢ name
 
   -- none of the names is an option's
-  abbrev pub AreNoParserOptionNames : List Text → Type 0
+  abbrev pub AreNoParserOptionNames : List ArgumentText → Type 0
   AreNoParserOptionNames ids = All IsNoParserOptionName ids
 
-  parser_name_differs_from_known : (id : Text) (names : List Text) → IsNoParserOptionName id → All (λ name. Contains options name) names
+  parser_name_differs_from_known : (id : ArgumentText) (names : List ArgumentText) → IsNoParserOptionName id → All (λ name. Contains options name) names
       → All (λ name. id ≢ name) names
   parser_name_differs_from_known id names apart known = λ place default within. apart _ (known place default within)
 
-  known_parser_name_differs : (name : Text) (ids : List Text) → Contains options name → AreNoParserOptionNames ids → All (λ id. name ≢ id) ids
+  known_parser_name_differs : (name : ArgumentText) (ids : List ArgumentText) → Contains options name → AreNoParserOptionNames ids → All (λ id. name ≢ id) ids
   known_parser_name_differs name ids known apart = λ place default within same. apart place default within name known (sym same)
 
   -- arguments of a form, with rows before them that are none of theirs
-  pub arguments_fit_parser_names : (s : Shape) → ((name : Text) → Contains options name → WalkKnowsOption s name)
-      → (position : ℕ) (ids : List Text) (rows : List Row) (arguments : List Argument)
+  pub arguments_fit_parser_names : (s : Shape) → ((name : ArgumentText) → Contains options name → WalkKnowsOption s name)
+      → (position : ℕ) (ids : List ArgumentText) (rows : List Row) (arguments : List Argument)
       → ParserPlacesNames s position ids → AreNoParserOptionNames ids → AllPairs (λ a b. a ≢ b) ids
       → length (positionals_in_arguments arguments) ≡ length ids
       → All (λ name. Contains options name) (names_in_arguments arguments) → AllPairs (λ a b. a ≢ b) (names_in_arguments arguments)

@@ -5,19 +5,19 @@ use Rattle.std.specs.Borrow.{Bor}
 use Rattle.std.proofs.lemmas.List.{get_or-map, length-map}
 use Rattle.std.proofs.lemmas.List.Sums.{fold_more}
 use Rattle.clap.specs.Words.{App, Rule, with_rule}
-use Rattle.command_words.specs.Arguments.{Text}
-use Rattle.command_words.specs.Words.{texts}
+use Rattle.command_words.specs.Arguments.{ArgumentText}
+use Rattle.command_words.specs.Arguments.{argument_texts}
 
 -- one more name, and its rule
-pub parser_gets_one_more_rule : (f : Text → Rule) (start before after : App) (rule : Rule) (names : List (Bor Text)) (i : ℕ)
-    (name : Bor Text) → i < length names
-    → before ≡ fold (λ parser n. with_rule parser (f n)) start (take i (texts names))
+pub parser_gets_one_more_rule : (f : ArgumentText → Rule) (start before after : App) (rule : Rule) (names : List (Bor ArgumentText)) (i : ℕ)
+    (name : Bor ArgumentText) → i < length names
+    → before ≡ fold (λ parser n. with_rule parser (f n)) start (take i (argument_texts names))
     → rule ≡ f (slice_index_or names i name).now
     → after ≡ with_rule before rule
-    → after ≡ fold (λ parser n. with_rule parser (f n)) start (take (i + 1) (texts names))
+    → after ≡ fold (λ parser n. with_rule parser (f n)) start (take (i + 1) (argument_texts names))
 parser_gets_one_more_rule f start before after rule names i name inside so_far is added =
-    let inside_texts : i < length (texts names) = omega (arith, length-map names (λ (n : Bor Text). n.now)) in
-    let at : slice_index_or (texts names) i name.now ≡ (slice_index_or names i name).now =
-    get_or-map (λ (n : Bor Text). n.now) names i name name.now inside in
+    let inside_texts : i < length (argument_texts names) = omega (arith, length-map names (λ (n : Bor ArgumentText). n.now)) in
+    let at : slice_index_or (argument_texts names) i name.now ≡ (slice_index_or names i name).now =
+    get_or-map (λ (n : Bor ArgumentText). n.now) names i name name.now inside in
     added ∙ ap₂ with_rule so_far (is ∙ ap f (sym at))
-    ∙ sym (fold_more (λ parser n. with_rule parser (f n)) start (texts names) i name.now inside_texts)
+    ∙ sym (fold_more (λ parser n. with_rule parser (f n)) start (argument_texts names) i name.now inside_texts)

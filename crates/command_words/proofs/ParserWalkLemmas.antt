@@ -13,59 +13,60 @@ use Rattle.clap.specs.Walk.{Held, Row, Rule, Walk, arg_by_id, arg_by_index, arg_
 use Rattle.clap.specs.Walk.{is_pending, more_values, pushed, settled, used, walked, without, option as awaits}
 use Rattle.clap.specs.Words.{new_rule}
 use Rattle.clap.specs.declared.parser.matches.ValueSource.TheVariants.{CommandLine}
-use Rattle.command_words.specs.Arguments.{Text, Argument, positional, option, argument_hyphen, argument_equals_sign, IsArgumentValue, IsArgumentName}
-use Rattle.command_words.specs.Arguments.{SpellAllArguments, long}
+use Rattle.command_words.specs.Arguments.{ArgumentText, Argument, positional, option, argument_hyphen}
+use Rattle.command_words.specs.Arguments.{argument_equals_sign, IsArgumentValue, IsArgumentName}
+use Rattle.command_words.specs.Arguments.{SpellAllArguments, long_argument}
 use Rattle.command_words.specs.Parser.{parser_rule_for}
 use Rattle.command_words.proofs.MatchRowLemmas.{match_row, match_rows_of, match_row_name_is_same}
 
 -- ---- rows
 
 -- a change at a row that isn't there
-walk_changes_missing_row : (id : Text) (change : Row → List Row) (missing rows : List Row) → has_row id rows ≡ false
+walk_changes_missing_row : (id : ArgumentText) (change : Row → List Row) (missing rows : List Row) → has_row id rows ≡ false
     → at_row id change missing rows ≡ rows ++ missing
 walk_changes_missing_row id change missing [] none = refl
 walk_changes_missing_row id change missing (r ∷ rows) none =
     let parts = or_parts (bytes_eq r.id id) _ none in
     rw parts.0 (ap (λ rs. r ∷ rs) (walk_changes_missing_row id change missing rows parts.1))
 
-walk_without_missing_row : (id : Text) (rows : List Row) → has_row id rows ≡ false → without id rows ≡ rows
+walk_without_missing_row : (id : ArgumentText) (rows : List Row) → has_row id rows ≡ false → without id rows ≡ rows
 walk_without_missing_row id rows none = walk_changes_missing_row id (λ _. []) [] rows none ∙ append-nil rows
 
 -- ---- the rules of a parser that is built
 
 -- an option
-abbrev pub parser_walk_option : Text → Rule
+abbrev pub parser_walk_option : ArgumentText → Rule
 parser_walk_option name = filled (parser_rule_for name)
 
 -- a positional at a place, the first of which is 1
-abbrev pub parser_walk_positional : ℕ → Text → Rule
+abbrev pub parser_walk_positional : ℕ → ArgumentText → Rule
 parser_walk_positional place name = with_index place (filled (new_rule name))
 
 -- a first use adds a row
-parser_walk_uses_option : (name value : Text) (rows : List Row) → has_row name rows ≡ false
+parser_walk_uses_option : (name value : ArgumentText) (rows : List Row) → has_row name rows ≡ false
     → used (parser_walk_option name) (value ∷ []) rows ≡ rows ++ match_row name value ∷ []
 parser_walk_uses_option name value rows none =
     rw (walk_without_missing_row name rows none)
     (walk_changes_missing_row name (more_values CommandLine (value ∷ [])) (match_row name value ∷ []) rows none)
 
-parser_walk_uses_positional : (place : ℕ) (name value : Text) (rows : List Row) → has_row name rows ≡ false
+parser_walk_uses_positional : (place : ℕ) (name value : ArgumentText) (rows : List Row) → has_row name rows ≡ false
     → used (parser_walk_positional place name) (value ∷ []) rows ≡ rows ++ match_row name value ∷ []
 parser_walk_uses_positional place name value rows none =
     rw (walk_without_missing_row name rows none)
     (walk_changes_missing_row name (more_values CommandLine (value ∷ [])) (match_row name value ∷ []) rows none)
 
-parser_walk_passes_option : (again : Bool) (name value : Text) (rows : List Row) → has_row name rows ≡ false
+parser_walk_passes_option : (again : Bool) (name value : ArgumentText) (rows : List Row) → has_row name rows ≡ false
     → use_passes again (parser_walk_option name) (value ∷ []) rows ≡ true
 parser_walk_passes_option again name value rows none = rw none refl
 
-parser_walk_passes_positional : (again : Bool) (place : ℕ) (name value : Text) (rows : List Row) → has_row name rows ≡ false
+parser_walk_passes_positional : (again : Bool) (place : ℕ) (name value : ArgumentText) (rows : List Row) → has_row name rows ≡ false
     → use_passes again (parser_walk_positional place name) (value ∷ []) rows ≡ true
 parser_walk_passes_positional again place name value rows none = rw none refl
 
 -- ---- words
 
 -- a value is no flag and no `--`
-pub parser_walk_tells_value_apart : (text : Text) → IsArgumentValue text
+pub parser_walk_tells_value_apart : (text : ArgumentText) → IsArgumentValue text
     → (long_of text ≡ None) × (short_of text ≡ None) × (bytes_eq text (argument_hyphen ∷ argument_hyphen ∷ []) ≡ false)
 parser_walk_tells_value_apart [] is_value = absurd is_value
 parser_walk_tells_value_apart (byte ∷ text) is_value =
@@ -73,11 +74,11 @@ parser_walk_tells_value_apart (byte ∷ text) is_value =
     (rw apart refl, rw apart refl, rw apart refl)
 
 -- a text that names an option in the words
-pub record IsNamedInWalk (name : Text) : Type 0 where
+pub record IsNamedInWalk (name : ArgumentText) : Type 0 where
   pub is_name : IsArgumentName name
   pub named : name ≢ []
 
-parser_walk_cuts_lone_option : (name : Text) → IsNamedInWalk name → long_of (long name) ≡ Some (name, None)
+parser_walk_cuts_lone_option : (name : ArgumentText) → IsNamedInWalk name → long_of (long_argument name) ≡ Some (name, None)
 parser_walk_cuts_lone_option [] named = absurd (named.named refl)
 parser_walk_cuts_lone_option (byte ∷ name) named =
     let lacks = λ (i : ℕ) (inside : i < length (byte ∷ name)). named.is_name i 0 inside in
@@ -85,7 +86,8 @@ parser_walk_cuts_lone_option (byte ∷ name) named =
     let whole = before_first-Lacks argument_equals_sign (byte ∷ name) lacks in
     rw no_sign (ap (λ n. Some (n, None)) whole)
 
-parser_walk_cuts_joined_option : (name value : Text) → IsNamedInWalk name → long_of (long name ++ argument_equals_sign ∷ value) ≡ Some (name, Some value)
+parser_walk_cuts_joined_option : (name value : ArgumentText) → IsNamedInWalk name
+    → long_of (long_argument name ++ argument_equals_sign ∷ value) ≡ Some (name, Some value)
 parser_walk_cuts_joined_option [] value named = absurd (named.named refl)
 parser_walk_cuts_joined_option (byte ∷ name) value named =
     let lacks = λ (i : ℕ) (inside : i < length (byte ∷ name)). named.is_name i 0 inside in
@@ -94,12 +96,12 @@ parser_walk_cuts_joined_option (byte ∷ name) value named =
     let behind = after_first-at argument_equals_sign (byte ∷ name) value lacks in
     rw sign (ap₂ (λ n v. Some (n, Some v)) front behind)
 
-walk_tells_dashes_from_lone : (name : Text) → IsNamedInWalk name → bytes_eq (long name) (argument_hyphen ∷ argument_hyphen ∷ []) ≡ false
+walk_tells_dashes_from_lone : (name : ArgumentText) → IsNamedInWalk name → bytes_eq (long_argument name) (argument_hyphen ∷ argument_hyphen ∷ []) ≡ false
 walk_tells_dashes_from_lone [] named = absurd (named.named refl)
 walk_tells_dashes_from_lone (byte ∷ name) named = refl
 
-walk_tells_dashes_from_joined : (name value : Text) → IsNamedInWalk name
-    → bytes_eq (long name ++ argument_equals_sign ∷ value) (argument_hyphen ∷ argument_hyphen ∷ []) ≡ false
+walk_tells_dashes_from_joined : (name value : ArgumentText) → IsNamedInWalk name
+    → bytes_eq (long_argument name ++ argument_equals_sign ∷ value) (argument_hyphen ∷ argument_hyphen ∷ []) ≡ false
 walk_tells_dashes_from_joined [] value named = absurd (named.named refl)
 walk_tells_dashes_from_joined (byte ∷ name) value named = refl
 
@@ -121,13 +123,13 @@ pub record WalkHoldsRows (s : Shape) (held : Held) (rows : List Row) : Type 0 wh
   pub rows_are : (settled s.rules held).rows ≡ rows
 
 -- words bring the walk to a position, and what is held to rows
-pub record WalkReaches (s : Shape) (start : Walk) (words : List Text) (position : ℕ) (rows : List Row) : Type 0 where
+pub record WalkReaches (s : Shape) (start : Walk) (words : List ArgumentText) (position : ℕ) (rows : List Row) : Type 0 where
   pub held : Held
   pub ends : fold (walked s.rules []) start words ≡ standing_walk held position
   pub passes : walk_passes s [] start words ≡ true
   pub holds : WalkHoldsRows s held rows
 
-walk_passes_both : (s : Shape) (start : Walk) (front others : List Text) → walk_passes s [] start front ≡ true
+walk_passes_both : (s : Shape) (start : Walk) (front others : List ArgumentText) → walk_passes s [] start front ≡ true
     → walk_passes s [] (fold (walked s.rules []) start front) others ≡ true
     → walk_passes s [] start (front ++ others) ≡ true
 unfolding walk_passes
@@ -137,7 +139,7 @@ walk_passes_both s start (word ∷ front) others one two =
     and_from _ _ parts.0 (walk_passes_both s (walked s.rules [] start word) front others parts.1 two)
 
 -- words that stand one behind the other
-pub walk_reaches_both_halves : (s : Shape) (start : Walk) (front others : List Text) (middle position : ℕ)
+pub walk_reaches_both_halves : (s : Shape) (start : Walk) (front others : List ArgumentText) (middle position : ℕ)
     (between rows : List Row) → WalkReaches s start front middle between
     → ((held : Held) → WalkHoldsRows s held between → WalkReaches s (standing_walk held middle) others position rows)
     → WalkReaches s start (front ++ others) position rows
@@ -153,7 +155,7 @@ walk_reaches_both_halves s start front others middle position between rows one n
     }
 
 -- one word
-walk_reaches_by_word : (s : Shape) (start : Walk) (word : Text) (position : ℕ) (rows : List Row) (held : Held)
+walk_reaches_by_word : (s : Shape) (start : Walk) (word : ArgumentText) (position : ℕ) (rows : List Row) (held : Held)
     → turn_passes s [] start word ≡ true
     → walked s.rules [] start word ≡ standing_walk held position → WalkHoldsRows s held rows
     → WalkReaches s start (word ∷ []) position rows
@@ -167,17 +169,17 @@ walk_reaches_by_word s start word position rows held passes is holds = record {
 
 module _ (s : Shape) (held : Held) (rows : List Row) (holds : WalkHoldsRows s held rows) (position : ℕ) where
   -- what is held after a value that waits to be used
-  abbrev pending_in_walk : Text → Text → Held
+  abbrev pending_in_walk : ArgumentText → ArgumentText → Held
   pending_in_walk name value = record (settled s.rules held) { pending = Some (name, value ∷ []) }
 
-  walk_holds_pending_option : (name value : Text) → arg_by_id s.rules name ≡ Some (parser_walk_option name)
+  walk_holds_pending_option : (name value : ArgumentText) → arg_by_id s.rules name ≡ Some (parser_walk_option name)
       → has_row name rows ≡ false → WalkHoldsRows s (pending_in_walk name value) (rows ++ match_row name value ∷ [])
   walk_holds_pending_option name value known none = record {
     passes = rw (known, holds.rows_are) (parser_walk_passes_option s.args_override_self name value rows none);
     rows_are = rw (known, holds.rows_are) (parser_walk_uses_option name value rows none);
   }
 
-  walk_holds_pending_positional : (place : ℕ) (name value : Text) → arg_by_id s.rules name ≡ Some (parser_walk_positional place name)
+  walk_holds_pending_positional : (place : ℕ) (name value : ArgumentText) → arg_by_id s.rules name ≡ Some (parser_walk_positional place name)
       → has_row name rows ≡ false
       → WalkHoldsRows s (pending_in_walk name value) (rows ++ match_row name value ∷ [])
   walk_holds_pending_positional place name value known none = record {
@@ -194,7 +196,7 @@ module _ (s : Shape) (held : Held) (rows : List Row) (holds : WalkHoldsRows s he
   walk_passes_settled_positional false settles is = is
 
   -- a positional
-  pub walk_reaches_positional : (name value : Text) → IsArgumentValue value
+  pub walk_reaches_positional : (name value : ArgumentText) → IsArgumentValue value
       → arg_by_index s.rules position ≡ Some (parser_walk_positional position name)
       → arg_by_id s.rules name ≡ Some (parser_walk_positional position name) → has_row name rows ≡ false
       → WalkReaches s (standing_walk held position) (value ∷ []) (min (position + 1) usize_max) (rows ++ match_row name value ∷ [])
@@ -213,18 +215,18 @@ module _ (s : Shape) (held : Held) (rows : List Row) (holds : WalkHoldsRows s he
       (pending_in_walk name value) passes is (walk_holds_pending_positional position name value known none)
 
   -- the walk behind a word that names an option
-  abbrev awaiting_walk : Text → Walk
+  abbrev awaiting_walk : ArgumentText → Walk
   awaiting_walk name = record (standing_walk (record (settled s.rules held) { pending = Some (name, []) }) position) {
     waiting = awaits name;
   }
 
-  module _ (name value : Text) (named : IsNamedInWalk name) (is_value : IsArgumentValue value)
+  module _ (name value : ArgumentText) (named : IsNamedInWalk name) (is_value : IsArgumentValue value)
       (met : arg_by_long s.rules name ≡ Some (parser_walk_option name))
       (known : arg_by_id s.rules name ≡ Some (parser_walk_option name)) (none : has_row name rows ≡ false) where
-    walk_passes_name : turn_passes s [] (standing_walk held position) (long name) ≡ true
+    walk_passes_name : turn_passes s [] (standing_walk held position) (long_argument name) ≡ true
     walk_passes_name = rw (walk_tells_dashes_from_lone name named, parser_walk_cuts_lone_option name named, met, holds.passes) refl
 
-    walk_takes_name : walked s.rules [] (standing_walk held position) (long name) ≡ awaiting_walk name
+    walk_takes_name : walked s.rules [] (standing_walk held position) (long_argument name) ≡ awaiting_walk name
     unfolding walked
     walk_takes_name = rw (walk_tells_dashes_from_lone name named, parser_walk_cuts_lone_option name named, met) refl
 
@@ -236,7 +238,7 @@ module _ (s : Shape) (held : Held) (rows : List Row) (holds : WalkHoldsRows s he
     walk_takes_value = let apart = parser_walk_tells_value_apart value is_value in rw (apart.2, apart.0, apart.1, known, match_row_name_is_same name) refl
 
     -- an option and its value behind it
-    pub walk_reaches_option : WalkReaches s (standing_walk held position) (long name ∷ value ∷ []) position
+    pub walk_reaches_option : WalkReaches s (standing_walk held position) (long_argument name ∷ value ∷ []) position
         (rows ++ match_row name value ∷ [])
     unfolding walk_passes
     walk_reaches_option = record {
@@ -250,12 +252,12 @@ module _ (s : Shape) (held : Held) (rows : List Row) (holds : WalkHoldsRows s he
     abbrev joined_in_walk : Held
     joined_in_walk = record { rows = rows ++ match_row name value ∷ []; pending = None; skip = held.skip }
 
-    walk_passes_joined_option : turn_passes s [] (standing_walk held position) (long name ++ argument_equals_sign ∷ value) ≡ true
+    walk_passes_joined_option : turn_passes s [] (standing_walk held position) (long_argument name ++ argument_equals_sign ∷ value) ≡ true
     walk_passes_joined_option =
         rw (walk_tells_dashes_from_joined name value named, parser_walk_cuts_joined_option name value named, met, holds.rows_are, holds.passes, none)
         refl
 
-    walk_takes_joined_option : walked s.rules [] (standing_walk held position) (long name ++ argument_equals_sign ∷ value)
+    walk_takes_joined_option : walked s.rules [] (standing_walk held position) (long_argument name ++ argument_equals_sign ∷ value)
         ≡ standing_walk joined_in_walk position
     unfolding walked
     walk_takes_joined_option =
@@ -264,32 +266,32 @@ module _ (s : Shape) (held : Held) (rows : List Row) (holds : WalkHoldsRows s he
         (parser_walk_uses_option name value rows none))
 
     -- an option and its value in one word
-    pub walk_reaches_joined_option : WalkReaches s (standing_walk held position) ((long name ++ argument_equals_sign ∷ value) ∷ []) position
+    pub walk_reaches_joined_option : WalkReaches s (standing_walk held position) ((long_argument name ++ argument_equals_sign ∷ value) ∷ []) position
         (rows ++ match_row name value ∷ [])
     walk_reaches_joined_option =
-        walk_reaches_by_word s (standing_walk held position) (long name ++ argument_equals_sign ∷ value) position
+        walk_reaches_by_word s (standing_walk held position) (long_argument name ++ argument_equals_sign ∷ value) position
         (rows ++ match_row name value ∷ []) joined_in_walk walk_passes_joined_option walk_takes_joined_option
         (record { passes = refl; rows_are = refl })
 
 -- ---- all words
 
 -- an option stands in a parser
-pub record WalkKnowsOption (s : Shape) (name : Text) : Type 0 where
+pub record WalkKnowsOption (s : Shape) (name : ArgumentText) : Type 0 where
   pub met : arg_by_long s.rules name ≡ Some (parser_walk_option name)
   pub known : arg_by_id s.rules name ≡ Some (parser_walk_option name)
   pub named : name ≢ []
 
 -- a positional stands at a place of a parser
-pub record WalkKnowsPositional (s : Shape) (position : ℕ) (id : Text) : Type 0 where
+pub record WalkKnowsPositional (s : Shape) (position : ℕ) (id : ArgumentText) : Type 0 where
   pub placed : arg_by_index s.rules position ≡ Some (parser_walk_positional position id)
   pub known : arg_by_id s.rules id ≡ Some (parser_walk_positional position id)
 
 -- no row is of this name
-abbrev pub IsNewInWalk : List Row → Text → Type 0
+abbrev pub IsNewInWalk : List Row → ArgumentText → Type 0
 IsNewInWalk rows name = has_row name rows ≡ false
 
 -- arguments stand in a parser, from a place of its positionals on, and none has a row before
-abbrev pub FitParserWalk : Shape → ℕ → List Text → List Row → List Argument → Type 0
+abbrev pub FitParserWalk : Shape → ℕ → List ArgumentText → List Row → List Argument → Type 0
 FitParserWalk s position ids rows [] = ⊤
 FitParserWalk s position [] rows (positional text ∷ arguments) = ⊥
 FitParserWalk s position (id ∷ ids) rows (positional text ∷ arguments) =
@@ -305,7 +307,7 @@ parser_walk_final_position position (positional text ∷ arguments) = parser_wal
 parser_walk_final_position position (option name value ∷ arguments) = parser_walk_final_position position arguments
 
 -- words behind those of an argument
-walk_reaches_more : (s : Shape) (start : Walk) (words front others : List Text) (middle position : ℕ)
+walk_reaches_more : (s : Shape) (start : Walk) (words front others : List ArgumentText) (middle position : ℕ)
     (before more : List Row) (found : Row) → words ≡ front ++ others
     → WalkReaches s start front middle (before ++ found ∷ [])
     → ((held : Held) → WalkHoldsRows s held (before ++ found ∷ [])
@@ -317,7 +319,7 @@ walk_reaches_more s start words front others middle position before more found p
     one next)
 
 -- words that spell arguments bring the walk to the rows of the arguments
-pub walk_reaches_all_arguments : (s : Shape) (words : List Text) (arguments : List Argument) (ids : List Text) (position : ℕ)
+pub walk_reaches_all_arguments : (s : Shape) (words : List ArgumentText) (arguments : List Argument) (ids : List ArgumentText) (position : ℕ)
     (rows : List Row) (held : Held) → SpellAllArguments words arguments
     → FitParserWalk s position ids rows arguments → WalkHoldsRows s held rows
     → WalkReaches s (standing_walk held position) words (parser_walk_final_position position arguments) (rows ++ match_rows_of ids arguments)

@@ -5,11 +5,12 @@ use Rattle.std.specs.Prelude.{if◌then◌else◌}
 use Rattle.std.proofs.lemmas.Bool.{cases_lt}
 use Rattle.frame_records.specs.declared.weigh.Weigh.{Weigh}
 use Rattle.deal_rules.specs.declared.deal_kind.DealKind.{DealKind}
-use Rattle.command_words.specs.Arguments.{Text}
-use Rattle.command_words.specs.Options.{OptionKind, number, choice, option_kind_of, option_place_of, IsOptionNumber, IsAllowedByOption, IsGoodOptionText}
+use Rattle.command_words.specs.Arguments.{ArgumentText}
+use Rattle.command_words.specs.Options.{OptionKind, number, choice, option_kind_of, option_place_of, IsOptionNumber}
+use Rattle.command_words.specs.Options.{IsAllowedByOption, IsGoodOptionText}
 use Rattle.command_words.specs.Options.{IsGoodOption, IsNoOptionNumber, IsNoOptionChoice, IsOutsideOptionLimits}
 use Rattle.command_words.specs.Settings.{SettingValues, SetsNumberSetting, SetsWeighSetting, SetsDealSetting}
-use Rattle.command_words.specs.Words.{IsFirstBadValue, HasValueFault}
+use Rattle.command_words.specs.Values.{IsFirstBadValue, HasValueFault}
 use Rattle.command_words.specs.GivenValues.{AreGoodGivenValuesBefore, IsBadGivenNumber, IsBadGivenChoice}
 use Rattle.command_words.specs.declared.opt.Opt.{Opt}
 use Rattle.command_words.specs.declared.words_kind.WordsKind.{WordsKind}
@@ -48,7 +49,7 @@ pub values_before_first_are_good : (values : SettingValues) → AreGoodGivenValu
 values_before_first_are_good values other before = absurd (omega arith)
 
 -- the value at a place is good, and so are those before the place behind it
-pub values_before_next_are_good : (values : SettingValues) (opt : Opt) (told : Option Text) → values opt ≡ told
+pub values_before_next_are_good : (values : SettingValues) (opt : Opt) (told : Option ArgumentText) → values opt ≡ told
     → AreGoodGivenValuesBefore values (option_place_of opt) → IsGoodOption opt told
     → AreGoodGivenValuesBefore values (suc (option_place_of opt))
 values_before_next_are_good values opt told same before good other below = go (cases_lt (option_place_of other) (option_place_of opt))
@@ -60,32 +61,32 @@ values_before_next_are_good values opt told same before good other below = go (c
         (subst (λ t. IsGoodOption opt t) (sym same) good)
 
 -- a number that an option may have is good
-allowed_value_is_good : (kind : OptionKind) (text : Text) (value : ℕ) → IsOptionNumber text value → IsAllowedByOption kind value
+allowed_value_is_good : (kind : OptionKind) (text : ArgumentText) (value : ℕ) → IsOptionNumber text value → IsAllowedByOption kind value
     → IsGoodOptionText kind text
 allowed_value_is_good (number least greatest) text value is_number allowed = (value, is_number, allowed)
 allowed_value_is_good (choice words) text value is_number allowed = absurd allowed
 
 -- a number that is set is good
-pub numeric_value_is_good : (opt : Opt) (default : ℕ) (told : Option Text) (value : ℕ) → SetsNumberSetting opt default told value
+pub numeric_value_is_good : (opt : Opt) (default : ℕ) (told : Option ArgumentText) (value : ℕ) → SetsNumberSetting opt default told value
     → IsGoodOption opt told
 numeric_value_is_good opt default None value sets = tt
 numeric_value_is_good opt default (Some text) value sets = allowed_value_is_good (option_kind_of opt) text value sets.0 sets.1
 
 -- a way to weigh that is set is good
-pub weigh_value_is_good : (told : Option Text) (weigh : Weigh) → SetsWeighSetting told weigh → IsGoodOption opt.Weigh told
+pub weigh_value_is_good : (told : Option ArgumentText) (weigh : Weigh) → SetsWeighSetting told weigh → IsGoodOption opt.Weigh told
 weigh_value_is_good None weigh sets = tt
 weigh_value_is_good (Some text) weighing.Bytes sets = (0, omega arith, sym sets)
 weigh_value_is_good (Some text) weighing.Packets sets = (1, omega arith, sym sets)
 
 -- a way to deal that is set is good
-pub deal_value_is_good : (told : Option Text) (deal : DealKind) → SetsDealSetting told deal → IsGoodOption opt.Deal told
+pub deal_value_is_good : (told : Option ArgumentText) (deal : DealKind) → SetsDealSetting told deal → IsGoodOption opt.Deal told
 deal_value_is_good None deal sets = tt
 deal_value_is_good (Some text) dealing.RoundRobin sets = (0, omega arith, sym sets)
 deal_value_is_good (Some text) dealing.BySource sets = (1, omega arith, sym sets)
 deal_value_is_good (Some text) dealing.Free sets = (2, omega arith, sym sets)
 
 -- a number that is bad, where all before it are good, is the first fault
-pub bad_numeric_value_is_first : (values : SettingValues) (opt : Opt) (told : Option Text) (kind : WordsKind) → values opt ≡ told
+pub bad_numeric_value_is_first : (values : SettingValues) (opt : Opt) (told : Option ArgumentText) (kind : WordsKind) → values opt ≡ told
     → AreGoodGivenValuesBefore values (option_place_of opt)
     → IsBadGivenNumber opt told kind → HasValueFault values kind
 bad_numeric_value_is_first values opt None kind same before bad = absurd bad
@@ -98,7 +99,7 @@ bad_numeric_value_is_first values opt (Some text) (OutOfLimits at) same before b
 bad_numeric_value_is_first values opt (Some text) _ same before bad = absurd bad
 
 -- a choice that is bad, where all before it are good, is the first fault
-pub bad_choice_value_is_first : (values : SettingValues) (opt : Opt) (told : Option Text) (kind : WordsKind) → values opt ≡ told
+pub bad_choice_value_is_first : (values : SettingValues) (opt : Opt) (told : Option ArgumentText) (kind : WordsKind) → values opt ≡ told
     → AreGoodGivenValuesBefore values (option_place_of opt)
     → IsBadGivenChoice opt told kind → HasValueFault values kind
 bad_choice_value_is_first values opt None kind same before bad = absurd bad

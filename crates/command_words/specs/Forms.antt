@@ -1,11 +1,11 @@
 -- The commands, and what each takes.
 use Rattle.std.specs.Prelude.{◌≡◌, List, [], ◌∷◌, codes}
-use Rattle.command_words.specs.Arguments.{Text, Argument, ArgumentForm, AreWellFormedArguments}
+use Rattle.command_words.specs.Arguments.{ArgumentText, Argument, ArgumentForm, AreWellFormedArguments}
 use Rattle.command_words.specs.declared.command_word.CommandWord.{CommandWord}
 use Rattle.command_words.specs.declared.command_word.CommandWord.TheVariants.{Weigh, Report, Format, Audit, Make, Demo}
 
 -- the name of a command, which is the first word of the command line
-abbrev pub form_word_of : CommandWord → Text
+abbrev pub form_word_of : CommandWord → ArgumentText
 form_word_of Weigh = codes "weigh"
 form_word_of Report = codes "report"
 form_word_of Format = codes "format"
@@ -48,7 +48,7 @@ form_of Demo = record {
 }
 
 -- the words are a command's name followed by well-formed words that spell these arguments
-pub record AreFormWords (words : List Text) (command : CommandWord) (arguments : List Argument) : Type 0 where
-  pub behind : List Text
+pub record AreFormWords (words : List ArgumentText) (command : CommandWord) (arguments : List Argument) : Type 0 where
+  pub behind : List ArgumentText
   pub begun : words ≡ form_word_of command ∷ behind
   pub well_formed : AreWellFormedArguments (form_of command) behind arguments

@@ -2,7 +2,9 @@ pub mod Arguments
 pub mod Forms
 pub mod Options
 pub mod Settings
-pub mod Words
+pub mod AskedCommand
+pub mod WordsFault
+pub mod Values
 pub mod NamedPaths
 -- within the crate
 pub mod Scanning
@@ -11,4 +13,6 @@ pub mod Matches
 pub mod Parser
 -- the face: what contracts of other crates cite
 pub use Rattle.command_words.specs.Settings.{AreLimitedSettings, AreTrafficSettings, AreWideSettings}
-pub use Rattle.command_words.specs.Words.{AskFor, HasWordsFault, AreLimitedWords, texts}
+pub use Rattle.command_words.specs.AskedCommand.{AskForCommand, IsLimitedCommand}
+pub use Rattle.command_words.specs.WordsFault.{HasWordsFault}
+pub use Rattle.command_words.specs.Arguments.{argument_texts}

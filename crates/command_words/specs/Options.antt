@@ -1,14 +1,14 @@
 -- The options and positionals whose values are checked: what each takes, and what is wrong with a value.
 use Rattle.std.specs.Prelude.{⊤, ℕ, ◌≡◌, ◌⊎◌, ◌^◌, ◌-◌, ◌<◌, ◌≤◌, List, [], ◌∷◌, codes, decimal, Contains, Option, Some}
 use Rattle.std.specs.Prelude.{None}
-use Rattle.command_words.specs.Arguments.{Text}
+use Rattle.command_words.specs.Arguments.{ArgumentText}
 use Rattle.command_words.specs.declared.opt.Opt.{Opt}
 use Rattle.command_words.specs.declared.opt.Opt.TheVariants.{Seed, Frames, Weigh, Shards, Capacity, Phi, Deal}
 use Rattle.command_words.specs.declared.opt.Opt.TheVariants.{Block, Workers, Callers, Rounds}
-use Rattle.prefix_lattice.specs.{most_shards}
+use Rattle.prefix_lattice.specs.{shard_limit}
 
 -- the name of an option or a positional
-abbrev pub option_name_of : Opt → Text
+abbrev pub option_name_of : Opt → ArgumentText
 option_name_of Seed = codes "SEED"
 option_name_of Frames = codes "FRAMES"
 option_name_of Weigh = codes "weigh"
@@ -38,7 +38,7 @@ option_place_of Rounds = 10
 -- what the value of an option may be: a number from the least to the greatest, or one of some choices
 pub data OptionKind : Type 0 where
   number : ℕ → ℕ → OptionKind
-  choice : List Text → OptionKind
+  choice : List ArgumentText → OptionKind
 
 -- the greatest seed, which may be any number of 64 bits
 abbrev pub seed_option_limit : ℕ
@@ -77,7 +77,7 @@ abbrev pub option_kind_of : Opt → OptionKind
 option_kind_of Seed = number 0 seed_option_limit
 option_kind_of Frames = number 1 frames_option_limit
 option_kind_of Weigh = choice (codes "bytes" ∷ codes "packets" ∷ [])
-option_kind_of Shards = number 1 most_shards
+option_kind_of Shards = number 1 shard_limit
 option_kind_of Capacity = number 2 capacity_option_limit
 option_kind_of Phi = number 1 phi_option_limit
 option_kind_of Deal = choice (codes "round" ∷ codes "source" ∷ codes "free" ∷ [])
@@ -87,7 +87,7 @@ option_kind_of Callers = number 0 callers_option_limit
 option_kind_of Rounds = number 0 rounds_option_limit
 
 -- the text is a number below 2^64 in decimal, without leading zeros
-pub record IsOptionNumber (text : Text) (value : ℕ) : Type 0 where
+pub record IsOptionNumber (text : ArgumentText) (value : ℕ) : Type 0 where
   pub spelled : text ≡ decimal value
   pub bounded : value < 2 ^ 64
 
@@ -97,26 +97,26 @@ IsAllowedByOption (number least greatest) value = (least ≤ value) × (value �
 IsAllowedByOption (choice words) value = ⊥
 
 -- the text is a value that the option may have
-abbrev pub IsGoodOptionText : OptionKind → Text → Type 0
+abbrev pub IsGoodOptionText : OptionKind → ArgumentText → Type 0
 IsGoodOptionText (number least greatest) text = (value : ℕ) × IsOptionNumber text value × IsAllowedByOption (number least greatest) value
 IsGoodOptionText (choice words) text = Contains words text
 
 -- the option has a value that it may have, or is missing
-abbrev pub IsGoodOption : Opt → Option Text → Type 0
+abbrev pub IsGoodOption : Opt → Option ArgumentText → Type 0
 IsGoodOption opt None = ⊤
 IsGoodOption opt (Some text) = IsGoodOptionText (option_kind_of opt) text
 
 -- the option takes numbers, and the text is not a number
-abbrev pub IsNoOptionNumber : OptionKind → Text → Type 0
+abbrev pub IsNoOptionNumber : OptionKind → ArgumentText → Type 0
 IsNoOptionNumber (number least greatest) text = (value : ℕ) → IsOptionNumber text value → ⊥
 IsNoOptionNumber (choice words) text = ⊥
 
 -- the option takes numbers, and the text is a number outside its limits
-abbrev pub IsOutsideOptionLimits : OptionKind → Text → Type 0
+abbrev pub IsOutsideOptionLimits : OptionKind → ArgumentText → Type 0
 IsOutsideOptionLimits (number least greatest) text = (value : ℕ) × IsOptionNumber text value × ((value < least) ⊎ (greatest < value))
 IsOutsideOptionLimits (choice words) text = ⊥
 
 -- the option takes one of some choices, and the text is none of them
-abbrev pub IsNoOptionChoice : OptionKind → Text → Type 0
+abbrev pub IsNoOptionChoice : OptionKind → ArgumentText → Type 0
 IsNoOptionChoice (number least greatest) text = ⊥
 IsNoOptionChoice (choice words) text = Contains words text → ⊥

@@ -1,26 +1,26 @@
 -- The parser that `clap` is given for a form, which no public contract cites.
 use Rattle.std.specs.Prelude.{true, List, fold, Some}
 use Rattle.clap.specs.Words.{App, Rule, new_app, new_rule, with_rule}
-use Rattle.command_words.specs.Arguments.{Text, ArgumentForm}
+use Rattle.command_words.specs.Arguments.{ArgumentText, ArgumentForm}
 
 -- the rule for an option of this name, which takes a value
-abbrev pub parser_rule_for : Text → Rule
+abbrev pub parser_rule_for : ArgumentText → Rule
 parser_rule_for name = record (new_rule name) { long = Some name }
 
 -- a parser of the words after the program's name and the command's name, with no `--help`
-abbrev pub bare_parser : Text → App
+abbrev pub bare_parser : ArgumentText → App
 bare_parser word =
     let app = new_app word in
     record app { top = record app.top { no_binary_name = true; disable_help_flag = true } }
 
 -- a parser with positionals of these names added
-abbrev pub parser_with_positionals : App → List Text → App
+abbrev pub parser_with_positionals : App → List ArgumentText → App
 parser_with_positionals app names = fold (λ parser name. with_rule parser (new_rule name)) app names
 
 -- a parser with options of these names added
-abbrev pub parser_with_options : App → List Text → App
+abbrev pub parser_with_options : App → List ArgumentText → App
 parser_with_options app names = fold (λ parser name. with_rule parser (parser_rule_for name)) app names
 
 -- a parser that has the positionals and the options of a form, and no other
-abbrev pub parser_for : Text → ArgumentForm → App
+abbrev pub parser_for : ArgumentText → ArgumentForm → App
 parser_for word form = parser_with_options (parser_with_positionals (bare_parser word) form.positionals) form.options

@@ -4,64 +4,66 @@ use Rattle.frame_records.specs.declared.weigh.Weigh.{Weigh}
 use Rattle.frame_records.specs.declared.weigh.Weigh.TheVariants as weighing
 use Rattle.deal_rules.specs.declared.deal_kind.DealKind.{DealKind}
 use Rattle.deal_rules.specs.declared.deal_kind.DealKind.TheVariants as dealing
-use Rattle.command_words.specs.Arguments.{Text, Argument, argument_value_of, named_arguments}
+use Rattle.command_words.specs.Arguments.{ArgumentText, Argument, argument_value_of, named_arguments}
 use Rattle.command_words.specs.Forms.{form_of}
-use Rattle.command_words.specs.Options.{option_name_of, option_kind_of, IsOptionNumber, IsAllowedByOption, capacity_option_limit, phi_option_limit}
+use Rattle.command_words.specs.Options.{option_name_of, option_kind_of, IsOptionNumber, IsAllowedByOption}
+use Rattle.command_words.specs.Options.{capacity_option_limit, phi_option_limit}
 use Rattle.command_words.specs.Options.{frames_option_limit}
-use Rattle.command_words.specs.Options.{block_option_limit, workers_option_limit, callers_option_limit, rounds_option_limit}
+use Rattle.command_words.specs.Options.{block_option_limit, workers_option_limit, callers_option_limit}
+use Rattle.command_words.specs.Options.{rounds_option_limit}
 use Rattle.command_words.specs.declared.command_word.CommandWord.{CommandWord}
 use Rattle.command_words.specs.declared.opt.Opt.{Opt}
 use Rattle.command_words.specs.declared.opt.Opt.TheVariants.{Seed, Frames, Weigh as ByWeigh, Shards, Capacity, Phi}
 use Rattle.command_words.specs.declared.opt.Opt.TheVariants.{Deal}
 use Rattle.command_words.specs.declared.opt.Opt.TheVariants.{Block, Workers, Callers, Rounds}
 use Rattle.command_words.specs.declared.settings.Settings.{Settings}
-use Rattle.prefix_lattice.specs.{most_shards}
+use Rattle.prefix_lattice.specs.{shard_limit}
 
 -- the value of each option or positional that is present
 abbrev pub SettingValues : Type 0
-SettingValues = Opt → Option Text
+SettingValues = Opt → Option ArgumentText
 
 -- the value that the arguments of a command give each option and each positional, by its name
 abbrev pub setting_values_in : CommandWord → List Argument → SettingValues
 setting_values_in command arguments = λ opt. argument_value_of (option_name_of opt) (named_arguments (form_of command).positionals arguments)
 
 -- the path that arguments give for a store
-abbrev pub store_setting_in : List Argument → Option Text
+abbrev pub store_setting_in : List Argument → Option ArgumentText
 store_setting_in arguments = argument_value_of (codes "store") arguments
 
 -- the number that an option sets: the default if the option is missing, else its value, within its limits
-abbrev pub SetsNumberSetting : Opt → ℕ → Option Text → ℕ → Type 0
+abbrev pub SetsNumberSetting : Opt → ℕ → Option ArgumentText → ℕ → Type 0
 SetsNumberSetting opt default None value = value ≡ default
 SetsNumberSetting opt default (Some text) value = IsOptionNumber text value × IsAllowedByOption (option_kind_of opt) value
 
 -- the value of `--weigh` for each way to weigh traffic
-abbrev pub weigh_setting_word : Weigh → Text
+abbrev pub weigh_setting_word : Weigh → ArgumentText
 weigh_setting_word weighing.Bytes = codes "bytes"
 weigh_setting_word weighing.Packets = codes "packets"
 
 -- the value of `--deal` for each kind of dealing
-abbrev pub deal_setting_word : DealKind → Text
+abbrev pub deal_setting_word : DealKind → ArgumentText
 deal_setting_word dealing.RoundRobin = codes "round"
 deal_setting_word dealing.BySource = codes "source"
 deal_setting_word dealing.Free = codes "free"
 
 -- how traffic is weighed: by bytes if the option is missing
-abbrev pub SetsWeighSetting : Option Text → Weigh → Type 0
+abbrev pub SetsWeighSetting : Option ArgumentText → Weigh → Type 0
 SetsWeighSetting None weigh = weigh ≡ weighing.Bytes
 SetsWeighSetting (Some text) weigh = text ≡ weigh_setting_word weigh
 
 -- how records are dealt: in turn if the option is missing
-abbrev pub SetsDealSetting : Option Text → DealKind → Type 0
+abbrev pub SetsDealSetting : Option ArgumentText → DealKind → Type 0
 SetsDealSetting None deal = deal ≡ dealing.RoundRobin
 SetsDealSetting (Some text) deal = text ≡ deal_setting_word deal
 
 -- whether cuts are saved: exactly if a store is named
-abbrev pub SetsStoreSetting : Option Text → Bool → Type 0
+abbrev pub SetsStoreSetting : Option ArgumentText → Bool → Type 0
 SetsStoreSetting None store = store ≡ false
 SetsStoreSetting (Some path) store = store ≡ true
 
 -- the settings that the values of options and the path of a store give, with defaults filled in
-pub record SetsSettings (values : SettingValues) (path : Option Text) (settings : Settings) : Type 0 where
+pub record SetsSettings (values : SettingValues) (path : Option ArgumentText) (settings : Settings) : Type 0 where
   pub weigh : SetsWeighSetting (values ByWeigh) settings.weigh
   pub shards : SetsNumberSetting Shards 4 (values Shards) settings.shards
   pub capacity : SetsNumberSetting Capacity 512 (values Capacity) settings.capacity
@@ -74,7 +76,7 @@ pub record SetsSettings (values : SettingValues) (path : Option Text) (settings 
   pub store : SetsStoreSetting path settings.store
 
 -- the number that a positional gives: its value, within its limits
-abbrev pub GivesNumberSetting : Opt → Option Text → ℕ → Type 0
+abbrev pub GivesNumberSetting : Opt → Option ArgumentText → ℕ → Type 0
 GivesNumberSetting opt None value = ⊥
 GivesNumberSetting opt (Some text) value = IsOptionNumber text value × IsAllowedByOption (option_kind_of opt) value
 
@@ -96,7 +98,7 @@ AreWideSettings settings = 2 * phi_option_limit ≤ settings.phi * settings.capa
 -- each number of the settings is within its limits
 pub record AreLimitedSettings (settings : Settings) : Type 0 where
   pub some_shards : 1 ≤ settings.shards
-  pub few_shards : settings.shards ≤ most_shards
+  pub few_shards : settings.shards ≤ shard_limit
   pub least_capacity : 2 ≤ settings.capacity
   pub most_capacity : settings.capacity ≤ capacity_option_limit
   pub some_phi : 1 ≤ settings.phi

@@ -6,7 +6,7 @@ ghost use Rattle.command_words.specs.Arguments.{Argument, AreWellFormedArguments
 ghost use Rattle.command_words.specs.Forms.{form_of, form_word_of};
 ghost use Rattle.command_words.specs.Matches.{AreMatchesOf};
 ghost use Rattle.command_words.specs.Parser.{parser_for, parser_with_options, parser_with_positionals};
-ghost use Rattle.command_words.specs.Words.{texts};
+ghost use Rattle.command_words.specs.Arguments.{argument_texts};
 
 use crate::command_word::CommandWord;
 use clap::error::ErrorKind;
@@ -19,8 +19,8 @@ pub(crate) fn parse<'a>(
     command: CommandWord,
     behind: &'a [&'a str],
 ) -> Result<ArgMatches<'a>, AllocError>
-    requires { (arguments : List Argument) × AreWellFormedArguments (form_of command) (texts behind.now) arguments }
-    ensures { IfOk result (λ matches. (arguments : List Argument) → AreWellFormedArguments (form_of command) (texts behind.entry.now) arguments
+    requires { (arguments : List Argument) × AreWellFormedArguments (form_of command) (argument_texts behind.now) arguments }
+    ensures { IfOk result (λ matches. (arguments : List Argument) → AreWellFormedArguments (form_of command) (argument_texts behind.entry.now) arguments
         → AreMatchesOf (form_of command) arguments matches) }
 {
     match parser_of(alloc, command)?.try_get_matches_from(behind) {
@@ -48,7 +48,7 @@ fn take_positionals<'a>(
     mut parser: Command<'a>,
     names: &'a [&'a str],
 ) -> Result<Command<'a>, AllocError>
-    ensures { IfOk result (λ after. app_of after ≡ parser_with_positionals (app_of parser.entry) (texts names.entry.now)) }
+    ensures { IfOk result (λ after. app_of after ≡ parser_with_positionals (app_of parser.entry) (argument_texts names.entry.now)) }
 {
     for name in names {
         parser = parser.arg(Arg::new(alloc, name))?;
@@ -62,7 +62,7 @@ fn take_options<'a>(
     mut parser: Command<'a>,
     names: &'a [&'a str],
 ) -> Result<Command<'a>, AllocError>
-    ensures { IfOk result (λ after. app_of after ≡ parser_with_options (app_of parser.entry) (texts names.entry.now)) }
+    ensures { IfOk result (λ after. app_of after ≡ parser_with_options (app_of parser.entry) (argument_texts names.entry.now)) }
 {
     for name in names {
         parser = parser.arg(Arg::new(alloc, name).long(name))?;

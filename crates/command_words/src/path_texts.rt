@@ -4,7 +4,9 @@ ghost use Rattle.std.specs.Prelude.{◌≡◌, ◌⊎◌, IfOk, IsOk, Err, Conta
 ghost use Rattle.clap.specs.Words.{found_of, first_value};
 ghost use Rattle.command_words.specs.Forms.{form_of};
 ghost use Rattle.command_words.specs.NamedPaths.{NamesPaths};
-ghost use Rattle.command_words.specs.Words.{texts, AskFor, HasWordsFault};
+ghost use Rattle.command_words.specs.Arguments.{argument_texts};
+ghost use Rattle.command_words.specs.AskedCommand.{AskForCommand};
+ghost use Rattle.command_words.specs.WordsFault.{HasWordsFault};
 ghost use Rattle.command_words.specs.declared.command.Command.{Command};
 ghost use Rattle.command_words.specs.declared.words_kind.WordsKind.{WordsKind};
 ghost use Rattle.command_words.specs.declared.words_kind.WordsRefusal.TheVariants.{Bad, OutOfMemory};
@@ -29,11 +31,11 @@ pub struct PathTexts {
 /// The paths that the arguments name. A path is empty if the command has no such option, or if the option is missing
 /// and has no default. Arguments that ask for no command are refused as `read_words` refuses them.
 pub fn paths(alloc: Global, words: &[&str]) -> Result<PathTexts, WordsRefusal>
-    ensures ok { IfOk result (NamesPaths (texts words.now)) }
-    ensures asked { IfOk result (λ paths. (command : Command) × AskFor (texts words.now) command) }
-    ensures bad { (kind : WordsKind) → result ≡ Err (Bad kind) → HasWordsFault (texts words.now) kind }
-    ensures complete { (command : Command) → AskFor (texts words.now) command → IsOk result ⊎ (result ≡ Err OutOfMemory) }
-    ensures exact { (kind : WordsKind) → HasWordsFault (texts words.now) kind → (result ≡ Err (Bad kind)) ⊎ (result ≡ Err OutOfMemory) }
+    ensures ok { IfOk result (NamesPaths (argument_texts words.now)) }
+    ensures asked { IfOk result (λ paths. (command : Command) × AskForCommand (argument_texts words.now) command) }
+    ensures bad { (kind : WordsKind) → result ≡ Err (Bad kind) → HasWordsFault (argument_texts words.now) kind }
+    ensures complete { (command : Command) → AskForCommand (argument_texts words.now) command → IsOk result ⊎ (result ≡ Err OutOfMemory) }
+    ensures exact { (kind : WordsKind) → HasWordsFault (argument_texts words.now) kind → (result ≡ Err (Bad kind)) ⊎ (result ≡ Err OutOfMemory) }
 {
     prefix_texts_have_one_reading();
     paths_in(alloc, words)
@@ -41,9 +43,9 @@ pub fn paths(alloc: Global, words: &[&str]) -> Result<PathTexts, WordsRefusal>
 
 // The paths that the arguments name, or what is wrong with the arguments.
 fn paths_in(alloc: Global, words: &[&str]) -> Result<PathTexts, WordsRefusal>
-    ensures ok { IfOk result (NamesPaths (texts words.now)) }
-    ensures asked { IfOk result (λ _. (command : Command) × AskFor (texts words.now) command) }
-    ensures bad { (kind : WordsKind) → result ≡ Err (Bad kind) → HasWordsFault (texts words.now) kind }
+    ensures ok { IfOk result (NamesPaths (argument_texts words.now)) }
+    ensures asked { IfOk result (λ _. (command : Command) × AskForCommand (argument_texts words.now) command) }
+    ensures bad { (kind : WordsKind) → result ≡ Err (Bad kind) → HasWordsFault (argument_texts words.now) kind }
 {
     let line = read_line(alloc, words)?;
     let capture = path_in(&line, "capture", "-");

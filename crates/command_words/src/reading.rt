@@ -1,14 +1,17 @@
 //! Reading the arguments of a command line.
 
 ghost use Rattle.std.specs.Prelude.{◌≡◌, ◌⊎◌, List, Ok, Err, IfOk, IfErr};
-ghost use Rattle.command_words.specs.Arguments.{Text};
+ghost use Rattle.command_words.specs.Arguments.{ArgumentText};
 ghost use Rattle.command_words.specs.Matches.{AreMatchesOfWords};
 ghost use Rattle.command_words.specs.Settings.{AreWideSettings};
-ghost use Rattle.command_words.specs.Words.{texts, AskFor, HasWordsFault, AreLimitedWords};
+ghost use Rattle.command_words.specs.Arguments.{argument_texts};
+ghost use Rattle.command_words.specs.AskedCommand.{AskForCommand, IsLimitedCommand};
+ghost use Rattle.command_words.specs.WordsFault.{HasWordsFault};
 ghost use Rattle.command_words.specs.declared.command.Command.{Command};
 ghost use Rattle.command_words.specs.declared.command.Command.TheVariants.{Demo as DemoOf};
 ghost use Rattle.command_words.specs.declared.command_word.CommandWord.{CommandWord};
-ghost use Rattle.command_words.specs.declared.command_word.CommandWord.TheVariants.{Weigh, Report, Format, Audit, Make, Demo};
+ghost use Rattle.command_words.specs.declared.command_word.CommandWord.TheVariants.{Weigh, Report, Format, Audit, Make};
+ghost use Rattle.command_words.specs.declared.command_word.CommandWord.TheVariants.{Demo};
 ghost use Rattle.command_words.specs.declared.words_kind.WordsKind.{WordsKind};
 ghost use Rattle.command_words.specs.declared.words_kind.WordsKind.TheVariants.{Bound};
 ghost use Rattle.command_words.specs.declared.words_kind.WordsRefusal.TheVariants.{Bad, OutOfMemory};
@@ -38,11 +41,11 @@ pub(crate) struct CommandLine<'a> {
 /// arguments, then the prefix, then the values in the order of `Opt`, each as a number before its limits, then
 /// for `report`, `audit` and `demo` the bound on `phi` times the capacity.
 pub fn read_words(alloc: Global, words: &[&str]) -> Result<Command, WordsRefusal>
-    ensures ok { IfOk result (AskFor (texts words.now)) }
-    ensures limited { IfOk result AreLimitedWords }
-    ensures bad { (kind : WordsKind) → result ≡ Err (Bad kind) → HasWordsFault (texts words.now) kind }
-    ensures complete { (command : Command) → AskFor (texts words.now) command → (result ≡ Ok command) ⊎ (result ≡ Err OutOfMemory) }
-    ensures exact { (kind : WordsKind) → HasWordsFault (texts words.now) kind → (result ≡ Err (Bad kind)) ⊎ (result ≡ Err OutOfMemory) }
+    ensures ok { IfOk result (AskForCommand (argument_texts words.now)) }
+    ensures limited { IfOk result IsLimitedCommand }
+    ensures bad { (kind : WordsKind) → result ≡ Err (Bad kind) → HasWordsFault (argument_texts words.now) kind }
+    ensures complete { (command : Command) → AskForCommand (argument_texts words.now) command → (result ≡ Ok command) ⊎ (result ≡ Err OutOfMemory) }
+    ensures exact { (kind : WordsKind) → HasWordsFault (argument_texts words.now) kind → (result ≡ Err (Bad kind)) ⊎ (result ≡ Err OutOfMemory) }
 {
     prefix_texts_have_one_reading();
     command_in(alloc, words)
@@ -50,8 +53,8 @@ pub fn read_words(alloc: Global, words: &[&str]) -> Result<Command, WordsRefusal
 
 // The command that the arguments ask for, or what is wrong with them.
 fn command_in(alloc: Global, words: &[&str]) -> Result<Command, WordsRefusal>
-    ensures ok { IfOk result (AskFor (texts words.now)) }
-    ensures bad { (kind : WordsKind) → result ≡ Err (Bad kind) → HasWordsFault (texts words.now) kind }
+    ensures ok { IfOk result (AskForCommand (argument_texts words.now)) }
+    ensures bad { (kind : WordsKind) → result ≡ Err (Bad kind) → HasWordsFault (argument_texts words.now) kind }
 {
     Ok(read_line(alloc, words)?.command)
 }
@@ -61,9 +64,9 @@ pub(crate) fn read_line<'a>(
     alloc: Global,
     words: &'a [&'a str],
 ) -> Result<CommandLine<'a>, WordsRefusal>
-    ensures ok { IfOk result (λ line. AskFor (texts words.entry.now) line.command) }
-    ensures told { IfOk result (λ line. AreMatchesOfWords (texts words.entry.now) line.word line.matches) }
-    ensures bad { (kind : WordsKind) → result ≡ Err (Bad kind) → HasWordsFault (texts words.entry.now) kind }
+    ensures ok { IfOk result (λ line. AskForCommand (argument_texts words.entry.now) line.command) }
+    ensures told { IfOk result (λ line. AreMatchesOfWords (argument_texts words.entry.now) line.word line.matches) }
+    ensures bad { (kind : WordsKind) → result ≡ Err (Bad kind) → HasWordsFault (argument_texts words.entry.now) kind }
 {
     let Some((first, behind)) = words.split_first() else {
         return Err(WordsRefusal::Bad(WordsKind::NoCommand));
@@ -84,9 +87,9 @@ pub(crate) fn read_line<'a>(
 
 // The command asked for by arguments that begin with the name of this command.
 fn command_of(word: CommandWord, matches: &ArgMatches<'_>) -> Result<Command, WordsKind>
-    requires { (words : List Text) × AreMatchesOfWords words word matches.now }
-    ensures ok { (words : List Text) → AreMatchesOfWords words word matches.now → IfOk result (AskFor words) }
-    ensures err { (words : List Text) → AreMatchesOfWords words word matches.now → IfErr result (HasWordsFault words) }
+    requires { (words : List ArgumentText) × AreMatchesOfWords words word matches.now }
+    ensures ok { (words : List ArgumentText) → AreMatchesOfWords words word matches.now → IfOk result (AskForCommand words) }
+    ensures err { (words : List ArgumentText) → AreMatchesOfWords words word matches.now → IfErr result (HasWordsFault words) }
 {
     match word {
         CommandWord::Weigh => weigh_command(matches),
@@ -100,9 +103,9 @@ fn command_of(word: CommandWord, matches: &ArgMatches<'_>) -> Result<Command, Wo
 
 // The command asked for by arguments that begin with `weigh`.
 fn weigh_command(matches: &ArgMatches<'_>) -> Result<Command, WordsKind>
-    requires { (words : List Text) × AreMatchesOfWords words Weigh matches.now }
-    ensures ok { (words : List Text) → AreMatchesOfWords words Weigh matches.now → IfOk result (AskFor words) }
-    ensures err { (words : List Text) → AreMatchesOfWords words Weigh matches.now → IfErr result (HasWordsFault words) }
+    requires { (words : List ArgumentText) × AreMatchesOfWords words Weigh matches.now }
+    ensures ok { (words : List ArgumentText) → AreMatchesOfWords words Weigh matches.now → IfOk result (AskForCommand words) }
+    ensures err { (words : List ArgumentText) → AreMatchesOfWords words Weigh matches.now → IfErr result (HasWordsFault words) }
 {
     let source = matches.get_str("SRC").unwrap();
     let dest = matches.get_str("DST").unwrap();
@@ -116,32 +119,32 @@ fn weigh_command(matches: &ArgMatches<'_>) -> Result<Command, WordsKind>
 
 // The command asked for by arguments that begin with `report`.
 fn report_command(matches: &ArgMatches<'_>) -> Result<Command, WordsKind>
-    ensures ok { (words : List Text) → AreMatchesOfWords words Report matches.now → IfOk result (AskFor words) }
-    ensures err { (words : List Text) → AreMatchesOfWords words Report matches.now → IfErr result (HasWordsFault words) }
+    ensures ok { (words : List ArgumentText) → AreMatchesOfWords words Report matches.now → IfOk result (AskForCommand words) }
+    ensures err { (words : List ArgumentText) → AreMatchesOfWords words Report matches.now → IfErr result (HasWordsFault words) }
 {
     Ok(Command::Report(bounded(settings_of(matches)?)?))
 }
 
 // The command asked for by arguments that begin with `format`. Its tables may be too small for the default share.
 fn format_command(matches: &ArgMatches<'_>) -> Result<Command, WordsKind>
-    ensures ok { (words : List Text) → AreMatchesOfWords words Format matches.now → IfOk result (AskFor words) }
-    ensures err { (words : List Text) → AreMatchesOfWords words Format matches.now → IfErr result (HasWordsFault words) }
+    ensures ok { (words : List ArgumentText) → AreMatchesOfWords words Format matches.now → IfOk result (AskForCommand words) }
+    ensures err { (words : List ArgumentText) → AreMatchesOfWords words Format matches.now → IfErr result (HasWordsFault words) }
 {
     Ok(Command::Format(settings_of(matches)?))
 }
 
 // The command asked for by arguments that begin with `audit`.
 fn audit_command(matches: &ArgMatches<'_>) -> Result<Command, WordsKind>
-    ensures ok { (words : List Text) → AreMatchesOfWords words Audit matches.now → IfOk result (AskFor words) }
-    ensures err { (words : List Text) → AreMatchesOfWords words Audit matches.now → IfErr result (HasWordsFault words) }
+    ensures ok { (words : List ArgumentText) → AreMatchesOfWords words Audit matches.now → IfOk result (AskForCommand words) }
+    ensures err { (words : List ArgumentText) → AreMatchesOfWords words Audit matches.now → IfErr result (HasWordsFault words) }
 {
     Ok(Command::Audit(bounded(settings_of(matches)?)?))
 }
 
 // The command asked for by arguments that begin with `make`.
 fn make_command(matches: &ArgMatches<'_>) -> Result<Command, WordsKind>
-    ensures ok { (words : List Text) → AreMatchesOfWords words Make matches.now → IfOk result (AskFor words) }
-    ensures err { (words : List Text) → AreMatchesOfWords words Make matches.now → IfErr result (HasWordsFault words) }
+    ensures ok { (words : List ArgumentText) → AreMatchesOfWords words Make matches.now → IfOk result (AskForCommand words) }
+    ensures err { (words : List ArgumentText) → AreMatchesOfWords words Make matches.now → IfErr result (HasWordsFault words) }
 {
     let given = given_of(matches)?;
     Ok(Command::Make {
@@ -152,8 +155,8 @@ fn make_command(matches: &ArgMatches<'_>) -> Result<Command, WordsKind>
 
 // The command asked for by arguments that begin with `demo`.
 fn demo_command(matches: &ArgMatches<'_>) -> Result<Command, WordsKind>
-    ensures ok { (words : List Text) → AreMatchesOfWords words Demo matches.now → IfOk result (AskFor words) }
-    ensures err { (words : List Text) → AreMatchesOfWords words Demo matches.now → IfErr result (HasWordsFault words) }
+    ensures ok { (words : List ArgumentText) → AreMatchesOfWords words Demo matches.now → IfOk result (AskForCommand words) }
+    ensures err { (words : List ArgumentText) → AreMatchesOfWords words Demo matches.now → IfErr result (HasWordsFault words) }
 {
     let given = given_of(matches)?;
     demo_of(given)

@@ -3,10 +3,12 @@
 ghost use Rattle.std.specs.Prelude.{◌≡◌, ◌↔◌, IfOk, IfErr, IsTrue};
 ghost use Rattle.command_words.specs.Scanning.{scanned_text_at};
 ghost use Rattle.command_words.specs.Options.{option_kind_of, number, option_place_of};
-ghost use Rattle.command_words.specs.Settings.{SetsDealSetting, SetsNumberSetting, SetsSettings, SetsStoreSetting, SetsWeighSetting, AreWideSettings};
+ghost use Rattle.command_words.specs.Settings.{SetsDealSetting, SetsNumberSetting, SetsSettings, SetsStoreSetting};
+ghost use Rattle.command_words.specs.Settings.{SetsWeighSetting, AreWideSettings};
 ghost use Rattle.command_words.specs.Matches.{store_in_matches, values_in_matches};
-ghost use Rattle.command_words.specs.Words.{AreGoodValues, HasValueFault};
-ghost use Rattle.command_words.specs.GivenValues.{AreGoodGivenValuesBefore, IsBadGivenChoice, IsBadGivenNumber, SetsGiven, SetsGivenRunning};
+ghost use Rattle.command_words.specs.Values.{AreGoodValues, HasValueFault};
+ghost use Rattle.command_words.specs.GivenValues.{AreGoodGivenValuesBefore, IsBadGivenChoice, IsBadGivenNumber};
+ghost use Rattle.command_words.specs.GivenValues.{SetsGiven, SetsGivenRunning};
 ghost use Rattle.command_words.specs.declared.words_kind.WordsKind.TheVariants.{BadChoice, Bound};
 ghost use Rattle.command_words.specs.declared.opt.Opt.TheVariants.{Seed, Weigh as ByWeigh, Deal, Block};
 

@@ -7,9 +7,11 @@ use Rattle.std.proofs.lemmas.List.Elements.{All-nil, All-cons, All-head, All-tai
 use Rattle.std.proofs.Math.Nat.{add-mul, mul_comm}
 use Rattle.prefix_lattice.specs.{RecordValue, PrefixValue, prefix_weight, closest, kept_pairs, conditioned_weight}
 use Rattle.prefix_lattice.specs.{IntervalHoldsWeight, IsNarrowInterval}
-use Rattle.conditioned_bounds.specs.Bounds.{bound_of, asked_for_bound, BoundsHoldWeights, BoundsAreNarrow, BoundsAreWeights}
+use Rattle.conditioned_bounds.specs.Bounds.{bound_of, prefixes_asked_for_bound, BoundsHoldWeights, BoundsAreNarrow}
+use Rattle.conditioned_bounds.specs.Bounds.{BoundsAreWeights}
 use Rattle.conditioned_bounds.proofs.JointWeightLemmas.{joint_weights}
-use Rattle.conditioned_bounds.proofs.IntervalSumLemmas.{interval_sum-mono, interval_sum-same, interval_sum-slack, interval_sum_high-slack}
+use Rattle.conditioned_bounds.proofs.IntervalSumLemmas.{interval_sum-mono, interval_sum-same, interval_sum-slack}
+use Rattle.conditioned_bounds.proofs.IntervalSumLemmas.{interval_sum_high-slack}
 use Rattle.conditioned_bounds.proofs.IntervalSumLemmas.{interval_sum_low-slack, interval_sum-difference}
 
 -- the weight of a prefix and its meets is that of its closest lines and what is left
@@ -50,7 +52,7 @@ HoldsInBound low high rs q = IntervalHoldsWeight (low q) (high q) (prefix_weight
 
 -- the bound is at least what is left
 pub bound_of-least : (low high : PrefixValue → ℕ) (p : PrefixValue) (lines : List PrefixValue) (rs : List RecordValue)
-    → BoundIsBalanced p lines rs → BoundsHoldWeights low high rs (asked_for_bound p lines)
+    → BoundIsBalanced p lines rs → BoundsHoldWeights low high rs (prefixes_asked_for_bound p lines)
     → pos (conditioned_weight p lines rs) ≤ℤ bound_of low high p lines
 bound_of-least low high p lines rs balance holds =
     let near = closest p lines in
@@ -67,7 +69,7 @@ bound_of-least low high p lines rs balance holds =
 
 -- the bound over exact intervals is what is left
 pub bound_of-exact : (low high : PrefixValue → ℕ) (p : PrefixValue) (lines : List PrefixValue) (rs : List RecordValue)
-    → BoundIsBalanced p lines rs → BoundsAreWeights low high rs (asked_for_bound p lines)
+    → BoundIsBalanced p lines rs → BoundsAreWeights low high rs (prefixes_asked_for_bound p lines)
     → bound_of low high p lines ≡ pos (conditioned_weight p lines rs)
 bound_of-exact low high p lines rs balance exact =
     let near = closest p lines in
@@ -96,8 +98,8 @@ bound_all-both P Q (x ∷ xs) ps qs =
 -- the bound over narrow intervals is not far above what is left
 pub bound_of-most : (low high : PrefixValue → ℕ) (p : PrefixValue) (lines : List PrefixValue)
     (rs : List RecordValue) (times whole : ℕ)
-    → BoundIsBalanced p lines rs → BoundsHoldWeights low high rs (asked_for_bound p lines)
-    → BoundsAreNarrow low high times whole (asked_for_bound p lines)
+    → BoundIsBalanced p lines rs → BoundsHoldWeights low high rs (prefixes_asked_for_bound p lines)
+    → BoundsAreNarrow low high times whole (prefixes_asked_for_bound p lines)
     → (pos times *ℤ bound_of low high p lines)
     ≤ℤ pos (times * conditioned_weight p lines rs
     + (1 + length (closest p lines) + length (kept_pairs (closest p lines))) * whole)
@@ -108,7 +110,7 @@ bound_of-most low high p lines rs times whole balance holds narrow =
     let narrowly = HoldsNarrowlyInBound low high times whole rs in
     let parts =
     each_bound_part narrowly p near meets
-    (bound_all-both (HoldsInBound low high rs) (λ q. IsNarrowInterval (low q) (high q) times whole) (asked_for_bound p lines) holds narrow) in
+    (bound_all-both (HoldsInBound low high rs) (λ q. IsNarrowInterval (low q) (high q) times whole) (prefixes_asked_for_bound p lines) holds narrow) in
     let top : high p * times ≤ prefix_weight p rs * times + whole =
     interval_sum_high-slack (low p) (high p) (prefix_weight p rs) times whole parts.top.0.low parts.top.0.high parts.top.1 in
     let ups : sum_by high meets * times ≤ joint_weights meets rs * times + length meets * whole =

@@ -1,8 +1,10 @@
 -- Worked examples of the definitions, most by computing.
 use Rattle.std.proofs.Common.{◌≡◌, ℕ, ◌≤◌, cond, List, [], ◌∷◌, refl, pos, negsuc, arith, ◌^◌}
 use Rattle.std.proofs.lemmas.List.Elements.{All-from_recursion}
-use Rattle.prefix_lattice.specs.{RecordValue, PrefixValue, covers, prefix_weight, conditioned_weight, IntervalHoldsWeight, IsNarrowInterval}
-use Rattle.conditioned_bounds.specs.Bounds.{bound_of, asked_for_bound, BoundsHoldWeights, BoundsAreNarrow, BoundsAreWeights, bound_sum_limit}
+use Rattle.prefix_lattice.specs.{RecordValue, PrefixValue, covers, prefix_weight, conditioned_weight}
+use Rattle.prefix_lattice.specs.{IntervalHoldsWeight, IsNarrowInterval}
+use Rattle.conditioned_bounds.specs.Bounds.{bound_of, prefixes_asked_for_bound, BoundsHoldWeights, BoundsAreNarrow}
+use Rattle.conditioned_bounds.specs.Bounds.{BoundsAreWeights, bound_sum_limit}
 
 -- 9 bytes from 10.1.1.1 to 20.1.1.1
 abbrev packet : RecordValue
@@ -41,18 +43,18 @@ pub without_lines_it_is_the_high : bound_of (where_covered 7) (where_covered 11)
 without_lines_it_is_the_high = refl
 
 -- the prefix, its line, and no meet
-pub asks_the_prefix_and_its_line : asked_for_bound root (record { source = 10 ∷ []; dest = [] } ∷ [])
+pub asks_the_prefix_and_its_line : prefixes_asked_for_bound root (record { source = 10 ∷ []; dest = [] } ∷ [])
     ≡ root ∷ record { source = 10 ∷ []; dest = [] } ∷ []
 asks_the_prefix_and_its_line = refl
 
 -- the root, its three stairs, and the two meets that are kept: all six cover the packet
 pub wide_intervals_hold_the_weights : BoundsHoldWeights (where_covered 7) (where_covered 11) (packet ∷ [])
-    (asked_for_bound root stairs)
+    (prefixes_asked_for_bound root stairs)
 wide_intervals_hold_the_weights =
     let within : IntervalHoldsWeight 7 11 9 = record { low = omega arith; high = omega arith } in
     All-from_recursion
     (λ prefix. IntervalHoldsWeight (where_covered 7 prefix) (where_covered 11 prefix) (prefix_weight prefix (packet ∷ [])))
-    (asked_for_bound root stairs) (within, (within, (within, (within, (within, (within, tt))))))
+    (prefixes_asked_for_bound root stairs) (within, (within, (within, (within, (within, (within, tt))))))
 
 pub intervals_up_to_8_do_not_hold_a_weight_of_9 : ¬ BoundsHoldWeights (where_covered 7) (where_covered 8) (packet ∷ [])
     (root ∷ [])

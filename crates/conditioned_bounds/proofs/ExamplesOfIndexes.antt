@@ -9,10 +9,11 @@ use Rattle.std.specs.declared.alloc.Global.{Global}
 use Rattle.std.proofs.lemmas.Bool.{false≢true}
 use Rattle.prefix_lattice.proofs.ListLemmas.{Contains-list_head}
 use Rattle.prefix_lattice.specs.{NodeValue, PrefixValue, AreLeadingBytes, IsPrefix, node_of_prefix, strictly_under}
-use Rattle.conditioned_bounds.specs.Uppers.{has_upper, shortened_to_upper, upper_at, upper_code, AreUpperCodes}
+use Rattle.conditioned_bounds.specs.Uppers.{is_upper_node, shortened_to_upper, upper_at, upper_code, AreUpperCodes}
 use Rattle.conditioned_bounds.specs.Members.{member_limit, AreMembers}
-use Rattle.conditioned_bounds.specs.LineNumbers.{line_numbers, line_numbers_at, LineNumbersHaveRoom, HasRoomForLineNumber}
-use Rattle.conditioned_bounds.specs.LineIndex.{line_index_root, indexed_line, LinesAreIndexed}
+use Rattle.conditioned_bounds.specs.LineNumbers.{line_numbers, line_numbers_at, LineNumbersHaveRoom}
+use Rattle.conditioned_bounds.specs.LineNumbers.{HasRoomForLineNumber}
+use Rattle.conditioned_bounds.specs.LineIndex.{indexed_root_line, indexed_line, LinesAreIndexed}
 
 -- 10.1.0.0/16 20.0.0.0/8
 abbrev net : PrefixValue
@@ -22,10 +23,10 @@ net = record { source = 10 ∷ 1 ∷ []; dest = 20 ∷ [] }
 abbrev node : ℕ → ℕ → NodeValue
 node sources dests = record { source_bytes = sources; dest_bytes = dests }
 
-pub a_node_of_fewer_source_bytes : has_upper (node 1 1) net ≡ true
+pub a_node_of_fewer_source_bytes : is_upper_node (node 1 1) net ≡ true
 a_node_of_fewer_source_bytes = refl
 
-pub a_node_of_more_destination_bytes : has_upper (node 1 2) net ≡ false
+pub a_node_of_more_destination_bytes : is_upper_node (node 1 2) net ≡ false
 a_node_of_more_destination_bytes = refl
 
 -- 10.0.0.0/8 0.0.0.0/0
@@ -47,25 +48,25 @@ pub nets_of_one_address_have_two_codes : upper_code (record { source = 10 ∷ []
     ≢ upper_code (record { source = 10 ∷ 0 ∷ []; dest = [] })
 nets_of_one_address_have_two_codes same = omega (arith, same)
 
-no_upper : (source dest : List ℕ) → false ≡ strictly_under line_index_root (record { source = source; dest = dest })
+no_upper : (source dest : List ℕ) → false ≡ strictly_under indexed_root_line (record { source = source; dest = dest })
 no_upper [] [] = refl
 no_upper [] (byte ∷ dest) = refl
 no_upper (byte ∷ source) dest = refl
 
-root_is_prefix : IsPrefix line_index_root
+root_is_prefix : IsPrefix indexed_root_line
 root_is_prefix =
     let none : AreLeadingBytes [] = record { few = omega arith; bytes = λ place. omega arith } in
     record { source = none; dest = none }
 
 -- nothing is above the root
-pub the_root_has_no_codes_above : AreUpperCodes line_index_root []
+pub the_root_has_no_codes_above : AreUpperCodes indexed_root_line []
 the_root_has_no_codes_above = record {
   distinct = λ i j d before within. absurd (omega arith);
   members = λ upper is. no_upper upper.source upper.dest;
 }
 
-pub the_root_is_not_above_itself : ¬ AreUpperCodes line_index_root (upper_code line_index_root ∷ [])
-the_root_is_not_above_itself above = false≢true (sym (above.members line_index_root root_is_prefix))
+pub the_root_is_not_above_itself : ¬ AreUpperCodes indexed_root_line (upper_code indexed_root_line ∷ [])
+the_root_is_not_above_itself above = false≢true (sym (above.members indexed_root_line root_is_prefix))
 
 pub limit_of_an_index : member_limit ≡ 2 ^ 24
 limit_of_an_index = refl
@@ -81,8 +82,8 @@ no_members = record {
 }
 
 -- a member whose code is missing wouldn't be found
-pub a_member_has_its_code : ¬ AreMembers (line_index_root ∷ []) (record { keys = [] }) (node_of_prefix line_index_root ∷ [])
-a_member_has_its_code are = false≢true (are.coded line_index_root (Contains-list_head line_index_root []))
+pub a_member_has_its_code : ¬ AreMembers (indexed_root_line ∷ []) (record { keys = [] }) (node_of_prefix indexed_root_line ∷ [])
+a_member_has_its_code are = false≢true (are.coded indexed_root_line (Contains-list_head indexed_root_line []))
 
 -- a map of one code, with the numbers that are kept under it
 pub numbers_of_a_code : (kept : BTreeMap ℕ (Vec ℕ Global)) (numbers : Vec ℕ Global)
@@ -107,10 +108,10 @@ pub no_room_where_the_capacity_is_used_up : (numbers : Vec ℕ Global) → vec_l
     → ¬ LineNumbersHaveRoom (Some numbers)
 no_room_where_the_capacity_is_used_up numbers full room = omega (arith, full, room)
 
-pub first_line : indexed_line (net ∷ line_index_root ∷ []) 0 ≡ net
+pub first_line : indexed_line (net ∷ indexed_root_line ∷ []) 0 ≡ net
 first_line = refl
 
-pub no_line_of_a_number_past_the_last : indexed_line (net ∷ []) 1 ≡ line_index_root
+pub no_line_of_a_number_past_the_last : indexed_line (net ∷ []) 1 ≡ indexed_root_line
 no_line_of_a_number_past_the_last = refl
 
 nothing_at : (kept : BTreeMap ℕ (Vec ℕ Global)) (code : ℕ) → kept.entries ≡ [] → line_numbers_at kept code ≡ []
@@ -131,5 +132,5 @@ pub a_line_is_not_indexed_by_nothing : (kept : BTreeMap ℕ (Vec ℕ Global)) �
     → ¬ LinesAreIndexed (net ∷ []) kept
 a_line_is_not_indexed_by_nothing kept is are =
     let missed : 0 ≡ 1 =
-    ap length (sym (ap (map (indexed_line (net ∷ []))) (nothing_at kept (upper_code line_index_root) is)) ∙ are.under line_index_root root_is_prefix) in
+    ap length (sym (ap (map (indexed_line (net ∷ []))) (nothing_at kept (upper_code indexed_root_line) is)) ∙ are.under indexed_root_line root_is_prefix) in
     omega (arith, missed)

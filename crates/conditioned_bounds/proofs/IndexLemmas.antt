@@ -1,5 +1,6 @@
 -- Lines and the numbers of those that are strictly under each prefix.
-use Rattle.std.proofs.Common.{◌≡◌, ◌≢◌, ℕ, ◌+◌, ◌<◌, ◌≤◌, eqb, cond, Bool, true, false, not, List, [], ◌∷◌, ◌++◌, length, map}
+use Rattle.std.proofs.Common.{◌≡◌, ◌≢◌, ℕ, ◌+◌, ◌<◌, ◌≤◌, eqb, cond, Bool, true, false, not, List, [], ◌∷◌, ◌++◌}
+use Rattle.std.proofs.Common.{length, map}
 use Rattle.std.proofs.Common.{filter, get_or, take, All, Contains, Vec, refl, sym, ap, ◌∙◌, subst, arith}
 use Rattle.std.proofs.Common.{if◌then◌else◌, append-nil}
 use Rattle.std.specs.List.{list_any}
@@ -13,7 +14,7 @@ use Rattle.std.proofs.lemmas.List.Sums.{length-filter, count_by-le-length}
 use Rattle.prefix_lattice.specs.{PrefixValue, IsPrefix, strictly_under, lines_under, closest}
 use Rattle.conditioned_bounds.specs.Uppers.{upper_code, AreUpperCodes}
 use Rattle.conditioned_bounds.specs.LineNumbers.{line_numbers_at}
-use Rattle.conditioned_bounds.specs.LineIndex.{LinesAreIndexed, indexed_line, line_index_root}
+use Rattle.conditioned_bounds.specs.LineIndex.{LinesAreIndexed, indexed_line, indexed_root_line}
 use Rattle.conditioned_bounds.specs.Members.{member_limit}
 use Rattle.conditioned_bounds.proofs.CodeLemmas.{AllPairs-push_code}
 
@@ -34,7 +35,7 @@ index_lines-stay : (lines : List PrefixValue) (line : PrefixValue) (numbers : Li
 index_lines-stay lines line [] few = refl
 index_lines-stay lines line (number ∷ numbers) few =
     ap (λ l. l ∷ map (indexed_line (lines ++ line ∷ [])) numbers)
-    (get_or_append_left lines (line ∷ []) line_index_root number (All-head (λ n. n < length lines) number numbers few))
+    (get_or_append_left lines (line ∷ []) indexed_root_line number (All-head (λ n. n < length lines) number numbers few))
     ∙ ap (λ ls. indexed_line lines number ∷ ls)
     (index_lines-stay lines line numbers (All-tail (λ n. n < length lines) number numbers few))
 
@@ -90,7 +91,7 @@ index-push lines line kept noted codes number are new above is_number less notes
         map-append (indexed_line (lines ++ line ∷ [])) (line_numbers_at kept (upper_code prefix)) (number ∷ [])
         ∙ ap (λ ls. ls ++ indexed_line (lines ++ line ∷ []) number ∷ []) (stays prefix is)
         ∙ ap (λ l. lines_under prefix lines ++ l ∷ [])
-        (get_or_push lines line line_index_root number (sym is_number))
+        (get_or_push lines line indexed_root_line number (sym is_number))
         ∙ ap (λ b. lines_under prefix lines ++ cond b (line ∷ []) []) (sym strictly)
     by prefix is false strictly =
         stays prefix is ∙ sym (append-nil (lines_under prefix lines))
@@ -103,13 +104,13 @@ pub index_line-strictly_under : (lines : List PrefixValue) (numbers : List ℕ) 
 index_line-strictly_under lines numbers prefix at same within =
     let inside : at < length (lines_under prefix lines) =
     subst (λ (ls : List PrefixValue). at < length ls) same (omega (arith, within, length-map numbers (indexed_line lines))) in
-    let passes : strictly_under (get_or (lines_under prefix lines) at line_index_root) prefix ≡ true =
-    All-get_or (λ line. strictly_under line prefix ≡ true) (lines_under prefix lines) at line_index_root inside
+    let passes : strictly_under (get_or (lines_under prefix lines) at indexed_root_line) prefix ≡ true =
+    All-get_or (λ line. strictly_under line prefix ≡ true) (lines_under prefix lines) at indexed_root_line inside
     (filter_passes (λ line. strictly_under line prefix) lines) in
-    let here : get_or (map (indexed_line lines) numbers) at line_index_root ≡ indexed_line lines (get_or numbers at 0) =
-    get_or-map (indexed_line lines) numbers at 0 line_index_root within in
+    let here : get_or (map (indexed_line lines) numbers) at indexed_root_line ≡ indexed_line lines (get_or numbers at 0) =
+    get_or-map (indexed_line lines) numbers at 0 indexed_root_line within in
     subst (λ line. strictly_under line prefix ≡ true)
-    (ap (λ (ls : List PrefixValue). get_or ls at line_index_root) (sym same) ∙ here) passes
+    (ap (λ (ls : List PrefixValue). get_or ls at indexed_root_line) (sym same) ∙ here) passes
 
 -- one more number, whose line passes a test or fails it
 pub index_line-filter : (test : PrefixValue → Bool) (lines : List PrefixValue) (numbers : List ℕ) (at : ℕ)

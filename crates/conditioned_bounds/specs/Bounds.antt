@@ -1,6 +1,7 @@
 -- Bounds on conditioned weights, from intervals that hold weights (Mitzenmacher, Steinke, Thaler 2012).
 use Rattle.std.specs.Prelude.{ℕ, ◌≡◌, ◌+◌, ◌*◌, ◌^◌, List, ◌∷◌, ◌++◌, All, sum_by, ℤ, pos, ◌-ℤ◌}
-use Rattle.prefix_lattice.specs.{RecordValue, PrefixValue, prefix_weight, closest, kept_pairs, total_limit, IntervalHoldsWeight, IsNarrowInterval}
+use Rattle.prefix_lattice.specs.{RecordValue, PrefixValue, prefix_weight, closest, kept_pairs, total_limit}
+use Rattle.prefix_lattice.specs.{IntervalHoldsWeight, IsNarrowInterval}
 
 -- the bound of a prefix over some lines: its high and the highs of the meets of its closest lines' kept pairs,
 -- less the lows of those lines
@@ -13,8 +14,8 @@ abbrev pub bound_sum_limit : ℕ
 bound_sum_limit = 2 ^ 64 * total_limit
 
 -- the prefixes whose intervals make a bound: the prefix itself, its closest lines, and the meets of their kept pairs
-abbrev pub asked_for_bound : PrefixValue → List PrefixValue → List PrefixValue
-asked_for_bound prefix lines = prefix ∷ (closest prefix lines ++ kept_pairs (closest prefix lines))
+abbrev pub prefixes_asked_for_bound : PrefixValue → List PrefixValue → List PrefixValue
+prefixes_asked_for_bound prefix lines = prefix ∷ (closest prefix lines ++ kept_pairs (closest prefix lines))
 
 -- the weight of each of these prefixes over some records is between its low and its high
 abbrev pub BoundsHoldWeights : (PrefixValue → ℕ) → (PrefixValue → ℕ) → List RecordValue → List PrefixValue → Type 0

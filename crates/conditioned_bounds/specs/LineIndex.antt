@@ -8,12 +8,12 @@ use Rattle.conditioned_bounds.specs.Members.{member_limit}
 use Rattle.conditioned_bounds.specs.LineNumbers.{line_numbers_at}
 
 -- the prefix that keeps no byte
-abbrev pub line_index_root : PrefixValue
-line_index_root = record { source = []; dest = [] }
+abbrev pub indexed_root_line : PrefixValue
+indexed_root_line = record { source = []; dest = [] }
 
 -- the line of a number
 abbrev pub indexed_line : List PrefixValue → ℕ → PrefixValue
-indexed_line lines number = slice_index_or lines number line_index_root
+indexed_line lines number = slice_index_or lines number indexed_root_line
 
 -- there are fewer than 2^24 lines, all distinct, each number that is kept is that of a line, and those kept under a prefix's code are
 -- the numbers of the lines that are strictly under it, in the order of the lines

@@ -1,12 +1,14 @@
 -- The prefixes that a prefix is under, one at each node that keeps no more than it, and a number for each prefix.
-use Rattle.std.specs.Prelude.{ℕ, ◌≡◌, ◌≢◌, ◌+◌, ◌*◌, ◌^◌, ◌==◌, ◌&&◌, nat_le, Bool, List, length, take, Option, None, Some}
+use Rattle.std.specs.Prelude.{ℕ, ◌≡◌, ◌≢◌, ◌+◌, ◌*◌, ◌^◌, ◌==◌, ◌&&◌, nat_le, Bool, List, length, take, Option, None}
+use Rattle.std.specs.Prelude.{Some}
 use Rattle.std.specs.Prelude.{AllPairs, if◌then◌else◌}
 use Rattle.std.specs.List.{list_any}
-use Rattle.prefix_lattice.specs.{NodeValue, node_index, PrefixValue, IsPrefix, node_of_prefix, prefix_key, strictly_under}
+use Rattle.prefix_lattice.specs.{NodeValue, node_index, PrefixValue, IsPrefix, node_of_prefix, prefix_key}
+use Rattle.prefix_lattice.specs.{strictly_under}
 
 -- whether a node keeps no more bytes of either address than a prefix
-abbrev pub has_upper : NodeValue → PrefixValue → Bool
-has_upper node prefix =
+abbrev pub is_upper_node : NodeValue → PrefixValue → Bool
+is_upper_node node prefix =
     nat_le node.source_bytes (length prefix.source) && nat_le node.dest_bytes (length prefix.dest)
 
 -- a prefix cut down to a node: as many of its leading bytes as the node keeps
@@ -18,7 +20,7 @@ shortened_to_upper prefix node = record {
 
 -- the prefix of a node that a prefix is under, if the node keeps no more bytes than it
 abbrev pub upper_at : PrefixValue → NodeValue → Option PrefixValue
-upper_at prefix node = if has_upper node prefix then Some (shortened_to_upper prefix node) else None
+upper_at prefix node = if is_upper_node node prefix then Some (shortened_to_upper prefix node) else None
 
 -- the code of a prefix: the index of its node, and its key in the 64 bits below; no two prefixes share one
 abbrev pub upper_code : PrefixValue → ℕ

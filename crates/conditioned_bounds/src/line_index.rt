@@ -1,9 +1,12 @@
 //! An index of reported lines.
 
-ghost use Rattle.std.specs.Prelude.{◌≡◌, ◌≢◌, ℕ, ◌+◌, ◌*◌, ◌<◌, ◌++◌, ◌∷◌, [], List, length, AllPairs, Contains, OnOk, OnErr, IfOk, true, sum_by, pos, ◌-ℤ◌, ◌*ℤ◌, ◌≤ℤ◌};
+ghost use Rattle.std.specs.Prelude.{◌≡◌, ◌≢◌, ℕ, ◌+◌, ◌*◌, ◌<◌, ◌++◌, ◌∷◌, [], List, length, AllPairs, Contains, OnOk};
+ghost use Rattle.std.specs.Prelude.{OnErr, IfOk, true, sum_by, pos, ◌-ℤ◌, ◌*ℤ◌, ◌≤ℤ◌};
 ghost use Rattle.std.specs.List.{list_any};
-ghost use Rattle.prefix_lattice.specs.{RecordValue, strictly_under, lines_under, closest, kept_pairs, conditioned_weight};
-ghost use Rattle.conditioned_bounds.specs.Bounds.{bound_of, asked_for_bound, BoundsHoldWeights, BoundsAreNarrow, BoundsAreWeights};
+ghost use Rattle.prefix_lattice.specs.{RecordValue, strictly_under, lines_under, closest, kept_pairs};
+ghost use Rattle.prefix_lattice.specs.{conditioned_weight};
+ghost use Rattle.conditioned_bounds.specs.Bounds.{bound_of, prefixes_asked_for_bound, BoundsHoldWeights};
+ghost use Rattle.conditioned_bounds.specs.Bounds.{BoundsAreNarrow, BoundsAreWeights};
 ghost use Rattle.conditioned_bounds.specs.Members.{member_limit};
 
 use crate::meet_sums::sum_of_meets;
@@ -99,15 +102,15 @@ impl LineIndex {
 
         // Over any records:
         ensures at_least { IfOk result (λ parts. (records : List RecordValue)
-            → BoundsHoldWeights (I.low intervals.now) (I.high intervals.now) records (asked_for_bound prefix.now self.now)
+            → BoundsHoldWeights (I.low intervals.now) (I.high intervals.now) records (prefixes_asked_for_bound prefix.now self.now)
             → pos (conditioned_weight prefix.now self.now records) ≤ℤ parts.value) }
         ensures at_most { IfOk result (λ parts. (records : List RecordValue) (times whole : ℕ)
-            → BoundsHoldWeights (I.low intervals.now) (I.high intervals.now) records (asked_for_bound prefix.now self.now)
-            → BoundsAreNarrow (I.low intervals.now) (I.high intervals.now) times whole (asked_for_bound prefix.now self.now)
+            → BoundsHoldWeights (I.low intervals.now) (I.high intervals.now) records (prefixes_asked_for_bound prefix.now self.now)
+            → BoundsAreNarrow (I.low intervals.now) (I.high intervals.now) times whole (prefixes_asked_for_bound prefix.now self.now)
             → (pos times *ℤ parts.value) ≤ℤ pos (times * conditioned_weight prefix.now self.now records
             + (1 + parts.closest + parts.pairs) * whole)) }
         ensures exact { IfOk result (λ parts. (records : List RecordValue)
-            → BoundsAreWeights (I.low intervals.now) (I.high intervals.now) records (asked_for_bound prefix.now self.now)
+            → BoundsAreWeights (I.low intervals.now) (I.high intervals.now) records (prefixes_asked_for_bound prefix.now self.now)
             → parts.value ≡ pos (conditioned_weight prefix.now self.now records)) }
     {
         bounds_hold();

@@ -1,6 +1,7 @@
 //! Prefixes in their order, found by node and key.
 
-ghost use Rattle.std.specs.Prelude.{◌≡◌, ◌+◌, ◌<◌, ◌++◌, ◌∷◌, [], ◌↔◌, All, Contains, IsTrue, OnOk, OnErr, IfOk, length, slice_get, Some};
+ghost use Rattle.std.specs.Prelude.{◌≡◌, ◌+◌, ◌<◌, ◌++◌, ◌∷◌, [], ◌↔◌, All, Contains, IsTrue, OnOk, OnErr, IfOk};
+ghost use Rattle.std.specs.Prelude.{length, slice_get, Some};
 ghost use Rattle.prefix_lattice.specs.{PrefixValue, IsPrefix, node_of_prefix};
 ghost use Rattle.conditioned_bounds.specs.Members.{member_limit};
 

@@ -5,9 +5,10 @@ use Rattle.std.proofs.lemmas.List.Elements.{All-head, All-tail, All-nil, All-con
 use Rattle.prefix_lattice.specs.{NodeValue, IsNode}
 use Rattle.space_saving.specs.declared.entry.Entry.{Entry}
 use Rattle.space_saving.specs.{TableValue, interval_in_table, table_interval_from, table_total, IsTable}
-use Rattle.shard_state.specs.{SnapshotValue, IsSnapshot, snapshot_table_at, snapshot_total, CutValue, IsCut, total_of_cut}
-use Rattle.cut_merge.specs.MergedInterval.{node_tables}
-use Rattle.cut_merge.specs.Merged.{IsBoundedForMerge}
+use Rattle.shard_state.specs.{SnapshotValue, IsSnapshot, snapshot_table_at, snapshot_total, CutValue, IsCut}
+use Rattle.shard_state.specs.{total_of_cut}
+use Rattle.cut_merge.specs.CutTables.{cut_tables_at}
+use Rattle.cut_merge.specs.Merged.{IsBoundedToBeMerged}
 use Rattle.cut_merge.proofs.TableMergeLemmas.{table_merge_count}
 
 -- what the law of intervals says of every table
@@ -25,11 +26,11 @@ pub record CutTableIntervalsAreBounded : Type 0 where
 abbrev pub CutTablesAreBounded : Type 0
 CutTablesAreBounded =
     (cut : CutValue) (node : NodeValue) (key : ℕ) → IsCut cut → IsNode node
-    → All (IsBoundedForMerge key) (node_tables node cut)
+    → All (IsBoundedToBeMerged key) (cut_tables_at node cut)
 
 -- so it is in a table of a snapshot
 cut_table_is_bounded : (node : NodeValue) (snapshot : SnapshotValue) (key : ℕ) → CutTableIntervalsAreBounded → IsNode node
-    → IsSnapshot snapshot → IsBoundedForMerge key (snapshot_table_at node snapshot)
+    → IsSnapshot snapshot → IsBoundedToBeMerged key (snapshot_table_at node snapshot)
 cut_table_is_bounded node snapshot key law is_node kept =
     let t = snapshot_table_at node snapshot in
     let table = ((kept.tables node is_node).are_entries).is_table in
@@ -42,10 +43,10 @@ cut_table_is_bounded node snapshot key law is_node kept =
 -- and in those of all shards
 cut_tables_are_bounded : (node : NodeValue) (shards : List SnapshotValue) (key : ℕ) → CutTableIntervalsAreBounded → IsNode node
     → All IsSnapshot shards
-    → All (IsBoundedForMerge key) (map (snapshot_table_at node) shards)
-cut_tables_are_bounded node [] key law is_node kept = All-nil (IsBoundedForMerge key)
+    → All (IsBoundedToBeMerged key) (map (snapshot_table_at node) shards)
+cut_tables_are_bounded node [] key law is_node kept = All-nil (IsBoundedToBeMerged key)
 cut_tables_are_bounded node (snapshot ∷ shards) key law is_node kept =
-    All-cons (IsBoundedForMerge key) (snapshot_table_at node snapshot) (map (snapshot_table_at node) shards)
+    All-cons (IsBoundedToBeMerged key) (snapshot_table_at node snapshot) (map (snapshot_table_at node) shards)
     (cut_table_is_bounded node snapshot key law is_node (All-head IsSnapshot snapshot shards kept))
     (cut_tables_are_bounded node shards key law is_node (All-tail IsSnapshot snapshot shards kept))
 
@@ -66,5 +67,5 @@ cut_tables_count_shards node (snapshot ∷ shards) is_node kept =
 
 -- at each node
 pub cut_tables_count_total : (node : NodeValue) (cut : CutValue) → IsNode node → IsCut cut
-    → table_merge_count (node_tables node cut) ≡ total_of_cut cut
+    → table_merge_count (cut_tables_at node cut) ≡ total_of_cut cut
 cut_tables_count_total node cut is_node kept = cut_tables_count_shards node cut.shards is_node kept.kept

@@ -2,8 +2,10 @@
 use Rattle.std.proofs.Common.{◌≡◌, ◌≤◌, ◌^◌, ◌-◌, [], ◌∷◌, None, Some, refl, arith}
 use Rattle.std.proofs.lemmas.Bool.{false≢true}
 use Rattle.space_saving.specs.{TableValue}
-use Rattle.cut_merge.specs.HighBounds.{high_bound_cell_count, greatest_high_bound, HighBoundsValue, high_bound_home, high_bound_cell, high_bound, HighBoundsNoteKey}
-use Rattle.cut_merge.specs.HighBounds.{HighBoundsAddMissing, counted_in_high_bound, HighBoundsNoteEntries, AreHighBoundsOfRuns}
+use Rattle.cut_merge.specs.HighBounds.{high_bound_cell_count, greatest_high_bound, HighBoundsValue, high_bound_home}
+use Rattle.cut_merge.specs.HighBounds.{high_bound_cell, high_bound, HighBoundsNoteKey}
+use Rattle.cut_merge.specs.HighBounds.{HighBoundsAddMissing, counted_in_high_bound, HighBoundsNoteEntries}
+use Rattle.cut_merge.specs.HighBounds.{AreHighBoundsOfRuns}
 
 -- the highest twelve bits of nothing, and of the multiplier
 pub home_of_key_0 : high_bound_home 0 ≡ 0

@@ -1,5 +1,6 @@
 -- Worked examples of how the tables of one node are merged, most by computing.
-use Rattle.std.proofs.Common.{◌≡◌, ℕ, ◌≤◌, true, false, [], ◌∷◌, length, None, Some, Contains, refl, sym, ap, ◌∙◌, subst}
+use Rattle.std.proofs.Common.{◌≡◌, ℕ, ◌≤◌, true, false, [], ◌∷◌, length, None, Some, Contains, refl, sym, ap, ◌∙◌}
+use Rattle.std.proofs.Common.{subst}
 use Rattle.std.proofs.Common.{⊎_elim, arith}
 use Rattle.std.specs.Option.{option_map}
 use Rattle.std.proofs.lemmas.Bool.{cases_eq, ne_eqb}
@@ -7,10 +8,12 @@ use Rattle.prefix_lattice.proofs.ListLemmas.{Contains-list_cons, Contains-empty_
 use Rattle.space_saving.specs.declared.entry.Entry.{Entry}
 use Rattle.space_saving.specs.{TableValue, table_entry}
 use Rattle.cut_merge.specs.declared.key_interval.KeyInterval.{KeyInterval}
-use Rattle.cut_merge.specs.Run.{RunValue, run_interval_of_entry, missing_run_high, IsRun, run_entry, run_interval_or, run_interval}
+use Rattle.cut_merge.specs.Run.{RunValue, run_interval_of_entry, missing_run_high, IsRun, run_entry}
+use Rattle.cut_merge.specs.Run.{run_interval_or_missing, run_interval}
 use Rattle.cut_merge.specs.Run.{is_monitored_in_run, IsRunOf}
-use Rattle.cut_merge.specs.NodeMerge.{NodeMergeValue, is_monitored}
-use Rattle.cut_merge.specs.Merged.{nothing_merged, interval_for_key, seen, IsBoundedForMerge, MergesTable, RepresentsTables}
+use Rattle.cut_merge.specs.NodeMerge.{NodeMergeValue, node_merge_has_key}
+use Rattle.cut_merge.specs.Merged.{nothing_merged, merged_interval_for_key, merged_keys_seen, IsBoundedToBeMerged}
+use Rattle.cut_merge.specs.Merged.{MergedWithTable, MergedNodeRepresentsTables}
 
 -- an entry of a key, with a count and an error
 abbrev entry : ℕ → ℕ → ℕ → Entry
@@ -78,36 +81,36 @@ and_not_key_6 = refl
 pub key_8_is_monitored : is_monitored_in_run 8 run_of_full ≡ true
 key_8_is_monitored = refl
 
-pub a_missing_key_weighs_at_least_nothing : run_interval_or 3 None ≡ record { low = 0; high = 3 }
+pub a_missing_key_weighs_at_least_nothing : run_interval_or_missing 3 None ≡ record { low = 0; high = 3 }
 a_missing_key_weighs_at_least_nothing = refl
 
 pub interval_in_one_run : run_interval run_of_full 8 ≡ record { low = 2; high = 3 }
 interval_in_one_run = refl
 
 -- 7 and 2, and 7 and 4
-pub interval_of_a_monitored_key : interval_for_key both 5 ≡ record { low = 9; high = 11 }
+pub interval_of_a_monitored_key : merged_interval_for_key both 5 ≡ record { low = 9; high = 11 }
 interval_of_a_monitored_key = refl
 
-pub interval_of_another_key : interval_for_key both 6 ≡ record { low = 0; high = 3 }
+pub interval_of_another_key : merged_interval_for_key both 6 ≡ record { low = 0; high = 3 }
 interval_of_another_key = refl
 
-pub key_8_is_in_the_first_run : is_monitored 8 both.runs ≡ true
+pub key_8_is_in_the_first_run : node_merge_has_key 8 both.runs ≡ true
 key_8_is_in_the_first_run = refl
 
-pub key_6_is_in_none : is_monitored 6 both.runs ≡ false
+pub key_6_is_in_none : node_merge_has_key 6 both.runs ≡ false
 key_6_is_in_none = refl
 
-pub a_new_key_is_appended : seen (8 ∷ 5 ∷ []) 6 ≡ 8 ∷ 5 ∷ 6 ∷ []
+pub a_new_key_is_appended : merged_keys_seen (8 ∷ 5 ∷ []) 6 ≡ 8 ∷ 5 ∷ 6 ∷ []
 a_new_key_is_appended = refl
 
-pub a_seen_key_stays : seen (8 ∷ 5 ∷ []) 8 ≡ 8 ∷ 5 ∷ []
+pub a_seen_key_stays : merged_keys_seen (8 ∷ 5 ∷ []) 8 ≡ 8 ∷ 5 ∷ []
 a_seen_key_stays = refl
 
-pub bounded_in_the_full_table : IsBoundedForMerge 8 full
+pub bounded_in_the_full_table : IsBoundedToBeMerged 8 full
 bounded_in_the_full_table = record { ordered = omega arith; within_total = omega arith; above_missing = omega arith }
 
 -- with its greatest count at the head, a table would take a missing key for heavier than one that it has
-pub unbounded_where_counts_fall : ¬ IsBoundedForMerge 8 (record { capacity = 2; entries = entry 5 7 0 ∷ entry 8 3 1 ∷ [] })
+pub unbounded_where_counts_fall : ¬ IsBoundedToBeMerged 8 (record { capacity = 2; entries = entry 5 7 0 ∷ entry 8 3 1 ∷ [] })
 unbounded_where_counts_fall bounded = let above : 7 ≤ 3 = bounded.above_missing in omega (arith, above)
 
 -- the run of the table with room
@@ -128,7 +131,7 @@ no_run_of_a_full_table is = let high : 0 ≡ 3 = is.missing in omega (arith, hig
 abbrev first : NodeMergeValue
 first = record { runs = run_of_roomy ∷ []; keys = 5 ∷ [] }
 
-pub adds_the_table_with_room : MergesTable nothing_merged roomy first
+pub adds_the_table_with_room : MergedWithTable nothing_merged roomy first
 adds_the_table_with_room = record {
   run = run_of_roomy;
   is_run = run_of_the_table_with_room;
@@ -136,11 +139,11 @@ adds_the_table_with_room = record {
   keys = refl;
 }
 
-pub adds_no_table_twice : ¬ MergesTable first roomy first
+pub adds_no_table_twice : ¬ MergedWithTable first roomy first
 adds_no_table_twice adds = let same : 1 ≡ 2 = ap length adds.runs in omega (arith, same)
 
-pub represents_the_table_with_room : RepresentsTables first (roomy ∷ [])
+pub represents_the_table_with_room : MergedNodeRepresentsTables first (roomy ∷ [])
 represents_the_table_with_room = record { runs = (run_of_the_table_with_room, tt); keys = refl }
 
-pub represents_no_more_than_was_merged : ¬ RepresentsTables first (roomy ∷ full ∷ [])
+pub represents_no_more_than_was_merged : ¬ MergedNodeRepresentsTables first (roomy ∷ full ∷ [])
 represents_no_more_than_was_merged stands = stands.runs.1

@@ -1,6 +1,7 @@
 -- Upper bounds on the highs of keys, one entry and one table after another.
 use Rattle.std.proofs.Common.{◌≡◌, ℕ, ◌+◌, ◌-◌, ◌<◌, ◌≤◌, min, eqb, cond, Bool, true, false, ◌||◌, List, [], ◌∷◌, ◌++◌}
-use Rattle.std.proofs.Common.{length, get_or, set, take, sum_by, slice_get, Option, None, Some, is_some, refl, sym, ap, ◌∙◌}
+use Rattle.std.proofs.Common.{length, get_or, set, take, sum_by, slice_get, Option, None, Some, is_some, refl, sym, ap}
+use Rattle.std.proofs.Common.{◌∙◌}
 use Rattle.std.proofs.Common.{subst, arith, ⊎_elim}
 use Rattle.std.specs.List.{list_any}
 use Rattle.std.specs.Option.{option_map}
@@ -11,9 +12,11 @@ use Rattle.std.proofs.lemmas.List.Folds.{list_any-append}
 use Rattle.std.proofs.lemmas.Option.{none-some, get_or_from_slice_get, slice_get_within}
 use Rattle.space_saving.specs.{TableValue, TableInterval, table_entry, interval_in_table, table_interval_from}
 use Rattle.space_saving.specs.declared.entry.Entry.{Entry}
-use Rattle.cut_merge.specs.Run.{RunValue, IsRunOf, run_interval_of_entry, run_interval, is_monitored_in_run, missing_run_high}
-use Rattle.cut_merge.specs.NodeMerge.{is_monitored}
-use Rattle.cut_merge.specs.HighBounds.{HighBoundsValue, high_bound_home, high_bound_cell, greatest_high_bound, HighBoundsNoteKey}
+use Rattle.cut_merge.specs.Run.{RunValue, IsRunOf, run_interval_of_entry, run_interval, is_monitored_in_run}
+use Rattle.cut_merge.specs.Run.{missing_run_high}
+use Rattle.cut_merge.specs.NodeMerge.{node_merge_has_key}
+use Rattle.cut_merge.specs.HighBounds.{HighBoundsValue, high_bound_home, high_bound_cell, greatest_high_bound}
+use Rattle.cut_merge.specs.HighBounds.{HighBoundsNoteKey}
 use Rattle.cut_merge.specs.HighBounds.{counted_in_high_bound, HighBoundsNoteEntries, AreHighBoundsOfRuns}
 use Rattle.cut_merge.proofs.TableMergeLemmas.{table_merge_interval_of_run}
 
@@ -103,12 +106,12 @@ high_bounds_with_more_runs runs run table old new fit is above missing noted = r
       (above key) (noted key) (fit.highs key) (sum ∙ ap (λ n. sum_by (λ (r : RunValue). (run_interval r key).high) runs + n) high);
   known = λ key there.
       ⊎_elim
-      (λ (old_is : is_monitored key runs ≡ true).
+      (λ (old_is : node_merge_has_key key runs ≡ true).
       omega (arith, fit.known key old_is, noted key))
       (λ last.
       some_counted key (table_entry key table.entries)
       (sym (ap is_some (is.entries key)) ∙ or_last (is_monitored_in_run key run) last) (noted key))
-      (or_cases (is_monitored key runs) (list_any (λ r. is_monitored_in_run key r) (run ∷ []))
+      (or_cases (node_merge_has_key key runs) (list_any (λ r. is_monitored_in_run key r) (run ∷ []))
       (sym (list_any-append (λ r. is_monitored_in_run key r) runs (run ∷ [])) ∙ there));
 }
   where

@@ -7,16 +7,19 @@ use Rattle.std.proofs.lemmas.List.Sums.{sum_by-cons, sum_by-append}
 use Rattle.std.proofs.lemmas.List.Elements.{All-head, All-tail, filter-append, Contains-append_left}
 use Rattle.std.proofs.lemmas.List.Elements.{Contains-append_right}
 use Rattle.std.specs.List.{AllZip, flat_map}
-use Rattle.prefix_lattice.specs.{RecordValue, NodeValue, IsNode, PrefixValue, IsPrefix, covers, node_of_prefix, prefix_key}
+use Rattle.prefix_lattice.specs.{RecordValue, NodeValue, IsNode, PrefixValue, IsPrefix, covers, node_of_prefix}
+use Rattle.prefix_lattice.specs.{prefix_key}
 use Rattle.prefix_lattice.specs.{prefix_weight}
 use Rattle.space_saving.specs.declared.entry.Entry.{Entry}
 use Rattle.space_saving.specs.{TableValue, table_entry, interval_in_table, table_interval_from, table_total, IsTable}
-use Rattle.shard_state.specs.{SnapshotValue, IsSnapshot, snapshot_table_at, snapshot_total, SnapshotRepresents, CutValue, IsCut}
-use Rattle.shard_state.specs.{cut_positions, total_of_cut, CutRepresents, records_before_cut, HoldsWeightNarrowly, weight_interval_of}
-use Rattle.cut_merge.specs.Tables.{merged_interval, table_keys}
-use Rattle.cut_merge.specs.MergedInterval.{node_tables, merged_interval_in, monitored_at, IsWithinTotal}
+use Rattle.shard_state.specs.{SnapshotValue, IsSnapshot, snapshot_table_at, snapshot_total, SnapshotRepresents}
+use Rattle.shard_state.specs.{CutValue, IsCut}
+use Rattle.shard_state.specs.{cut_positions, total_of_cut, CutRepresents, records_before_cut, NarrowIntervalHoldsWeight}
+use Rattle.shard_state.specs.{weight_interval_of}
+use Rattle.cut_merge.specs.CutTables.{interval_over_tables, keys_of_table}
+use Rattle.cut_merge.specs.CutTables.{cut_tables_at, interval_in_cut, keys_monitored_in_cut, IsTableIntervalWithinTotal}
 use Rattle.prefix_lattice.proofs.ListLemmas.{Contains-list_head, Contains-list_tail}
-use Rattle.cut_merge.proofs.FirstSeenLemmas.{first_seen-contains}
+use Rattle.cut_merge.proofs.FirstSeenLemmas.{table_keys_first_seen-contains}
 use Rattle.cut_merge.proofs.TableMergeLemmas.{TableMergeIsBounded, table_merge_is_bounded}
 use Rattle.cut_merge.proofs.CutTableLemmas.{CutTablesAreBounded, cut_tables_count_total}
 
@@ -32,7 +35,7 @@ pub record MergedIntervalSnapshotsHold : Type 0 where
   pub weight : (snapshot : SnapshotValue) (list : List RecordValue) (prefix : PrefixValue)
       → SnapshotRepresents snapshot list → 1 ≤ snapshot.capacity
       → IsPrefix prefix → All (λ (rec : RecordValue). 1 ≤ rec.weight) list
-      → HoldsWeightNarrowly (weight_interval_of prefix snapshot) snapshot.capacity (prefix_weight prefix (take snapshot.position list))
+      → NarrowIntervalHoldsWeight (weight_interval_of prefix snapshot) snapshot.capacity (prefix_weight prefix (take snapshot.position list))
       (snapshot_total snapshot)
 
 -- each record has a weight
@@ -44,7 +47,7 @@ merged_interval_over_shards : MergedIntervalSnapshotsHold → (capacity : ℕ) (
     → (shards : List SnapshotValue) (lists : List (List RecordValue))
     → All (λ (s : SnapshotValue). s.capacity ≡ capacity) shards → AllZip SnapshotRepresents shards lists
     → All MergedIntervalIsWeighed lists
-    → HoldsWeightNarrowly (merged_interval (map (snapshot_table_at (node_of_prefix prefix)) shards) (prefix_key prefix)) capacity
+    → NarrowIntervalHoldsWeight (interval_over_tables (map (snapshot_table_at (node_of_prefix prefix)) shards) (prefix_key prefix)) capacity
     (prefix_weight prefix (records_before_cut lists (map (λ (s : SnapshotValue). s.position) shards))) (sum_by snapshot_total shards)
 merged_interval_over_shards law capacity prefix some is_prefix [] [] alike stand weighed = record {
   holds = record { low = omega arith; high = omega arith };
@@ -54,10 +57,10 @@ merged_interval_over_shards law capacity prefix some is_prefix [] (list ∷ list
 merged_interval_over_shards law capacity prefix some is_prefix (shard ∷ shards) [] alike stand weighed = absurd stand
 merged_interval_over_shards law capacity prefix some is_prefix (shard ∷ shards) (list ∷ lists) alike stand weighed =
     let same : shard.capacity ≡ capacity = All-head (λ (s : SnapshotValue). s.capacity ≡ capacity) shard shards alike in
-    let first : HoldsWeightNarrowly (weight_interval_of prefix shard) capacity (prefix_weight prefix (take shard.position list))
+    let first : NarrowIntervalHoldsWeight (weight_interval_of prefix shard) capacity (prefix_weight prefix (take shard.position list))
     (snapshot_total shard) =
     subst (λ m.
-    HoldsWeightNarrowly (weight_interval_of prefix shard) m (prefix_weight prefix (take shard.position list)) (snapshot_total shard))
+    NarrowIntervalHoldsWeight (weight_interval_of prefix shard) m (prefix_weight prefix (take shard.position list)) (snapshot_total shard))
     same
     (law.weight shard list prefix stand.0 (omega (arith, same)) is_prefix (All-head MergedIntervalIsWeighed list lists weighed)) in
     let rest =
@@ -73,24 +76,24 @@ merged_interval_over_shards law capacity prefix some is_prefix (shard ∷ shards
     let weight =
     merged_interval_weights_append prefix (take shard.position list)
     (records_before_cut lists (map (λ (s : SnapshotValue). s.position) shards)) in
-    let least : (merged_interval (table ∷ tables) key).low
+    let least : (interval_over_tables (table ∷ tables) key).low
     ≤ prefix_weight prefix
     (take shard.position list ++ records_before_cut lists (map (λ (s : SnapshotValue). s.position) shards)) =
     omega (arith, low, weight, first.holds.low, rest.holds.low) in
     let most : prefix_weight prefix
     (take shard.position list ++ records_before_cut lists (map (λ (s : SnapshotValue). s.position) shards))
-    ≤ (merged_interval (table ∷ tables) key).high =
+    ≤ (interval_over_tables (table ∷ tables) key).high =
     omega (arith, high, weight, first.holds.high, rest.holds.high) in
     let first_ordered : (weight_interval_of prefix shard).low ≤ (weight_interval_of prefix shard).high =
     omega (arith, first.holds.low, first.holds.high) in
-    let rest_ordered : (merged_interval tables key).low ≤ (merged_interval tables key).high =
+    let rest_ordered : (interval_over_tables tables key).low ≤ (interval_over_tables tables key).high =
     omega (arith, rest.holds.low, rest.holds.high) in
     record {
       holds = record { low = least; high = most };
       narrow =
-          let apart : (merged_interval (table ∷ tables) key).high - (merged_interval (table ∷ tables) key).low
+          let apart : (interval_over_tables (table ∷ tables) key).high - (interval_over_tables (table ∷ tables) key).low
           ≡ ((weight_interval_of prefix shard).high - (weight_interval_of prefix shard).low)
-          + ((merged_interval tables key).high - (merged_interval tables key).low) =
+          + ((interval_over_tables tables key).high - (interval_over_tables tables key).low) =
           omega (arith, low, high, first_ordered, rest_ordered) in
           subst (λ n. n * capacity ≤ sum_by snapshot_total (shard ∷ shards)) (sym apart)
           (omega (
@@ -99,14 +102,14 @@ merged_interval_over_shards law capacity prefix some is_prefix (shard ∷ shards
             first.narrow,
             rest.narrow,
             add-mul ((weight_interval_of prefix shard).high - (weight_interval_of prefix shard).low)
-                ((merged_interval tables key).high - (merged_interval tables key).low) capacity,
+                ((interval_over_tables tables key).high - (interval_over_tables tables key).low) capacity,
           ));
     }
 
 -- where a cut stands for lists, the merged interval of each prefix holds its weight
 pub merged_interval_holds : MergedIntervalSnapshotsHold → (cut : CutValue) (lists : List (List RecordValue)) (prefix : PrefixValue)
     → IsCut cut → CutRepresents cut lists → All MergedIntervalIsWeighed lists → IsPrefix prefix
-    → HoldsWeightNarrowly (merged_interval_in cut prefix) cut.capacity
+    → NarrowIntervalHoldsWeight (interval_in_cut cut prefix) cut.capacity
     (prefix_weight prefix (records_before_cut lists (cut_positions cut)))
     (total_of_cut cut)
 merged_interval_holds law cut lists prefix kept stands weighed is_prefix =
@@ -139,8 +142,8 @@ IntervalsMergedAreNarrow = (capacity : ℕ) (entries : List Entry) (key : ℕ) �
 merged_interval_light_by_shard : IntervalsMergedAreNarrow → (capacity : ℕ) (node : NodeValue) (key : ℕ) → IsNode node
     → (shards : List SnapshotValue)
     → All (λ (s : SnapshotValue). s.capacity ≡ capacity) shards → All IsSnapshot shards
-    → ¬ Contains (flat_map table_keys (map (snapshot_table_at node) shards)) key
-    → (merged_interval (map (snapshot_table_at node) shards) key).high * capacity ≤ sum_by snapshot_total shards
+    → ¬ Contains (flat_map keys_of_table (map (snapshot_table_at node) shards)) key
+    → (interval_over_tables (map (snapshot_table_at node) shards) key).high * capacity ≤ sum_by snapshot_total shards
 merged_interval_light_by_shard law capacity node key is_node [] alike kept missing = omega arith
 merged_interval_light_by_shard law capacity node key is_node (shard ∷ shards) alike kept missing =
     let table = snapshot_table_at node shard in
@@ -149,7 +152,7 @@ merged_interval_light_by_shard law capacity node key is_node (shard ∷ shards) 
     let of_shard = (All-head IsSnapshot shard shards kept).tables node is_node in
     let none : table_entry key table.entries ≡ None =
     merged_interval_missing_entry table.entries key
-    (λ there. missing (Contains-append_left (table_keys table) (flat_map table_keys tables) key there)) in
+    (λ there. missing (Contains-append_left (keys_of_table table) (flat_map keys_of_table tables) key there)) in
     let low : (interval_in_table table key).low ≡ 0 = ap (λ found. (table_interval_from found table).low) none in
     let narrow = law shard.capacity table.entries key of_shard.are_entries.is_table in
     let width : (interval_in_table table key).high - (interval_in_table table key).low ≡ (interval_in_table table key).high =
@@ -162,7 +165,7 @@ merged_interval_light_by_shard law capacity node key is_node (shard ∷ shards) 
     let rest = merged_interval_light_by_shard law capacity node key is_node shards
     (All-tail (λ (s : SnapshotValue). s.capacity ≡ capacity) shard shards alike)
     (All-tail IsSnapshot shard shards kept)
-    (λ there. missing (Contains-append_right (table_keys table) (flat_map table_keys tables) key there)) in
+    (λ there. missing (Contains-append_right (keys_of_table table) (flat_map keys_of_table tables) key there)) in
     let high = sum_by-cons (λ (t : TableValue). (interval_in_table t key).high) table tables in
     subst (λ n. n * capacity ≤ sum_by snapshot_total (shard ∷ shards)) (sym high)
     (omega (
@@ -170,25 +173,25 @@ merged_interval_light_by_shard law capacity node key is_node (shard ∷ shards) 
       first,
       rest,
       sum_by-cons snapshot_total shard shards,
-      add-mul (interval_in_table table key).high (merged_interval tables key).high capacity,
+      add-mul (interval_in_table table key).high (interval_over_tables tables key).high capacity,
     ))
 
 -- a prefix that no shard monitors has a light merged interval
 pub merged_interval_is_light : IntervalsMergedAreNarrow → (cut : CutValue) (prefix : PrefixValue) → IsCut cut → IsPrefix prefix
-    → ¬ Contains (monitored_at cut (node_of_prefix prefix)) (prefix_key prefix)
-    → (merged_interval_in cut prefix).high * cut.capacity ≤ total_of_cut cut
+    → ¬ Contains (keys_monitored_in_cut cut (node_of_prefix prefix)) (prefix_key prefix)
+    → (interval_in_cut cut prefix).high * cut.capacity ≤ total_of_cut cut
 merged_interval_is_light law cut prefix kept is_prefix missing =
     merged_interval_light_by_shard law cut.capacity (node_of_prefix prefix) (prefix_key prefix)
     (record { source = is_prefix.source.few; dest = is_prefix.dest.few }) cut.shards kept.alike kept.kept
     (λ there.
-    missing (first_seen-contains (flat_map table_keys (node_tables (node_of_prefix prefix) cut)) (prefix_key prefix) there))
+    missing (table_keys_first_seen-contains (flat_map keys_of_table (cut_tables_at (node_of_prefix prefix) cut)) (prefix_key prefix) there))
 
 -- and every merged interval is within the total
 pub merged_interval_within_total : CutTablesAreBounded → (cut : CutValue) (prefix : PrefixValue) → IsCut cut → IsPrefix prefix
-    → IsWithinTotal (total_of_cut cut) (merged_interval_in cut prefix)
+    → IsTableIntervalWithinTotal (total_of_cut cut) (interval_in_cut cut prefix)
 merged_interval_within_total law cut prefix kept is_prefix =
     let is_node : IsNode (node_of_prefix prefix) = record { source = is_prefix.source.few; dest = is_prefix.dest.few } in
-    let tables = node_tables (node_of_prefix prefix) cut in
+    let tables = cut_tables_at (node_of_prefix prefix) cut in
     let bounded : TableMergeIsBounded tables (prefix_key prefix) =
     table_merge_is_bounded tables (prefix_key prefix) (law cut (node_of_prefix prefix) (prefix_key prefix) kept is_node) in
     record {

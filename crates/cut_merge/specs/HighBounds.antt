@@ -1,10 +1,11 @@
 -- Upper bounds on the highs of keys.
-use Rattle.std.specs.Prelude.{ℕ, ◌≡◌, ◌+◌, ◌-◌, ◌*◌, ◌/◌, ◌%◌, ◌^◌, ◌<◌, ◌≤◌, min, true, List, slice_index, sum_by, Option}
+use Rattle.std.specs.Prelude.{ℕ, ◌≡◌, ◌+◌, ◌-◌, ◌*◌, ◌/◌, ◌%◌, ◌^◌, ◌<◌, ◌≤◌, min, true, List, slice_index, sum_by}
+use Rattle.std.specs.Prelude.{Option}
 use Rattle.std.specs.Prelude.{None, Some, take}
 use Rattle.space_saving.specs.{TableValue, table_entry}
 use Rattle.space_saving.specs.declared.entry.Entry.{Entry}
 use Rattle.cut_merge.specs.Run.{RunValue, run_interval, missing_run_high}
-use Rattle.cut_merge.specs.NodeMerge.{is_monitored}
+use Rattle.cut_merge.specs.NodeMerge.{node_merge_has_key}
 
 -- how many cells there are
 abbrev pub high_bound_cell_count : ℕ
@@ -60,4 +61,4 @@ pub record HighBoundsNoteEntries (table : TableValue) (old new : HighBoundsValue
 pub record AreHighBoundsOfRuns (runs : List RunValue) (bounds : HighBoundsValue) : Type 0 where
   pub highs : (key : ℕ) → min greatest_high_bound (sum_by (λ run. (run_interval run key).high) runs)
       ≤ bounds.missing + high_bound_cell bounds key
-  pub known : (key : ℕ) → is_monitored key runs ≡ true → 0 < high_bound_cell bounds key
+  pub known : (key : ℕ) → node_merge_has_key key runs ≡ true → 0 < high_bound_cell bounds key

@@ -9,5 +9,5 @@ pub record NodeMergeValue : Type 0 where
   pub keys : List ℕ
 
 -- whether one of the runs has the key
-abbrev pub is_monitored : ℕ → List RunValue → Bool
-is_monitored key runs = list_any (λ run. is_monitored_in_run key run) runs
+abbrev pub node_merge_has_key : ℕ → List RunValue → Bool
+node_merge_has_key key runs = list_any (λ run. is_monitored_in_run key run) runs

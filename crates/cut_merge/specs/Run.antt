@@ -30,14 +30,14 @@ pub record IsRun (intervals : List KeyInterval) : Type 0 where
 abbrev pub run_entry : ℕ → RunValue → Option KeyInterval
 run_entry key run = find (λ interval. interval.key == key) run.intervals
 
--- the interval of a key by what the run has of it: without one its low is 0
-abbrev pub run_interval_or : ℕ → Option KeyInterval → TableInterval
-run_interval_or missing None = record { low = 0; high = missing }
-run_interval_or missing (Some interval) = record { low = interval.low; high = interval.high }
+-- the interval of a key by what the run has of it: where it has none, its low is 0, and its high that of a missing key
+abbrev pub run_interval_or_missing : ℕ → Option KeyInterval → TableInterval
+run_interval_or_missing missing None = record { low = 0; high = missing }
+run_interval_or_missing missing (Some interval) = record { low = interval.low; high = interval.high }
 
 -- the interval of a key in a run
 abbrev pub run_interval : RunValue → ℕ → TableInterval
-run_interval run key = run_interval_or run.missing (run_entry key run)
+run_interval run key = run_interval_or_missing run.missing (run_entry key run)
 
 -- whether a run has the key
 abbrev pub is_monitored_in_run : ℕ → RunValue → Bool

@@ -1,7 +1,8 @@
 //! Upper bounds on the highs of keys, so that few keys need a search.
 
 ghost use Rattle.std.specs.Prelude.{◌≡◌, ◌==◌, ◌+◌, ◌<◌, ℕ, min, IfOk};
-ghost use Rattle.cut_merge.specs.HighBounds.{high_bound_home, high_bound_cell, high_bound_cell_count, greatest_high_bound, HighBoundsNoteKey, HighBoundsAddMissing, high_bound};
+ghost use Rattle.cut_merge.specs.HighBounds.{high_bound_home, high_bound_cell, high_bound_cell_count};
+ghost use Rattle.cut_merge.specs.HighBounds.{greatest_high_bound, HighBoundsNoteKey, HighBoundsAddMissing, high_bound};
 
 use std::alloc::{AllocError, Global};
 use std::marker::Model;

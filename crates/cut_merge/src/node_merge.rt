@@ -3,11 +3,12 @@
 ghost use Rattle.std.specs.Prelude.{◌≡◌, ◌==◌, ◌^◌, ◌<◌, ◌≤◌, ℕ, true, [], IfOk, OnOk, fold, length};
 ghost use Rattle.std.specs.List.{list_any};
 ghost use Rattle.space_saving.specs.{AreApartInTable};
-ghost use Rattle.cut_merge.specs.Merged.{seen, MergesTable, IsBoundedForMerge, interval_for_key};
-ghost use Rattle.cut_merge.specs.NodeMerge.{is_monitored};
+ghost use Rattle.cut_merge.specs.Merged.{merged_keys_seen, MergedWithTable, IsBoundedToBeMerged};
+ghost use Rattle.cut_merge.specs.Merged.{merged_interval_for_key};
+ghost use Rattle.cut_merge.specs.NodeMerge.{node_merge_has_key};
 ghost use Rattle.cut_merge.specs.Run.{IsRunOf, missing_run_high};
 ghost use Rattle.cut_merge.specs.HighBounds.{high_bound_cell, HighBoundsNoteEntries};
-ghost use Rattle.cut_merge.specs.Tables.{table_keys};
+ghost use Rattle.cut_merge.specs.CutTables.{keys_of_table};
 
 use crate::high_bounds::HighBounds;
 use crate::run::Run;
@@ -49,10 +50,10 @@ impl NodeMerge {
 
     /// Merges one more table in. After an `Err` the table may be merged in part.
     pub(crate) fn add(&mut self, alloc: Global, table: &Flat) -> Result<(), AllocError>
-        requires known { (key : ℕ) → list_any (λ other. key == other) self.old.keys ≡ is_monitored key self.old.runs }
+        requires known { (key : ℕ) → list_any (λ other. key == other) self.old.keys ≡ node_merge_has_key key self.old.runs }
         requires apart { AreApartInTable table.now.entries }
-        requires bounded { (key : ℕ) → IsBoundedForMerge key table.now }
-        ensures { OnOk result (MergesTable self.old table.now self.new) }
+        requires bounded { (key : ℕ) → IsBoundedToBeMerged key table.now }
+        ensures { OnOk result (MergedWithTable self.old table.now self.new) }
     {
         let run = Run::of(alloc, table)?;
         self.bounds.add_missing(run.missing());
@@ -68,18 +69,18 @@ impl NodeMerge {
 
     /// A bound on the greatest weight that the key can have had, found without a search.
     pub(crate) fn at_most(&self, key: u64) -> u64
-        requires { (interval_for_key self.now key).high < 2 ^ 64 }
-        ensures { (interval_for_key self.now key).high ≤ result }
+        requires { (merged_interval_for_key self.now key).high < 2 ^ 64 }
+        ensures { (merged_interval_for_key self.now key).high ≤ result }
     {
         self.bounds.at_most(key)
     }
 
     /// The least and the greatest weight that the key can have had.
     pub(crate) fn interval(&self, key: u64) -> (u64, u64)
-        requires low { (interval_for_key self.now key).low < 2 ^ 64 }
-        requires high { (interval_for_key self.now key).high < 2 ^ 64 }
-        ensures low { result.0 ≡ (interval_for_key self.now key).low }
-        ensures high { result.1 ≡ (interval_for_key self.now key).high }
+        requires low { (merged_interval_for_key self.now key).low < 2 ^ 64 }
+        requires high { (merged_interval_for_key self.now key).high < 2 ^ 64 }
+        ensures low { result.0 ≡ (merged_interval_for_key self.now key).low }
+        ensures high { result.1 ≡ (merged_interval_for_key self.now key).high }
     {
         let mut low = 0;
         let mut high = 0;
@@ -107,10 +108,10 @@ fn note_keys(
     table: &Flat,
     missing: u64,
 ) -> Result<(), AllocError>
-    requires known { (key : ℕ) → list_any (λ other. key == other) keys.old.items ≡ is_monitored key runs.now }
-    requires bounded { (key : ℕ) → is_monitored key runs.now ≡ true → 0 < high_bound_cell bounds.old key }
+    requires known { (key : ℕ) → list_any (λ other. key == other) keys.old.items ≡ node_merge_has_key key runs.now }
+    requires bounded { (key : ℕ) → node_merge_has_key key runs.now ≡ true → 0 < high_bound_cell bounds.old key }
     requires missing { missing ≡ missing_run_high table.now }
-    ensures keys { OnOk result (keys.new.items ≡ fold seen keys.old.items (table_keys table.now)) }
+    ensures keys { OnOk result (keys.new.items ≡ fold merged_keys_seen keys.old.items (keys_of_table table.now)) }
     ensures bounds { OnOk result (HighBoundsNoteEntries table.now bounds.old bounds.new (length table.now.entries)) }
     ensures raises { (key : ℕ) → high_bound_cell bounds.old key ≤ high_bound_cell bounds.new key }
     ensures same { bounds.new.missing ≡ bounds.old.missing }
@@ -127,8 +128,8 @@ fn note_keys(
 
 // Whether one of these runs has the key. Where its home is empty, none has.
 fn is_known(bounds: &HighBounds, runs: &[Run], key: u64) -> bool
-    requires { is_monitored key runs.now ≡ true → 0 < high_bound_cell bounds.now key }
-    ensures { result ≡ is_monitored key runs.now }
+    requires { node_merge_has_key key runs.now ≡ true → 0 < high_bound_cell bounds.now key }
+    ensures { result ≡ node_merge_has_key key runs.now }
 {
     if bounds.is_empty_at(key) {
         return false;

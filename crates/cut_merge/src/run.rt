@@ -4,7 +4,8 @@ ghost use Rattle.std.specs.Prelude.{◌≡◌, ◌==◌, IfOk, OnOk, length, map
 ghost use Rattle.std.specs.List.{find};
 ghost use Rattle.std.specs.List.Sorted.{IsNonDecreasingBy, IsPermutation};
 ghost use Rattle.space_saving.specs.{AreApartInTable};
-ghost use Rattle.cut_merge.specs.Run.{IsRun, IsRunOf, run_interval, is_monitored_in_run, run_interval_of_entry, missing_run_high};
+ghost use Rattle.cut_merge.specs.Run.{IsRun, IsRunOf, run_interval, is_monitored_in_run, run_interval_of_entry};
+ghost use Rattle.cut_merge.specs.Run.{missing_run_high};
 
 use crate::key_interval::KeyInterval;
 use space_saving::Flat;

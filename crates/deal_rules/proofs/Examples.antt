@@ -5,7 +5,7 @@ use Rattle.std.proofs.lemmas.List.Elements.{All-from_recursion}
 use Rattle.prefix_lattice.specs.{RecordValue, total_weight}
 use Rattle.deal_rules.specs.declared.deal_kind.DealKind.TheVariants.{RoundRobin, BySource, Free}
 use Rattle.deal_rules.specs.declared.dealers.Dealers.{Dealers}
-use Rattle.deal_rules.specs.DealRule.{IsAskedOfRule, RuleIsOfKind, RuleMayDeal}
+use Rattle.deal_rules.specs.DealRule.{IsAskedOfDealRule, IsNumberByDealRule, RuleMayDeal}
 use Rattle.deal_rules.specs.Dealing.{dealt_list, dealt_lists, AreDealt, DealingFollowsRule, IsDealing, AreDealingLists}
 use Rattle.deal_rules.specs.Dealers.{dealer_of}
 
@@ -39,21 +39,21 @@ pub weight_is_kept : sum_by total_weight two_lists ≡ 18
 weight_is_kept = refl
 
 -- the third record in turn over two shards
-pub third_in_turn : RuleIsOfKind RoundRobin 2 third 2 0
+pub third_in_turn : IsNumberByDealRule RoundRobin 2 third 2 0
 third_in_turn = record { round = λ e. refl; source = λ e. cc }
 
 -- the record of source 7 over three shards
-pub third_by_source : RuleIsOfKind BySource 2 third 3 1
+pub third_by_source : IsNumberByDealRule BySource 2 third 3 1
 third_by_source = record { round = λ e. cc; source = λ e. refl }
 
 -- places are counted from 0, so the first record in turn doesn't go to shard 1
-pub not_from_one : RuleIsOfKind RoundRobin 0 first 2 1 → ⊥
+pub not_from_one : IsNumberByDealRule RoundRobin 0 first 2 1 → ⊥
 not_from_one of_kind = let h : 1 ≡ 0 = of_kind.round refl in omega (arith, h)
 
-pub free_takes_any : RuleIsOfKind Free 2 third 3 0
+pub free_takes_any : IsNumberByDealRule Free 2 third 3 0
 free_takes_any = record { round = λ e. cc; source = λ e. cc }
 
-pub asked_of_the_third : IsAskedOfRule 2 third 2
+pub asked_of_the_third : IsAskedOfDealRule 2 third 2
 asked_of_the_third = record {
   early = omega arith;
   source = omega arith;
@@ -64,10 +64,10 @@ asked_of_the_third = record {
   few = omega arith;
 }
 
-pub asked_past_the_last_place : IsAskedOfRule 16777216 third 2 → ⊥
+pub asked_past_the_last_place : IsAskedOfDealRule 16777216 third 2 → ⊥
 asked_past_the_last_place asked = omega (arith, asked.early)
 
-pub asked_for_17_shards : IsAskedOfRule 2 third 17 → ⊥
+pub asked_for_17_shards : IsAskedOfDealRule 2 third 17 → ⊥
 asked_for_17_shards asked = omega (arith, asked.few)
 
 -- a function that answers the place modulo the number of shards, and nothing else

@@ -1,7 +1,7 @@
 -- Dealing: one shard number for each record, and each shard's records in their order.
 use Rattle.std.specs.Prelude.{ℕ, ◌≡◌, ◌<◌, ◌≤◌, ◌==◌, List, length, map, filter, All, slice_get, Some}
 use Rattle.std.specs.List.{zip, range_with_len, sum_by}
-use Rattle.prefix_lattice.specs.{RecordValue, most_records, most_shards}
+use Rattle.prefix_lattice.specs.{RecordValue, record_limit, shard_limit}
 use Rattle.deal_rules.specs.declared.deal_kind.DealKind.{DealKind}
 use Rattle.deal_rules.specs.DealRule.{RuleMayDeal}
 
@@ -38,5 +38,5 @@ pub record IsDealing (kind : DealKind) (may_answer : ℕ → RecordValue → ℕ
 -- the lists of 1 to 16 shards, with at most 16,777,216 records in all
 pub record AreDealingLists (lists : List (List RecordValue)) : Type 0 where
   pub some : 1 ≤ length lists
-  pub few : length lists ≤ most_shards
-  pub small : sum_by (λ list. length list) lists ≤ most_records
+  pub few : length lists ≤ shard_limit
+  pub small : sum_by (λ list. length list) lists ≤ record_limit

@@ -1,9 +1,9 @@
 //! A stored rule of dealing.
 
 ghost use Rattle.std.specs.Prelude.{◌≡◌, ◌↔◌, ℕ, ◌<◌, ◌≤◌};
-ghost use Rattle.prefix_lattice.specs.{RecordValue, most_records, most_shards};
+ghost use Rattle.prefix_lattice.specs.{RecordValue, record_limit, shard_limit};
 ghost use Rattle.deal_rules.specs.declared.deal_kind.DealKind.{DealKind};
-ghost use Rattle.deal_rules.specs.DealRule.{IsAskedOfRule, RuleIsOfKind, RuleMayDeal};
+ghost use Rattle.deal_rules.specs.DealRule.{IsAskedOfDealRule, IsNumberByDealRule, RuleMayDeal};
 
 use crate::DealKind;
 use prefix_lattice::Record;
@@ -28,12 +28,12 @@ pub struct Dealer {
     kind: DealKind,
     rule: DealRule,
     ghost callable: { (place : ℕ) (rec : RecordValue) (shards : ℕ)
-        → IsAskedOfRule place rec shards → pre rule place rec shards },
+        → IsAskedOfDealRule place rec shards → pre rule place rec shards },
     ghost below: { (place : ℕ) (rec : RecordValue) (shards number : ℕ)
-        → IsAskedOfRule place rec shards → post rule place rec shards number → number < shards },
+        → IsAskedOfDealRule place rec shards → post rule place rec shards number → number < shards },
     ghost of_kind: { (place : ℕ) (rec : RecordValue) (shards number : ℕ)
-        → IsAskedOfRule place rec shards → post rule place rec shards number
-        → RuleIsOfKind kind place rec shards number },
+        → IsAskedOfDealRule place rec shards → post rule place rec shards number
+        → IsNumberByDealRule kind place rec shards number },
 }
 
 impl Deals for Dealer {
@@ -47,12 +47,12 @@ impl Dealer {
     /// and 1 to 16 shards it may be called, and it returns a number below the number of shards, by the kind's formula.
     pub fn new(kind: DealKind, rule: DealRule) -> Dealer
         requires callable { (place : ℕ) (rec : RecordValue) (shards : ℕ)
-            → IsAskedOfRule place rec shards → pre rule place rec shards }
+            → IsAskedOfDealRule place rec shards → pre rule place rec shards }
         requires below { (place : ℕ) (rec : RecordValue) (shards number : ℕ)
-            → IsAskedOfRule place rec shards → post rule place rec shards number → number < shards }
+            → IsAskedOfDealRule place rec shards → post rule place rec shards number → number < shards }
         requires of_kind { (place : ℕ) (rec : RecordValue) (shards number : ℕ)
-            → IsAskedOfRule place rec shards → post rule place rec shards number
-            → RuleIsOfKind kind place rec shards number }
+            → IsAskedOfDealRule place rec shards → post rule place rec shards number
+            → IsNumberByDealRule kind place rec shards number }
         ensures kind { ⟦<Dealer as Deals>⟧.kind_of result ≡ kind }
         ensures rule { (place : ℕ) (rec : RecordValue) (shards number : ℕ)
             → ⟦<Dealer as Deals>⟧.may_answer result place rec shards number ↔ post rule place rec shards number }
@@ -70,9 +70,9 @@ impl Dealer {
     /// The shard of the record at this index, from 0 to 16,777,215, among 1 to 16 shards, as returned by the stored
     /// function.
     pub fn shard(&self, place: u64, rec: &Record, shards: u32) -> u32
-        requires early { place < most_records }
+        requires early { place < record_limit }
         requires some { 1 ≤ shards }
-        requires few { shards ≤ most_shards }
+        requires few { shards ≤ shard_limit }
         ensures { RuleMayDeal (⟦<Dealer as Deals>⟧.kind_of self.now) (⟦<Dealer as Deals>⟧.may_answer self.now)
             place rec.now shards result }
     {

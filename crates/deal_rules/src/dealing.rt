@@ -3,7 +3,8 @@
 ghost use Rattle.std.specs.Prelude.{◌≡◌, ℕ, ◌≤◌, List, [], length, IfOk};
 ghost use Rattle.std.specs.List.{flat_map, sum_by};
 ghost use Rattle.std.specs.List.Sorted.{IsPermutation};
-ghost use Rattle.prefix_lattice.specs.{PrefixValue, prefix_weight, total_weight, RecordValue, most_records, most_shards};
+ghost use Rattle.prefix_lattice.specs.{PrefixValue, prefix_weight, total_weight, RecordValue, record_limit};
+ghost use Rattle.prefix_lattice.specs.{shard_limit};
 ghost use Rattle.deal_rules.specs.declared.deal_kind.DealKind.{DealKind};
 ghost use Rattle.deal_rules.specs.Dealing.{AreDealt, IsDealing, dealt_lists};
 
@@ -21,8 +22,8 @@ pub fn deal(
     shards: u32,
 ) -> Result<Dealt, AllocError>
     requires some { 1 ≤ shards }
-    requires few { shards ≤ most_shards }
-    requires small { length list.now ≤ most_records }
+    requires few { shards ≤ shard_limit }
+    requires small { length list.now ≤ record_limit }
     ensures { IfOk result (λ dealt. IsDealing (⟦<Dealer as Deals>⟧.kind_of dealer.now)
         (⟦<Dealer as Deals>⟧.may_answer dealer.now) shards list.now dealt) }
 {

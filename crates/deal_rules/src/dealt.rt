@@ -2,7 +2,7 @@
 
 ghost use Rattle.std.specs.Prelude.{◌≡◌, ◌<◌, ◌≤◌, length, slice_get, Some, IfOk};
 ghost use Rattle.deal_rules.specs.Dealing.{AreDealingLists};
-ghost use Rattle.prefix_lattice.specs.{most_records};
+ghost use Rattle.prefix_lattice.specs.{record_limit};
 
 use prefix_lattice::RecordList;
 use std::alloc::{AllocError, Global};
@@ -47,7 +47,7 @@ impl Dealt {
     pub fn list(&self, shard: u32) -> &RecordList
         requires { shard < length self.now }
         ensures value { slice_get self.now shard ≡ Some result.now }
-        ensures few { length result.now ≤ most_records }
+        ensures few { length result.now ≤ record_limit }
     {
         &self.lists[shard as usize]
     }

@@ -6,7 +6,7 @@ use Rattle.std.proofs.lemmas.List.{map-append, length-take}
 use Rattle.std.proofs.lemmas.List.Elements.{All-push}
 use Rattle.prefix_lattice.specs.{RecordValue, PrefixValue}
 use Rattle.shard_state.specs.{records_before_cut}
-use Rattle.hhh_output.specs.{AreSoundPositions}
+use Rattle.hhh_output.specs.{AreWithinListsInSoundReport}
 use Rattle.exact_audit.specs.declared.counted.Counted.{Counted}
 use Rattle.exact_audit.specs.CountedParts.{counted_part_at}
 use Rattle.exact_audit.specs.Depths.{AreDepths}
@@ -15,7 +15,7 @@ use Rattle.exact_audit.specs.NodeSums.{AreCountedInNodeSums}
 -- positions are within lists where there are as many, and each is within its list
 pub counted_record_positions_fit : (positions : List ℕ) (lists : List (List RecordValue)) → length positions ≡ length lists
     → ((place : ℕ) → place < length lists → get_or positions place 0 ≤ length (get_or lists place []))
-    → AreSoundPositions positions lists
+    → AreWithinListsInSoundReport positions lists
 counted_record_positions_fit [] [] same each = tt
 counted_record_positions_fit [] (list ∷ lists) same each = absurd (omega arith)
 counted_record_positions_fit (position ∷ positions) [] same each = absurd (omega arith)
@@ -25,7 +25,7 @@ counted_record_positions_fit (position ∷ positions) (list ∷ lists) same each
 )
 
 -- and positions within lists are as many, each within its list
-pub counted_record_positions_as_many : (positions : List ℕ) (lists : List (List RecordValue)) → AreSoundPositions positions lists
+pub counted_record_positions_as_many : (positions : List ℕ) (lists : List (List RecordValue)) → AreWithinListsInSoundReport positions lists
     → length positions ≡ length lists
 counted_record_positions_as_many [] [] within = refl
 counted_record_positions_as_many [] (list ∷ lists) within = absurd within
@@ -33,7 +33,7 @@ counted_record_positions_as_many (position ∷ positions) [] within = absurd wit
 counted_record_positions_as_many (position ∷ positions) (list ∷ lists) within =
     let rest = counted_record_positions_as_many positions lists within.1 in omega arith
 
-pub each_counted_record_position_fits : (positions : List ℕ) (lists : List (List RecordValue)) (place : ℕ) → AreSoundPositions positions lists
+pub each_counted_record_position_fits : (positions : List ℕ) (lists : List (List RecordValue)) (place : ℕ) → AreWithinListsInSoundReport positions lists
     → place < length lists → get_or positions place 0 ≤ length (get_or lists place [])
 each_counted_record_position_fits [] [] place within less = absurd (omega arith)
 each_counted_record_position_fits [] (list ∷ lists) place within less = absurd within

@@ -13,7 +13,8 @@ use Rattle.std.proofs.lemmas.List.Elements.{All-head, All-tail}
 use Rattle.std.proofs.lemmas.List.Folds.{list_any_at}
 use Rattle.prefix_lattice.specs.{RecordValue, NodeValue, IsNode, node_index, node_at, PrefixValue, IsPrefix, covers}
 use Rattle.prefix_lattice.specs.{node_of_prefix}
-use Rattle.prefix_lattice.specs.{prefix_key, prefix_at, begins_with, strictly_under, lines_under, one_line_covers}
+use Rattle.prefix_lattice.specs.{prefix_key, prefix_at, kept_bytes_begin_with, strictly_under, lines_under}
+use Rattle.prefix_lattice.specs.{one_line_covers}
 use Rattle.prefix_lattice.proofs.NodePlaceLemmas.{node_at_own_place}
 use Rattle.prefix_lattice.proofs.ListLemmas.{Contains-list_head, Contains-list_tail}
 use Rattle.exact_audit.specs.declared.depths.Depths.{Depths}
@@ -27,21 +28,21 @@ abbrev depth_bytes_of : ℕ → List ℕ
 depth_bytes_of a = a / 256 / 256 / 256 % 256 ∷ a / 256 / 256 % 256 ∷ a / 256 % 256 ∷ a % 256 ∷ []
 
 -- what a list begins with is its front
-pub depth_front_is_taken : (bytes front : List ℕ) → begins_with bytes front ≡ true → take (length front) bytes ≡ front
+pub depth_front_is_taken : (bytes front : List ℕ) → kept_bytes_begin_with bytes front ≡ true → take (length front) bytes ≡ front
 depth_front_is_taken bytes [] begins = refl
 depth_front_is_taken [] (b ∷ front) begins = absurd (false≢true begins)
 depth_front_is_taken (x ∷ bytes) (b ∷ front) begins =
-    let both : (eqb x b ≡ true) × (begins_with bytes front ≡ true) =
-    and_parts (eqb x b) (begins_with bytes front) begins in
+    let both : (eqb x b ≡ true) × (kept_bytes_begin_with bytes front ≡ true) =
+    and_parts (eqb x b) (kept_bytes_begin_with bytes front) begins in
     ap (λ d. d ∷ take (length front) bytes) (eqb-true x b both.0)
     ∙ ap (λ l. b ∷ l) (depth_front_is_taken bytes front both.1)
 
 -- a list begins with each of its fronts
-pub depth_bytes_begin_with_front : (bytes : List ℕ) (n : ℕ) → begins_with bytes (take n bytes) ≡ true
+pub depth_bytes_begin_with_front : (bytes : List ℕ) (n : ℕ) → kept_bytes_begin_with bytes (take n bytes) ≡ true
 depth_bytes_begin_with_front bytes zero = refl
 depth_bytes_begin_with_front [] (suc n) = refl
 depth_bytes_begin_with_front (x ∷ bytes) (suc n) =
-    and_from (eqb x x) (begins_with bytes (take n bytes)) (eq-eqb x x refl) (depth_bytes_begin_with_front bytes n)
+    and_from (eqb x x) (kept_bytes_begin_with bytes (take n bytes)) (eq-eqb x x refl) (depth_bytes_begin_with_front bytes n)
 
 pub depth_front_length : (bytes : List ℕ) (n : ℕ) → n ≤ length bytes → length (take n bytes) ≡ n
 depth_front_length bytes zero few = refl
@@ -50,30 +51,30 @@ depth_front_length (x ∷ bytes) (suc n) few = let rest = depth_front_length byt
 
 -- of two fronts of one list, the one that is no shorter begins with the other
 pub shorter_depth_front_begins : (bytes : List ℕ) (m n : ℕ) → m ≤ length bytes → n ≤ length bytes
-    → begins_with (take m bytes) (take n bytes) ≡ nat_le n m
+    → kept_bytes_begin_with (take m bytes) (take n bytes) ≡ nat_le n m
 shorter_depth_front_begins bytes m zero few_m few_n = sym (le-leb 0 m (omega arith))
 shorter_depth_front_begins [] m (suc n) few_m few_n = absurd (omega arith)
 shorter_depth_front_begins (x ∷ bytes) zero (suc n) few_m few_n = sym (lt-leb (suc n) 0 (omega arith))
 shorter_depth_front_begins (x ∷ bytes) (suc m) (suc n) few_m few_n =
-    ap (λ b. b && begins_with (take m bytes) (take n bytes)) (eq-eqb x x refl)
+    ap (λ b. b && kept_bytes_begin_with (take m bytes) (take n bytes)) (eq-eqb x x refl)
     ∙ shorter_depth_front_begins bytes m n (omega arith) (omega arith)
     ∙ list_any_truths_are_equal (nat_le n m) (nat_le (suc n) (suc m))
     (λ is. le-leb (suc n) (suc m) (let le = leb-true n m is in omega arith))
     (λ is. le-leb n m (let le = leb-true (suc n) (suc m) is in omega arith))
 
 -- a list that begins with another is no shorter
-pub depth_front_is_no_longer : (bytes front : List ℕ) → begins_with bytes front ≡ true → length front ≤ length bytes
+pub depth_front_is_no_longer : (bytes front : List ℕ) → kept_bytes_begin_with bytes front ≡ true → length front ≤ length bytes
 depth_front_is_no_longer bytes [] begins = omega arith
 depth_front_is_no_longer [] (b ∷ front) begins = absurd (false≢true begins)
 depth_front_is_no_longer (x ∷ bytes) (b ∷ front) begins =
-    let shorter = depth_front_is_no_longer bytes front (and_parts (eqb x b) (begins_with bytes front) begins).1 in
+    let shorter = depth_front_is_no_longer bytes front (and_parts (eqb x b) (kept_bytes_begin_with bytes front) begins).1 in
     omega arith
 
 -- a line that covers a record is the record's prefix of its node
 pub covering_line_at_depth : (line : PrefixValue) (rec : RecordValue) → covers line rec ≡ true
     → prefix_at (node_of_prefix line) rec ≡ line
 covering_line_at_depth line rec covered =
-    let both = and_parts (begins_with (depth_bytes_of rec.src) line.source) (begins_with (depth_bytes_of rec.dst) line.dest)
+    let both = and_parts (kept_bytes_begin_with (depth_bytes_of rec.src) line.source) (kept_bytes_begin_with (depth_bytes_of rec.dst) line.dest)
     covered in
     let make : List ℕ → List ℕ → PrefixValue = λ source dest. record { source = source; dest = dest } in
     ap (λ source. make source (take (length line.dest) (depth_bytes_of rec.dst)))
@@ -84,7 +85,7 @@ covering_line_at_depth line rec covered =
 pub covering_depth_is_bounded : (line : PrefixValue) (rec : RecordValue) → covers line rec ≡ true
     → (length line.source ≤ 4) × (length line.dest ≤ 4)
 covering_depth_is_bounded line rec covered =
-    let both = and_parts (begins_with (depth_bytes_of rec.src) line.source) (begins_with (depth_bytes_of rec.dst) line.dest)
+    let both = and_parts (kept_bytes_begin_with (depth_bytes_of rec.src) line.source) (kept_bytes_begin_with (depth_bytes_of rec.dst) line.dest)
     covered in
     (depth_front_is_no_longer (depth_bytes_of rec.src) line.source both.0, depth_front_is_no_longer (depth_bytes_of rec.dst) line.dest both.1)
 
@@ -95,14 +96,14 @@ more_depth_on_either_side : (s d l m : ℕ)
 more_depth_on_either_side s d l m = grind (arith, nat_tests)
 
 -- a front compared with a line's bytes, where a list begins with both
-depth_front_against_line : (bytes front : List ℕ) (n : ℕ) → begins_with bytes front ≡ true → n ≤ length bytes
-    → (begins_with front (take n bytes) ≡ nat_le n (length front))
-    × (begins_with (take n bytes) front ≡ nat_le (length front) n)
+depth_front_against_line : (bytes front : List ℕ) (n : ℕ) → kept_bytes_begin_with bytes front ≡ true → n ≤ length bytes
+    → (kept_bytes_begin_with front (take n bytes) ≡ nat_le n (length front))
+    × (kept_bytes_begin_with (take n bytes) front ≡ nat_le (length front) n)
 depth_front_against_line bytes front n begins few =
     let is = depth_front_is_taken bytes front begins in
     let short = depth_front_is_no_longer bytes front begins in (
-      ap (λ l. begins_with l (take n bytes)) (sym is) ∙ shorter_depth_front_begins bytes (length front) n short few,
-      ap (λ l. begins_with (take n bytes) l) (sym is) ∙ shorter_depth_front_begins bytes n (length front) few short,
+      ap (λ l. kept_bytes_begin_with l (take n bytes)) (sym is) ∙ shorter_depth_front_begins bytes (length front) n short few,
+      ap (λ l. kept_bytes_begin_with (take n bytes) l) (sym is) ∙ shorter_depth_front_begins bytes n (length front) few short,
     )
 
 -- whether a line that covers a record is strictly under the record's prefix of a node
@@ -111,17 +112,17 @@ pub strictly_under_by_depth : (node : NodeValue) (rec : RecordValue) → IsNode 
     ≡ ((nat_le (node.source_bytes + 1) (length line.source) && nat_le node.dest_bytes (length line.dest))
     || (nat_le node.source_bytes (length line.source) && nat_le (node.dest_bytes + 1) (length line.dest)))
 strictly_under_by_depth node rec is line covered =
-    let both = and_parts (begins_with (depth_bytes_of rec.src) line.source) (begins_with (depth_bytes_of rec.dst) line.dest)
+    let both = and_parts (kept_bytes_begin_with (depth_bytes_of rec.src) line.source) (kept_bytes_begin_with (depth_bytes_of rec.dst) line.dest)
     covered in
     let source = depth_front_against_line (depth_bytes_of rec.src) line.source node.source_bytes both.0 is.source in
     let dest = depth_front_against_line (depth_bytes_of rec.dst) line.dest node.dest_bytes both.1 is.dest in
     let shape = λ (a b c d : Bool). (a && b) && not ((a && b) && (c && d)) in
-    let sides = λ (a c : Bool). shape a (begins_with line.dest (take node.dest_bytes (depth_bytes_of rec.dst))) c
-    (begins_with (take node.dest_bytes (depth_bytes_of rec.dst)) line.dest) in
-    ap (λ a. sides a (begins_with (take node.source_bytes (depth_bytes_of rec.src)) line.source)) source.0
+    let sides = λ (a c : Bool). shape a (kept_bytes_begin_with line.dest (take node.dest_bytes (depth_bytes_of rec.dst))) c
+    (kept_bytes_begin_with (take node.dest_bytes (depth_bytes_of rec.dst)) line.dest) in
+    ap (λ a. sides a (kept_bytes_begin_with (take node.source_bytes (depth_bytes_of rec.src)) line.source)) source.0
     ∙ ap (λ c. sides (nat_le node.source_bytes (length line.source)) c) source.1
     ∙ ap (λ b. shape (nat_le node.source_bytes (length line.source)) b (nat_le (length line.source) node.source_bytes)
-    (begins_with (take node.dest_bytes (depth_bytes_of rec.dst)) line.dest)) dest.0
+    (kept_bytes_begin_with (take node.dest_bytes (depth_bytes_of rec.dst)) line.dest)) dest.0
     ∙ ap (λ d. shape (nat_le node.source_bytes (length line.source)) (nat_le node.dest_bytes (length line.dest))
     (nat_le (length line.source) node.source_bytes) d) dest.1
     ∙ more_depth_on_either_side node.source_bytes node.dest_bytes (length line.source) (length line.dest)

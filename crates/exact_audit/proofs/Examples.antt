@@ -12,7 +12,8 @@ use Rattle.exact_audit.specs.declared.depths.Depths.{Depths}
 use Rattle.exact_audit.specs.declared.counted.Counted.{Counted}
 use Rattle.exact_audit.specs.declared.left_out.LeftOut.{LeftOut}
 use Rattle.exact_audit.specs.declared.verdict.Verdict.TheVariants.{BadPositions, BadTotal, BadThreshold, BadInterval}
-use Rattle.exact_audit.specs.Verdict.{IsLeftOut, IsVerdict}
+use Rattle.exact_audit.specs.LeftOut.{IsLeftOut}
+use Rattle.exact_audit.specs.Verdict.{IsVerdict}
 use Rattle.exact_audit.specs.Depths.{reaches_depth, explained_by_depth}
 use Rattle.exact_audit.specs.NodeSums.{node_sum_weight, node_sum_left}
 use Rattle.exact_audit.specs.Findings.{first_finding_with}

@@ -8,7 +8,7 @@ use Rattle.hhh_output.specs.declared.line.Line.{Line}
 use Rattle.hhh_output.specs.{prefixes_of_lines}
 use Rattle.exact_audit.specs.declared.node_sums.Sums.{Sums}
 use Rattle.exact_audit.specs.declared.left_out.LeftOut.{LeftOut}
-use Rattle.exact_audit.specs.Verdict.{IsLeftOut}
+use Rattle.exact_audit.specs.LeftOut.{IsLeftOut}
 use Rattle.exact_audit.specs.Findings.{AreFindingSumsBefore, AreFindingSums, IsFirstFindingBefore, IsFirstFinding}
 use Rattle.exact_audit.proofs.LeftOutLemmas.{IsFirstFinding-same_left_out}
 

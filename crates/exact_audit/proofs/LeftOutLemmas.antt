@@ -13,16 +13,18 @@ use Rattle.std.specs.declared.cmp.Ordering.TheVariants.{Less, Equal, Greater}
 use Rattle.std.proofs.lemmas.Bool.{false≢true, eqb-true, eq-eqb, or_cases, or_left, or_right, cases_lt, cond_both}
 use Rattle.std.proofs.lemmas.Bool.{true_from_ne_false}
 use Rattle.std.proofs.lemmas.List.Folds.{list_any_more}
-use Rattle.prefix_lattice.specs.{RecordValue, NodeValue, IsNode, node_index, node_at, PrefixValue, IsPrefix, HasPrefixKey}
+use Rattle.prefix_lattice.specs.{RecordValue, NodeValue, IsNode, node_index, node_at, PrefixValue, IsPrefix}
+use Rattle.prefix_lattice.specs.{HasPrefixKey}
 use Rattle.prefix_lattice.specs.{node_of_prefix, prefix_key}
 use Rattle.prefix_lattice.specs.{report_order, conditioned_weight}
 use Rattle.prefix_lattice.proofs.NodePlaceLemmas.{node_at_own_place}
 use Rattle.exact_audit.specs.declared.node_sums.Sums.{Sums}
 use Rattle.exact_audit.specs.declared.left_out.LeftOut.{LeftOut}
-use Rattle.exact_audit.specs.Verdict.{IsLeftOut}
+use Rattle.exact_audit.specs.LeftOut.{IsLeftOut}
 use Rattle.exact_audit.specs.LineCodes.{line_code_of, AreLineCodes}
 use Rattle.exact_audit.specs.NodeSums.{no_sums, sums_for, sums_of, AreNodeSums}
-use Rattle.exact_audit.specs.Findings.{first_finding_by, first_finding_with, IsFirstFinding, IsFirstFindingBefore, IsFirstFindingWith}
+use Rattle.exact_audit.specs.Findings.{first_finding_by, first_finding_with, IsFirstFinding, IsFirstFindingBefore}
+use Rattle.exact_audit.specs.Findings.{IsFirstFindingWith}
 use Rattle.exact_audit.proofs.DepthLemmas.{coded_depth_has_line, uncoded_depth_has_no_line}
 
 -- the first of those that meet a condition is the first of those that meet another one that comes to the same

@@ -11,13 +11,13 @@ use Rattle.hhh_output.specs.{prefixes_of_lines}
 use Rattle.prefix_lattice.specs.{RecordValue, node_index, node_of_prefix}
 use Rattle.exact_audit.specs.declared.node_sums.Sums.{Sums}
 use Rattle.exact_audit.specs.NodeSums.{sums_of}
-use Rattle.exact_audit.specs.Verdict.{IsFirstFailing}
+use Rattle.exact_audit.specs.LineTests.{IsFirstFailingLine}
 use Rattle.exact_audit.specs.Findings.{AreFindingSums}
 
 -- a line that fails after those that pass
 pub line_test_fails_after_passes : (Passes : Line → Type 0) (lines : List Line) (place : ℕ) (line : Line) → place < length lines
     → line ≡ get_or lines place line → ¬ Passes line → All Passes (take place lines)
-    → IsFirstFailing Passes lines (place + 1)
+    → IsFirstFailingLine Passes lines (place + 1)
 line_test_fails_after_passes Passes lines place line within at fails passed = record {
   before = place;
   counted = refl;

@@ -6,13 +6,15 @@ use Rattle.std.specs.HashMap.{HashMap}
 use Rattle.std.proofs.lemmas.Bool.{false≢true, eqb-true}
 use Rattle.std.proofs.lemmas.List.Elements.{All-head, All-tail}
 use Rattle.std.proofs.lemmas.List.Sums.{sum_by-cons, sum_by_more, sum_by-take-le}
-use Rattle.prefix_lattice.specs.{RecordValue, NodeValue, IsNode, PrefixValue, IsPrefix, HasPrefixKey, covers, node_of_prefix}
+use Rattle.prefix_lattice.specs.{RecordValue, NodeValue, IsNode, PrefixValue, IsPrefix, HasPrefixKey, covers}
+use Rattle.prefix_lattice.specs.{node_of_prefix}
 use Rattle.prefix_lattice.specs.{prefix_key, prefix_at}
 use Rattle.prefix_lattice.specs.{prefix_weight, total_weight, conditioned_weight, one_line_covers, lines_under}
 use Rattle.exact_audit.specs.declared.counted.Counted.{Counted}
 use Rattle.exact_audit.specs.declared.node_sums.Sums.{Sums}
 use Rattle.exact_audit.specs.Depths.{AreDepths, explained_by_depth}
-use Rattle.exact_audit.specs.NodeSums.{records_in_node_sums, AreCountedInNodeSums, has_node_sum_key, node_sum_weight, node_sum_left, sums_for, AreNodeKeySums}
+use Rattle.exact_audit.specs.NodeSums.{records_in_node_sums, AreCountedInNodeSums, has_node_sum_key, node_sum_weight}
+use Rattle.exact_audit.specs.NodeSums.{node_sum_left, sums_for, AreNodeKeySums}
 use Rattle.exact_audit.specs.NodeSums.{AreNodeSums}
 use Rattle.exact_audit.proofs.DepthLemmas.{explained_by_depths}
 

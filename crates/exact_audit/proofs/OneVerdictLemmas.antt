@@ -13,19 +13,23 @@ use Rattle.prefix_lattice.specs.{RecordValue, PrefixValue, IsPrefix, report_orde
 use Rattle.shard_state.specs.{records_before_cut}
 use Rattle.hhh_output.specs.declared.line.Line.{Line}
 use Rattle.hhh_output.specs.declared.report.Report.{Report}
-use Rattle.hhh_output.specs.{AreSoundPositions, IsThreshold, HoldsWeightInSoundReport, IsNarrowInSoundReport, IsHeavyInSoundReport, AreCompleteInSoundReport}
+use Rattle.hhh_output.specs.{AreWithinListsInSoundReport, IsThreshold, HoldsWeightInSoundReport, IsNarrowInSoundReport}
+use Rattle.hhh_output.specs.{IsHeavyInSoundReport, AreCompleteInSoundReport}
 use Rattle.hhh_output.specs.{prefixes_of_lines}
 use Rattle.exact_audit.specs.declared.verdict.Verdict.{Verdict}
 use Rattle.exact_audit.specs.declared.verdict.Verdict.TheVariants.{Good, BadPositions, BadTotal, BadThreshold}
 use Rattle.exact_audit.specs.declared.verdict.Verdict.TheVariants.{BadInterval, TooWide, LowLine, NotJustified, LeftOut}
-use Rattle.exact_audit.specs.Verdict.{IsFirstFailing, IsFirstLeftOut, IsVerdict, IsTotal, TestedBy}
-use Rattle.exact_audit.specs.Verdict.{HoldWeights, AreNarrowLines, AreHeavyLines, AreJustified, IsJustifiedAmong}
-use Rattle.exact_audit.specs.Verdict.{PassesHead}
+use Rattle.exact_audit.specs.LineTests.{IsFirstFailingLine, LineTestMeasures}
+use Rattle.exact_audit.specs.LeftOut.{IsFirstLeftOut}
+use Rattle.exact_audit.specs.Verdict.{IsVerdict, IsTotalForVerdict}
+use Rattle.exact_audit.specs.LineTests.{LinesPassWeightTest, LinesPassWidthTest, LinesPassHeavyTest}
+use Rattle.exact_audit.specs.LineTests.{LinesPassJustifiedTest, LinePassesJustifiedTest}
+use Rattle.exact_audit.specs.Verdict.{VerdictReachesLines}
 use Rattle.exact_audit.proofs.VerdictLemmas.{no_verdict_where_all_pass}
 
 -- two first lines that fail a test are one
-one_verdict_names_one_line : (Passes : Line → Type 0) (lines : List Line) (number other : ℕ) → IsFirstFailing Passes lines number
-    → IsFirstFailing Passes lines other → number ≡ other
+one_verdict_names_one_line : (Passes : Line → Type 0) (lines : List Line) (number other : ℕ) → IsFirstFailingLine Passes lines number
+    → IsFirstFailingLine Passes lines other → number ≡ other
 one_verdict_names_one_line Passes lines number other is other_is =
     ⊎_elim (λ (same : is.before ≡ other_is.before). omega (arith, same, is.counted, other_is.counted))
     (λ (apart : (is.before < other_is.before) ⊎ (other_is.before < is.before)).
@@ -33,8 +37,8 @@ one_verdict_names_one_line Passes lines number other is other_is =
     (λ (more : other_is.before < is.before). absurd (earlier other number other_is is more)) apart)
     (cases_order is.before other_is.before)
   where
-    earlier : (number other : ℕ) (is : IsFirstFailing Passes lines number)
-        (other_is : IsFirstFailing Passes lines other)
+    earlier : (number other : ℕ) (is : IsFirstFailingLine Passes lines number)
+        (other_is : IsFirstFailingLine Passes lines other)
         → is.before < other_is.before → ⊥
     earlier number other is other_is less =
         let within = slice_get_within lines other_is.before other_is.line other_is.is in
@@ -74,7 +78,7 @@ record OneVerdictSubject : Type 0 where
   pub report : Report
 
 -- what the tests of lines are made with
-abbrev one_verdict_tested_by : OneVerdictSubject → TestedBy
+abbrev one_verdict_tested_by : OneVerdictSubject → LineTestMeasures
 one_verdict_tested_by of = record { capacity = of.capacity; threshold = of.report.threshold; total = of.report.total }
 
 -- the records that the report counts
@@ -83,13 +87,13 @@ one_verdict_records of = records_before_cut of.lists of.report.positions
 
 -- the tests in their order; there is no ninth
 abbrev OneVerdictTest : OneVerdictSubject → ℕ → Type 0
-OneVerdictTest of zero = AreSoundPositions of.report.positions of.lists
-OneVerdictTest of (suc zero) = IsTotal of.lists of.report
+OneVerdictTest of zero = AreWithinListsInSoundReport of.report.positions of.lists
+OneVerdictTest of (suc zero) = IsTotalForVerdict of.lists of.report
 OneVerdictTest of (suc (suc zero)) = IsThreshold of.phi of.report.total of.report.threshold
-OneVerdictTest of (suc (suc (suc zero))) = HoldWeights (one_verdict_records of) of.report.lines
-OneVerdictTest of (suc (suc (suc (suc zero)))) = AreNarrowLines (one_verdict_tested_by of) of.report.lines
-OneVerdictTest of (suc (suc (suc (suc (suc zero))))) = AreHeavyLines (one_verdict_tested_by of) of.report.lines
-OneVerdictTest of (suc (suc (suc (suc (suc (suc zero)))))) = AreJustified (one_verdict_tested_by of) (one_verdict_records of) of.report.lines
+OneVerdictTest of (suc (suc (suc zero))) = LinesPassWeightTest (one_verdict_records of) of.report.lines
+OneVerdictTest of (suc (suc (suc (suc zero)))) = LinesPassWidthTest (one_verdict_tested_by of) of.report.lines
+OneVerdictTest of (suc (suc (suc (suc (suc zero))))) = LinesPassHeavyTest (one_verdict_tested_by of) of.report.lines
+OneVerdictTest of (suc (suc (suc (suc (suc (suc zero)))))) = LinesPassJustifiedTest (one_verdict_tested_by of) (one_verdict_records of) of.report.lines
 OneVerdictTest of (suc (suc (suc (suc (suc (suc (suc zero))))))) =
     AreCompleteInSoundReport of.report.threshold (prefixes_of_lines of.report.lines) (one_verdict_records of)
 OneVerdictTest of (suc (suc (suc (suc (suc (suc (suc (suc n)))))))) = ⊥
@@ -114,7 +118,7 @@ tests_before_one_verdict Good = 8
 abbrev IsOneVerdictOn : OneVerdictSubject → Verdict → Type 0
 IsOneVerdictOn of verdict = IsVerdict of.lists of.capacity of.phi of.report verdict
 
-one_verdict_passes_head : (of : OneVerdictSubject) → PassesHead of.lists of.phi of.report → OneVerdictTestsHold of 3
+one_verdict_passes_head : (of : OneVerdictSubject) → VerdictReachesLines of.lists of.phi of.report → OneVerdictTestsHold of 3
 one_verdict_passes_head of passes = (((tt, passes.positions), passes.total), passes.threshold)
 
 -- the tests before the one that fails hold
@@ -144,7 +148,7 @@ test_fails_at_one_verdict of (TooWide number) is =
 test_fails_at_one_verdict of (LowLine number) is = λ all. no_verdict_where_all_pass (IsHeavyInSoundReport of.report.threshold) of.report.lines number all
     is.lines.2
 test_fails_at_one_verdict of (NotJustified number) is =
-    λ all. no_verdict_where_all_pass (IsJustifiedAmong (one_verdict_tested_by of) (one_verdict_records of) of.report.lines) of.report.lines number all
+    λ all. no_verdict_where_all_pass (LinePassesJustifiedTest (one_verdict_tested_by of) (one_verdict_records of) of.report.lines) of.report.lines number all
     is.lines.3
 test_fails_at_one_verdict of (LeftOut prefix weight) is = λ complete.
     let out = is.lines.4.left_out in
@@ -187,7 +191,7 @@ one_verdict_at_one_test order apart of (TooWide number) (TooWide other) is other
 one_verdict_at_one_test order apart of (LowLine number) (LowLine other) is other_is same =
     ap LowLine (one_verdict_names_one_line (IsHeavyInSoundReport of.report.threshold) of.report.lines number other is.lines.2 other_is.lines.2)
 one_verdict_at_one_test order apart of (NotJustified number) (NotJustified other) is other_is same =
-    ap NotJustified (one_verdict_names_one_line (IsJustifiedAmong (one_verdict_tested_by of) (one_verdict_records of) of.report.lines) of.report.lines
+    ap NotJustified (one_verdict_names_one_line (LinePassesJustifiedTest (one_verdict_tested_by of) (one_verdict_records of) of.report.lines) of.report.lines
     number other
     is.lines.3 other_is.lines.3)
 one_verdict_at_one_test order apart of (LeftOut prefix weight) (LeftOut other more) is other_is same =

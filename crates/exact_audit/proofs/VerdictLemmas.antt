@@ -12,7 +12,9 @@ use Rattle.exact_audit.specs.declared.verdict.Verdict.{Verdict}
 use Rattle.exact_audit.specs.declared.verdict.Verdict.TheVariants.{Good, BadPositions, BadTotal, BadThreshold}
 use Rattle.exact_audit.specs.declared.verdict.Verdict.TheVariants.{BadInterval, TooWide, LowLine, NotJustified, LeftOut}
 use Rattle.exact_audit.specs.declared.left_out.LeftOut.{LeftOut as Left}
-use Rattle.exact_audit.specs.Verdict.{IsFirstFailing, IsLeftOut, IsFirstLeftOut, IsLineVerdict, PassesHead, IsVerdict}
+use Rattle.exact_audit.specs.LineTests.{IsFirstFailingLine}
+use Rattle.exact_audit.specs.LeftOut.{IsLeftOut, IsFirstLeftOut}
+use Rattle.exact_audit.specs.Verdict.{IsLineVerdict, VerdictReachesLines, IsVerdict}
 use Rattle.exact_audit.specs.Findings.{IsFirstFinding}
 
 -- a total has one threshold
@@ -41,7 +43,7 @@ verdict_leaves_out_none lines records threshold none prefix is no_line =
 
 -- the verdict on lines is that on a report whose first three tests hold
 pub verdict_from_lines : (lists : List (List RecordValue)) (capacity phi : ℕ) (report : Report) (verdict : Verdict)
-    → PassesHead lists phi report
+    → VerdictReachesLines lists phi report
     → IsLineVerdict (record { capacity = capacity; threshold = report.threshold; total = report.total })
     (records_before_cut lists report.positions) report.lines verdict
     → IsVerdict lists capacity phi report verdict
@@ -65,7 +67,7 @@ verdict_from_lines lists capacity phi report (NotJustified number) head lines = 
 verdict_from_lines lists capacity phi report (LeftOut prefix weight) head lines = record { head = head; lines = lines }
 
 -- where all lines pass a test, none is the first that fails it
-pub no_verdict_where_all_pass : (Passes : Line → Type 0) (lines : List Line) (number : ℕ) → All Passes lines → IsFirstFailing Passes
+pub no_verdict_where_all_pass : (Passes : Line → Type 0) (lines : List Line) (number : ℕ) → All Passes lines → IsFirstFailingLine Passes
     lines number → ⊥
 no_verdict_where_all_pass Passes lines number all first =
     first.fails (subst Passes (get_or_from_slice_get lines first.before first.line first.line first.is)

@@ -10,7 +10,7 @@ use Rattle.exact_audit.specs.declared.node_sums.Sums.{Sums}
 use Rattle.exact_audit.specs.declared.left_out.LeftOut.{LeftOut}
 use Rattle.exact_audit.specs.declared.findings.Findings.{Findings}
 use Rattle.exact_audit.specs.NodeSums.{sums_of}
-use Rattle.exact_audit.specs.Verdict.{IsLeftOut}
+use Rattle.exact_audit.specs.LeftOut.{IsLeftOut}
 
 -- as many sums as lines, and those of each line of the nodes before an index
 pub record AreFindingSumsBefore (index : ℕ) (lines : List Line) (records : List RecordValue) (sums : List Sums) : Type 0

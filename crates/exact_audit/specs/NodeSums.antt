@@ -3,7 +3,8 @@
 use Rattle.std.specs.Prelude.{ℕ, ◌≡◌, ◌==◌, ◌&&◌, not, nat_eq, Bool, List, map, sum_by, All, unwrap_or, is_some, true}
 use Rattle.std.specs.Prelude.{if◌then◌else◌}
 use Rattle.std.specs.HashMap.{HashMap, get}
-use Rattle.prefix_lattice.specs.{RecordValue, NodeValue, PrefixValue, IsPrefix, IsPrefixKey, node_of_prefix, prefix_key, prefix_at}
+use Rattle.prefix_lattice.specs.{RecordValue, NodeValue, PrefixValue, IsPrefix, IsPrefixKey, node_of_prefix, prefix_key}
+use Rattle.prefix_lattice.specs.{prefix_at}
 use Rattle.prefix_lattice.specs.{prefix_weight, conditioned_weight}
 use Rattle.exact_audit.specs.declared.counted.Counted.{Counted}
 use Rattle.exact_audit.specs.declared.node_sums.Sums.{Sums}

@@ -2,9 +2,10 @@
 
 ghost use Rattle.std.specs.Prelude.{◌≡◌, ◌<◌, ◌≤◌, ◌*◌, IfOk, length};
 ghost use Rattle.std.specs.List.{filter_map, list_any};
-ghost use Rattle.prefix_lattice.specs.{strictly_under, lines_under, greatest_lines, closest, same_prefix, under_third_line, kept_meet, kept_pairs};
+ghost use Rattle.prefix_lattice.specs.{strictly_under, lines_under, greatest_lines, closest, same_in_lattice};
+ghost use Rattle.prefix_lattice.specs.{is_under_third_beside_pair, kept_pair_meet, kept_pairs};
 ghost use Rattle.hhh_output.specs.{prefixes_of_lines};
-ghost use Rattle.exact_audit.specs.Widths.{widths_limit};
+ghost use Rattle.exact_audit.specs.Widths.{widths_line_limit};
 
 use hhh_output::Line;
 use prefix_lattice::Prefix;
@@ -61,9 +62,9 @@ fn is_under_another(member: &Prefix, members: &[Prefix]) -> bool
 /// How many pairs of members are kept: those whose meet exists and is under no third member. It costs up to the cube
 /// of the number of members.
 pub(crate) fn count_kept_pairs(members: &[Prefix]) -> u64
-    requires { length members.now < widths_limit }
+    requires { length members.now < widths_line_limit }
     ensures number { result ≡ length (kept_pairs members.now) }
-    ensures few { result ≤ widths_limit * widths_limit }
+    ensures few { result ≤ widths_line_limit * widths_line_limit }
 {
     let mut pairs = 0;
     for (place, first) in members.iter().enumerate() {
@@ -74,8 +75,8 @@ pub(crate) fn count_kept_pairs(members: &[Prefix]) -> u64
 
 // How many pairs of one member with each of these others are kept.
 fn count_kept_with(members: &[Prefix], first: &Prefix, seconds: &[Prefix]) -> u64
-    requires { length seconds.now < widths_limit }
-    ensures number { result ≡ length (filter_map (kept_meet members.now first.now) seconds.now) }
+    requires { length seconds.now < widths_line_limit }
+    ensures number { result ≡ length (filter_map (kept_pair_meet members.now first.now) seconds.now) }
     ensures few { result ≤ length seconds.now }
 {
     let mut pairs = 0;
@@ -89,7 +90,7 @@ fn count_kept_with(members: &[Prefix], first: &Prefix, seconds: &[Prefix]) -> u6
 
 // The meet of a pair, if the pair is kept.
 fn kept_meet(members: &[Prefix], first: &Prefix, second: &Prefix) -> Option<Prefix>
-    ensures { result ≡ kept_meet members.now first.now second.now }
+    ensures { result ≡ kept_pair_meet members.now first.now second.now }
 {
     let meet = first.meet(second)?;
     if is_under_third(members, first, second, &meet) {
@@ -100,7 +101,7 @@ fn kept_meet(members: &[Prefix], first: &Prefix, second: &Prefix) -> Option<Pref
 }
 
 fn is_under_third(members: &[Prefix], first: &Prefix, second: &Prefix, meet: &Prefix) -> bool
-    ensures { result ≡ under_third_line members.now first.now second.now meet.now }
+    ensures { result ≡ is_under_third_beside_pair members.now first.now second.now meet.now }
 {
     members.iter().any(|third| meet.under(third)
         && !(is_same(third, first) || is_same(third, second)))
@@ -108,7 +109,7 @@ fn is_under_third(members: &[Prefix], first: &Prefix, second: &Prefix, meet: &Pr
 
 // Whether two prefixes are the same: each is under the other.
 fn is_same(prefix: &Prefix, other: &Prefix) -> bool
-    ensures { result ≡ same_prefix prefix.now other.now }
+    ensures { result ≡ same_in_lattice prefix.now other.now }
 {
     prefix.under(other) && other.under(prefix)
 }

@@ -1,9 +1,9 @@
 //! The records that a report counts.
 
 ghost use Rattle.std.specs.Prelude.{◌≡◌, ◌≤◌, ◌<◌, ◌*◌, ◌^◌, ◌++◌, ◌↔◌, List, length, All, IsTrue, IfOk, OnOk};
-ghost use Rattle.prefix_lattice.specs.{PrefixValue, RecordValue, total_weight, total_limit, most_records};
+ghost use Rattle.prefix_lattice.specs.{PrefixValue, RecordValue, total_weight, total_limit, record_limit};
 ghost use Rattle.shard_state.specs.{records_before_cut};
-ghost use Rattle.hhh_output.specs.{AreSoundPositions};
+ghost use Rattle.hhh_output.specs.{AreWithinListsInSoundReport};
 ghost use Rattle.exact_audit.specs.LineCodes.{AreLineCodes};
 ghost use Rattle.exact_audit.specs.NodeSums.{AreCountedInNodeSums};
 ghost use Rattle.exact_audit.specs.CountedParts.{counted_part_at};
@@ -24,7 +24,7 @@ pub(crate) struct Counted {
 
 /// Whether there are as many positions as shards, and none is past the end of its shard's records.
 pub(crate) fn are_within(dealt: &Dealt, positions: &Positions) -> bool
-    ensures { IsTrue result ↔ AreSoundPositions positions.now dealt.now }
+    ensures { IsTrue result ↔ AreWithinListsInSoundReport positions.now dealt.now }
 {
     if positions.len() != dealt.shards() as usize {
         return false;
@@ -39,7 +39,7 @@ pub(crate) fn are_within(dealt: &Dealt, positions: &Positions) -> bool
 
 /// The weight of the records before positions.
 pub(crate) fn total_before(dealt: &Dealt, positions: &Positions) -> u64
-    requires { AreSoundPositions positions.now dealt.now }
+    requires { AreWithinListsInSoundReport positions.now dealt.now }
     ensures total { result ≡ total_weight (records_before_cut dealt.now positions.now) }
     ensures bounded { result < total_limit }
 {
@@ -57,7 +57,7 @@ pub(crate) fn count_before(
     positions: &Positions,
     lines: &LineCodes,
 ) -> Result<Vec<Counted>, AllocError>
-    requires { AreSoundPositions positions.now dealt.now }
+    requires { AreWithinListsInSoundReport positions.now dealt.now }
     ensures { IfOk result (λ counted. (prefixes : List PrefixValue) → AreLineCodes prefixes lines.now.codes.keys
         → AreCountedInNodeSums prefixes (records_before_cut dealt.now positions.now) counted.items) }
 {
@@ -70,10 +70,10 @@ pub(crate) fn count_before(
 
 // The records of a shard before its position.
 fn part<'a>(dealt: &'a Dealt, positions: &Positions, shard: u32) -> &'a [Record]
-    requires within { AreSoundPositions positions.now dealt.now }
+    requires within { AreWithinListsInSoundReport positions.now dealt.now }
     requires shard { shard < length dealt.now }
     ensures value { result.now ≡ counted_part_at dealt.now positions.now shard }
-    ensures few { length result.now ≤ most_records }
+    ensures few { length result.now ≤ record_limit }
     ensures light { All (λ rec. rec.weight < 2 ^ 32) result.now }
 {
     let records = dealt.list(shard).as_slice();
@@ -82,7 +82,7 @@ fn part<'a>(dealt: &'a Dealt, positions: &Positions, shard: u32) -> &'a [Record]
 
 // The weight of some records.
 fn total_of(records: &[Record]) -> u64
-    requires few { length records.now ≤ most_records }
+    requires few { length records.now ≤ record_limit }
     requires light { All (λ rec. rec.weight < 2 ^ 32) records.now }
     ensures total { result ≡ total_weight records.now }
     ensures bounded { result ≤ length records.now * 2 ^ 32 }

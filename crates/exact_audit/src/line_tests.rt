@@ -3,9 +3,11 @@
 ghost use Rattle.std.specs.Prelude.{◌≡◌, ◌+◌, ◌*◌, ◌≤◌, ◌<◌, ◌^◌, ◌↔◌, List, length, All, IsTrue, IfOk};
 ghost use Rattle.prefix_lattice.specs.{RecordValue, IntervalHoldsWeight, total_weight, total_limit};
 ghost use Rattle.shard_state.specs.{most_table_capacity};
-ghost use Rattle.hhh_output.specs.{HoldsWeightInSoundReport, IsHeavyInSoundReport, IsNarrowInSoundReport, prefixes_of_lines};
-ghost use Rattle.exact_audit.specs.Verdict.{IsFirstFailure, IsJustifiedAmong};
-ghost use Rattle.exact_audit.specs.Widths.{widths_limit, tested_by_widths, widths_of};
+ghost use Rattle.hhh_output.specs.{HoldsWeightInSoundReport, IsHeavyInSoundReport, IsNarrowInSoundReport};
+ghost use Rattle.hhh_output.specs.{prefixes_of_lines};
+ghost use Rattle.exact_audit.specs.LineTests.{IsLineTestResult, LinePassesJustifiedTest};
+ghost use Rattle.exact_audit.specs.Widths.{widths_line_limit, widths_of};
+ghost use Rattle.exact_audit.specs.LineTests.{line_test_measures};
 ghost use Rattle.exact_audit.specs.Findings.{AreFindingSums};
 
 use crate::closest_lines::{closest, count_kept_pairs};
@@ -17,7 +19,7 @@ use std::alloc::{AllocError, Global};
 pub(crate) fn bad_interval(lines: &[Line], sums: &[Sums]) -> Option<u64>
     requires { length sums.now ≡ length lines.now }
     ensures { (records : List RecordValue) → AreFindingSums lines.now records sums.now
-        → IsFirstFailure (HoldsWeightInSoundReport records) lines.now result }
+        → IsLineTestResult (HoldsWeightInSoundReport records) lines.now result }
 {
     for (place, line) in lines.iter().enumerate() {
         if !holds(line, sums[place].weight) {
@@ -37,7 +39,7 @@ fn holds(line: &Line, weight: u64) -> bool
 /// The first line whose interval's width times the capacity is above the total.
 pub(crate) fn too_wide(lines: &[Line], capacity: u32, total: u64) -> Option<u64>
     requires { All (λ line. line.lo ≤ line.hi) lines.now }
-    ensures { IsFirstFailure (IsNarrowInSoundReport capacity total) lines.now result }
+    ensures { IsLineTestResult (IsNarrowInSoundReport capacity total) lines.now result }
 {
     for (place, line) in lines.iter().enumerate() {
         if u128::from(line.hi - line.lo) * u128::from(capacity) > u128::from(total) {
@@ -49,7 +51,7 @@ pub(crate) fn too_wide(lines: &[Line], capacity: u32, total: u64) -> Option<u64>
 
 /// The first line whose high is below the threshold.
 pub(crate) fn low_line(lines: &[Line], threshold: u64) -> Option<u64>
-    ensures { IsFirstFailure (IsHeavyInSoundReport threshold) lines.now result }
+    ensures { IsLineTestResult (IsHeavyInSoundReport threshold) lines.now result }
 {
     for (place, line) in lines.iter().enumerate() {
         if line.hi < threshold {
@@ -74,13 +76,13 @@ pub(crate) fn not_justified(
     sums: &[Sums],
     by: &Measures,
 ) -> Result<Option<u64>, AllocError>
-    requires few { length lines.now < widths_limit }
+    requires few { length lines.now < widths_line_limit }
     requires as_many { length sums.now ≡ length lines.now }
     requires capacity { by.now.capacity ≤ most_table_capacity }
     requires total { by.now.total < total_limit }
     ensures { IfOk result (λ found. (records : List RecordValue) → AreFindingSums lines.now records sums.now
         → total_weight records ≡ by.now.total
-        → IsFirstFailure (IsJustifiedAmong (tested_by_widths by.now) records lines.now) lines.now found) }
+        → IsLineTestResult (LinePassesJustifiedTest (line_test_measures by.now) records lines.now) lines.now found) }
 {
     for (place, line) in lines.iter().enumerate() {
         if !is_justified(alloc, line, lines, sums[place].left, by)? {
@@ -99,7 +101,7 @@ fn is_justified(
     left: u64,
     by: &Measures,
 ) -> Result<bool, AllocError>
-    requires few { length lines.now < widths_limit }
+    requires few { length lines.now < widths_line_limit }
     requires capacity { by.now.capacity ≤ most_table_capacity }
     requires total { by.now.total < total_limit }
     ensures { IfOk result (λ justified. IsTrue justified ↔ (by.now.capacity * by.now.threshold ≤ by.now.capacity * left

@@ -1,9 +1,11 @@
 //! The sums of one node.
 
-ghost use Rattle.std.specs.Prelude.{◌≡◌, ◌+◌, ◌<◌, ◌^◌, ℕ, List, nat_eq, is_some, if◌then◌else◌, ◌&&◌, ◌||◌, not, IfOk, OnOk};
+ghost use Rattle.std.specs.Prelude.{◌≡◌, ◌+◌, ◌<◌, ◌^◌, ℕ, List, nat_eq, is_some, if◌then◌else◌, ◌&&◌, ◌||◌, not, IfOk};
+ghost use Rattle.std.specs.Prelude.{OnOk};
 ghost use Rattle.std.specs.HashMap.{get};
 ghost use Rattle.prefix_lattice.specs.{IsNode, PrefixValue, RecordValue, total_weight, total_limit};
-ghost use Rattle.exact_audit.specs.NodeSums.{AreCountedInNodeSums, AreNodeSums, HasNodeSumKeys, records_in_node_sums, sums_for};
+ghost use Rattle.exact_audit.specs.NodeSums.{AreCountedInNodeSums, AreNodeSums, HasNodeSumKeys, records_in_node_sums};
+ghost use Rattle.exact_audit.specs.NodeSums.{sums_for};
 
 use crate::counted::Counted;
 use indexmap::IndexMap;

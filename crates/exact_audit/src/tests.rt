@@ -1,5 +1,5 @@
 ghost use Rattle.std.specs.Prelude.{◌≡◌, ◌%◌, ◌≤◌};
-ghost use Rattle.deal_rules.specs.{IsAskedOfRule};
+ghost use Rattle.deal_rules.specs.{IsAskedOfDealRule};
 ghost use Rattle.shard_state.specs.{least_table_capacity, most_table_capacity};
 ghost use Rattle.hhh_output.specs.{threshold_million};
 
@@ -41,7 +41,7 @@ const ELEVEN: [Sent; 11] = [
 ];
 
 fn in_turn(place: u64, rec: Record, shards: u32) -> u32
-    requires { IsAskedOfRule place rec shards }
+    requires { IsAskedOfDealRule place rec shards }
     ensures { result ≡ place % shards }
 {
     (place % u64::from(shards)) as u32

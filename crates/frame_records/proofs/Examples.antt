@@ -2,9 +2,11 @@
 use Rattle.std.proofs.Common.{◌≡◌, ℕ, true, false, List, [], ◌∷◌, ◌++◌, take, length, Some, None, Ok, Err, refl}
 use Rattle.prefix_lattice.specs.{RecordValue}
 use Rattle.pcap_frames.specs.{FrameValue}
-use Rattle.frame_records.specs.FrameRecord.{frame_has_tag_at, frame_tag_bytes, frame_network_place, frame_begins_ipv4, frame_skip_at, frame_skip_of}
-use Rattle.frame_records.specs.FrameRecord.{weight_of_frame, frame_record_at, frame_record_unless_skipped, record_of, frame_records_of}
-use Rattle.frame_records.specs.FrameRecord.{is_skipped_frame, skipped}
+use Rattle.frame_records.specs.FrameRecord.{frame_has_tag_at, frame_tag_bytes, frame_network_place, frame_begins_ipv4}
+use Rattle.frame_records.specs.FrameRecord.{frame_skip_at, frame_skip_of}
+use Rattle.frame_records.specs.FrameRecord.{weight_of_frame, frame_record_at, frame_record_unless_skipped, record_of}
+use Rattle.frame_records.specs.FrameRecord.{frame_records_of}
+use Rattle.frame_records.specs.FrameRecord.{is_skipped_frame, skipped_frame_count}
 use Rattle.frame_records.specs.declared.weigh.Weigh.TheVariants.{Bytes, Packets}
 use Rattle.frame_records.specs.declared.skip.Skip.TheVariants.{NotIpv4, Short, BadHeader}
 
@@ -149,5 +151,5 @@ header_of_four_words = refl
 pub records_in_order : frame_records_of Packets (plain ∷ arp ∷ plain ∷ []) ≡ weighing 1 ∷ weighing 1 ∷ []
 records_in_order = refl
 
-pub one_is_skipped : skipped NotIpv4 (plain ∷ arp ∷ plain ∷ []) ≡ 1
+pub one_is_skipped : skipped_frame_count NotIpv4 (plain ∷ arp ∷ plain ∷ []) ≡ 1
 one_is_skipped = refl

@@ -8,8 +8,9 @@ use Rattle.std.proofs.lemmas.List.Elements.{filter_map-append}
 use Rattle.std.proofs.lemmas.List.Sums.{sum_by-append, count_by-le-length}
 use Rattle.prefix_lattice.specs.{RecordValue}
 use Rattle.pcap_frames.specs.{FrameValue}
-use Rattle.frame_records.specs.FrameRecord.{frame_skip_of, frame_network_place, frame_record_at, record_of, frame_record_unless_skipped}
-use Rattle.frame_records.specs.FrameRecord.{frame_records_of, is_skipped_frame, skipped}
+use Rattle.frame_records.specs.FrameRecord.{frame_skip_of, frame_network_place, frame_record_at, record_of}
+use Rattle.frame_records.specs.FrameRecord.{frame_record_unless_skipped}
+use Rattle.frame_records.specs.FrameRecord.{frame_records_of, is_skipped_frame, skipped_frame_count}
 use Rattle.frame_records.specs.Records.{AreRecordsOf}
 use Rattle.frame_records.specs.RecordVisitor.{capped_by_visitor, VisitorKeepsRecordsOf, visitor_after_frame}
 use Rattle.frame_records.specs.declared.weigh.Weigh.{Weigh}
@@ -24,10 +25,10 @@ record_visitor_counts_another p xs x = omega (arith, sum_by-append (λ y. cond (
 
 -- how many are skipped for a reason, with one more frame
 visitor_skips_another : (skip : Skip) (all : List FrameValue) (frame : FrameValue) (why : Option Skip) → frame_skip_of frame ≡ why
-    → skipped skip (all ++ frame ∷ []) ≡ skipped skip all + cond (is_skipped_frame skip why) 1 0
+    → skipped_frame_count skip (all ++ frame ∷ []) ≡ skipped_frame_count skip all + cond (is_skipped_frame skip why) 1 0
 visitor_skips_another skip all frame why is_why =
     record_visitor_counts_another (λ f. is_skipped_frame skip (frame_skip_of f)) all frame
-    ∙ ap (λ o. skipped skip all + cond (is_skipped_frame skip o) 1 0) is_why
+    ∙ ap (λ o. skipped_frame_count skip all + cond (is_skipped_frame skip o) 1 0) is_why
 
 -- the records, with one more frame
 frame_records_of-more : (weigh : Weigh) (all : List FrameValue) (frame : FrameValue) (why : Option Skip) → frame_skip_of frame ≡ why
@@ -43,19 +44,19 @@ frame_records_of-more weigh all frame why is_why =
 -- a frame that isn't skipped for a reason leaves its capped count
 record_visitor_count_stays : (skip : Skip) (all : List FrameValue) (frame : FrameValue) (why : Option Skip) → frame_skip_of frame ≡ why
     → is_skipped_frame skip why ≡ false
-    → capped_by_visitor (skipped skip all) ≡ capped_by_visitor (skipped skip (all ++ frame ∷ []))
+    → capped_by_visitor (skipped_frame_count skip all) ≡ capped_by_visitor (skipped_frame_count skip (all ++ frame ∷ []))
 record_visitor_count_stays skip all frame why is_why not_so =
-    let same : skipped skip (all ++ frame ∷ []) ≡ skipped skip all + 0 =
-    visitor_skips_another skip all frame why is_why ∙ ap (λ b. skipped skip all + cond b 1 0) not_so in
+    let same : skipped_frame_count skip (all ++ frame ∷ []) ≡ skipped_frame_count skip all + 0 =
+    visitor_skips_another skip all frame why is_why ∙ ap (λ b. skipped_frame_count skip all + cond b 1 0) not_so in
     omega arith
 
 -- one that is skipped for it adds one to it
 record_visitor_count_grows : (skip : Skip) (all : List FrameValue) (frame : FrameValue) (why : Option Skip) → frame_skip_of frame ≡ why
     → is_skipped_frame skip why ≡ true
-    → capped_by_visitor (capped_by_visitor (skipped skip all) + 1) ≡ capped_by_visitor (skipped skip (all ++ frame ∷ []))
+    → capped_by_visitor (capped_by_visitor (skipped_frame_count skip all) + 1) ≡ capped_by_visitor (skipped_frame_count skip (all ++ frame ∷ []))
 record_visitor_count_grows skip all frame why is_why so =
-    let more : skipped skip (all ++ frame ∷ []) ≡ skipped skip all + 1 =
-    visitor_skips_another skip all frame why is_why ∙ ap (λ b. skipped skip all + cond b 1 0) so in
+    let more : skipped_frame_count skip (all ++ frame ∷ []) ≡ skipped_frame_count skip all + 1 =
+    visitor_skips_another skip all frame why is_why ∙ ap (λ b. skipped_frame_count skip all + cond b 1 0) so in
     omega arith
 
 -- every frame adds one to the capped count of frames
@@ -122,7 +123,7 @@ OnOk-record_visitor_implies (Err e) P Q follows holds = tt
 pub record_visitor_counts_exactly : (weigh : Weigh) (all : List FrameValue) (records : Records) → length all ≤ 16777216
     → VisitorKeepsRecordsOf weigh all records → AreRecordsOf weigh all records
 record_visitor_counts_exactly weigh all records few kept =
-    let exact : (skip : Skip) → capped_by_visitor (skipped skip all) ≡ skipped skip all =
+    let exact : (skip : Skip) → capped_by_visitor (skipped_frame_count skip all) ≡ skipped_frame_count skip all =
     λ skip. omega (arith, count_by-le-length (λ f. is_skipped_frame skip (frame_skip_of f)) all) in
     record {
       list = kept.list;

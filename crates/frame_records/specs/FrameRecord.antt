@@ -77,5 +77,5 @@ is_skipped_frame BadHeader (Some BadHeader) = true
 is_skipped_frame _ _ = false
 
 -- how many of some frames are skipped for this reason
-abbrev pub skipped : Skip → List FrameValue → ℕ
-skipped skip frames = count_by (λ frame. is_skipped_frame skip (frame_skip_of frame)) frames
+abbrev pub skipped_frame_count : Skip → List FrameValue → ℕ
+skipped_frame_count skip frames = count_by (λ frame. is_skipped_frame skip (frame_skip_of frame)) frames

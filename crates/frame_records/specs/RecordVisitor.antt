@@ -3,7 +3,7 @@ use Rattle.std.specs.Prelude.{ℕ, ◌≡◌, ◌+◌, ◌-◌, ◌^◌, min, Bo
 use Rattle.std.specs.Prelude.{Ok, Err}
 use Rattle.prefix_lattice.specs.{RecordValue}
 use Rattle.pcap_frames.specs.{FrameValue}
-use Rattle.frame_records.specs.FrameRecord.{frame_records_of, skipped}
+use Rattle.frame_records.specs.FrameRecord.{frame_records_of, skipped_frame_count}
 use Rattle.frame_records.specs.declared.weigh.Weigh.{Weigh}
 use Rattle.frame_records.specs.declared.weigh.Weigh.TheVariants.{Bytes, Packets}
 use Rattle.frame_records.specs.declared.skip.Skip.{Skip}
@@ -11,9 +11,9 @@ use Rattle.frame_records.specs.declared.skip.Skip.TheVariants.{NotIpv4, Short, B
 use Rattle.frame_records.specs.declared.records.Records.{Records}
 
 -- how the visitor weighs traffic, as its type says: by packets or by bytes
-abbrev pub weigh_of_visitor : Bool → Weigh
-weigh_of_visitor true = Packets
-weigh_of_visitor false = Bytes
+abbrev pub visitor_weighing : Bool → Weigh
+visitor_weighing true = Packets
+visitor_weighing false = Bytes
 
 -- a count that stays at the greatest u64
 abbrev pub capped_by_visitor : ℕ → ℕ
@@ -23,9 +23,9 @@ capped_by_visitor count = min count (2 ^ 64 - 1)
 pub record VisitorKeepsRecordsOf (weigh : Weigh) (all : List FrameValue) (records : Records) : Type 0 where
   pub list : records.list ≡ frame_records_of weigh all
   pub frames : records.frames ≡ capped_by_visitor (length all)
-  pub not_ipv4 : records.not_ipv4 ≡ capped_by_visitor (skipped NotIpv4 all)
-  pub short : records.short ≡ capped_by_visitor (skipped Short all)
-  pub bad_header : records.bad_header ≡ capped_by_visitor (skipped BadHeader all)
+  pub not_ipv4 : records.not_ipv4 ≡ capped_by_visitor (skipped_frame_count NotIpv4 all)
+  pub short : records.short ≡ capped_by_visitor (skipped_frame_count Short all)
+  pub bad_header : records.bad_header ≡ capped_by_visitor (skipped_frame_count BadHeader all)
 
 -- the counts after one more skipped frame
 abbrev pub visitor_with_skip : Skip → Records → Records

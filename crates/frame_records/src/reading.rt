@@ -2,9 +2,9 @@
 
 ghost use Rattle.std.specs.Prelude.{◌≡◌, ◌≤◌, ◌<◌, vec_len, length, IfOk, IfErr, OnOk, OnErr, IsErrOf};
 ghost use Rattle.std.specs.Io.KnownBytes.{IsAtEnd};
-ghost use Rattle.frame_records.specs.Records.{HasRecords, HasRefused, HasReadFront};
-ghost use Rattle.frame_records.specs.RecordVisitor.{weigh_of_visitor};
-ghost use Rattle.prefix_lattice.specs.{most_records};
+ghost use Rattle.frame_records.specs.Records.{HasRecords, HasRefusedRecords, HasReadRecordsInPart};
+ghost use Rattle.frame_records.specs.RecordVisitor.{visitor_weighing};
+ghost use Rattle.prefix_lattice.specs.{record_limit};
 
 use crate::record_visitor::RecordVisitor;
 use crate::{Records, Weigh};
@@ -23,10 +23,10 @@ pub fn read_records<S: Source>(
     weigh: Weigh,
 ) -> Result<Records, ReadRefusal>
     ensures records { IfOk result (HasRecords weigh (S.left source.old)) }
-    ensures few { IfOk result (λ records. length records.list ≤ most_records) }
+    ensures few { IfOk result (λ records. length records.list ≤ record_limit) }
     ensures at_end { OnOk result (IsAtEnd (S.left source.new)) }
-    ensures refused { IfErr result (HasRefused (S.left source.old) (S.faults source.old) (S.faults source.new)) }
-    ensures front { OnErr result (HasReadFront (S.left source.old) (S.left source.new)) }
+    ensures refused { IfErr result (HasRefusedRecords (S.left source.old) (S.faults source.old) (S.faults source.new)) }
+    ensures front { OnErr result (HasReadRecordsInPart (S.left source.old) (S.left source.new)) }
     ensures later { S.faults source.old ≤ S.faults source.new }
     ensures told { (IsErrOf result ReadRefusal.ReadFault → ⊥) → S.faults source.new ≡ S.faults source.old }
 {
@@ -45,11 +45,11 @@ fn read_weighed<S: Source, const PACKETS: bool>(
     buffer: &mut [u8],
 ) -> Result<Records, ReadRefusal>
     requires { 0 < length buffer.old }
-    ensures records { IfOk result (HasRecords (weigh_of_visitor PACKETS) (S.left source.old)) }
-    ensures few { IfOk result (λ records. length records.list ≤ most_records) }
+    ensures records { IfOk result (HasRecords (visitor_weighing PACKETS) (S.left source.old)) }
+    ensures few { IfOk result (λ records. length records.list ≤ record_limit) }
     ensures at_end { OnOk result (IsAtEnd (S.left source.new)) }
-    ensures refused { IfErr result (HasRefused (S.left source.old) (S.faults source.old) (S.faults source.new)) }
-    ensures front { OnErr result (HasReadFront (S.left source.old) (S.left source.new)) }
+    ensures refused { IfErr result (HasRefusedRecords (S.left source.old) (S.faults source.old) (S.faults source.new)) }
+    ensures front { OnErr result (HasReadRecordsInPart (S.left source.old) (S.left source.new)) }
     ensures later { S.faults source.old ≤ S.faults source.new }
     ensures told { (IsErrOf result ReadRefusal.ReadFault → ⊥) → S.faults source.new ≡ S.faults source.old }
 {

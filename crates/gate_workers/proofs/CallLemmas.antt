@@ -8,15 +8,17 @@ use Rattle.std.proofs.lemmas.List.Elements.{All-nil, All-cons, All-append, All-h
 use Rattle.std.proofs.lemmas.List.{length-map, length-append, map-append}
 use Rattle.std.proofs.lemmas.List.Sorted.{IsNonDecreasingBy-drop, IsNonDecreasingBy-short}
 use Rattle.prefix_lattice.specs.{RecordValue}
-use Rattle.shard_state.specs.{AreCoreShards, CoreBasesRepresent, CutRepresents, CutValue, HasCoreShape, IsShard, ShardValue}
-use Rattle.shard_state.specs.{SnapshotRepresents, SnapshotValue, core_capacity, core_lists, cut_positions, snapshot_of_shard}
+use Rattle.shard_state.specs.{AreCoreShards, CoreBasesRepresent, CutRepresents, CutValue, HasCoreShape, IsShard}
+use Rattle.shard_state.specs.{ShardValue}
+use Rattle.shard_state.specs.{SnapshotRepresents, SnapshotValue, core_capacity, core_lists, cut_positions}
+use Rattle.shard_state.specs.{snapshot_of_shard}
 use Rattle.shard_state.specs.{shard_state_at}
 use Rattle.hhh_output.specs.{IsReportOf}
 use Rattle.hhh_output.specs.declared.report.Report.{Report}
 use Rattle.hhh_output.specs.declared.reports.Reported.{Reported}
 use Rattle.position_words.specs.declared.view.Trail.{Trail}
 use Rattle.position_words.specs.declared.view.View.{View}
-use Rattle.pass_tokens.specs.{IsOdd, ReadsCut, ShardRead, after_reads, seen_in_view, states_of_read}
+use Rattle.pass_tokens.specs.{IsOddWord, ReadsCut, ShardRead, after_reads, seen_in_view, states_of_read}
 use Rattle.gate_workers.specs.Call.{Calls, IsCutAtCall, IsReportAtCall, after_calls, cut_at_call}
 use Rattle.gate_workers.specs.Call.{call_positions_of_shard, positions_read_by_call, states_at_call}
 
@@ -217,7 +219,7 @@ pub no_calls : (opening : List ShardValue) (phi : ℕ) (view : View) → Calls o
 no_calls opening phi view = record {
   reads = [];
   as_many = refl;
-  odd = All-nil (λ round. All (λ (read : ShardRead). All IsOdd read.losses) round);
+  odd = All-nil (λ round. All (λ (read : ShardRead). All IsOddWord read.losses) round);
   view = refl;
   positions = refl;
   never_fall = λ shard inside. IsNonDecreasingBy-short (λ x. x) (seen_in_view shard view ∷ []) (omega arith);
@@ -237,8 +239,8 @@ one_call opening phi before after cut changed report round shape here is_report 
       reads = reads ∷ [];
       as_many = refl;
       odd =
-          All-cons (λ round. All (λ (read : ShardRead). All IsOdd read.losses) round) reads [] round.odd
-          (All-nil (λ round. All (λ (read : ShardRead). All IsOdd read.losses) round));
+          All-cons (λ round. All (λ (read : ShardRead). All IsOddWord read.losses) round) reads [] round.odd
+          (All-nil (λ round. All (λ (read : ShardRead). All IsOddWord read.losses) round));
       view = round.view;
       positions =
           ap (λ positions. positions ∷ []) (here
@@ -266,7 +268,7 @@ more_calls opening phi rounds more before middle now reports later many one two 
   reads = one.reads ++ two.reads;
   as_many = length-append one.reads two.reads ∙ ap₂ (λ a b. a + b) one.as_many two.as_many;
   odd =
-      All-append (λ round. All (λ (read : ShardRead). All IsOdd read.losses) round) one.reads two.reads one.odd
+      All-append (λ round. All (λ (read : ShardRead). All IsOddWord read.losses) round) one.reads two.reads one.odd
       two.odd;
   view =
       two.view ∙ ap (λ (v : View). record v { trails = after_calls v.trails two.reads }) one.view

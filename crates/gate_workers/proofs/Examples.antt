@@ -8,9 +8,11 @@ use Rattle.shard_state.specs.{IsShard, ShardValue, empty_snapshot, snapshot_of_s
 use Rattle.shard_state.specs.declared.shard_state.Folded.{Folded}
 use Rattle.position_words.specs.declared.view.Trail.{Trail}
 use Rattle.position_words.specs.declared.view.View.{View}
-use Rattle.pass_tokens.specs.{IsFoldOf, IsOdd, ShardRead, after_reads, first_view, folded_once, lost_all_folds}
-use Rattle.gate_workers.specs.Feed.{IsFed, Feeds, HasFeedSeenEnd, HasFeedSeenEnds}
-use Rattle.gate_workers.specs.Call.{Calls, IsCutAtCall, CallReadsOnce, after_calls, cut_at_call, call_positions_of_shard}
+use Rattle.pass_tokens.specs.{IsFoldOf, IsOddWord, ShardRead, after_reads, first_view, folded_once}
+use Rattle.pass_tokens.specs.{trail_after_fold_losses}
+use Rattle.gate_workers.specs.Feed.{IsFed, Feeds, FeedHasSeenEnd, FeedHasSeenEnds}
+use Rattle.gate_workers.specs.Call.{Calls, IsCutAtCall, CallReadsOnce, after_calls, cut_at_call}
+use Rattle.gate_workers.specs.Call.{call_positions_of_shard}
 use Rattle.gate_workers.specs.Call.{positions_read_by_call, states_at_call}
 use Rattle.gate_workers.proofs.FeedingLemmas.{feeding_of_same_view}
 use Rattle.gate_workers.proofs.CallLemmas.{no_calls}
@@ -47,7 +49,7 @@ fed_by_one_fold = record {
   folds = one ∷ [];
   losses = [];
   core = All-from_recursion (IsFoldOf shards 0 1) (one ∷ []) (fold_of_one, tt);
-  odd = All-nil IsOdd;
+  odd = All-nil IsOddWord;
   later = omega arith;
   is = refl;
 }
@@ -70,13 +72,13 @@ splitting_is_not_feeding feeds = cc (ap (λ (v : View). v.splits) feeds.same)
 abbrev ended : View
 ended = record first { trails = trail 2 ∷ trail 1 ∷ [] }
 
-pub end_was_seen : HasFeedSeenEnd shards 0 ended
+pub end_was_seen : FeedHasSeenEnd shards 0 ended
 end_was_seen state is = subst (λ (s : ShardValue). length s.list ≤ 2) (same_Some pair state is) (omega arith)
 
-pub end_not_seen : HasFeedSeenEnd shards 0 first → ⊥
+pub end_not_seen : FeedHasSeenEnd shards 0 first → ⊥
 end_not_seen ends = let end : 2 ≤ 0 = ends pair refl in omega (arith, end)
 
-pub not_all_ends_seen : HasFeedSeenEnds shards (record first { trails = trail 2 ∷ trail 0 ∷ [] }) → ⊥
+pub not_all_ends_seen : FeedHasSeenEnds shards (record first { trails = trail 2 ∷ trail 0 ∷ [] }) → ⊥
 not_all_ends_seen ends = let end : 1 ≤ 0 = ends 1 single refl in omega (arith, end)
 
 pub shards_at_positions : states_at_call shards (2 ∷ 1 ∷ []) ≡ shard_state_at 2 pair ∷ shard_state_at 1 single ∷ []
@@ -126,8 +128,8 @@ two_shards_were_read = record {
   reads = reads;
   as_many = refl;
   odd =
-      All-from_recursion (λ (read : ShardRead). All IsOdd read.losses) reads
-      (All-nil IsOdd, (All-from_recursion IsOdd (1 ∷ []) (refl, tt), tt));
+      All-from_recursion (λ (read : ShardRead). All IsOddWord read.losses) reads
+      (All-nil IsOddWord, (All-from_recursion IsOddWord (1 ∷ []) (refl, tt), tt));
   view = refl;
 }
 
@@ -147,5 +149,5 @@ second_shard_was_left_out once = left_out once.reads once.as_many once.view
     left_out [] many same = cc many
     left_out (one ∷ []) many same = omega (arith, many)
     left_out (one ∷ two ∷ more) many same =
-        not_empty (lost_all_folds two.losses (trail 0)).reads two.position
+        not_empty (trail_after_fold_losses two.losses (trail 0)).reads two.position
         (ap (λ (v : View). (slice_index_or v.trails 1 (trail 0)).reads) same)

@@ -5,12 +5,13 @@ use Rattle.prefix_lattice.specs.{RecordValue}
 use Rattle.shard_state.specs.{empty_snapshot}
 use Rattle.position_words.specs.declared.view.Trail.{Trail}
 use Rattle.position_words.specs.declared.view.View.{View}
-use Rattle.pass_tokens.specs.{WordsValue, first_view, newcomer_view}
+use Rattle.pass_tokens.specs.{PositionWordsValue, first_view, newcomer_view}
 use Rattle.gate_workers.specs.Call.{IsReportAtCall}
-use Rattle.gate_workers.specs.Feed.{HasFeedSeenEnds}
-use Rattle.gate_workers.specs.Gather.{AreGatheredSound, GathersOnce, HasGatheredFeed, after_gather_splits}
+use Rattle.gate_workers.specs.Feed.{FeedHasSeenEnds}
+use Rattle.gate_workers.specs.Threads.{AreSoundThreadReports, CallingThreadMakesRounds, WorkerThreadHasFed}
+use Rattle.gate_workers.specs.Threads.{after_thread_splits}
 use Rattle.gate_workers.specs.Plan.{IsPlanFor}
-use Rattle.gate_workers.specs.Rounds.{IsLaterTrail, IsLaterView, StaysReadyInRounds}
+use Rattle.gate_workers.specs.LaterView.{IsLaterTrail, IsLaterView, StaysReadyInLaterViews}
 use Rattle.gate_workers.specs.declared.plan.ThreadPlan.{ThreadPlan}
 use Rattle.gate_workers.proofs.Examples.{shards, first, trail}
 use Rattle.hhh_output.specs.declared.report.Report.{Report}
@@ -53,7 +54,7 @@ nothing_falls is = let later : 1 ≤ 0 = is.later in omega (arith, later)
 abbrev none : View
 none = first_view []
 
-pub a_split_is_later : IsLaterView none (after_gather_splits 1 none)
+pub a_split_is_later : IsLaterView none (after_thread_splits 1 none)
 a_split_is_later = record {
   same = refl;
   splits = omega arith;
@@ -65,22 +66,22 @@ pub a_join_is_no_later_view : IsLaterView none (record none { joins = 1 ∷ [] }
 a_join_is_no_later_view later = cc (ap (λ (v : View). v.joins) later.same)
 
 -- what asks for nothing stays
-pub nothing_stays_ready : StaysReadyInRounds (λ (board : WordsValue) (view : View). length board.opening ≡ 2)
+pub nothing_stays_ready : StaysReadyInLaterViews (λ (board : PositionWordsValue) (view : View). length board.opening ≡ 2)
 nothing_stays_ready board before now later ready = ready
 
 -- what asks for no split at all doesn't
-pub no_split_does_not_stay : (board : WordsValue) → StaysReadyInRounds (λ board (view : View). view.splits ≡ 0) → ⊥
-no_split_does_not_stay board stays = cc (stays board none (after_gather_splits 1 none) a_split_is_later refl)
+pub no_split_does_not_stay : (board : PositionWordsValue) → StaysReadyInLaterViews (λ board (view : View). view.splits ≡ 0) → ⊥
+no_split_does_not_stay board stays = cc (stays board none (after_thread_splits 1 none) a_split_is_later refl)
 
-pub three_passes_were_split_off : (after_gather_splits 3 first).splits ≡ 3
+pub three_passes_were_split_off : (after_thread_splits 3 first).splits ≡ 3
 three_passes_were_split_off = refl
 
 -- a worker of no shard has nothing to feed
-pub worker_of_no_shard : HasGatheredFeed [] 1 none (newcomer_view none) → HasFeedSeenEnds [] (newcomer_view none)
+pub worker_of_no_shard : WorkerThreadHasFed [] 1 none (newcomer_view none) → FeedHasSeenEnds [] (newcomer_view none)
 worker_of_no_shard fed = fed.ends
 
 -- a view in which the end of a list wasn't seen is none of a worker at its end
-pub worker_that_stops_early : HasGatheredFeed shards 1 first first → ⊥
+pub worker_that_stops_early : WorkerThreadHasFed shards 1 first first → ⊥
 worker_that_stops_early fed =
     let end : 2 ≤ 0 = fed.ends 0 (record {
       list = x ∷ x ∷ [];
@@ -93,14 +94,14 @@ worker_that_stops_early fed =
     x = record { src = 0x01000001; dst = 0x65000001; weight = 1 }
 
 -- rounds that change nothing, made once after three splits
-pub idle_rounds : GathersOnce (λ before now. before ≡ now) 3 first
-idle_rounds = record { now = after_gather_splits 3 first; does = refl }
+pub idle_rounds : CallingThreadMakesRounds (λ before now. before ≡ now) 3 first
+idle_rounds = record { now = after_thread_splits 3 first; does = refl }
 
 -- they were not made before the splits
-pub rounds_begin_after_the_splits : GathersOnce (λ before now. before.splits ≡ 0) 3 first → ⊥
+pub rounds_begin_after_the_splits : CallingThreadMakesRounds (λ before now. before.splits ≡ 0) 3 first → ⊥
 rounds_begin_after_the_splits goes = cc goes.does
 
-pub no_report_is_sound : AreGatheredSound shards 500000 []
+pub no_report_is_sound : AreSoundThreadReports shards 500000 []
 no_report_is_sound place default below = absurd (omega (arith, below))
 
 -- a report with a position for one of two shards

@@ -11,8 +11,9 @@ use Rattle.shard_state.specs.{ShardValue, changed_in_core}
 use Rattle.shard_state.specs.declared.shard_state.Folded.{Folded}
 use Rattle.position_words.specs.declared.view.Trail.{Trail}
 use Rattle.position_words.specs.declared.view.View.{View}
-use Rattle.pass_tokens.specs.{Folds, IsFoldOf, IsOdd, StepLoses, folded_once, view_trail_after_loss, seen_in_view, view_with_trail}
-use Rattle.gate_workers.specs.Feed.{IsFed, Feeds, HasFeedSeenEnd, HasFeedSeenEnds}
+use Rattle.pass_tokens.specs.{Folds, IsFoldOf, IsOddWord, WordStepLoses, folded_once, view_trail_after_loss}
+use Rattle.pass_tokens.specs.{seen_in_view, view_with_trail}
+use Rattle.gate_workers.specs.Feed.{IsFed, Feeds, FeedHasSeenEnd, FeedHasSeenEnds}
 
 -- a trail that is left
 feeding_of_same_trail : (opening : List ShardValue) (shard block : ℕ) (trail : Trail) → IsFed opening shard block trail trail
@@ -20,7 +21,7 @@ feeding_of_same_trail opening shard block trail = record {
   folds = [];
   losses = [];
   core = All-nil (IsFoldOf opening shard block);
-  odd = All-nil IsOdd;
+  odd = All-nil IsOddWord;
   later = omega arith;
   is =
       ap₂ (λ folds losses. record trail { folds = folds; losses = losses }) (sym (append-nil trail.folds))
@@ -35,7 +36,7 @@ feeding_of_folded_trail opening shard block trail done core seen = record {
   folds = done ∷ [];
   losses = [];
   core = All-cons (IsFoldOf opening shard block) done [] core (All-nil (IsFoldOf opening shard block));
-  odd = All-nil IsOdd;
+  odd = All-nil IsOddWord;
   later = omega (arith, seen, core.forward);
   is =
       ap (λ losses. record trail { seen = done.to; folds = trail.folds ++ done ∷ []; losses = losses })
@@ -43,13 +44,13 @@ feeding_of_folded_trail opening shard block trail done core seen = record {
 }
 
 -- a trail with a loss more
-feeding_of_lost_trail : (opening : List ShardValue) (shard block : ℕ) (trail : Trail) (word : ℕ) → IsOdd word
+feeding_of_lost_trail : (opening : List ShardValue) (shard block : ℕ) (trail : Trail) (word : ℕ) → IsOddWord word
     → trail.seen ≤ word / 2 → IsFed opening shard block trail (view_trail_after_loss word trail)
 feeding_of_lost_trail opening shard block trail word odd seen = record {
   folds = [];
   losses = word ∷ [];
   core = All-nil (IsFoldOf opening shard block);
-  odd = All-cons IsOdd word [] odd (All-nil IsOdd);
+  odd = All-cons IsOddWord word [] odd (All-nil IsOddWord);
   later = seen;
   is =
       ap (λ folds. record trail { seen = word / 2; folds = folds; losses = trail.losses ++ word ∷ [] })
@@ -64,7 +65,7 @@ feeding_of_trail_goes_on opening shard block before middle now first second = re
   folds = first.folds ++ second.folds;
   losses = first.losses ++ second.losses;
   core = All-append (IsFoldOf opening shard block) first.folds second.folds first.core second.core;
-  odd = All-append IsOdd first.losses second.losses first.odd second.odd;
+  odd = All-append IsOddWord first.losses second.losses first.odd second.odd;
   later = omega (arith, first.later, second.later);
   is = second.is
       ∙ ap (λ (t : Trail). record t {
@@ -148,7 +149,7 @@ feeding_by_fold opening shard block before now done folds =
     feeding_of_folded_trail opening shard block trail done folds.core
     (omega (arith, seen_by_feeding_trail before.trails shard trail is, folds.later)))
 
-pub feeding_by_loss : (opening : List ShardValue) (shard block : ℕ) (before now : View) → StepLoses shard before now
+pub feeding_by_loss : (opening : List ShardValue) (shard block : ℕ) (before now : View) → WordStepLoses shard before now
     → Feeds opening block before now
 feeding_by_loss opening shard block before now loses =
     feeding_at_one_shard opening block shard before now (view_trail_after_loss loses.word) loses.view
@@ -190,7 +191,7 @@ feeding_sees_changed_position change position (suc place) (trail ∷ rest) sees 
 
 pub feeding_is_at_end : (opening : List ShardValue) (shard block : ℕ) (before now : View) (done : Folded) → 1 ≤ block
     → shard < length before.trails → Folds opening shard block before now done
-    → done.from ≡ done.to → HasFeedSeenEnd opening shard now
+    → done.from ≡ done.to → FeedHasSeenEnd opening shard now
 feeding_is_at_end opening shard block before now done some inside folds still state is =
     let same : folds.core.state ≡ state = same_Some folds.core.state state (sym folds.core.is ∙ is) in
     let position : done.to ≡ min (length folds.core.state.list) (done.from + block) =
@@ -202,7 +203,7 @@ feeding_is_at_end opening shard block before now done some inside folds still st
 
 pub feeding_stays_at_end : (opening : List ShardValue) (block shard : ℕ) (before now : View)
     → length before.trails ≡ length opening → Feeds opening block before now
-    → HasFeedSeenEnd opening shard before → HasFeedSeenEnd opening shard now
+    → FeedHasSeenEnd opening shard before → FeedHasSeenEnd opening shard now
 feeding_stays_at_end opening block shard before now many feeds ends state is =
     let below : shard < length opening = slice_get_within opening shard state is in
     let rises : seen_in_view shard before ≤ seen_in_view shard now =
@@ -219,12 +220,12 @@ feeding_tests_both_hold false false holds = cc holds
 
 -- one shard more of a round is at its end
 pub feeding_round_goes_on : (opening : List ShardValue) (shards first turn : ℕ) (view : View)
-    → ((earlier : ℕ) → earlier < turn → HasFeedSeenEnd opening ((first + earlier) % shards) view)
-    → HasFeedSeenEnd opening ((first + turn) % shards) view → (earlier : ℕ) → earlier < turn + 1
-    → HasFeedSeenEnd opening ((first + earlier) % shards) view
+    → ((earlier : ℕ) → earlier < turn → FeedHasSeenEnd opening ((first + earlier) % shards) view)
+    → FeedHasSeenEnd opening ((first + turn) % shards) view → (earlier : ℕ) → earlier < turn + 1
+    → FeedHasSeenEnd opening ((first + earlier) % shards) view
 feeding_round_goes_on opening shards first turn view before here earlier below =
     elim (cases_eq earlier turn) [
-      | inl same ↦ subst (λ k. HasFeedSeenEnd opening ((first + k) % shards) view) (sym same) here
+      | inl same ↦ subst (λ k. FeedHasSeenEnd opening ((first + k) % shards) view) (sym same) here
       | inr apart ↦ before earlier (omega (arith, below, apart))
     ]
 
@@ -256,8 +257,8 @@ feeding_round_reaches_shard shards first shard inside below = ⊎_elim later soo
 
 pub feeding_round_sees_ends : (opening : List ShardValue) (shards first : ℕ) (view : View) → shards ≡ length opening
     → first < shards
-    → ((turn : ℕ) → turn < shards → HasFeedSeenEnd opening ((first + turn) % shards) view) → HasFeedSeenEnds opening view
+    → ((turn : ℕ) → turn < shards → FeedHasSeenEnd opening ((first + turn) % shards) view) → FeedHasSeenEnds opening view
 feeding_round_sees_ends opening shards first view many inside seen shard state is =
     let below : shard < length opening = slice_get_within opening shard state is in
     let at = feeding_round_reaches_shard shards first shard inside (omega (arith, many, below)) in
-    subst (λ k. HasFeedSeenEnd opening k view) at.2 (seen at.0 at.1) state is
+    subst (λ k. FeedHasSeenEnd opening k view) at.2 (seen at.0 at.1) state is

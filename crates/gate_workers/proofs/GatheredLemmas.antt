@@ -6,11 +6,13 @@ use Rattle.std.proofs.lemmas.List.Elements.{All-nil, All-cons, All-head, All-tai
 use Rattle.shard_state.specs.{CoreBasesRepresent, ShardValue}
 use Rattle.position_words.specs.declared.view.Trail.{Trail}
 use Rattle.position_words.specs.declared.view.View.{View}
-use Rattle.pass_tokens.specs.{IsPassOfBoard, SeatValue, WordsValue, view_after_join, newcomer_view, view}
-use Rattle.gate_workers.specs.Feed.{Feeds, HasFeedSeenEnds}
+use Rattle.pass_tokens.specs.{IsPassOfBoard, SeatValue, PositionWordsValue, view_after_join, newcomer_view, view}
+use Rattle.gate_workers.specs.Feed.{Feeds, FeedHasSeenEnds}
 use Rattle.gate_workers.specs.Call.{Calls}
-use Rattle.gate_workers.specs.Gather.{AreGatheredSound, GathersBack, EachGathered, GathersFeedsToEnds, HasGatheredCalls, HasGatheredEnd, HasGatheredFeed}
-use Rattle.gate_workers.specs.Gather.{IsSplitOffToGather, GathersRounds, after_gather_splits}
+use Rattle.gate_workers.specs.Threads.{AreSoundThreadReports, CallerThreadBringsBack, EachRelatesAcrossThreads}
+use Rattle.gate_workers.specs.Threads.{WorkerThreadFeedsToEnds, CallerThreadHasCalled, CallerThreadHasEnded}
+use Rattle.gate_workers.specs.Threads.{WorkerThreadHasFed}
+use Rattle.gate_workers.specs.Threads.{IsSplitOffForThread, CallerThreadRuns, after_thread_splits}
 use Rattle.gate_workers.specs.declared.callers.Caller.{Caller}
 use Rattle.gate_workers.specs.declared.gathered.Called.{Called}
 use Rattle.gate_workers.specs.declared.plan.ThreadPlan.{ThreadPlan}
@@ -20,14 +22,14 @@ gathered_sums_associate a b c = omega arith
 
 -- splits, and then more
 pub gathered_splits_are_summed : (first second : ℕ) (before : View)
-    → after_gather_splits second (after_gather_splits first before) ≡ after_gather_splits (first + second) before
+    → after_thread_splits second (after_thread_splits first before) ≡ after_thread_splits (first + second) before
 gathered_splits_are_summed first second before =
     ap (λ (splits : ℕ). record before { splits = splits }) (gathered_sums_associate before.splits first second)
 
 -- each worker, from what its thread did
-pub gathered_workers_have_fed : (board : WordsValue) (block : ℕ) (before : View) (passes fed : List SeatValue)
-    → length fed ≡ length passes → All (IsSplitOffToGather board before) passes → EachGathered (GathersFeedsToEnds board block) passes fed
-    → All (λ pass. HasGatheredFeed board.opening block before (view pass)) fed
+pub gathered_workers_have_fed : (board : PositionWordsValue) (block : ℕ) (before : View) (passes fed : List SeatValue)
+    → length fed ≡ length passes → All (IsSplitOffForThread board before) passes → EachRelatesAcrossThreads (WorkerThreadFeedsToEnds board block) passes fed
+    → All (λ pass. WorkerThreadHasFed board.opening block before (view pass)) fed
 gathered_workers_have_fed board block before passes fed many split each place default below =
     let within : place < length passes = omega (arith, many, below) in
     let made = each place default within in
@@ -38,15 +40,15 @@ gathered_workers_have_fed board block before passes fed many split each place de
       ends = made.ends;
     }
 
-pub gathered_workers_are_of_board : (board : WordsValue) (block : ℕ) (passes fed : List SeatValue)
-    → length fed ≡ length passes → EachGathered (GathersFeedsToEnds board block) passes fed → All (IsPassOfBoard board) fed
+pub gathered_workers_are_of_board : (board : PositionWordsValue) (block : ℕ) (passes fed : List SeatValue)
+    → length fed ≡ length passes → EachRelatesAcrossThreads (WorkerThreadFeedsToEnds board block) passes fed → All (IsPassOfBoard board) fed
 gathered_workers_are_of_board board block passes fed many each place default below =
     (each place default (omega (arith, many, below))).pass
 
 -- each caller, from what its thread did
-pub gathered_callers_have_ended : (board : WordsValue) (plan : ThreadPlan) (before : View) (callers ended : List Caller)
+pub gathered_callers_have_ended : (board : PositionWordsValue) (plan : ThreadPlan) (before : View) (callers ended : List Caller)
     → length ended ≡ length callers → All (λ caller. view caller.pass ≡ newcomer_view before) callers
-    → EachGathered (GathersRounds board plan) callers ended → All (HasGatheredEnd board plan before) ended
+    → EachRelatesAcrossThreads (CallerThreadRuns board plan) callers ended → All (CallerThreadHasEnded board plan before) ended
 gathered_callers_have_ended board plan before callers ended many new each place default below =
     let within : place < length callers = omega (arith, many, below) in
     let made = each place default within in
@@ -69,36 +71,37 @@ gathered_lists_carry_over P R Q one (x ∷ xs) (y ∷ ys) each related =
     All-cons Q y ys (one x y (All-head P x xs each) related.0)
     (gathered_lists_carry_over P R Q one xs ys (All-tail P x xs each) related.1)
 
-gathered_caller_has_called : (board : WordsValue) (plan : ThreadPlan) (before : View) (caller : Caller) (called : Called)
-    → HasGatheredEnd board plan before caller → GathersBack caller called → HasGatheredCalls board.opening plan before called
+gathered_caller_has_called : (board : PositionWordsValue) (plan : ThreadPlan) (before : View) (caller : Caller) (called : Called)
+    → CallerThreadHasEnded board plan before caller → CallerThreadBringsBack caller called → CallerThreadHasCalled board.opening plan before called
 gathered_caller_has_called board plan before caller called ended back =
     subst (λ pass. Calls board.opening plan.phi plan.rounds (newcomer_view before) (view pass) called.reports)
     (sym back.pass)
     (subst (λ reports. IfOk reports (Calls board.opening plan.phi plan.rounds (newcomer_view before) (view caller.pass)))
     back.reports ended.calls)
 
-pub gathered_callers_have_called : (board : WordsValue) (plan : ThreadPlan) (before : View) (ended : List Caller) (called : List Called)
-    → All (HasGatheredEnd board plan before) ended → AllZip GathersBack ended called
-    → All (HasGatheredCalls board.opening plan before) called
+pub gathered_callers_have_called : (board : PositionWordsValue) (plan : ThreadPlan) (before : View) (ended : List Caller) (called : List Called)
+    → All (CallerThreadHasEnded board plan before) ended → AllZip CallerThreadBringsBack ended called
+    → All (CallerThreadHasCalled board.opening plan before) called
 gathered_callers_have_called board plan before ended called each back =
-    gathered_lists_carry_over (HasGatheredEnd board plan before) GathersBack (HasGatheredCalls board.opening plan before)
+    gathered_lists_carry_over (CallerThreadHasEnded board plan before) CallerThreadBringsBack (CallerThreadHasCalled board.opening plan before)
     (gathered_caller_has_called board plan before) ended called each back
 
-pub gathered_callers_are_sound : (board : WordsValue) (plan : ThreadPlan) (before : View) (ended : List Caller) (called : List Called)
-    → All (HasGatheredEnd board plan before) ended → AllZip GathersBack ended called → CoreBasesRepresent board.opening
-    → All (λ (one : Called). AreGatheredSound board.opening plan.phi one.reports) called
+pub gathered_callers_are_sound : (board : PositionWordsValue) (plan : ThreadPlan) (before : View) (ended : List Caller) (called : List Called)
+    → All (CallerThreadHasEnded board plan before) ended → AllZip CallerThreadBringsBack ended called → CoreBasesRepresent board.opening
+    → All (λ (one : Called). AreSoundThreadReports board.opening plan.phi one.reports) called
 gathered_callers_are_sound board plan before ended called each back bases =
-    gathered_lists_carry_over (HasGatheredEnd board plan before) GathersBack (λ (one : Called). AreGatheredSound board.opening plan.phi one.reports)
+    gathered_lists_carry_over (CallerThreadHasEnded board plan before) CallerThreadBringsBack
+    (λ (one : Called). AreSoundThreadReports board.opening plan.phi one.reports)
     (λ caller one has brings.
-    subst (λ reports. IfOk reports (λ rs. CoreBasesRepresent board.opening → AreGatheredSound board.opening plan.phi rs))
+    subst (λ reports. IfOk reports (λ rs. CoreBasesRepresent board.opening → AreSoundThreadReports board.opening plan.phi rs))
     brings.reports has.sound bases)
     ended called each back
 
-pub gathered_callers_are_of_board : (board : WordsValue) (plan : ThreadPlan) (before : View) (ended : List Caller) (called : List Called)
-    → All (HasGatheredEnd board plan before) ended → AllZip GathersBack ended called
+pub gathered_callers_are_of_board : (board : PositionWordsValue) (plan : ThreadPlan) (before : View) (ended : List Caller) (called : List Called)
+    → All (CallerThreadHasEnded board plan before) ended → AllZip CallerThreadBringsBack ended called
     → All (λ (one : Called). IsPassOfBoard board one.pass) called
 gathered_callers_are_of_board board plan before ended called each back =
-    gathered_lists_carry_over (HasGatheredEnd board plan before) GathersBack (λ (one : Called). IsPassOfBoard board one.pass)
+    gathered_lists_carry_over (CallerThreadHasEnded board plan before) CallerThreadBringsBack (λ (one : Called). IsPassOfBoard board one.pass)
     (λ caller one has brings. subst (IsPassOfBoard board) (sym brings.pass) has.pass) ended called each back
 
 -- the trails of a view to which another was joined
@@ -126,18 +129,18 @@ gathered_trails_see_no_less to other (trail ∷ rest) (one ∷ more) (suc shard)
     gathered_trails_see_no_less to other rest more shard (omega (arith, many))
 
 gathered_ends_of_other : (opening : List ShardValue) (to other : View) → length other.trails ≡ length to.trails
-    → HasFeedSeenEnds opening other → HasFeedSeenEnds opening (view_after_join to other)
+    → FeedHasSeenEnds opening other → FeedHasSeenEnds opening (view_after_join to other)
 gathered_ends_of_other opening to other many ends shard state at =
     omega (arith, ends shard state at, (gathered_trails_see_no_less to other to.trails other.trails shard many).1)
 
 gathered_ends_stay : (opening : List ShardValue) (to other : View) → length other.trails ≡ length to.trails
-    → HasFeedSeenEnds opening to → HasFeedSeenEnds opening (view_after_join to other)
+    → FeedHasSeenEnds opening to → FeedHasSeenEnds opening (view_after_join to other)
 gathered_ends_stay opening to other many ends shard state at =
     omega (arith, ends shard state at, (gathered_trails_see_no_less to other to.trails other.trails shard many).0)
 
-gathered_ends_all_stay : (board : WordsValue) (to : View) (fed : List SeatValue) → length to.trails ≡ length board.opening
-    → All (IsPassOfBoard board) fed → HasFeedSeenEnds board.opening to
-    → HasFeedSeenEnds board.opening (fold view_after_join to (map view fed))
+gathered_ends_all_stay : (board : PositionWordsValue) (to : View) (fed : List SeatValue) → length to.trails ≡ length board.opening
+    → All (IsPassOfBoard board) fed → FeedHasSeenEnds board.opening to
+    → FeedHasSeenEnds board.opening (fold view_after_join to (map view fed))
 gathered_ends_all_stay board to [] many passes ends = ends
 gathered_ends_all_stay board to (pass ∷ rest) many passes ends =
     let seat = (All-head (IsPassOfBoard board) pass rest passes).seat in
@@ -147,14 +150,14 @@ gathered_ends_all_stay board to (pass ∷ rest) many passes ends =
     (gathered_ends_stay board.opening to (view pass) (seat.trails ∙ sym many) ends)
 
 -- the pass to which those of the workers are joined has seen the end of each list
-pub gathered_pass_sees_ends : (board : WordsValue) (block : ℕ) (before to : View) (fed : List SeatValue)
+pub gathered_pass_sees_ends : (board : PositionWordsValue) (block : ℕ) (before to : View) (fed : List SeatValue)
     → length to.trails ≡ length board.opening → 1 ≤ length fed → All (IsPassOfBoard board) fed
-    → All (λ pass. HasGatheredFeed board.opening block before (view pass)) fed
-    → HasFeedSeenEnds board.opening (fold view_after_join to (map view fed))
+    → All (λ pass. WorkerThreadHasFed board.opening block before (view pass)) fed
+    → FeedHasSeenEnds board.opening (fold view_after_join to (map view fed))
 gathered_pass_sees_ends board block before to [] many some passes each = absurd (omega (arith, some))
 gathered_pass_sees_ends board block before to (pass ∷ rest) many some passes each =
     let seat = (All-head (IsPassOfBoard board) pass rest passes).seat in
-    let fed = All-head (λ pass. HasGatheredFeed board.opening block before (view pass)) pass rest each in
+    let fed = All-head (λ pass. WorkerThreadHasFed board.opening block before (view pass)) pass rest each in
     gathered_ends_all_stay board (view_after_join to (view pass)) rest
     (gathered_trails-length to (view pass) to.trails (view pass).trails ∙ many)
     (All-tail (IsPassOfBoard board) pass rest passes)
@@ -162,8 +165,8 @@ gathered_pass_sees_ends board block before to (pass ∷ rest) many some passes e
 
 -- what one more caller brought back
 pub gathered_one_more_caller : (callers : List Caller) (called : List Called) (caller : Caller) (one : Called)
-    → AllZip GathersBack callers called → GathersBack caller one
-    → AllZip GathersBack (callers ++ caller ∷ []) (called ++ one ∷ [])
+    → AllZip CallerThreadBringsBack callers called → CallerThreadBringsBack caller one
+    → AllZip CallerThreadBringsBack (callers ++ caller ∷ []) (called ++ one ∷ [])
 gathered_one_more_caller [] [] caller one back more = (more, tt)
 gathered_one_more_caller [] (other ∷ called) caller one back more = absurd back
 gathered_one_more_caller (first ∷ callers) [] caller one back more = absurd back

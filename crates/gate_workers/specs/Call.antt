@@ -7,7 +7,7 @@ use Rattle.hhh_output.specs.declared.report.Report.{Report}
 use Rattle.hhh_output.specs.declared.reports.Reported.{Reported}
 use Rattle.position_words.specs.declared.view.Trail.{Trail}
 use Rattle.position_words.specs.declared.view.View.{View}
-use Rattle.pass_tokens.specs.{IsOdd, ShardRead, after_reads, seen_in_view}
+use Rattle.pass_tokens.specs.{IsOddWord, ShardRead, after_reads, seen_in_view}
 
 -- shards of the pure core at these positions
 abbrev pub states_at_call : List ShardValue → List ℕ → List ShardValue
@@ -52,7 +52,7 @@ pub record Calls (opening : List ShardValue) (phi rounds : ℕ) (before now : Vi
     : Type 0 where
   pub reads : List (List ShardRead)
   pub as_many : length reads ≡ rounds
-  pub odd : All (λ round. All (λ read. All IsOdd read.losses) round) reads
+  pub odd : All (λ round. All (λ read. All IsOddWord read.losses) round) reads
   pub view : now ≡ record before { trails = after_calls before.trails reads }
   pub positions : map (λ reported. reported.report.positions) reports ≡ map positions_read_by_call reads
   pub never_fall : (shard : ℕ) → shard < length opening
@@ -64,5 +64,5 @@ pub record Calls (opening : List ShardValue) (phi rounds : ℕ) (before now : Vi
 pub record CallReadsOnce (opening : List ShardValue) (before now : View) : Type 0 where
   pub reads : List ShardRead
   pub as_many : length reads ≡ length opening
-  pub odd : All (λ read. All IsOdd read.losses) reads
+  pub odd : All (λ read. All IsOddWord read.losses) reads
   pub view : now ≡ record before { trails = after_reads before.trails reads }

@@ -4,7 +4,7 @@ use Rattle.shard_state.specs.{ShardValue}
 use Rattle.shard_state.specs.declared.shard_state.Folded.{Folded}
 use Rattle.position_words.specs.declared.view.Trail.{Trail}
 use Rattle.position_words.specs.declared.view.View.{View}
-use Rattle.pass_tokens.specs.{IsFoldOf, IsOdd, seen_in_view}
+use Rattle.pass_tokens.specs.{IsFoldOf, IsOddWord, seen_in_view}
 
 -- what a trail has after folds of blocks and takes that lost, each fold one of the pure core: no look and no read more,
 -- and no position seen before the last one
@@ -12,7 +12,7 @@ pub record IsFed (opening : List ShardValue) (shard block : ℕ) (before now : T
   pub folds : List Folded
   pub losses : List ℕ
   pub core : All (IsFoldOf opening shard block) folds
-  pub odd : All IsOdd losses
+  pub odd : All IsOddWord losses
   pub later : before.seen ≤ now.seen
   pub is : now ≡ record before { seen = now.seen; folds = before.folds ++ folds; losses = before.losses ++ losses }
 
@@ -25,10 +25,10 @@ pub record Feeds (opening : List ShardValue) (block : ℕ) (before now : View) :
       → IsFed opening shard block trail later
 
 -- a view has seen the end of a shard's list
-abbrev pub HasFeedSeenEnd : List ShardValue → ℕ → View → Type 0
-HasFeedSeenEnd opening shard view =
+abbrev pub FeedHasSeenEnd : List ShardValue → ℕ → View → Type 0
+FeedHasSeenEnd opening shard view =
     (state : ShardValue) → slice_get opening shard ≡ Some state → length state.list ≤ seen_in_view shard view
 
--- and the end of each list
-abbrev pub HasFeedSeenEnds : List ShardValue → View → Type 0
-HasFeedSeenEnds opening view = (shard : ℕ) → HasFeedSeenEnd opening shard view
+-- a view has seen the end of each shard's list
+abbrev pub FeedHasSeenEnds : List ShardValue → View → Type 0
+FeedHasSeenEnds opening view = (shard : ℕ) → FeedHasSeenEnd opening shard view

@@ -4,7 +4,8 @@ ghost use Rattle.std.specs.Prelude.{◌≡◌, ◌≤◌, ◌<◌, ◌^◌, leng
 ghost use Rattle.std.specs.List.{AllZip};
 ghost use Rattle.shard_state.specs.{core_capacity, least_table_capacity, most_table_capacity};
 ghost use Rattle.pass_tokens.specs.{IsPassOfBoard, newcomer_view, view};
-ghost use Rattle.gate_workers.specs.Gather.{GathersBack, CanGatherCalls, EachGathered, GathersRounds, after_gather_splits};
+ghost use Rattle.gate_workers.specs.Threads.{CallerThreadBringsBack, CallerThreadCanCall, EachRelatesAcrossThreads};
+ghost use Rattle.gate_workers.specs.Threads.{CallerThreadRuns, after_thread_splits};
 ghost use Rattle.gate_workers.specs.Plan.{IsPlanFor};
 
 use crate::calling::report_in_rounds;
@@ -37,10 +38,10 @@ pub(crate) fn split_callers(
 ) -> Result<Vec<Caller>, AllocError>
     requires plan { IsPlanFor board.now.opening plan.now }
     requires pass { IsPassOfBoard board.now pass.old }
-    ensures callers { IfOk result (λ callers. All (CanGatherCalls board.now) callers.items) }
+    ensures callers { IfOk result (λ callers. All (CallerThreadCanCall board.now) callers.items) }
     ensures newcomers { IfOk result (λ callers. All (λ caller. view caller.pass ≡ newcomer_view (view pass.old)) callers.items) }
     ensures count { IfOk result (λ callers. length callers.items ≡ plan.now.callers) }
-    ensures split { OnOk result (view pass.new ≡ after_gather_splits plan.now.callers (view pass.old)) }
+    ensures split { OnOk result (view pass.new ≡ after_thread_splits plan.now.callers (view pass.old)) }
     ensures pass { IsPassOfBoard board.now pass.new }
 {
     let mut callers = Vec::new(alloc);
@@ -61,9 +62,9 @@ fn new_caller(
     requires most { capacity ≤ most_table_capacity }
     requires alike { capacity ≡ core_capacity board.now.opening }
     requires pass { IsPassOfBoard board.now pass.old }
-    ensures caller { IfOk result (CanGatherCalls board.now) }
+    ensures caller { IfOk result (CallerThreadCanCall board.now) }
     ensures newcomer { IfOk result (λ caller. view caller.pass ≡ newcomer_view (view pass.old)) }
-    ensures split { OnOk result (view pass.new ≡ after_gather_splits 1 (view pass.old)) }
+    ensures split { OnOk result (view pass.new ≡ after_thread_splits 1 (view pass.old)) }
     ensures pass { IsPassOfBoard board.now pass.new }
 {
     let cut = Cut::with_room(alloc, board.shards(), capacity)?;
@@ -85,13 +86,13 @@ pub(crate) fn call_each<R: Threads + Wait + Sync, G: Gate + Sync>(
 )
     requires plan { IsPlanFor board.now.opening plan.now }
     requires count { length callers.old ≡ plan.now.callers }
-    requires callers { All (CanGatherCalls board.now) callers.old }
-    ensures { EachGathered (GathersRounds board.now plan.now) callers.old callers.new }
+    requires callers { All (CallerThreadCanCall board.now) callers.old }
+    ensures { EachRelatesAcrossThreads (CallerThreadRuns board.now plan.now) callers.old callers.new }
 {
     let threads = plan.callers.max(1) as usize;
     let call = |number: usize, caller: &mut Caller|
-        requires { (number < 2 ^ 32) × IsPlanFor board.now.opening plan.now × CanGatherCalls board.now caller.now }
-        ensures { GathersRounds board.entry.now plan.entry.now caller.entry.now caller.exit.now }
+        requires { (number < 2 ^ 32) × IsPlanFor board.now.opening plan.now × CallerThreadCanCall board.now caller.now }
+        ensures { CallerThreadRuns board.entry.now plan.entry.now caller.entry.now caller.exit.now }
     { make_rounds(rt, alloc, board, plan, number as u32, gate, caller) };
     for_each_mut(rt, callers, threads, &call);
 }
@@ -107,8 +108,8 @@ fn make_rounds<R: Wait, G: Gate>(
     caller: &mut Caller,
 )
     requires plan { IsPlanFor board.now.opening plan.now }
-    requires caller { CanGatherCalls board.now caller.old }
-    ensures { GathersRounds board.now plan.now caller.old caller.new }
+    requires caller { CallerThreadCanCall board.now caller.old }
+    ensures { CallerThreadRuns board.now plan.now caller.old caller.new }
 {
     caller.reports = report_in_rounds(
         rt,
@@ -125,7 +126,7 @@ fn make_rounds<R: Wait, G: Gate>(
 
 /// What the callers bring back, in their order. The first error that a caller met is returned.
 pub(crate) fn brought_back(alloc: Global, callers: Vec<Caller>) -> Result<Vec<Called>, AllocError>
-    ensures { IfOk result (λ called. AllZip GathersBack callers.items called.items) }
+    ensures { IfOk result (λ called. AllZip CallerThreadBringsBack callers.items called.items) }
 {
     let mut called = Vec::new(alloc);
     for caller in callers {

@@ -2,7 +2,7 @@
 
 ghost use Rattle.std.specs.Prelude.{◌≤◌, ◌<◌, length, IsTrue};
 ghost use Rattle.pass_tokens.specs.{IsPassOfBoard, view};
-ghost use Rattle.gate_workers.specs.Feed.{Feeds, HasFeedSeenEnd, HasFeedSeenEnds};
+ghost use Rattle.gate_workers.specs.Feed.{Feeds, FeedHasSeenEnd, FeedHasSeenEnds};
 
 use crate::Gate;
 use pass_tokens::{Board, Pass, TryFold};
@@ -29,7 +29,7 @@ pub fn feed_all<R: Wait, G: Gate>(
     requires block { 1 ≤ block }
     requires pass { IsPassOfBoard board.now pass }
     ensures feeds { Feeds board.now.opening block (view pass) (view result) }
-    ensures ends { HasFeedSeenEnds board.now.opening (view result) }
+    ensures ends { FeedHasSeenEnds board.now.opening (view result) }
     ensures pass { IsPassOfBoard board.now result }
 {
     feed_to_ends(rt, board, &mut pass, worker, block, gate);
@@ -48,7 +48,7 @@ pub(crate) fn feed_to_ends<R: Wait, G: Gate>(
     requires block { 1 ≤ block }
     requires pass { IsPassOfBoard board.now pass.old }
     ensures feeds { Feeds board.now.opening block (view pass.old) (view pass.new) }
-    ensures ends { HasFeedSeenEnds board.now.opening (view pass.new) }
+    ensures ends { FeedHasSeenEnds board.now.opening (view pass.new) }
     ensures pass { IsPassOfBoard board.now pass.new }
 {
     for _ in rt.forever() {
@@ -77,7 +77,7 @@ fn feed_round<R: Wait, G: Gate>(
     requires block { 1 ≤ block }
     requires pass { IsPassOfBoard board.now pass.old }
     ensures feeds { Feeds board.now.opening block (view pass.old) (view pass.new) }
-    ensures ends { IsTrue result → HasFeedSeenEnds board.now.opening (view pass.new) }
+    ensures ends { IsTrue result → FeedHasSeenEnds board.now.opening (view pass.new) }
     ensures pass { IsPassOfBoard board.now pass.new }
 {
     let shards = board.shards();
@@ -104,7 +104,7 @@ fn feed_shard<R: Wait, G: Gate>(
     requires block { 1 ≤ block }
     requires pass { IsPassOfBoard board.now pass.old }
     ensures feeds { Feeds board.now.opening block (view pass.old) (view pass.new) }
-    ensures end { IsTrue result → HasFeedSeenEnd board.now.opening shard (view pass.new) }
+    ensures end { IsTrue result → FeedHasSeenEnd board.now.opening shard (view pass.new) }
     ensures pass { IsPassOfBoard board.now pass.new }
 {
     for _ in rt.forever() {

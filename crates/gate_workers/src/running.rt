@@ -3,8 +3,10 @@
 ghost use Rattle.std.specs.Prelude.{◌≡◌, ◌⊎◌, ◌≤◌, ◌+◌, length, All, IfOk, OnErr};
 ghost use Rattle.shard_state.specs.{CoreBasesRepresent};
 ghost use Rattle.pass_tokens.specs.{IsPassOfBoard, view};
-ghost use Rattle.gate_workers.specs.Feed.{HasFeedSeenEnds};
-ghost use Rattle.gate_workers.specs.Gather.{AreGatheredSound, CanGatherCalls, EachGathered, GathersFeedsToEnds, Gathers, GathersOnce, GathersRounds};
+ghost use Rattle.gate_workers.specs.Feed.{FeedHasSeenEnds};
+ghost use Rattle.gate_workers.specs.Threads.{AreSoundThreadReports, CallerThreadCanCall, EachRelatesAcrossThreads};
+ghost use Rattle.gate_workers.specs.Threads.{WorkerThreadFeedsToEnds, ThreadsBringBack, CallingThreadMakesRounds};
+ghost use Rattle.gate_workers.specs.Threads.{CallerThreadRuns};
 ghost use Rattle.gate_workers.specs.Plan.{IsPlanFor};
 
 use crate::callers::{Caller, brought_back, call_each, split_callers};
@@ -33,15 +35,15 @@ pub fn run_threads<R: Threads + Wait + Sync, G: Gate + Sync, W: Rounds>(
     requires pass { IsPassOfBoard board.now pass }
     requires plan { IsPlanFor board.now.opening plan.now }
     requires ready { W.ready work.old board.now (view pass) }
-    ensures gathers { IfOk result (Gathers board.now.opening plan.now
+    ensures gathers { IfOk result (ThreadsBringBack board.now.opening plan.now
         (λ before now. W.does work.old before work.new now) (view pass)) }
     ensures sound { IfOk result (λ gathered. CoreBasesRepresent board.now.opening
-        → All (λ called. AreGatheredSound board.now.opening plan.now.phi called.reports) gathered.called.items) }
-    ensures ends { IfOk result (λ gathered. HasFeedSeenEnds board.now.opening (view gathered.pass)) }
+        → All (λ called. AreSoundThreadReports board.now.opening plan.now.phi called.reports) gathered.called.items) }
+    ensures ends { IfOk result (λ gathered. FeedHasSeenEnds board.now.opening (view gathered.pass)) }
     ensures pass { IfOk result (λ gathered. IsPassOfBoard board.now gathered.pass) }
     ensures passes { IfOk result (λ gathered. All (λ called. IsPassOfBoard board.now called.pass) gathered.called.items) }
     ensures memory { OnErr result ((work.new ≡ work.old)
-        ⊎ GathersOnce (λ before now. W.does work.old before work.new now) (plan.now.workers + plan.now.callers) (view pass)) }
+        ⊎ CallingThreadMakesRounds (λ before now. W.does work.old before work.new now) (plan.now.workers + plan.now.callers) (view pass)) }
 {
     let mut workers = split_workers(alloc, board, &mut pass, plan.workers)?;
     let mut callers = split_callers(alloc, board, &mut pass, plan)?;
@@ -78,19 +80,19 @@ fn run_all<R: Threads + Wait + Sync, G: Gate + Sync, W: Rounds>(
     requires ready { W.ready work.old board.now (view pass.old) }
     requires workers { All (IsPassOfBoard board.now) workers.old }
     requires as_many_workers { length workers.old ≡ plan.now.workers }
-    requires callers { All (CanGatherCalls board.now) callers.old }
+    requires callers { All (CallerThreadCanCall board.now) callers.old }
     requires as_many_callers { length callers.old ≡ plan.now.callers }
     ensures does { W.does work.old (view pass.old) work.new (view pass.new) }
     ensures pass { IsPassOfBoard board.now pass.new }
-    ensures workers { EachGathered (GathersFeedsToEnds board.now plan.now.block) workers.old workers.new }
-    ensures callers { EachGathered (GathersRounds board.now plan.now) callers.old callers.new }
+    ensures workers { EachRelatesAcrossThreads (WorkerThreadFeedsToEnds board.now plan.now.block) workers.old workers.new }
+    ensures callers { EachRelatesAcrossThreads (CallerThreadRuns board.now plan.now) callers.old callers.new }
 {
     let mut others = ||
         requires { IsPlanFor board.now.opening plan.now
             × (length workers.now ≡ plan.now.workers) × All (IsPassOfBoard board.now) workers.now
-            × (length callers.now ≡ plan.now.callers) × All (CanGatherCalls board.now) callers.now }
-        ensures { EachGathered (GathersFeedsToEnds board.entry.now plan.entry.now.block) workers.entry.now workers.exit.now
-            × EachGathered (GathersRounds board.entry.now plan.entry.now) callers.entry.now callers.exit.now }
+            × (length callers.now ≡ plan.now.callers) × All (CallerThreadCanCall board.now) callers.now }
+        ensures { EachRelatesAcrossThreads (WorkerThreadFeedsToEnds board.entry.now plan.entry.now.block) workers.entry.now workers.exit.now
+            × EachRelatesAcrossThreads (CallerThreadRuns board.entry.now plan.entry.now) callers.entry.now callers.exit.now }
     { feed_and_call(rt, alloc, board, plan, gate, workers, callers) };
     let mut rounds = ||
         requires { IsPassOfBoard board.now pass.now × W.ready work.now board.now (view pass.now) }
@@ -113,20 +115,20 @@ fn feed_and_call<R: Threads + Wait + Sync, G: Gate + Sync>(
     requires plan { IsPlanFor board.now.opening plan.now }
     requires workers { All (IsPassOfBoard board.now) workers.old }
     requires as_many_workers { length workers.old ≡ plan.now.workers }
-    requires callers { All (CanGatherCalls board.now) callers.old }
+    requires callers { All (CallerThreadCanCall board.now) callers.old }
     requires as_many_callers { length callers.old ≡ plan.now.callers }
-    ensures workers { EachGathered (GathersFeedsToEnds board.now plan.now.block) workers.old workers.new }
-    ensures callers { EachGathered (GathersRounds board.now plan.now) callers.old callers.new }
+    ensures workers { EachRelatesAcrossThreads (WorkerThreadFeedsToEnds board.now plan.now.block) workers.old workers.new }
+    ensures callers { EachRelatesAcrossThreads (CallerThreadRuns board.now plan.now) callers.old callers.new }
 {
     let mut calling = ||
         requires { IsPlanFor board.now.opening plan.now
-            × (length callers.now ≡ plan.now.callers) × All (CanGatherCalls board.now) callers.now }
-        ensures { EachGathered (GathersRounds board.entry.now plan.entry.now) callers.entry.now callers.exit.now }
+            × (length callers.now ≡ plan.now.callers) × All (CallerThreadCanCall board.now) callers.now }
+        ensures { EachRelatesAcrossThreads (CallerThreadRuns board.entry.now plan.entry.now) callers.entry.now callers.exit.now }
     { call_each(rt, alloc, board, plan, gate, callers) };
     let mut feeding = ||
         requires { IsPlanFor board.now.opening plan.now
             × (length workers.now ≡ plan.now.workers) × All (IsPassOfBoard board.now) workers.now }
-        ensures { EachGathered (GathersFeedsToEnds board.entry.now plan.entry.now.block) workers.entry.now workers.exit.now }
+        ensures { EachRelatesAcrossThreads (WorkerThreadFeedsToEnds board.entry.now plan.entry.now.block) workers.entry.now workers.exit.now }
     { feed_each(rt, board, plan, gate, workers) };
     join_mut(rt, &mut calling, &mut feeding);
 }

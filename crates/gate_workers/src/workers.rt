@@ -3,7 +3,8 @@
 ghost use Rattle.std.specs.Prelude.{◌≡◌, ◌<◌, ◌^◌, length, All, IfOk, OnOk, fold, map};
 ghost use Rattle.pass_tokens.specs.{IsPassOfBoard, view_after_join, view};
 ghost use Rattle.gate_workers.specs.Plan.{IsPlanFor};
-ghost use Rattle.gate_workers.specs.Gather.{EachGathered, GathersFeedsToEnds, IsSplitOffToGather, after_gather_splits};
+ghost use Rattle.gate_workers.specs.Threads.{EachRelatesAcrossThreads, WorkerThreadFeedsToEnds, IsSplitOffForThread};
+ghost use Rattle.gate_workers.specs.Threads.{after_thread_splits};
 
 use crate::feeding::feed_to_ends;
 use crate::{Gate, ThreadPlan};
@@ -21,9 +22,9 @@ pub(crate) fn split_workers(
     count: u32,
 ) -> Result<Vec<Pass>, AllocError>
     requires pass { IsPassOfBoard board.now pass.old }
-    ensures workers { IfOk result (λ workers. All (IsSplitOffToGather board.now (view pass.old)) workers.items) }
+    ensures workers { IfOk result (λ workers. All (IsSplitOffForThread board.now (view pass.old)) workers.items) }
     ensures count { IfOk result (λ workers. length workers.items ≡ count) }
-    ensures split { OnOk result (view pass.new ≡ after_gather_splits count (view pass.old)) }
+    ensures split { OnOk result (view pass.new ≡ after_thread_splits count (view pass.old)) }
     ensures pass { IsPassOfBoard board.now pass.new }
 {
     let mut workers = Vec::new(alloc);
@@ -44,12 +45,12 @@ pub(crate) fn feed_each<R: Threads + Wait + Sync, G: Gate + Sync>(
     requires plan { IsPlanFor board.now.opening plan.now }
     requires count { length workers.old ≡ plan.now.workers }
     requires workers { All (IsPassOfBoard board.now) workers.old }
-    ensures { EachGathered (GathersFeedsToEnds board.now plan.now.block) workers.old workers.new }
+    ensures { EachRelatesAcrossThreads (WorkerThreadFeedsToEnds board.now plan.now.block) workers.old workers.new }
 {
     let threads = plan.workers as usize;
     let feed = |number: usize, pass: &mut Pass|
         requires { (number < 2 ^ 32) × IsPlanFor board.now.opening plan.now × IsPassOfBoard board.now pass.now }
-        ensures { GathersFeedsToEnds board.entry.now plan.entry.now.block pass.entry.now pass.exit.now }
+        ensures { WorkerThreadFeedsToEnds board.entry.now plan.entry.now.block pass.entry.now pass.exit.now }
     { feed_to_ends(rt, board, pass, number as u32, plan.block, gate) };
     for_each_mut(rt, workers, threads, &feed);
 }

@@ -8,7 +8,7 @@ use Rattle.hhh.specs.declared.input.LateFile.{LateFile}
 use Rattle.hhh.specs.ProgramInputs.{IsProgramInput}
 use Rattle.prefix_lattice.specs.{RecordValue}
 use Rattle.deal_rules.specs.declared.deal_kind.DealKind.TheVariants.{RoundRobin, BySource, Free}
-use Rattle.hhh.specs.Rules.{shard_by_rule}
+use Rattle.hhh.specs.ProgramRules.{program_rule_shard}
 use Rattle.hhh.specs.ProgramRun.{ProgramRunEnds}
 use Rattle.hhh_engine.specs.{SessionKeeping, EndingSourceFaults, inputs, ending_source_faults}
 use Rattle.hhh_engine.specs.declared.status.Status.{Status}
@@ -41,14 +41,14 @@ abbrev packet : RecordValue
 packet = record { src = 0x0a010203; dst = 0x14010202; weight = 100 }
 
 -- the sixth record is the second of its round
-pub shard_in_turn : shard_by_rule RoundRobin 5 packet 4 ≡ 1
+pub shard_in_turn : program_rule_shard RoundRobin 5 packet 4 ≡ 1
 shard_in_turn = refl
 
-pub shard_of_a_source : shard_by_rule BySource 5 packet 4 ≡ 3
+pub shard_of_a_source : program_rule_shard BySource 5 packet 4 ≡ 3
 shard_of_a_source = refl
 
 -- the lowest bits of the two addresses are 11 and 10
-pub shard_of_both_addresses : shard_by_rule Free 5 packet 4 ≡ 1
+pub shard_of_both_addresses : program_rule_shard Free 5 packet 4 ≡ 1
 shard_of_both_addresses = refl
 
 -- a run that took nothing and gave nothing, over sources, a sink and a disk that are numbers, with these counts of faults

@@ -1,3 +1,3 @@
 pub mod ProgramInputs
-pub mod Rules
+pub mod ProgramRules
 pub mod ProgramRun

@@ -2,18 +2,24 @@
 use Rattle.std.specs.Prelude.{ℕ, ◌≡◌, ◌⊎◌, ◌≤◌, true, List, length, All, Option, Some}
 use Rattle.outside_io.specs.{FaultCountRose}
 use Rattle.prefix_lattice.specs.{RecordValue}
-use Rattle.hhh_engine.specs.{AskFor, HasWordsFault, Command, Settings, WordsKind, Verdict, FrameValue}
-use Rattle.hhh_engine.specs.{CaptureFault, HasCaptureFrames, IsRefusedCapture, Records, IsRefusedAtOpening, IsShownByOpening, OpenFault}
-use Rattle.hhh_engine.specs.{HasTextFault, IsSessionText, longest_session_text, TextFault, Answers, AreAudited}
-use Rattle.hhh_engine.specs.{IsAuditedAsFirstUnsound, IsAuditedAsSound, EndsWithFailedDisk, EndsFailingToRead, EndsFailingToWrite, FormatEnds, EndsFindingUnsound, EndsUntouched, OneSourceRoseAtEnding}
-use Rattle.hhh_engine.specs.{EndsRefusingCapture, EndsRefusingStore, EndsRefusingText, EndsRefusingWords, EndingSourceFaults, EndsAnswered, EndsWritingInPart}
-use Rattle.hhh_engine.specs.{AskNotToUseInput, AskToUseInput, InputsCanBeAnswered, InputBytes, UsesInputCapture, UsesInputSession}
-use Rattle.hhh_engine.specs.{UsesInputStore, SessionKeeping, store_settings}
-use Rattle.hhh_engine.specs.{AreDealtInSession, by_formula, status_of_opening}
+use Rattle.hhh_engine.specs.{AskForCommand, HasWordsFault, Command, Settings, WordsKind, Verdict, FrameValue}
+use Rattle.hhh_engine.specs.{CaptureFault, CaptureFileHasFrames, IsRefusedCaptureFile, Records, IsRefusedAtOpening}
+use Rattle.hhh_engine.specs.{IsShownByOpening, OpenFault}
+use Rattle.hhh_engine.specs.{HasSessionTextFault, IsSessionText, longest_session_text_length, TextFault, Answers}
+use Rattle.hhh_engine.specs.{AreAudited}
+use Rattle.hhh_engine.specs.{IsAuditedAsFirstUnsound, IsAuditedAsSound, EndsWithFailedDisk, EndsFailingToRead}
+use Rattle.hhh_engine.specs.{EndsFailingToWrite, FormatEnds, EndsFindingUnsound, EndsUntouched}
+use Rattle.hhh_engine.specs.{SourceFaultsRoseAtEnding}
+use Rattle.hhh_engine.specs.{EndsRefusingCapture, EndsRefusingStore, EndsRefusingText, EndsRefusingWords}
+use Rattle.hhh_engine.specs.{EndingSourceFaults, EndsAnswered, EndsWritingInPart}
+use Rattle.hhh_engine.specs.{AskedCommandAvoidsInput, AskedCommandUsesInput, InputsCanBeAnswered, InputBytes}
+use Rattle.hhh_engine.specs.{UsesInputCapture, UsesInputSession}
+use Rattle.hhh_engine.specs.{UsesInputStore, SessionKeeping, store_settings_for_saves}
+use Rattle.hhh_engine.specs.{AreDealtInSession, session_rules_by_formula, status_of_opening}
 use Rattle.hhh_engine.specs.declared.status.Status.{Status}
 use Rattle.hhh_engine.specs.declared.status.Status.TheVariants.{Done, BadWords, BadCapture, ReadFault, WriteFault}
 use Rattle.hhh_engine.specs.declared.status.Status.TheVariants.{DiskFault, AuditNo, BadReport, OutOfMemory}
-use Rattle.hhh.specs.Rules.{shard_by_rule}
+use Rattle.hhh.specs.ProgramRules.{program_rule_shard}
 
 -- how a run for these arguments ended: what each status says, and when it comes. `capture`, `text`, `sink` and `disk` are as
 -- the run began, and `capture_read`, `text_read`, `written` and `stands` as it ended
@@ -24,7 +30,7 @@ pub record ProgramRunEnds {S T K D : Type 0} (keeping : SessionKeeping) (AsBefor
     (status : Status) : Type 0 where
   -- the sink had taken `old`, and then has `new`: the text of the command was written, over records that are dealt by the
   -- formulas, where the command deals any. `keeping` says what became of its saves
-  pub done : status ≡ Done → Answers (by_formula shard_by_rule) keeping words read old new
+  pub done : status ≡ Done → Answers (session_rules_by_formula program_rule_shard) keeping words read old new
   -- arguments are refused for their first fault, unless memory runs out, and nothing is read or written
   pub bad_words : (kind : WordsKind) → status ≡ BadWords kind
       → EndsRefusingWords words kind capture capture_read text text_read sink written disk stands
@@ -33,62 +39,62 @@ pub record ProgramRunEnds {S T K D : Type 0} (keeping : SessionKeeping) (AsBefor
   -- a capture is refused for its first fault, unless the source fails or memory runs out first, and nothing is written
   pub bad_capture : (fault : CaptureFault) → status ≡ BadCapture fault
       → EndsRefusingCapture words read.capture fault text text_read sink written disk stands
-  pub refuses : (file : List ℕ) (fault : CaptureFault) → AskToUseInput UsesInputCapture words → read.capture ≡ Some file
-      → IsRefusedCapture file fault → (status ≡ BadCapture fault) ⊎ ((status ≡ ReadFault) ⊎ (status ≡ OutOfMemory))
+  pub refuses : (file : List ℕ) (fault : CaptureFault) → AskedCommandUsesInput UsesInputCapture words → read.capture ≡ Some file
+      → IsRefusedCaptureFile file fault → (status ≡ BadCapture fault) ⊎ ((status ≡ ReadFault) ⊎ (status ≡ OutOfMemory))
   -- a store is refused for its first fault, unless the source or the disk fails or memory runs out first; nothing is written,
   -- and the disk is as before (AsBefore)
   pub refused_store : (fault : OpenFault) → IsShownByOpening fault → status ≡ status_of_opening fault
-      → EndsRefusingStore (by_formula shard_by_rule) words read fault sink written AsBefore
+      → EndsRefusingStore (session_rules_by_formula program_rule_shard) words read fault sink written AsBefore
   pub refuses_store : (settings : Settings) (file image : List ℕ) (frames : List FrameValue) (fault : OpenFault)
-      → AskFor words (Command.Report settings) → settings.store ≡ true → read.capture ≡ Some file → HasCaptureFrames file frames
+      → AskForCommand words (Command.Report settings) → settings.store ≡ true → read.capture ≡ Some file → CaptureFileHasFrames file frames
       → read.store ≡ Some image → IsShownByOpening fault
-      → ((records : Records) (lists : List (List RecordValue)) → AreDealtInSession settings (by_formula shard_by_rule) file records lists
-      → IsRefusedAtOpening (store_settings settings) lists image fault)
+      → ((records : Records) (lists : List (List RecordValue)) → AreDealtInSession settings (session_rules_by_formula program_rule_shard) file records lists
+      → IsRefusedAtOpening (store_settings_for_saves settings) lists image fault)
       → (status ≡ status_of_opening fault) ⊎ ((status ≡ ReadFault) ⊎ ((status ≡ DiskFault) ⊎ (status ≡ OutOfMemory)))
   -- the text of a session is refused for its first fault, unless a source fails or memory runs out first
   pub bad_report : (fault : TextFault) → status ≡ BadReport fault
       → EndsRefusingText words read fault sink written disk stands
   pub refuses_report : (settings : Settings) (file bytes : List ℕ) (frames : List FrameValue) (fault : TextFault)
-      → AskFor words (Command.Audit settings) → read.capture ≡ Some file → HasCaptureFrames file frames → read.text ≡ Some bytes
-      → HasTextFault bytes fault → (status ≡ BadReport fault) ⊎ ((status ≡ ReadFault) ⊎ (status ≡ OutOfMemory))
+      → AskForCommand words (Command.Audit settings) → read.capture ≡ Some file → CaptureFileHasFrames file frames → read.text ≡ Some bytes
+      → HasSessionTextFault bytes fault → (status ≡ BadReport fault) ⊎ ((status ≡ ReadFault) ⊎ (status ≡ OutOfMemory))
   -- an audit finds the first report that isn't sound, or that all are, unless a source or the sink fails or memory runs out
   pub audit_no : (report : ℕ) (verdict : Verdict) → status ≡ AuditNo report verdict
-      → EndsFindingUnsound (by_formula shard_by_rule) words read report verdict old new
+      → EndsFindingUnsound (session_rules_by_formula program_rule_shard) words read report verdict old new
   pub finds_unsound : (settings : Settings) (file bytes : List ℕ) (frames : List FrameValue) (known : _)
-      (report : ℕ) (verdict : Verdict) → AskFor words (Command.Audit settings) → read.capture ≡ Some file
-      → HasCaptureFrames file frames → read.text ≡ Some bytes → IsSessionText bytes known → length bytes ≤ longest_session_text
+      (report : ℕ) (verdict : Verdict) → AskForCommand words (Command.Audit settings) → read.capture ≡ Some file
+      → CaptureFileHasFrames file frames → read.text ≡ Some bytes → IsSessionText bytes known → length bytes ≤ longest_session_text_length
       → ((lists : List (List RecordValue)) (session : _)
-      → AreAudited settings (by_formula shard_by_rule) file bytes lists session
+      → AreAudited settings (session_rules_by_formula program_rule_shard) file bytes lists session
       → IsAuditedAsFirstUnsound settings lists session.reports report verdict)
       → (status ≡ AuditNo report verdict) ⊎ ((status ≡ ReadFault) ⊎ ((status ≡ WriteFault) ⊎ (status ≡ OutOfMemory)))
   pub finds_sound : (settings : Settings) (file bytes : List ℕ) (frames : List FrameValue) (known : _)
-      → AskFor words (Command.Audit settings) → read.capture ≡ Some file → HasCaptureFrames file frames → read.text ≡ Some bytes
-      → IsSessionText bytes known → length bytes ≤ longest_session_text
+      → AskForCommand words (Command.Audit settings) → read.capture ≡ Some file → CaptureFileHasFrames file frames → read.text ≡ Some bytes
+      → IsSessionText bytes known → length bytes ≤ longest_session_text_length
       → ((lists : List (List RecordValue)) (session : _)
-      → AreAudited settings (by_formula shard_by_rule) file bytes lists session → All (IsAuditedAsSound settings lists) session.reports)
+      → AreAudited settings (session_rules_by_formula program_rule_shard) file bytes lists session → All (IsAuditedAsSound settings lists) session.reports)
       → (status ≡ Done) ⊎ ((status ≡ ReadFault) ⊎ ((status ≡ WriteFault) ⊎ (status ≡ OutOfMemory)))
   -- a fault of a source, the sink or the disk is returned only where it had one in this run, and always then
   pub read_fault : status ≡ ReadFault
       → EndsFailingToRead words read read_before read_now text text_read sink written disk stands
   pub read_fault_told : (status ≡ ReadFault → ⊥) → read_now ≡ read_before
   pub write_fault : status ≡ WriteFault
-      → EndsFailingToWrite (by_formula shard_by_rule) keeping words read old new write_before write_now
+      → EndsFailingToWrite (session_rules_by_formula program_rule_shard) keeping words read old new write_before write_now
   pub write_fault_told : (status ≡ WriteFault → ⊥) → write_now ≡ write_before
   pub disk_fault : status ≡ DiskFault
-      → EndsWithFailedDisk (by_formula shard_by_rule) keeping words read AsBefore sink written old new disk_before disk_now
+      → EndsWithFailedDisk (session_rules_by_formula program_rule_shard) keeping words read AsBefore sink written old new disk_before disk_now
   pub disk_fault_told : (status ≡ DiskFault → ⊥) → disk_now ≡ disk_before
   -- `format` leaves an empty store where it ends with Done or a write fault: then the disk reads `stored`, and a crash may
   -- leave what is `possible`. What the command doesn't use is untouched
-  pub formats : (settings : Settings) → AskFor words (Command.Format settings)
-      → FormatEnds (store_settings settings) stored possible sink written disk stands status
-  pub unused_disk : AskNotToUseInput UsesInputStore words → stands ≡ disk
-  pub unused_capture : AskNotToUseInput UsesInputCapture words → capture_read ≡ capture
-  pub unused_text : AskNotToUseInput UsesInputSession words → text_read ≡ text
+  pub formats : (settings : Settings) → AskForCommand words (Command.Format settings)
+      → FormatEnds (store_settings_for_saves settings) stored possible sink written disk stands status
+  pub unused_disk : AskedCommandAvoidsInput UsesInputStore words → stands ≡ disk
+  pub unused_capture : AskedCommandAvoidsInput UsesInputCapture words → capture_read ≡ capture
+  pub unused_text : AskedCommandAvoidsInput UsesInputSession words → text_read ≡ text
   -- memory may run out at any time: then a part of the text was written; or nothing was, and the disk is as before
   pub out_of_memory : status ≡ OutOfMemory
-      → EndsWritingInPart (by_formula shard_by_rule) keeping words read AsBefore sink written old new
+      → EndsWritingInPart (session_rules_by_formula program_rule_shard) keeping words read AsBefore sink written old new
   -- with arguments that ask for a command, inputs that are known and in their formats, and no fault, the command is answered,
   -- or memory ran out
-  pub complete : (command : Command) → AskFor words command → InputsCanBeAnswered (by_formula shard_by_rule) command read
-      → (OneSourceRoseAtEnding read_before read_now → ⊥) → (FaultCountRose write_before write_now → ⊥) → (FaultCountRose disk_before disk_now → ⊥)
+  pub complete : (command : Command) → AskForCommand words command → InputsCanBeAnswered (session_rules_by_formula program_rule_shard) command read
+      → (SourceFaultsRoseAtEnding read_before read_now → ⊥) → (FaultCountRose write_before write_now → ⊥) → (FaultCountRose disk_before disk_now → ⊥)
       → EndsAnswered command status ⊎ (status ≡ OutOfMemory)

@@ -11,35 +11,36 @@ use Rattle.hhh_output.specs.{AreReportLines, IsSameReport}
 use Rattle.hhh_output.specs.declared.line.Line.{Line}
 use Rattle.hhh_output.specs.declared.report.Report.{Report}
 use Rattle.hhh_output.specs.declared.reports.Reported.{Reported}
-use Rattle.report_text.specs.{AreSameSessions, IsSessionText}
+use Rattle.report_text.specs.{AreSameTextSessions, IsSessionText}
 use Rattle.report_text.specs.declared.session.Session.{Session}
 use Rattle.exact_audit.specs.declared.verdict.Verdict.{Verdict}
 use Rattle.command_words.specs.declared.settings.Settings.{Settings}
 use Rattle.hhh_engine.specs.Audit.{AreAudited, IsAuditedAsFirstUnsound, IsAuditedAsSound, IsSoundAudit, IsUnsoundAudit}
 use Rattle.hhh_engine.specs.Audit.{sound_audit_text}
-use Rattle.hhh_engine.specs.Session.{AreDealtInSession, by_formula}
+use Rattle.hhh_engine.specs.Session.{AreDealtInSession, session_rules_by_formula}
 use Rattle.hhh_engine.specs.declared.status.Status.TheVariants.{AuditNo}
-use Rattle.hhh_engine.proofs.AuditFindingLemmas.{AuditFindingIsUnique, audit_finding_holds_at_index, audit_finding_is_not_sound, audit_findings_agree}
+use Rattle.hhh_engine.proofs.AuditFindingLemmas.{AuditFindingIsUnique, audit_finding_holds_at_index}
+use Rattle.hhh_engine.proofs.AuditFindingLemmas.{audit_finding_is_not_sound, audit_findings_agree}
 use Rattle.hhh_engine.proofs.DemoTextLemmas.{DemoTextDealingIsUnique, DemoTextFramesAreUnique}
 
 -- a text is that of one session
 abbrev pub AuditAnswerHasOneSession : Type 0
 AuditAnswerHasOneSession =
     (text : List ℕ) (session other : Session) → IsSessionText text session → IsSessionText text other
-    → AreSameSessions session other
+    → AreSameTextSessions session other
 
 -- the records of a file are dealt in one way
 audit_answer_has_one_dealing : DemoTextFramesAreUnique → DemoTextDealingIsUnique → (formula : DealKind → ℕ → RecordValue → ℕ → ℕ) (settings : Settings)
     (file : List ℕ) (records others : Records) (lists other_lists : List (List RecordValue))
-    → AreDealtInSession settings (by_formula formula) file records lists
-    → AreDealtInSession settings (by_formula formula) file others other_lists → other_lists ≡ lists
+    → AreDealtInSession settings (session_rules_by_formula formula) file records lists
+    → AreDealtInSession settings (session_rules_by_formula formula) file others other_lists → other_lists ≡ lists
 audit_answer_has_one_dealing one_frames one_dealing formula settings file records others lists other_lists dealt dealt_other =
     let frames = one_frames file dealt_other.frames dealt.frames dealt_other.capture dealt.capture in
     let same : records.list ≡ others.list =
     dealt.are_records.list ∙ ap (frame_records_of settings.weigh) frames ∙ sym dealt_other.are_records.list in
     sym
     (one_dealing settings.deal (formula settings.deal) settings.shards records.list lists other_lists dealt.dealt
-    (subst (λ rs. IsDealing settings.deal (by_formula formula settings.deal) settings.shards rs other_lists) (sym same)
+    (subst (λ rs. IsDealing settings.deal (session_rules_by_formula formula settings.deal) settings.shards rs other_lists) (sym same)
     dealt_other.dealt))
 
 -- a report of these parts
@@ -81,7 +82,7 @@ audit_answer_reported_is_equal reported another same =
     (ap (λ (r : Report). record reported { report = r }) (audit_answer_reports_are_equal reported.report another.report same.0)
     ∙ ap (λ (s : Option (List ℕ)). record another { saved = s }) same.1)
 
-audit_answer_sessions_are_equal : (session other : Session) → AreSameSessions session other → other.reports ≡ session.reports
+audit_answer_sessions_are_equal : (session other : Session) → AreSameTextSessions session other → other.reports ≡ session.reports
 audit_answer_sessions_are_equal session other same =
     same_from_all_zip
     (λ (reported another : Reported). IsSameReport reported.report another.report × (reported.saved ≡ another.saved))
@@ -95,8 +96,8 @@ audit_answer_reports_of_text one text session other is is_other = audit_answer_s
 -- all reports of a text are sound, where some session of it is found sound
 pub audit_answer_all_sound : DemoTextFramesAreUnique → DemoTextDealingIsUnique → AuditAnswerHasOneSession → (formula : DealKind → ℕ → RecordValue → ℕ → ℕ)
     (settings : Settings) (file text answer : List ℕ) (lists : List (List RecordValue)) (session : Session)
-    → IsSoundAudit settings (by_formula formula) file text answer
-    → AreAudited settings (by_formula formula) file text lists session
+    → IsSoundAudit settings (session_rules_by_formula formula) file text answer
+    → AreAudited settings (session_rules_by_formula formula) file text lists session
     → All (IsAuditedAsSound settings lists) session.reports × (answer ≡ sound_audit_text (length session.reports))
 audit_answer_all_sound one_frames one_dealing one formula settings file text answer lists session is audited =
     let same_lists : lists ≡ is.lists =
@@ -112,8 +113,8 @@ audit_answer_all_sound one_frames one_dealing one formula settings file text ans
 -- and the first unsound one is that of each
 pub audit_answer_first_unsound : DemoTextFramesAreUnique → DemoTextDealingIsUnique → AuditAnswerHasOneSession → (formula : DealKind → ℕ → RecordValue → ℕ → ℕ)
     (settings : Settings) (file text : List ℕ) (number : ℕ) (verdict : Verdict) (lists : List (List RecordValue)) (session : Session)
-    → IsUnsoundAudit settings (by_formula formula) file text number verdict
-    → AreAudited settings (by_formula formula) file text lists session
+    → IsUnsoundAudit settings (session_rules_by_formula formula) file text number verdict
+    → AreAudited settings (session_rules_by_formula formula) file text lists session
     → IsAuditedAsFirstUnsound settings lists session.reports number verdict
 audit_answer_first_unsound one_frames one_dealing one formula settings file text number verdict lists session is audited =
     subst (λ l. IsAuditedAsFirstUnsound settings l session.reports number verdict)
@@ -125,8 +126,8 @@ audit_answer_first_unsound one_frames one_dealing one formula settings file text
 -- a session of sound reports has none that is not
 pub audit_answer_is_never_both : DemoTextFramesAreUnique → DemoTextDealingIsUnique → AuditAnswerHasOneSession → AuditFindingIsUnique
     → (formula : DealKind → ℕ → RecordValue → ℕ → ℕ) (settings : Settings) (file text answer : List ℕ) (number : ℕ)
-    (verdict : Verdict) → IsSoundAudit settings (by_formula formula) file text answer
-    → IsUnsoundAudit settings (by_formula formula) file text number verdict → ⊥
+    (verdict : Verdict) → IsSoundAudit settings (session_rules_by_formula formula) file text answer
+    → IsUnsoundAudit settings (session_rules_by_formula formula) file text number verdict → ⊥
 audit_answer_is_never_both one_frames one_dealing one one_verdict formula settings file text answer number verdict sound is =
     let first = audit_answer_first_unsound one_frames one_dealing one formula settings file text number verdict sound.lists
     sound.session is sound.audited in
@@ -137,8 +138,8 @@ audit_answer_is_never_both one_frames one_dealing one one_verdict formula settin
 pub audit_answer_unsound_is_unique : DemoTextFramesAreUnique → DemoTextDealingIsUnique → AuditAnswerHasOneSession → AuditFindingIsUnique
     → (formula : DealKind → ℕ → RecordValue → ℕ → ℕ)
     (settings : Settings) (file text : List ℕ) (number other_number : ℕ) (verdict other : Verdict)
-    → IsUnsoundAudit settings (by_formula formula) file text number verdict
-    → IsUnsoundAudit settings (by_formula formula) file text other_number other
+    → IsUnsoundAudit settings (session_rules_by_formula formula) file text number verdict
+    → IsUnsoundAudit settings (session_rules_by_formula formula) file text other_number other
     → (other_number ≡ number) × (other ≡ verdict)
 audit_answer_unsound_is_unique one_frames one_dealing one one_verdict formula settings file text number other_number verdict other is
     is_other =

@@ -7,7 +7,7 @@ use Rattle.std.proofs.lemmas.Bool.{cases_lt}
 use Rattle.std.proofs.lemmas.List.{length-append}
 use Rattle.outside_io.specs.{AppendsBeginning, FaultCountRose}
 use Rattle.prefix_lattice.specs.{RecordValue}
-use Rattle.report_text.specs.{HasSessionFault, longest_session_text}
+use Rattle.report_text.specs.{HasSessionTextReadFault, longest_session_text_length}
 use Rattle.report_text.specs.declared.session.Session.{Session}
 use Rattle.report_text.specs.declared.session_fault.SessionFault.{SessionFault}
 use Rattle.report_text.specs.declared.session_fault.SessionFault.TheVariants as session
@@ -17,9 +17,9 @@ use Rattle.command_words.specs.declared.settings.Settings.{Settings}
 use Rattle.hhh_engine.specs.Answer.{IsUnfinishedAnswer}
 use Rattle.hhh_engine.specs.Audit.{AreAudited, IsAuditText, IsSoundAudit, IsUnsoundAudit}
 use Rattle.hhh_engine.specs.Auditing.{AreAuditingInputs, HasNoAudit, IsAuditingAnswer, AuditingSays}
-use Rattle.hhh_engine.specs.Ending.{AuditEndsUnsound, Ends, EndingSourceFaults}
-use Rattle.hhh_engine.specs.Inputs.{InputBytes, IsInputCapture, OfAuditInputs, InputsWereRead, inputs}
-use Rattle.hhh_engine.specs.Session.{SessionKeeping, Rules}
+use Rattle.hhh_engine.specs.Ending.{EndsByAuditFinding, Ends, EndingSourceFaults}
+use Rattle.hhh_engine.specs.Inputs.{InputBytes, IsInputCapture, HoldsOfAuditInputs, InputsWereRead, inputs}
+use Rattle.hhh_engine.specs.Session.{SessionKeeping, SessionRules}
 use Rattle.hhh_engine.specs.Status.{status_of_session}
 use Rattle.hhh_engine.specs.declared.commands.audit.Answer.{Answer}
 use Rattle.hhh_engine.specs.declared.commands.audit.Audited.{Audited}
@@ -32,7 +32,7 @@ use Rattle.hhh_engine.proofs.StatusLemmas.{EndsWithStatus, status_beside_disk}
 
 -- what follows of the inputs of an audit that may be known
 pub audit_end_inputs_imply_more : (read : InputBytes) (P Q : List ℕ → List ℕ → Type 0)
-    → ((file text : List ℕ) → P file text → Q file text) → OfAuditInputs read P → OfAuditInputs read Q
+    → ((file text : List ℕ) → P file text → Q file text) → HoldsOfAuditInputs read P → HoldsOfAuditInputs read Q
 audit_end_inputs_imply_more read P Q follows has =
     capture_report_if_known read.capture (λ file. IsInputCapture file × IfSome read.text (P file))
     (λ file. IsInputCapture file × IfSome read.text (Q file))
@@ -40,27 +40,27 @@ audit_end_inputs_imply_more read P Q follows has =
 
 -- the fault of the bytes that were read is one of the text itself
 audit_end_text_is_faulty : (text left : Option (List ℕ)) (bytes : List ℕ) (fault : SessionFault) → Consumes text left bytes
-    → (length bytes ≤ longest_session_text → IsAtEnd left) → HasSessionFault bytes fault
-    → (longest_session_text < length bytes → fault ≡ session.Text TooLong)
-    → IfSome text (λ whole. HasSessionFault whole fault)
+    → (length bytes ≤ longest_session_text_length → IsAtEnd left) → HasSessionTextReadFault bytes fault
+    → (longest_session_text_length < length bytes → fault ≡ session.Text TooLong)
+    → IfSome text (λ whole. HasSessionTextReadFault whole fault)
 audit_end_text_is_faulty None left bytes fault consumed at_end has too_long = tt
 audit_end_text_is_faulty (Some whole) None bytes fault consumed at_end has too_long = absurd consumed
 audit_end_text_is_faulty (Some whole) (Some rest) bytes fault consumed at_end has too_long =
     ⊎_elim
-    (λ (long : longest_session_text < length bytes).
-    subst (HasSessionFault whole) (sym (too_long long))
+    (λ (long : longest_session_text_length < length bytes).
+    subst (HasSessionTextReadFault whole) (sym (too_long long))
     (omega (arith, long, ap length consumed, length-append bytes rest)))
-    (λ (short : length bytes ≤ longest_session_text).
-    subst (λ t. HasSessionFault t fault)
+    (λ (short : length bytes ≤ longest_session_text_length).
+    subst (λ t. HasSessionTextReadFault t fault)
     (sym (consumed ∙ ap (λ r. bytes ++ r) (at_end short) ∙ append-nil bytes)) has)
-    (cases_lt longest_session_text (length bytes))
+    (cases_lt longest_session_text_length (length bytes))
 
 -- why the inputs of an audit were not taken: the text of a session was refused
 pub audit_ends_at_refused_text : (capture capture_left text text_left store : Option (List ℕ)) (before now : EndingSourceFaults)
     (bytes : List ℕ) (fault : SessionFault) → IsAtEnd capture_left → IfSome capture IsInputCapture
-    → Consumes text text_left bytes → length bytes ≤ longest_session_text + 1
-    → (length bytes ≤ longest_session_text → IsAtEnd text_left) → HasSessionFault bytes fault
-    → (longest_session_text < length bytes → fault ≡ session.Text TooLong)
+    → Consumes text text_left bytes → length bytes ≤ longest_session_text_length + 1
+    → (length bytes ≤ longest_session_text_length → IsAtEnd text_left) → HasSessionTextReadFault bytes fault
+    → (longest_session_text_length < length bytes → fault ≡ session.Text TooLong)
     → HasNoAudit (inputs capture capture_left text text_left store) before now (status_of_session fault)
 audit_ends_at_refused_text capture capture_left text text_left store before now bytes (session.Text TooLong) read is_capture consumed
     limit at_end has too_long = record {
@@ -87,17 +87,17 @@ audit_ends_at_refused_text capture capture_left text text_left store before now 
     limit at_end has too_long = tt
 
 -- how an audit ended
-abbrev pub EndsAudit : {K : Type 0} → Settings → Rules → InputBytes → (read_before read_now : EndingSourceFaults)
+abbrev pub EndsAudit : {K : Type 0} → Settings → SessionRules → InputBytes → (read_before read_now : EndingSourceFaults)
     → (sink written : K) → (old new : Option (List ℕ)) → (write_before write_now : ℕ) → Status → Type 0
 EndsAudit settings rules given read_before read_now sink written old new write_before write_now status =
-    Ends (λ answer. OfAuditInputs given (λ file session. IsSoundAudit settings rules file session answer))
-    (λ front. OfAuditInputs given (λ file session. IsUnfinishedAnswer (IsAuditText settings rules file session) front))
+    Ends (λ answer. HoldsOfAuditInputs given (λ file session. IsSoundAudit settings rules file session answer))
+    (λ front. HoldsOfAuditInputs given (λ file session. IsUnfinishedAnswer (IsAuditText settings rules file session) front))
     (IsAtEnd given.capture_left × IsAtEnd given.text_left) (IfSome given.capture IsInputCapture) ⊥ ⊤ ⊤ (λ fault. ⊥)
-    (AuditEndsUnsound settings rules given old new) given.capture read_before read_now sink written old new write_before
+    (EndsByAuditFinding settings rules given old new) given.capture read_before read_now sink written old new write_before
     write_now status
 
 -- an audit whose inputs were not taken
-pub audit_ends_without_inputs : {K : Type 0} (settings : Settings) (rules : Rules) (given : InputBytes)
+pub audit_ends_without_inputs : {K : Type 0} (settings : Settings) (rules : SessionRules) (given : InputBytes)
     (read_before read_now : EndingSourceFaults) (sink : K) (old : Option (List ℕ)) (faults : ℕ) (status : Status)
     → HasNoAudit given read_before read_now status → ((status ≡ ReadFault → ⊥) → read_now ≡ read_before)
     → EndsAudit settings rules given read_before read_now sink sink old old faults faults status
@@ -129,7 +129,7 @@ audit_ends_without_inputs settings rules given read_before read_now sink old fau
     (inl (refl, tt), told (λ is. cc is), refl)
 
 -- what an audit says is its text, whether all reports are sound or not
-audit_end_says_its_text : (settings : Settings) (rules : Rules) (file bytes : List ℕ) (lists : List (List RecordValue))
+audit_end_says_its_text : (settings : Settings) (rules : SessionRules) (file bytes : List ℕ) (lists : List (List RecordValue))
     (said : Session) (text : List ℕ) (status : Status) → AreAudited settings rules file bytes lists said
     → AuditingSays settings lists said.reports text status → IsAuditText settings rules file bytes text
 audit_end_says_its_text settings rules file bytes lists said text Done audited says =
@@ -160,7 +160,7 @@ audit_end_says_its_text settings rules file bytes lists said text OutOfMemory au
     absurd says
 
 -- an audit whose answer was not written whole
-pub audit_ends_broken_off : {K : Type 0} (settings : Settings) (rules : Rules) (given : InputBytes)
+pub audit_ends_broken_off : {K : Type 0} (settings : Settings) (rules : SessionRules) (given : InputBytes)
     (read_before read_now : EndingSourceFaults) (sink written : K) (old new : Option (List ℕ)) (write_before write_now : ℕ)
     (audited : Audited) (answer : Answer) → AreAuditingInputs settings rules given audited
     → IsAuditingAnswer settings audited.dealt audited.session.reports answer → IsAtEnd given.capture_left
@@ -188,10 +188,10 @@ audit_ends_broken_off settings rules given read_before read_now sink written old
     )
 
 -- an audit whose answer was written
-audit_ends_in_written_text : {K : Type 0} (settings : Settings) (rules : Rules) (given : InputBytes)
+audit_ends_in_written_text : {K : Type 0} (settings : Settings) (rules : SessionRules) (given : InputBytes)
     (read_before read_now : EndingSourceFaults) (sink written : K) (old new : Option (List ℕ)) (write_before write_now : ℕ)
     (lists : List (List RecordValue)) (said : Session) (text : List ℕ) (status : Status)
-    → OfAuditInputs given (λ file bytes. AreAudited settings rules file bytes lists said)
+    → HoldsOfAuditInputs given (λ file bytes. AreAudited settings rules file bytes lists said)
     → AuditingSays settings lists said.reports text status → IsAtEnd given.capture_left → IsAtEnd given.text_left
     → read_now ≡ read_before → Appends old new text → write_now ≡ write_before
     → EndsAudit settings rules given read_before read_now sink written old new write_before write_now status
@@ -260,7 +260,7 @@ audit_ends_in_written_text settings rules given read_before read_now sink writte
     OutOfMemory are says capture_read text_read same appended same_sink =
     absurd says
 
-pub audit_ends_as_written : {K : Type 0} (settings : Settings) (rules : Rules) (given : InputBytes)
+pub audit_ends_as_written : {K : Type 0} (settings : Settings) (rules : SessionRules) (given : InputBytes)
     (read_before read_now : EndingSourceFaults) (sink written : K) (old new : Option (List ℕ)) (write_before write_now : ℕ)
     (audited : Audited) (answer : Answer) → AreAuditingInputs settings rules given audited
     → IsAuditingAnswer settings audited.dealt audited.session.reports answer → IsAtEnd given.capture_left
@@ -272,7 +272,7 @@ audit_ends_as_written settings rules given read_before read_now sink written old
     audited.session answer.text.items answer.status are says capture_read text_read same appended same_sink
 
 -- how an audit ended, as a command beside a disk
-pub audit_ends_as : {K : Type 0} (settings : Settings) (rules : Rules) (keeping : SessionKeeping) (given : InputBytes)
+pub audit_ends_as : {K : Type 0} (settings : Settings) (rules : SessionRules) (keeping : SessionKeeping) (given : InputBytes)
     (AsBefore : Type 0) (DiskSame : Type 0) (read_before read_now : EndingSourceFaults) (sink written : K)
     (old new : Option (List ℕ)) (write_before write_now : ℕ) (status : Status) → DiskSame → AsBefore
     → EndsAudit settings rules given read_before read_now sink written old new write_before write_now status
@@ -280,8 +280,8 @@ pub audit_ends_as : {K : Type 0} (settings : Settings) (rules : Rules) (keeping 
     read_now sink written old new write_before write_now status
 audit_ends_as settings rules keeping given AsBefore DiskSame read_before read_now sink written old new write_before
     write_now status same before ends =
-    status_beside_disk (λ answer. OfAuditInputs given (λ file session. IsSoundAudit settings rules file session answer))
-    (λ front. OfAuditInputs given (λ file session. IsUnfinishedAnswer (IsAuditText settings rules file session) front))
+    status_beside_disk (λ answer. HoldsOfAuditInputs given (λ file session. IsSoundAudit settings rules file session answer))
+    (λ front. HoldsOfAuditInputs given (λ file session. IsUnfinishedAnswer (IsAuditText settings rules file session) front))
     (IsAtEnd given.capture_left × IsAtEnd given.text_left) (IfSome given.capture IsInputCapture) DiskSame AsBefore (λ fault. ⊥)
-    (AuditEndsUnsound settings rules given old new) given.capture read_before read_now sink written old new write_before
+    (EndsByAuditFinding settings rules given old new) given.capture read_before read_now sink written old new write_before
     write_now status same before ends

@@ -7,33 +7,37 @@ use Rattle.std.proofs.lemmas.List.{get_or-take, length-take}
 use Rattle.std.proofs.lemmas.List.Elements.{All-get_or, All-more}
 use Rattle.prefix_lattice.specs.{RecordValue}
 use Rattle.pcap_frames.specs.{FrameValue}
-use Rattle.frame_records.specs.{HasCaptureFrames, IsRefusedCapture}
+use Rattle.frame_records.specs.{CaptureFileHasFrames, IsRefusedCaptureFile}
 use Rattle.hhh_output.specs.declared.report.Report.{Report}
 use Rattle.hhh_output.specs.declared.reports.Reported.{Reported}
-use Rattle.report_text.specs.{HasTextFault, IsSessionText, longest_session_text}
+use Rattle.report_text.specs.{HasSessionTextFault, IsSessionText, longest_session_text_length}
 use Rattle.report_text.specs.declared.session.Session.{Session}
 use Rattle.report_text.specs.declared.session_fault.TextFault.{TextFault}
 use Rattle.exact_audit.specs.{IsVerdict}
 use Rattle.exact_audit.specs.declared.verdict.Verdict.{Verdict}
 use Rattle.exact_audit.specs.declared.verdict.Verdict.TheVariants.{Good}
-use Rattle.command_words.specs.{AskFor}
+use Rattle.command_words.specs.{AskForCommand}
 use Rattle.command_words.specs.declared.command.Command.{Command}
-use Rattle.command_words.specs.declared.command.Command.TheVariants.{Weigh, Report as ToReport, Format, Audit, Make, Demo}
+use Rattle.command_words.specs.declared.command.Command.TheVariants.{Weigh, Report as ToReport, Format, Audit, Make}
+use Rattle.command_words.specs.declared.command.Command.TheVariants.{Demo}
 use Rattle.command_words.specs.declared.settings.Settings.{Settings}
-use Rattle.hhh_engine.specs.Audit.{AreAudited, IsAuditText, IsAuditedAsFirstUnsound, IsAuditedAsSound, IsSoundAudit, IsUnsoundAudit}
+use Rattle.hhh_engine.specs.Audit.{AreAudited, IsAuditText, IsAuditedAsFirstUnsound, IsAuditedAsSound, IsSoundAudit}
+use Rattle.hhh_engine.specs.Audit.{IsUnsoundAudit}
 use Rattle.hhh_engine.specs.Answer.{IsUnfinishedAnswer}
-use Rattle.hhh_engine.specs.Ending.{FindsAtEnding, EndsFindingUnsound, OfDiskAtEnding, EndsRefusingText, EndingSourceFaults}
-use Rattle.hhh_engine.specs.Inputs.{InputBytes, IsInputCapture, OfAuditInputs, InputsWereRead}
-use Rattle.hhh_engine.specs.Session.{SessionKeeping, Rules}
+use Rattle.hhh_engine.specs.Ending.{AuditFindsAtEnding, EndsFindingUnsound, HappenedToDiskAtEnding, EndsRefusingText}
+use Rattle.hhh_engine.specs.Ending.{EndingSourceFaults}
+use Rattle.hhh_engine.specs.Inputs.{InputBytes, IsInputCapture, HoldsOfAuditInputs, InputsWereRead}
+use Rattle.hhh_engine.specs.Session.{SessionKeeping, SessionRules}
 use Rattle.hhh_engine.specs.declared.status.Status.{Status}
 use Rattle.hhh_engine.specs.declared.status.Status.TheVariants.{Done, BadWords, BadCapture, ReadFault, WriteFault}
 use Rattle.hhh_engine.specs.declared.status.Status.TheVariants.{DiskFault, NotFormatted, Damaged, OtherSettings}
 use Rattle.hhh_engine.specs.declared.status.Status.TheVariants.{OtherCapture, AuditNo, BadReport, OutOfMemory}
-use Rattle.hhh_engine.proofs.StatusLemmas.{EndsWithStatus, CaptureStatusIsFaultless, SessionStatusIsFaultless, status_of_known_file}
+use Rattle.hhh_engine.proofs.StatusLemmas.{EndsWithStatus, CaptureStatusIsFaultless, SessionStatusIsFaultless}
+use Rattle.hhh_engine.proofs.StatusLemmas.{status_of_known_file}
 
 -- a text has one fault at most
 abbrev pub AuditFindingHasOneFault : Type 0
-AuditFindingHasOneFault = (text : List ℕ) (fault other : TextFault) → HasTextFault text fault → HasTextFault text other → fault ≡ other
+AuditFindingHasOneFault = (text : List ℕ) (fault other : TextFault) → HasSessionTextFault text fault → HasSessionTextFault text other → fault ≡ other
 
 -- a report has one verdict
 abbrev pub AuditFindingIsUnique : Type 0
@@ -43,7 +47,7 @@ AuditFindingIsUnique =
 
 -- what holds of known inputs
 pub audit_finding_of_known_inputs : (given : InputBytes) (file bytes : List ℕ) (Holds : List ℕ → List ℕ → Type 0)
-    → given.capture ≡ Some file → given.text ≡ Some bytes → OfAuditInputs given Holds → Holds file bytes
+    → given.capture ≡ Some file → given.text ≡ Some bytes → HoldsOfAuditInputs given Holds → Holds file bytes
 audit_finding_of_known_inputs given file bytes Holds is_file is_text holds =
     status_of_known_file given.text bytes (Holds file) is_text
     (status_of_known_file given.capture file (λ f. IsInputCapture f × IfSome given.text (Holds f)) is_file holds).1
@@ -127,8 +131,8 @@ audit_findings_agree one settings lists reports number other_number verdict othe
     audit_finding_at_one_place one settings lists reports number other_number verdict other first second place
 
 -- the audit of a text with a fault says nothing
-audit_finding_excludes_bad_text : SessionStatusIsFaultless → (settings : Settings) (rules : Rules) (file bytes answer : List ℕ) (fault : TextFault)
-    → HasTextFault bytes fault → IsAuditText settings rules file bytes answer → ⊥
+audit_finding_excludes_bad_text : SessionStatusIsFaultless → (settings : Settings) (rules : SessionRules) (file bytes answer : List ℕ) (fault : TextFault)
+    → HasSessionTextFault bytes fault → IsAuditText settings rules file bytes answer → ⊥
 audit_finding_excludes_bad_text no_fault settings rules file bytes answer fault has =
     ⊎_elim
     (λ is. no_fault bytes is.session fault is.audited.is_session is.audited.not_long has)
@@ -136,10 +140,10 @@ audit_finding_excludes_bad_text no_fault settings rules file bytes answer fault 
 
 -- an audit of a text with a fault is refused for it, unless a source fails or memory runs out
 audit_finding_is_text_fault : {K : Type 0} → CaptureStatusIsFaultless → AuditFindingHasOneFault → SessionStatusIsFaultless
-    → (rules : Rules) (keeping : SessionKeeping) (settings : Settings) (given : InputBytes) (AsBefore : Type 0)
+    → (rules : SessionRules) (keeping : SessionKeeping) (settings : Settings) (given : InputBytes) (AsBefore : Type 0)
     (ReadToEnd DiskSame : Type 0) (read_before read_now : EndingSourceFaults) (sink written : K) (old new : Option (List ℕ))
     (write_before write_now : ℕ) (status : Status) (file bytes : List ℕ) (frames : List FrameValue) (fault : TextFault)
-    → given.capture ≡ Some file → HasCaptureFrames file frames → given.text ≡ Some bytes → HasTextFault bytes fault
+    → given.capture ≡ Some file → CaptureFileHasFrames file frames → given.text ≡ Some bytes → HasSessionTextFault bytes fault
     → EndsWithStatus rules keeping (Audit settings) given AsBefore ReadToEnd ⊥ DiskSame read_before read_now sink written old
     new write_before write_now status
     → (status ≡ BadReport fault) ⊎ ((status ≡ ReadFault) ⊎ (status ≡ OutOfMemory))
@@ -153,7 +157,7 @@ audit_finding_is_text_fault never_both one_fault no_fault rules keeping settings
     absurd ends
 audit_finding_is_text_fault never_both one_fault no_fault rules keeping settings given AsBefore ReadToEnd DiskSame read_before
     read_now sink written old new write_before write_now (BadCapture other) file bytes frames fault is_file capture is_text has ends =
-    absurd (never_both file frames other capture (status_of_known_file given.capture file (λ f. IsRefusedCapture f other) is_file ends.0))
+    absurd (never_both file frames other capture (status_of_known_file given.capture file (λ f. IsRefusedCaptureFile f other) is_file ends.0))
 audit_finding_is_text_fault never_both one_fault no_fault rules keeping settings given AsBefore ReadToEnd DiskSame read_before
     read_now sink written old new write_before write_now ReadFault file bytes frames fault is_file capture is_text has ends =
     inr (inl refl)
@@ -186,7 +190,7 @@ audit_finding_is_text_fault never_both one_fault no_fault rules keeping settings
 audit_finding_is_text_fault never_both one_fault no_fault rules keeping settings given AsBefore ReadToEnd DiskSame read_before
     read_now sink written old new write_before write_now (BadReport wrong) file bytes frames fault is_file capture is_text has ends =
     inl (ap BadReport (one_fault bytes wrong fault
-    (status_of_known_file given.text bytes (λ t. HasTextFault t wrong) is_text ends.0.first_fault) has))
+    (status_of_known_file given.text bytes (λ t. HasSessionTextFault t wrong) is_text ends.0.first_fault) has))
 audit_finding_is_text_fault never_both one_fault no_fault rules keeping settings given AsBefore ReadToEnd DiskSame read_before
     read_now sink written old new write_before write_now OutOfMemory file bytes frames fault is_file capture is_text has ends =
     inr (inr refl)
@@ -194,12 +198,12 @@ audit_finding_is_text_fault never_both one_fault no_fault rules keeping settings
 -- a session whose first report that is not sound is known, however the records are dealt, is found so, unless a source or
 -- the sink fails or memory runs out
 audit_finding_is_first_unsound : {K : Type 0} → CaptureStatusIsFaultless → SessionStatusIsFaultless → AuditFindingIsUnique
-    → (rules : Rules) (keeping : SessionKeeping) (settings : Settings) (given : InputBytes) (AsBefore : Type 0)
+    → (rules : SessionRules) (keeping : SessionKeeping) (settings : Settings) (given : InputBytes) (AsBefore : Type 0)
     (ReadToEnd DiskSame : Type 0) (read_before read_now : EndingSourceFaults) (sink written : K) (old new : Option (List ℕ))
     (write_before write_now : ℕ) (status : Status) (file bytes : List ℕ) (frames : List FrameValue) (known : Session)
     (report : ℕ) (verdict : Verdict)
-    → given.capture ≡ Some file → HasCaptureFrames file frames → given.text ≡ Some bytes → IsSessionText bytes known
-    → length bytes ≤ longest_session_text
+    → given.capture ≡ Some file → CaptureFileHasFrames file frames → given.text ≡ Some bytes → IsSessionText bytes known
+    → length bytes ≤ longest_session_text_length
     → ((lists : List (List RecordValue)) (session : Session) → AreAudited settings rules file bytes lists session
     → IsAuditedAsFirstUnsound settings lists session.reports report verdict)
     → EndsWithStatus rules keeping (Audit settings) given AsBefore ReadToEnd ⊥ DiskSame read_before read_now sink written old
@@ -220,7 +224,7 @@ audit_finding_is_first_unsound never_both no_fault one rules keeping settings gi
 audit_finding_is_first_unsound never_both no_fault one rules keeping settings given AsBefore ReadToEnd DiskSame read_before read_now sink
     written old new write_before write_now (BadCapture other) file bytes frames known report verdict is_file capture is_text is_session
     not_long first ends =
-    absurd (never_both file frames other capture (status_of_known_file given.capture file (λ f. IsRefusedCapture f other) is_file ends.0))
+    absurd (never_both file frames other capture (status_of_known_file given.capture file (λ f. IsRefusedCaptureFile f other) is_file ends.0))
 audit_finding_is_first_unsound never_both no_fault one rules keeping settings given AsBefore ReadToEnd DiskSame read_before read_now sink
     written old new write_before write_now ReadFault file bytes frames known report verdict is_file capture is_text is_session
     not_long first ends =
@@ -260,16 +264,16 @@ audit_finding_is_first_unsound never_both no_fault one rules keeping settings gi
     written old new write_before write_now (BadReport wrong) file bytes frames known report verdict is_file capture is_text is_session
     not_long first ends =
     absurd (no_fault bytes known wrong is_session not_long
-    (status_of_known_file given.text bytes (λ t. HasTextFault t wrong) is_text ends.0.first_fault))
+    (status_of_known_file given.text bytes (λ t. HasSessionTextFault t wrong) is_text ends.0.first_fault))
 audit_finding_is_first_unsound never_both no_fault one rules keeping settings given AsBefore ReadToEnd DiskSame read_before read_now sink
     written old new write_before write_now OutOfMemory file bytes frames known report verdict is_file capture is_text is_session
     not_long first ends =
     inr (inr (inr refl))
 
 -- what an audit found that ended so
-audit_finding_for_command : (rules : Rules) (words : List (List ℕ)) (command : Command) (given : InputBytes) (old new : Option (List ℕ))
-    (report : ℕ) (verdict : Verdict) → AskFor words command → InputsWereRead command given
-    → FindsAtEnding command rules given old new (AuditNo report verdict)
+audit_finding_for_command : (rules : SessionRules) (words : List (List ℕ)) (command : Command) (given : InputBytes) (old new : Option (List ℕ))
+    (report : ℕ) (verdict : Verdict) → AskForCommand words command → InputsWereRead command given
+    → AuditFindsAtEnding command rules given old new (AuditNo report verdict)
     → EndsFindingUnsound rules words given report verdict old new
 audit_finding_for_command rules words (Weigh prefix settings) given old new report verdict asked read finds = absurd finds
 audit_finding_for_command rules words (ToReport settings) given old new report verdict asked read finds = absurd finds
@@ -284,10 +288,10 @@ audit_finding_for_command rules words (Audit settings) given old new report verd
   written = finds.1;
 }
 
-pub audit_finding_by_status : {K : Type 0} (rules : Rules) (keeping : SessionKeeping) (words : List (List ℕ)) (command : Command)
+pub audit_finding_by_status : {K : Type 0} (rules : SessionRules) (keeping : SessionKeeping) (words : List (List ℕ)) (command : Command)
     (given : InputBytes) (AsBefore : Type 0) (DiskRose DiskSame : Type 0)
     (read_before read_now : EndingSourceFaults) (sink written : K) (old new : Option (List ℕ)) (write_before write_now : ℕ)
-    (status : Status) (report : ℕ) (verdict : Verdict) → AskFor words command → status ≡ AuditNo report verdict
+    (status : Status) (report : ℕ) (verdict : Verdict) → AskForCommand words command → status ≡ AuditNo report verdict
     → EndsWithStatus rules keeping command given AsBefore (InputsWereRead command given) DiskRose DiskSame read_before read_now sink
     written old new write_before write_now status
     → EndsFindingUnsound rules words given report verdict old new
@@ -298,9 +302,9 @@ audit_finding_by_status rules keeping words command given AsBefore DiskRose Disk
     audit_finding_for_command rules words command given old new report verdict asked now.0 now.1
 
 -- the text of a session that was refused
-audit_finding_refuses_text : {K D : Type 0} (rules : Rules) (words : List (List ℕ)) (command : Command) (given : InputBytes)
-    (old new : Option (List ℕ)) (fault : TextFault) (sink written : K) (disk stands : D) → AskFor words command
-    → FindsAtEnding command rules given old new (BadReport fault) → written ≡ sink → stands ≡ disk
+audit_finding_refuses_text : {K D : Type 0} (rules : SessionRules) (words : List (List ℕ)) (command : Command) (given : InputBytes)
+    (old new : Option (List ℕ)) (fault : TextFault) (sink written : K) (disk stands : D) → AskForCommand words command
+    → AuditFindsAtEnding command rules given old new (BadReport fault) → written ≡ sink → stands ≡ disk
     → EndsRefusingText words given fault sink written disk stands
 audit_finding_refuses_text rules words (Weigh prefix settings) given old new fault sink written disk stands asked finds same untouched =
     absurd finds
@@ -321,10 +325,10 @@ audit_finding_refuses_text rules words (Audit settings) given old new fault sink
   untouched = untouched;
 }
 
-pub audit_finding_refuses_by_status : {K D : Type 0} (rules : Rules) (keeping : SessionKeeping) (words : List (List ℕ)) (command : Command)
+pub audit_finding_refuses_by_status : {K D : Type 0} (rules : SessionRules) (keeping : SessionKeeping) (words : List (List ℕ)) (command : Command)
     (given : InputBytes) (AsBefore : Type 0) (ReadToEnd DiskRose : Type 0)
     (read_before read_now : EndingSourceFaults) (sink written : K) (disk stands : D) (old new : Option (List ℕ))
-    (write_before write_now : ℕ) (status : Status) (fault : TextFault) → AskFor words command
+    (write_before write_now : ℕ) (status : Status) (fault : TextFault) → AskForCommand words command
     → status ≡ BadReport fault
     → EndsWithStatus rules keeping command given AsBefore ReadToEnd DiskRose (stands ≡ disk) read_before read_now sink written
     old new write_before write_now status
@@ -337,12 +341,12 @@ audit_finding_refuses_by_status rules keeping words command given AsBefore ReadT
 
 -- the same of the command that was asked for, where it is an audit
 pub asked_audit_finding_is_fault : {K : Type 0} → CaptureStatusIsFaultless → AuditFindingHasOneFault → SessionStatusIsFaultless
-    → (rules : Rules) (keeping : SessionKeeping) (settings : Settings) (read : Command) (given : InputBytes)
+    → (rules : SessionRules) (keeping : SessionKeeping) (settings : Settings) (read : Command) (given : InputBytes)
     (AsBefore : Type 0) (DiskRose DiskSame : Type 0)
     (read_before read_now : EndingSourceFaults) (sink written : K) (old new : Option (List ℕ)) (write_before write_now : ℕ)
     (status : Status) (file bytes : List ℕ) (frames : List FrameValue) (fault : TextFault) → read ≡ Audit settings
-    → given.capture ≡ Some file → HasCaptureFrames file frames → given.text ≡ Some bytes → HasTextFault bytes fault
-    → EndsWithStatus rules keeping read given AsBefore (InputsWereRead read given) (OfDiskAtEnding read DiskRose) DiskSame read_before read_now sink
+    → given.capture ≡ Some file → CaptureFileHasFrames file frames → given.text ≡ Some bytes → HasSessionTextFault bytes fault
+    → EndsWithStatus rules keeping read given AsBefore (InputsWereRead read given) (HappenedToDiskAtEnding read DiskRose) DiskSame read_before read_now sink
     written old new write_before write_now status
     → (status ≡ BadReport fault) ⊎ ((status ≡ ReadFault) ⊎ (status ≡ OutOfMemory))
 asked_audit_finding_is_fault never_both one_fault no_fault rules keeping settings read given AsBefore DiskRose DiskSame
@@ -351,19 +355,19 @@ asked_audit_finding_is_fault never_both one_fault no_fault rules keeping setting
     audit_finding_is_text_fault never_both one_fault no_fault rules keeping settings given AsBefore (InputsWereRead (Audit settings) given)
     DiskSame read_before read_now sink written old new write_before write_now status file bytes frames fault is_file
     capture is_text has
-    (subst (λ c. EndsWithStatus rules keeping c given AsBefore (InputsWereRead c given) (OfDiskAtEnding c DiskRose) DiskSame read_before read_now
+    (subst (λ c. EndsWithStatus rules keeping c given AsBefore (InputsWereRead c given) (HappenedToDiskAtEnding c DiskRose) DiskSame read_before read_now
     sink written old new write_before write_now status) same ends)
 
 pub asked_audit_finding_is_unsound : {K : Type 0} → CaptureStatusIsFaultless → SessionStatusIsFaultless → AuditFindingIsUnique
-    → (rules : Rules) (keeping : SessionKeeping) (settings : Settings) (read : Command) (given : InputBytes)
+    → (rules : SessionRules) (keeping : SessionKeeping) (settings : Settings) (read : Command) (given : InputBytes)
     (AsBefore : Type 0) (DiskRose DiskSame : Type 0)
     (read_before read_now : EndingSourceFaults) (sink written : K) (old new : Option (List ℕ)) (write_before write_now : ℕ)
     (status : Status) (file bytes : List ℕ) (frames : List FrameValue) (known : Session) (report : ℕ) (verdict : Verdict)
-    → read ≡ Audit settings → given.capture ≡ Some file → HasCaptureFrames file frames → given.text ≡ Some bytes
-    → IsSessionText bytes known → length bytes ≤ longest_session_text
+    → read ≡ Audit settings → given.capture ≡ Some file → CaptureFileHasFrames file frames → given.text ≡ Some bytes
+    → IsSessionText bytes known → length bytes ≤ longest_session_text_length
     → ((lists : List (List RecordValue)) (session : Session) → AreAudited settings rules file bytes lists session
     → IsAuditedAsFirstUnsound settings lists session.reports report verdict)
-    → EndsWithStatus rules keeping read given AsBefore (InputsWereRead read given) (OfDiskAtEnding read DiskRose) DiskSame read_before read_now sink
+    → EndsWithStatus rules keeping read given AsBefore (InputsWereRead read given) (HappenedToDiskAtEnding read DiskRose) DiskSame read_before read_now sink
     written old new write_before write_now status
     → (status ≡ AuditNo report verdict) ⊎ ((status ≡ ReadFault) ⊎ ((status ≡ WriteFault) ⊎ (status ≡ OutOfMemory)))
 asked_audit_finding_is_unsound never_both no_fault one rules keeping settings read given AsBefore DiskRose DiskSame read_before
@@ -372,5 +376,5 @@ asked_audit_finding_is_unsound never_both no_fault one rules keeping settings re
     audit_finding_is_first_unsound never_both no_fault one rules keeping settings given AsBefore (InputsWereRead (Audit settings) given) DiskSame
     read_before read_now sink written old new write_before write_now status file bytes frames known report verdict is_file
     capture is_text is_session not_long first
-    (subst (λ c. EndsWithStatus rules keeping c given AsBefore (InputsWereRead c given) (OfDiskAtEnding c DiskRose) DiskSame read_before read_now
+    (subst (λ c. EndsWithStatus rules keeping c given AsBefore (InputsWereRead c given) (HappenedToDiskAtEnding c DiskRose) DiskSame read_before read_now
     sink written old new write_before write_now status) same ends)

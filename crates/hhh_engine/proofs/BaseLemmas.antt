@@ -2,7 +2,7 @@
 use Rattle.std.proofs.Common.{◌≡◌, ◌∙◌, ◌≤◌, ◌+◌, ℕ, true, false, List, Option, None, Some}
 use Rattle.std.proofs.Common.{refl, sym, ap, subst, arith, length, map, replicate, inr}
 use Rattle.std.proofs.lemmas.Bool.{false≢true}
-use Rattle.slot_disk.specs.{IfImageKnown, IsStoreOfSlots, closed_slots}
+use Rattle.slot_disk.specs.{IfImageKnown, IsStoreOfKnownSlots, closed_known_slots}
 use Rattle.checkpoint.specs.declared.settings.StoreSettings.{StoreSettings}
 use Rattle.recovery.specs.declared.fault.OpenFault.TheVariants as opening
 use Rattle.recovery.specs.declared.opened.Opened.{Opened}
@@ -11,11 +11,12 @@ use Rattle.std.specs.Prelude.{IfSome, is_some}
 use Rattle.prefix_lattice.specs.{RecordValue}
 use Rattle.shard_state.specs.{AreCutPositionsNotPast, CutValue, ShardValue, core_capacity}
 use Rattle.pass_tokens.specs.{first_view}
-use Rattle.checkpoint.specs.{AreHeaderSettings, FormattedStoresAreEmpty, StoreOpensTo, SaverState, StandsForSaver, header_of_settings}
-use Rattle.recovery.specs.{OpeningCanGoOn, IsOpeningBase, OpensToBase, opening_base_positions, last_opened_sequence}
+use Rattle.checkpoint.specs.{AreHeaderSettings, FormattedStoresAreEmpty, StoreOpensTo, SaverState, DiskMatchesSaver}
+use Rattle.checkpoint.specs.{header_of_settings}
+use Rattle.recovery.specs.{OpeningCanGoOn, IsOpeningBase, OpensToBase, opening_base_positions, greatest_opened_sequence}
 use Rattle.command_words.specs.declared.settings.Settings.{Settings}
 use Rattle.hhh_engine.specs.DealtFeed.{DealtFeedGoesOn, HasNoDealtFeedBase, IsDealtFeedBase, IsDealtFeedSaver}
-use Rattle.hhh_engine.specs.Saves.{CanSave, store_settings}
+use Rattle.hhh_engine.specs.Saves.{CanMakeSaves, store_settings_for_saves}
 use Rattle.hhh_engine.specs.Session.{session_opening, session_start}
 use Rattle.hhh_engine.specs.declared.commands.base.Base.{Base}
 use Rattle.hhh_engine.specs.declared.status.Status.{Status}
@@ -26,20 +27,20 @@ use Rattle.hhh_engine.proofs.SessionThreadLemmas.{first_session_thread_sees_star
 
 -- shards may go on from the base
 pub base_goes_on : (settings : Settings) (lists : List (List RecordValue)) (base : Option CutValue)
-    → IfSome base (IsOpeningBase (store_settings settings) lists) → IfSome base (DealtFeedGoesOn settings.capacity lists)
+    → IfSome base (IsOpeningBase (store_settings_for_saves settings) lists) → IfSome base (DealtFeedGoesOn settings.capacity lists)
 base_goes_on settings lists None fits = tt
 base_goes_on settings lists (Some cut) fits = record { alike = fits.shape.alike; continues = fits.continues }
 
 -- the positions of the base are those at which the shards start
 pub base_starts : (settings : Settings) (lists : List (List RecordValue)) (base : Option CutValue)
-    → length lists ≡ settings.shards → IfSome base (IsOpeningBase (store_settings settings) lists)
-    → opening_base_positions (store_settings settings) base ≡ session_start (session_opening settings.capacity lists base)
+    → length lists ≡ settings.shards → IfSome base (IsOpeningBase (store_settings_for_saves settings) lists)
+    → opening_base_positions (store_settings_for_saves settings) base ≡ session_start (session_opening settings.capacity lists base)
 base_starts settings lists None many fits =
     ap (λ n. replicate n 0) (sym many) ∙ sym (opening_shards_start_at_zero settings.capacity lists)
 base_starts settings lists (Some cut) many fits = sym (resumed_opening_shards_at_cut lists cut.shards fits.continues)
 
 -- the settings of a command's store are allowed
-pub base_settings_are_allowed : (settings : Settings) → AreLimitedSettings settings → AreHeaderSettings (store_settings settings)
+pub base_settings_are_allowed : (settings : Settings) → AreLimitedSettings settings → AreHeaderSettings (store_settings_for_saves settings)
 base_settings_are_allowed settings limited = record {
   some = limited.some_shards;
   few = limited.few_shards;
@@ -52,11 +53,11 @@ pub base_saver_is_ready : (settings : Settings) (lists : List (List RecordValue)
     (possible : List ℕ → Type 0) (opening : List ShardValue) (positions : List ℕ) (saver : Option SaverState)
     → AreLimitedSettings settings → length opening ≡ settings.shards → core_capacity opening ≡ settings.capacity
     → positions ≡ session_start opening → IfSome saver (IsDealtFeedSaver settings lists positions)
-    → IfSome saver (StandsForSaver reads possible)
-    → IfSome saver (CanSave reads possible opening (first_view opening) (settings.rounds + 1))
+    → IfSome saver (DiskMatchesSaver reads possible)
+    → IfSome saver (CanMakeSaves reads possible opening (first_view opening) (settings.rounds + 1))
 base_saver_is_ready settings lists reads possible opening positions None limited many alike starts is stands = tt
 base_saver_is_ready settings lists reads possible opening positions (Some saver) limited many alike starts is stands =
-    let early : saver.sequence ≤ last_opened_sequence = is.early in
+    let early : saver.sequence ≤ greatest_opened_sequence = is.early in
     let few : settings.rounds ≤ 32 = limited.few_rounds in
     record {
       fits = record {
@@ -74,15 +75,15 @@ base_saver_is_ready settings lists reads possible opening positions (Some saver)
 -- the base that a store opened to
 pub opened_base : (settings : Settings) (lists : List (List RecordValue)) (store : Option (List ℕ)) (opened : Opened)
     (base : Base) → settings.store ≡ true → length lists ≡ settings.shards
-    → OpeningCanGoOn (store_settings settings) lists opened
-    → IfImageKnown store (λ image. OpensToBase (store_settings settings) lists image opened.base)
+    → OpeningCanGoOn (store_settings_for_saves settings) lists opened
+    → IfImageKnown store (λ image. OpensToBase (store_settings_for_saves settings) lists image opened.base)
     → base.cut ≡ opened.base → base.positions ≡ opened.positions → base.saver ≡ Some opened.saver
     → IsDealtFeedBase settings lists store base
 opened_base settings lists store opened base used many goes_on opens cut positions saver = record {
   begins = record {
     unused = λ unused. absurd (false≢true (sym unused ∙ used));
-    fits = subst (λ o. IfSome o (IsOpeningBase (store_settings settings) lists)) (sym cut) goes_on.base;
-    opens = λ is_used. subst (λ o. IfImageKnown store (λ image. OpensToBase (store_settings settings) lists image o)) (sym cut)
+    fits = subst (λ o. IfSome o (IsOpeningBase (store_settings_for_saves settings) lists)) (sym cut) goes_on.base;
+    opens = λ is_used. subst (λ o. IfImageKnown store (λ image. OpensToBase (store_settings_for_saves settings) lists image o)) (sym cut)
         opens;
   };
   used = ap is_some saver ∙ sym used;
@@ -131,8 +132,8 @@ no_base settings lists store faults status is = record {
 -- a store that was just made opens to nothing, whatever a crash leaves
 pub no_base_when_just_formatted : FormattedStoresAreEmpty → (settings asked : StoreSettings) (header bytes image : List ℕ)
     (possible : List ℕ → Type 0) → asked ≡ settings → header ≡ header_of_settings asked
-    → IsStoreOfSlots bytes possible (closed_slots header) → possible image → StoreOpensTo settings image None
+    → IsStoreOfKnownSlots bytes possible (closed_known_slots header) → possible image → StoreOpensTo settings image None
 no_base_when_just_formatted empty settings asked header bytes image possible are is store now =
     subst (λ i. StoreOpensTo settings i None) (sym (store.only image now))
     (empty settings bytes store.long
-    (sym store.slots_are ∙ ap closed_slots is ∙ ap (λ s. closed_slots (header_of_settings s)) are))
+    (sym store.slots_are ∙ ap closed_known_slots is ∙ ap (λ s. closed_known_slots (header_of_settings s)) are))

@@ -3,20 +3,24 @@ use Rattle.std.proofs.Common.{◌≡◌, ◌+◌, ◌≤◌, ◌++◌, ℕ, Bool
 use Rattle.std.proofs.Common.{⊎_elim, refl, sym, subst, length, All}
 use Rattle.std.specs.Prelude.{option_map, IfSome}
 use Rattle.std.proofs.lemmas.List.Elements.{All-append, All-cons, All-head, All-nil, All-tail}
-use Rattle.prefix_lattice.specs.{RecordValue, most_shards}
+use Rattle.prefix_lattice.specs.{RecordValue, shard_limit}
 use Rattle.shard_state.specs.{AreCoreShards, CutRepresents, CutValue, ShardValue}
 use Rattle.hhh_output.specs.declared.reports.Reported.{Reported}
-use Rattle.slot_disk.specs.{Leaves-weaker}
-use Rattle.checkpoint.specs.{StoreBelongs, IsStoreOfLists, SavedValue, StoresOpenToOne, digest_of_lists, opened_store_sequence}
+use Rattle.slot_disk.specs.{CrashLeavesAtAnyMoment-weaker}
+use Rattle.checkpoint.specs.{StoreBelongs, IsStoreOfLists, SavedValue, StoresOpenToOneThing, digest_of_lists}
+use Rattle.checkpoint.specs.{store_sequence}
 use Rattle.checkpoint.specs.declared.settings.StoreSettings.{StoreSettings}
 use Rattle.recovery.specs.{OpensToBase}
 use Rattle.command_words.specs.{AreLimitedSettings}
 use Rattle.command_words.specs.declared.settings.Settings.{Settings}
 use Rattle.report_text.specs.{report_tail_text}
 use Rattle.hhh_engine.specs.DealtFeed.{DealtFeedGoesOn}
-use Rattle.hhh_engine.specs.Saves.{SavesBelongThroughout, saves_kept_in, last_saved, saved_after, store_settings}
-use Rattle.hhh_engine.specs.Session.{AreSessionReportsOfCaller, SessionGoesOnFrom, IsSession, IsSessionInPart, IsShownInSession, SessionBaseRepresents, Rules}
-use Rattle.hhh_engine.specs.Session.{SessionSaving, session_calling_reports, session_opening, session_saved_cuts}
+use Rattle.hhh_engine.specs.Saves.{SavesBelongThroughout, SavesAreKeptOnDisk, last_of_saves, saves_after}
+use Rattle.hhh_engine.specs.Saves.{store_settings_for_saves}
+use Rattle.hhh_engine.specs.Session.{AreSessionReportsOfCaller, SessionGoesOnFrom, IsSession, IsSessionInPart}
+use Rattle.hhh_engine.specs.Session.{IsShownInSession, SessionBaseRepresents, SessionRules}
+use Rattle.hhh_engine.specs.Session.{SessionSaving, session_reports_of_calling_thread, session_opening}
+use Rattle.hhh_engine.specs.Session.{session_saved_cuts}
 use Rattle.hhh_engine.proofs.BaseLemmas.{base_settings_are_allowed, base_goes_on}
 use Rattle.hhh_engine.proofs.LastReportLemmas.{last_report_is_among_all}
 use Rattle.hhh_engine.proofs.SavedStoreLemmas.{SavedStoreCutsRepresent, saved_store_belongs, saved_store_cuts_represent}
@@ -28,7 +32,7 @@ use Rattle.hhh_engine.proofs.SessionTextLemmas.{session_text_whatever_was_saved,
 
 -- the shards of a run, whose base represents the lists
 belonging_session_opens_shards : (capacity : ℕ) (lists : List (List RecordValue)) (base : Option CutValue) → 1 ≤ length lists
-    → length lists ≤ most_shards → IfSome base (DealtFeedGoesOn capacity lists) → IfSome base (λ cut. CutRepresents cut lists)
+    → length lists ≤ shard_limit → IfSome base (DealtFeedGoesOn capacity lists) → IfSome base (λ cut. CutRepresents cut lists)
     → AreCoreShards (session_opening capacity lists base)
 belonging_session_opens_shards capacity lists None some few goes_on represents = new_opening_shards_are_shards capacity lists some few
 belonging_session_opens_shards capacity lists (Some cut) some few goes_on represents =
@@ -44,7 +48,7 @@ belonging_session_base_of_lists settings lists (Some saved) is = is.1
 -- what a store opens to after saves of cuts that represent the lists is of them
 belonging_session_saves_of_lists : (settings : StoreSettings) (lists : List (List RecordValue)) (opened : Option SavedValue) (sequence : ℕ)
     (cuts : List CutValue) → IsStoreOfLists settings lists opened → All (λ cut. CutRepresents cut lists) cuts
-    → IsStoreOfLists settings lists (last_saved opened (saved_after sequence (digest_of_lists settings lists) cuts))
+    → IsStoreOfLists settings lists (last_of_saves opened (saves_after sequence (digest_of_lists settings lists) cuts))
 belonging_session_saves_of_lists settings lists opened sequence [] is all = is
 belonging_session_saves_of_lists settings lists opened sequence (cut ∷ cuts) is all =
     belonging_session_saves_of_lists settings lists
@@ -53,7 +57,7 @@ belonging_session_saves_of_lists settings lists opened sequence (cut ∷ cuts) i
     (All-tail (λ (c : CutValue). CutRepresents c lists) cut cuts all)
 
 -- a store that belonged to the lists still does after saves of cuts that represent them
-belonging_session_keeps_belonging : StoresOpenToOne → {D : Type 0} (reads : D → Option (List ℕ)) (image_now : D → List ℕ → Type 0)
+belonging_session_keeps_belonging : StoresOpenToOneThing → {D : Type 0} (reads : D → Option (List ℕ)) (image_now : D → List ℕ → Type 0)
     (moment : D → ℕ) (image_since : D → ℕ → List ℕ → Type 0)
     → ((disk : D) (bytes : List ℕ) → reads disk ≡ Some bytes → image_now disk bytes) → (settings : Settings)
     (lists : List (List RecordValue)) (base : Option CutValue) (saved unfinished : List CutValue) (old new : D)
@@ -61,16 +65,16 @@ belonging_session_keeps_belonging : StoresOpenToOne → {D : Type 0} (reads : D 
     → (IfSome base (λ cut. CutRepresents cut lists) → All (λ cut. CutRepresents cut lists) saved)
     → (IfSome base (λ cut. CutRepresents cut lists) → All (λ cut. CutRepresents cut lists) unfinished)
     → (store : List ℕ) → reads old ≡ Some store
-    → ((image : List ℕ) → image_now old image → StoreBelongs (store_settings settings) lists image)
-    → saves_kept_in reads image_now moment image_since old new (store_settings settings) lists saved unfinished
-    → SavesBelongThroughout image_now moment image_since (store_settings settings) lists base old new
+    → ((image : List ℕ) → image_now old image → StoreBelongs (store_settings_for_saves settings) lists image)
+    → SavesAreKeptOnDisk reads image_now moment image_since old new (store_settings_for_saves settings) lists saved unfinished
+    → SavesBelongThroughout image_now moment image_since (store_settings_for_saves settings) lists base old new
 belonging_session_keeps_belonging one reads image_now moment image_since read_is_image settings lists base saved unfinished old new limited used
     begins of_saved of_unfinished store known belonged kept =
-    let of_store : StoreSettings = store_settings settings in
+    let of_store : StoreSettings = store_settings_for_saves settings in
     let digest : List ℕ = digest_of_lists of_store lists in
     let keeps = kept store known in
     let opened : Option SavedValue = keeps.opened in
-    let sequence : ℕ = opened_store_sequence opened in
+    let sequence : ℕ = store_sequence opened in
     let held : StoreBelongs of_store lists store = belonged store (read_is_image old store known) in
     let found : OpensToBase of_store lists store base = begins.opens used store known in
     let allowed = base_settings_are_allowed settings limited in
@@ -85,11 +89,11 @@ belonging_session_keeps_belonging one reads image_now moment image_since read_is
     (of_unfinished represents) in
     record {
       base_represents = represents;
-      any_moment = Leaves-weaker moment image_since old new _ (StoreBelongs of_store lists) keeps.any_moment
+      any_moment = CrashLeavesAtAnyMoment-weaker moment image_since old new _ (StoreBelongs of_store lists) keeps.any_moment
           (λ image was. ⊎_elim (belonged image)
           (saved_store_belongs of_store lists opened sequence (saved ++ unfinished) image is all) was);
       afterwards = λ image possible.
-          saved_store_belongs of_store lists (last_saved opened (saved_after sequence digest saved)) (sequence + length saved)
+          saved_store_belongs of_store lists (last_of_saves opened (saves_after sequence digest saved)) (sequence + length saved)
           unfinished image (belonging_session_saves_of_lists of_store lists opened sequence saved is (of_saved represents))
           (of_unfinished represents) (keeps.afterwards image possible);
     }
@@ -108,7 +112,7 @@ belonging_session_cuts_represent represent settings lists store base reports lim
     (own_report_lists_of_opening settings lists store base begins)
     (saved_store_cuts_represent represent opening settings reports
     (belonging_session_opens_shards settings.capacity lists base (subst (λ n. 1 ≤ n) (sym many) limited.some_shards)
-    (subst (λ n. n ≤ most_shards) (sym many) limited.few_shards) (base_goes_on settings lists base begins.fits) standing)
+    (subst (λ n. n ≤ shard_limit) (sym many) limited.few_shards) (base_goes_on settings lists base begins.fits) standing)
     (represents standing) shown)
 
 -- the same, with or without a store
@@ -120,20 +124,20 @@ belonging_session_kept_cuts store opening lists reports used all =
     subst (λ b. All (λ (cut : CutValue). CutRepresents cut lists) (session_saved_cuts b opening reports)) (sym used) all
 
 -- a whole session
-pub belonging_session_completed : StoresOpenToOne → SavedStoreCutsRepresent → {D : Type 0} (reads : D → Option (List ℕ))
+pub belonging_session_completed : StoresOpenToOneThing → SavedStoreCutsRepresent → {D : Type 0} (reads : D → Option (List ℕ))
     (image_now : D → List ℕ → Type 0) (moment : D → ℕ) (image_since : D → ℕ → List ℕ → Type 0)
-    → ((disk : D) (bytes : List ℕ) → reads disk ≡ Some bytes → image_now disk bytes) → (rules : Rules)
+    → ((disk : D) (bytes : List ℕ) → reads disk ≡ Some bytes → image_now disk bytes) → (rules : SessionRules)
     (settings : Settings) (old new : D) (store file text : List ℕ)
-    (is : IsSession settings rules (saves_kept_in reads image_now moment image_since old new) (reads old) file text)
+    (is : IsSession settings rules (SavesAreKeptOnDisk reads image_now moment image_since old new) (reads old) file text)
     → AreLimitedSettings settings → settings.store ≡ true → reads old ≡ Some store
-    → ((image : List ℕ) → image_now old image → StoreBelongs (store_settings settings) is.lists image)
-    → SavesBelongThroughout image_now moment image_since (store_settings settings) is.lists is.base old new
+    → ((image : List ℕ) → image_now old image → StoreBelongs (store_settings_for_saves settings) is.lists image)
+    → SavesBelongThroughout image_now moment image_since (store_settings_for_saves settings) is.lists is.base old new
 belonging_session_completed one represent reads image_now moment image_since read_is_image rules settings old new store file text is limited
     used known belonged =
     let opening : List ShardValue = session_opening settings.capacity is.lists is.base in
     let many : length is.lists ≡ settings.shards =
     own_session_lists_match_shards settings.deal (rules settings.deal) settings.shards is.records.list is.lists is.dealt.dealt in
-    let reports : List Reported = session_calling_reports is.spelled.reports in
+    let reports : List Reported = session_reports_of_calling_thread is.spelled.reports in
     belonging_session_keeps_belonging one reads image_now moment image_since read_is_image settings is.lists is.base
     (session_saved_cuts settings.store opening reports) [] old new limited used is.begins
     (λ standing. belonging_session_kept_cuts settings.store opening is.lists reports used
@@ -142,14 +146,14 @@ belonging_session_completed one represent reads image_now moment image_since rea
     (λ standing. All-nil (λ (cut : CutValue). CutRepresents cut is.lists)) store known belonged (is.spelled.kept used)
 
 -- a session that broke off
-pub belonging_session_broken_off : StoresOpenToOne → SavedStoreCutsRepresent → {D : Type 0} (reads : D → Option (List ℕ))
+pub belonging_session_broken_off : StoresOpenToOneThing → SavedStoreCutsRepresent → {D : Type 0} (reads : D → Option (List ℕ))
     (image_now : D → List ℕ → Type 0) (moment : D → ℕ) (image_since : D → ℕ → List ℕ → Type 0)
-    → ((disk : D) (bytes : List ℕ) → reads disk ≡ Some bytes → image_now disk bytes) → (rules : Rules)
+    → ((disk : D) (bytes : List ℕ) → reads disk ≡ Some bytes → image_now disk bytes) → (rules : SessionRules)
     (settings : Settings) (old new : D) (store file front : List ℕ)
-    (is : IsSessionInPart settings rules (saves_kept_in reads image_now moment image_since old new) (reads old) file front)
+    (is : IsSessionInPart settings rules (SavesAreKeptOnDisk reads image_now moment image_since old new) (reads old) file front)
     → AreLimitedSettings settings → settings.store ≡ true → reads old ≡ Some store
-    → ((image : List ℕ) → image_now old image → StoreBelongs (store_settings settings) is.lists image)
-    → SavesBelongThroughout image_now moment image_since (store_settings settings) is.lists is.base old new
+    → ((image : List ℕ) → image_now old image → StoreBelongs (store_settings_for_saves settings) is.lists image)
+    → SavesBelongThroughout image_now moment image_since (store_settings_for_saves settings) is.lists is.base old new
 belonging_session_broken_off one represent reads image_now moment image_since read_is_image rules settings old new store file front is limited
     used known belonged =
     let lists : List (List RecordValue) = is.lists in
@@ -160,8 +164,8 @@ belonging_session_broken_off one represent reads image_now moment image_since re
     let Stand : List CutValue → Type 0 = All (λ cut. CutRepresents cut lists) in
     let Standing : Type 0 = IfSome base (λ cut. CutRepresents cut lists) in
     let Kept : SessionSaving = λ saved unfinished. settings.store ≡ true
-    → saves_kept_in reads image_now moment image_since old new (store_settings settings) lists saved unfinished in
-    let Belonging : Type 0 = SavesBelongThroughout image_now moment image_since (store_settings settings) lists base old new in
+    → SavesAreKeptOnDisk reads image_now moment image_since old new (store_settings_for_saves settings) lists saved unfinished in
+    let Belonging : Type 0 = SavesBelongThroughout image_now moment image_since (store_settings_for_saves settings) lists base old new in
     let cuts : List Reported → List CutValue = session_saved_cuts settings.store opening in
     let no_cut : Stand [] = All-nil (λ (cut : CutValue). CutRepresents cut lists) in
     let of : (reports : List Reported) → All (IsShownInSession opening settings) reports → Standing → Stand (cuts reports) =

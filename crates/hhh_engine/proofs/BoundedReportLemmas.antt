@@ -6,10 +6,11 @@ use Rattle.std.proofs.lemmas.List.Elements.{All-cons, All-head, All-nil, All-tai
 use Rattle.std.proofs.lemmas.List.Elements.{Contains-get_or}
 use Rattle.std.proofs.lemmas.List.Filters.{sum_by-filter_both}
 use Rattle.std.proofs.lemmas.List.Sums.{sum_by-append, sum_by-le, sum_by-take-le}
-use Rattle.prefix_lattice.specs.{IntervalHoldsWeight, IsNarrowInterval, IsPrefix, PrefixValue, RecordValue, covers, most_records}
+use Rattle.prefix_lattice.specs.{IntervalHoldsWeight, IsNarrowInterval, IsPrefix, PrefixValue, RecordValue, covers}
+use Rattle.prefix_lattice.specs.{record_limit}
 use Rattle.prefix_lattice.specs.{total_weight, prefix_weight}
 use Rattle.shard_state.specs.{IsShard, ShardValue, records_before_cut, shard_state_at}
-use Rattle.hhh_output.specs.{AreSoundPositions, IsThreshold, threshold_million}
+use Rattle.hhh_output.specs.{AreWithinListsInSoundReport, IsThreshold, threshold_million}
 use Rattle.hhh_output.specs.declared.line.Line.{Line}
 use Rattle.hhh_output.specs.declared.report.Report.{Report}
 use Rattle.hhh_output.specs.declared.reports.Reported.{Reported}
@@ -22,7 +23,7 @@ use Rattle.hhh_engine.specs.Session.{IsShownInSession}
 
 -- the list of a shard: at most 2^24 records, each of a weight below 2^32
 pub record IsBoundedReportList (list : List RecordValue) : Type 0 where
-  pub few : length list ≤ most_records
+  pub few : length list ≤ record_limit
   pub light : All (λ rec. rec.weight < 2 ^ 32) list
 
 -- so are the lists of shards that are kept
@@ -44,7 +45,7 @@ bounded_report_list_weight list small =
     let each = sum_by-le (λ (rec : RecordValue). rec.weight) (2 ^ 32) list
     (All-weaker (λ (rec : RecordValue). rec.weight < 2 ^ 32) (λ (rec : RecordValue). rec.weight ≤ 2 ^ 32)
     (λ rec light. omega (arith, light)) list small.light) in
-    let few : length list ≤ most_records = small.few in
+    let few : length list ≤ record_limit = small.few in
     omega (arith, each, few)
 
 -- and the records before positions at most 2^56 for each list
@@ -83,14 +84,14 @@ bounded_report_threshold_within phi total threshold most is =
     is.least (total + 1) (record { some = omega arith; share = omega (arith, share) })
 
 -- positions within small lists are not too great
-bounded_report_positions_within : (positions : List ℕ) (lists : List (List RecordValue)) → AreSoundPositions positions lists
-    → All IsBoundedReportList lists → All (λ position. position ≤ most_records) positions
-bounded_report_positions_within [] [] within small = All-nil (λ position. position ≤ most_records)
+bounded_report_positions_within : (positions : List ℕ) (lists : List (List RecordValue)) → AreWithinListsInSoundReport positions lists
+    → All IsBoundedReportList lists → All (λ position. position ≤ record_limit) positions
+bounded_report_positions_within [] [] within small = All-nil (λ position. position ≤ record_limit)
 bounded_report_positions_within [] (list ∷ lists) within small = absurd within
 bounded_report_positions_within (position ∷ positions) [] within small = absurd within
 bounded_report_positions_within (position ∷ positions) (list ∷ lists) within small =
     let is : IsBoundedReportList list = All-head IsBoundedReportList list lists small in
-    All-cons (λ position. position ≤ most_records) position positions (omega (arith, is.few, within.0))
+    All-cons (λ position. position ≤ record_limit) position positions (omega (arith, is.few, within.0))
     (bounded_report_positions_within positions lists within.1 (All-tail IsBoundedReportList list lists small))
 
 -- a line whose prefix and numbers a text can show

@@ -1,18 +1,20 @@
 -- The session over a capture, by the dealt lists over which it was written.
-use Rattle.std.proofs.Common.{◌≡◌, ◌⊎◌, inl, inr, ⊎_elim, ℕ, true, List, [], Option, None, Some, IfSome, refl, ap, subst}
+use Rattle.std.proofs.Common.{◌≡◌, ◌⊎◌, inl, inr, ⊎_elim, ℕ, true, List, [], Option, None, Some, IfSome, refl, ap}
+use Rattle.std.proofs.Common.{subst}
 use Rattle.outside_io.specs.{FaultCountRose}
 use Rattle.prefix_lattice.specs.{RecordValue}
 use Rattle.recovery.specs.declared.fault.OpenFault.{OpenFault}
 use Rattle.recovery.specs.declared.fault.OpenFault.TheVariants as opening
 use Rattle.command_words.specs.declared.settings.Settings.{Settings}
-use Rattle.hhh_engine.specs.Answer.{Writes}
+use Rattle.hhh_engine.specs.Answer.{WritesAnswer}
 use Rattle.hhh_engine.specs.Ending.{Ends, IsRefusedStoreAtEnding, RefusesStoreAtEnding, EndingSourceFaults}
-use Rattle.hhh_engine.specs.DealtFeed.{DealtFeedEnds, IsDealtFeedCapture, DealtFeedRefusesLists, DealtFeedWrites}
+use Rattle.hhh_engine.specs.DealtFeed.{DealtFeedEnds, IsDealtFeedCapture, DealtFeedRefusesStore, DealtFeedWrites}
 use Rattle.hhh_engine.specs.DealtFeed.{DealtFeedWritesInPart}
 use Rattle.hhh_engine.specs.Inputs.{IsInputCapture}
 use Rattle.hhh_engine.specs.Rounds.{RoundFaults}
-use Rattle.hhh_engine.specs.Saves.{store_settings}
-use Rattle.hhh_engine.specs.Session.{BeginsSession, IsSession, IsSessionInPart, SessionKeeping, Rules, SpellsSession, session_opening}
+use Rattle.hhh_engine.specs.Saves.{store_settings_for_saves}
+use Rattle.hhh_engine.specs.Session.{BeginsSession, IsSession, IsSessionInPart, SessionKeeping, SessionRules}
+use Rattle.hhh_engine.specs.Session.{IsSessionOverShards, session_opening}
 use Rattle.hhh_engine.specs.declared.status.Status.{Status}
 use Rattle.hhh_engine.specs.declared.status.Status.TheVariants.{Done, BadWords, BadCapture, ReadFault, WriteFault}
 use Rattle.hhh_engine.specs.declared.status.Status.TheVariants.{DiskFault, NotFormatted, Damaged, OtherSettings}
@@ -25,11 +27,11 @@ capture_report_if_known None P Q follows has = tt
 capture_report_if_known (Some file) P Q follows has = follows file has
 
 -- the whole session over a capture
-capture_report_writes_session : (settings : Settings) (rules : Rules) (keeping : SessionKeeping) (left store : Option (List ℕ))
+capture_report_writes_session : (settings : Settings) (rules : SessionRules) (keeping : SessionKeeping) (left store : Option (List ℕ))
     (lists : List (List RecordValue)) (tail : List ℕ) (old new : Option (List ℕ))
     → IfSome left (λ file. IsDealtFeedCapture settings rules file lists tail)
     → DealtFeedWrites settings lists tail keeping store old new
-    → Writes (λ text. IfSome left (λ file. IsSession settings rules keeping store file text)) old new
+    → WritesAnswer (λ text. IfSome left (λ file. IsSession settings rules keeping store file text)) old new
 capture_report_writes_session settings rules keeping left store lists tail old new dealt writes = record {
   text = writes.writes.text;
   is_text = capture_report_if_known left (λ file. IsDealtFeedCapture settings rules file lists tail)
@@ -42,19 +44,19 @@ capture_report_writes_session settings rules keeping left store lists tail old n
         begins = writes.begins;
         represents = writes.represents;
         spelled =
-            subst (λ t. SpellsSession (session_opening settings.capacity lists writes.base) settings
-            (λ cuts. settings.store ≡ true → keeping (store_settings settings) lists cuts []) t writes.writes.text)
+            subst (λ t. IsSessionOverShards (session_opening settings.capacity lists writes.base) settings
+            (λ cuts. settings.store ≡ true → keeping (store_settings_for_saves settings) lists cuts []) t writes.writes.text)
             capture.is_tail writes.writes.is_text;
       }) dealt;
   written = writes.writes.written;
 }
 
 -- the session in part
-capture_report_writes_in_part : (settings : Settings) (rules : Rules) (keeping : SessionKeeping) (left store : Option (List ℕ))
+capture_report_writes_in_part : (settings : Settings) (rules : SessionRules) (keeping : SessionKeeping) (left store : Option (List ℕ))
     (lists : List (List RecordValue)) (tail : List ℕ) (old new : Option (List ℕ))
     → IfSome left (λ file. IsDealtFeedCapture settings rules file lists tail)
     → DealtFeedWritesInPart settings lists tail keeping store old new
-    → Writes (λ front. IfSome left (λ file. IsSessionInPart settings rules keeping store file front)) old new
+    → WritesAnswer (λ front. IfSome left (λ file. IsSessionInPart settings rules keeping store file front)) old new
 capture_report_writes_in_part settings rules keeping left store lists tail old new dealt writes = record {
   text = writes.writes.text;
   is_text = capture_report_if_known left (λ file. IsDealtFeedCapture settings rules file lists tail)
@@ -68,17 +70,17 @@ capture_report_writes_in_part settings rules keeping left store lists tail old n
         represents = writes.represents;
         begun =
             subst (λ t. BeginsSession (session_opening settings.capacity lists writes.base) settings
-            (λ saved unfinished. settings.store ≡ true → keeping (store_settings settings) lists saved unfinished) t
+            (λ saved unfinished. settings.store ≡ true → keeping (store_settings_for_saves settings) lists saved unfinished) t
             writes.writes.text) capture.is_tail writes.writes.is_text;
       }) dealt;
   written = writes.writes.written;
 }
 
 -- the store is refused over the dealt lists of a capture
-capture_report_refuses_store : (settings : Settings) (rules : Rules) (left store : Option (List ℕ)) (AsBefore : Type 0)
+capture_report_refuses_store : (settings : Settings) (rules : SessionRules) (left store : Option (List ℕ)) (AsBefore : Type 0)
     (lists : List (List RecordValue)) (tail : List ℕ) (fault : OpenFault)
     → IfSome left (λ file. IsDealtFeedCapture settings rules file lists tail)
-    → DealtFeedRefusesLists settings lists store AsBefore fault
+    → DealtFeedRefusesStore settings lists store AsBefore fault
     → RefusesStoreAtEnding settings rules left store AsBefore fault
 capture_report_refuses_store settings rules left store AsBefore lists tail fault dealt refuses = (
   refuses.used,
@@ -94,18 +96,18 @@ capture_report_refuses_store settings rules left store AsBefore lists tail fault
 )
 
 -- nothing was written, or a part of the text was
-capture_report_nothing_or_part : (settings : Settings) (rules : Rules) (keeping : SessionKeeping) (left store : Option (List ℕ))
+capture_report_nothing_or_part : (settings : Settings) (rules : SessionRules) (keeping : SessionKeeping) (left store : Option (List ℕ))
     (lists : List (List RecordValue)) (tail : List ℕ) (ReadToEnd Nothing : Type 0) (old new : Option (List ℕ))
     → IfSome left (λ file. IsDealtFeedCapture settings rules file lists tail) → ReadToEnd
     → Nothing ⊎ DealtFeedWritesInPart settings lists tail keeping store old new
     → Nothing
-    ⊎ (ReadToEnd × Writes (λ front. IfSome left (λ file. IsSessionInPart settings rules keeping store file front)) old new)
+    ⊎ (ReadToEnd × WritesAnswer (λ front. IfSome left (λ file. IsSessionInPart settings rules keeping store file front)) old new)
 capture_report_nothing_or_part settings rules keeping left store lists tail ReadToEnd Nothing old new dealt read =
     ⊎_elim (λ nothing. inl nothing)
     (λ part. inr (read, capture_report_writes_in_part settings rules keeping left store lists tail old new dealt part))
 
 -- how a report over a capture ended, from how it ended over its dealt lists
-pub capture_report_ends : {K : Type 0} (settings : Settings) (rules : Rules) (keeping : SessionKeeping)
+pub capture_report_ends : {K : Type 0} (settings : Settings) (rules : SessionRules) (keeping : SessionKeeping)
     (left store : Option (List ℕ)) (AsBefore : Type 0) (lists : List (List RecordValue)) (tail : List ℕ)
     (ReadToEnd DiskSame : Type 0) (read_before read_now : EndingSourceFaults) (sink written : K) (old new : Option (List ℕ))
     (write_before write_now disk_before disk_now : ℕ) (status : Status)

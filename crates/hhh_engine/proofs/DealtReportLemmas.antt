@@ -1,56 +1,62 @@
 -- How a report over dealt lists ends: from its base and its session.
-use Rattle.std.proofs.Common.{◌≡◌, ◌∙◌, ◌⊎◌, ◌++◌, [], inl, inr, ⊎_elim, ℕ, true, List, Option, None, Some, refl, sym, ap, subst}
+use Rattle.std.proofs.Common.{◌≡◌, ◌∙◌, ◌⊎◌, ◌++◌, [], inl, inr, ⊎_elim, ℕ, true, List, Option, None, Some, refl, sym}
+use Rattle.std.proofs.Common.{ap, subst}
 use Rattle.std.specs.Prelude.{IfSome, is_some}
 use Rattle.std.proofs.lemmas.Bool.{false≢true}
 use Rattle.outside_io.specs.{FaultCountRose}
 use Rattle.prefix_lattice.specs.{RecordValue}
 use Rattle.shard_state.specs.{CutValue}
-use Rattle.slot_disk.specs.{IfImageKnown, Leaves, Leaves-trans, Leaves-weaker}
-use Rattle.checkpoint.specs.{SaverState, digest_of_lists, opened_store_sequence}
+use Rattle.slot_disk.specs.{IfImageKnown, CrashLeavesAtAnyMoment, CrashLeavesAtAnyMoment-trans}
+use Rattle.slot_disk.specs.{CrashLeavesAtAnyMoment-weaker}
+use Rattle.checkpoint.specs.{SaverState, digest_of_lists, store_sequence}
 use Rattle.recovery.specs.{IsRefusedAtOpening}
 use Rattle.recovery.specs.declared.fault.OpenFault.{OpenFault}
 use Rattle.recovery.specs.declared.fault.OpenFault.TheVariants as opening
 use Rattle.command_words.specs.declared.settings.Settings.{Settings}
-use Rattle.hhh_engine.specs.Answer.{Writes}
-use Rattle.hhh_engine.specs.DealtFeed.{DealtFeedEnds, HasNoDealtFeedBase, IsDealtFeedFault, IsDealtFeedSaver, DealtFeedRefusesLists, DealtFeedWrites}
+use Rattle.hhh_engine.specs.Answer.{WritesAnswer}
+use Rattle.hhh_engine.specs.DealtFeed.{DealtFeedEnds, HasNoDealtFeedBase, IsDealtFeedFault, IsDealtFeedSaver}
+use Rattle.hhh_engine.specs.DealtFeed.{DealtFeedRefusesStore, DealtFeedWrites}
 use Rattle.hhh_engine.specs.DealtFeed.{DealtFeedWritesInPart}
 use Rattle.hhh_engine.specs.Rounds.{RoundFaults}
-use Rattle.hhh_engine.specs.Saves.{KeepsSaves, OpensAmongSaves, SavesInPart, saves_kept_in, saved_after, store_settings}
-use Rattle.hhh_engine.specs.Session.{BeginsSession, SessionGoesOnFrom, SessionKeeping, SessionBaseRepresents, SessionSaving, SpellsSession, session_opening}
+use Rattle.hhh_engine.specs.Saves.{KeepsSaves, OpensAsBeforeOrToSaves, SavesInPart, SavesAreKeptOnDisk, saves_after}
+use Rattle.hhh_engine.specs.Saves.{store_settings_for_saves}
+use Rattle.hhh_engine.specs.Session.{BeginsSession, SessionGoesOnFrom, SessionKeeping, SessionBaseRepresents}
+use Rattle.hhh_engine.specs.Session.{SessionSaving, IsSessionOverShards, session_opening}
 use Rattle.hhh_engine.specs.Status.{status_of_opening}
 use Rattle.hhh_engine.specs.declared.status.Status.{Status}
 use Rattle.hhh_engine.specs.declared.status.Status.TheVariants.{Done, BadWords, BadCapture, ReadFault, WriteFault}
 use Rattle.hhh_engine.specs.declared.status.Status.TheVariants.{DiskFault, NotFormatted, Damaged, OtherSettings}
 use Rattle.hhh_engine.specs.declared.status.Status.TheVariants.{OtherCapture, AuditNo, BadReport, OutOfMemory}
-use Rattle.hhh_engine.proofs.SessionTextLemmas.{session_text_begins_weaker, session_text_without_a_byte, spelled_session_text_says_less}
+use Rattle.hhh_engine.proofs.SessionTextLemmas.{session_text_begins_weaker, session_text_without_a_byte}
+use Rattle.hhh_engine.proofs.SessionTextLemmas.{spelled_session_text_says_less}
 
 -- what a run keeps of its store, from the opening of the store and the saves after it
 pub dealt_report_keeps_saves : {D : Type 0} (reads : D → Option (List ℕ)) (image_now : D → List ℕ → Type 0) (moment : D → ℕ)
     (image_since : D → ℕ → List ℕ → Type 0) (settings : Settings) (lists : List (List RecordValue))
     (positions : List ℕ) (saver : Option SaverState) (saved unfinished : List CutValue) (old mid new : D)
     → is_some saver ≡ settings.store → IfSome saver (IsDealtFeedSaver settings lists positions)
-    → Leaves moment image_since old mid (image_now old) → reads mid ≡ reads old
+    → CrashLeavesAtAnyMoment moment image_since old mid (image_now old) → reads mid ≡ reads old
     → SavesInPart reads image_now moment image_since saver mid new saved unfinished → settings.store ≡ true
-    → saves_kept_in reads image_now moment image_since old new (store_settings settings) lists saved unfinished
+    → SavesAreKeptOnDisk reads image_now moment image_since old new (store_settings_for_saves settings) lists saved unfinished
 dealt_report_keeps_saves reads image_now moment image_since settings lists positions None saved unfinished old mid new has is leaves same saves
     used = absurd (false≢true (has ∙ used))
 dealt_report_keeps_saves reads image_now moment image_since settings lists positions (Some saver) saved unfinished old mid new has is leaves
     same saves used = λ bytes known.
-    let kept : KeepsSaves image_now moment image_since (store_settings settings)
-    (digest_of_lists (store_settings settings) lists) (λ image. ⊥) saved unfinished mid new bytes =
-    subst (λ s. KeepsSaves image_now moment image_since s (digest_of_lists (store_settings settings) lists) (λ image. ⊥)
+    let kept : KeepsSaves image_now moment image_since (store_settings_for_saves settings)
+    (digest_of_lists (store_settings_for_saves settings) lists) (λ image. ⊥) saved unfinished mid new bytes =
+    subst (λ s. KeepsSaves image_now moment image_since s (digest_of_lists (store_settings_for_saves settings) lists) (λ image. ⊥)
     saved unfinished mid new bytes) is.settings_are
     (subst (λ d. KeepsSaves image_now moment image_since saver.settings d (λ image. ⊥) saved unfinished mid new bytes)
     is.digest_is (saves.kept bytes (same ∙ known))) in
-    let among : List ℕ → Type 0 = λ image. OpensAmongSaves (store_settings settings) kept.opened
-    (saved_after (opened_store_sequence kept.opened) (digest_of_lists (store_settings settings) lists) (saved ++ unfinished)) image in
+    let among : List ℕ → Type 0 = λ image. OpensAsBeforeOrToSaves (store_settings_for_saves settings) kept.opened
+    (saves_after (store_sequence kept.opened) (digest_of_lists (store_settings_for_saves settings) lists) (saved ++ unfinished)) image in
     record {
       opened = kept.opened;
       opens = kept.opens;
-      any_moment = Leaves-trans moment image_since old mid new (λ image. image_now old image ⊎ among image)
-          (Leaves-weaker moment image_since old mid (image_now old) (λ image. image_now old image ⊎ among image) leaves
+      any_moment = CrashLeavesAtAnyMoment-trans moment image_since old mid new (λ image. image_now old image ⊎ among image)
+          (CrashLeavesAtAnyMoment-weaker moment image_since old mid (image_now old) (λ image. image_now old image ⊎ among image) leaves
           (λ image was. inl was))
-          (Leaves-weaker moment image_since mid new (λ image. ⊥ ⊎ among image)
+          (CrashLeavesAtAnyMoment-weaker moment image_since mid new (λ image. ⊥ ⊎ among image)
           (λ image. image_now old image ⊎ among image) kept.any_moment
           (λ image. ⊎_elim (λ never. absurd never) (λ held. inr held)));
       afterwards = kept.afterwards;
@@ -60,8 +66,8 @@ dealt_report_keeps_saves reads image_now moment image_since settings lists posit
 dealt_report_refuses_lists : (settings : Settings) (lists : List (List RecordValue)) (store : Option (List ℕ)) (AsBefore : Type 0)
     (fault : OpenFault) → AsBefore → (fault ≡ opening.OutOfMemory → ⊥)
     → (settings.store ≡ true) ⊎ (fault ≡ opening.OutOfMemory)
-    → IfImageKnown store (λ image. IsRefusedAtOpening (store_settings settings) lists image fault)
-    → DealtFeedRefusesLists settings lists store AsBefore fault
+    → IfImageKnown store (λ image. IsRefusedAtOpening (store_settings_for_saves settings) lists image fault)
+    → DealtFeedRefusesStore settings lists store AsBefore fault
 dealt_report_refuses_lists settings lists store AsBefore fault same other used refused = record {
   used = ⊎_elim (λ is. is) (λ no. absurd (other no)) used;
   as_before = same;
@@ -76,7 +82,7 @@ dealt_report_stops_at_fault : {K : Type 0} (settings : Settings) (lists : List (
     (keeping : SessionKeeping) (store : Option (List ℕ)) (AsBefore : Type 0) (sink : K) (old : Option (List ℕ))
     (write_faults before now : ℕ) (fault : OpenFault) → AsBefore
     → (settings.store ≡ true) ⊎ (fault ≡ opening.OutOfMemory)
-    → IfImageKnown store (λ image. IsRefusedAtOpening (store_settings settings) lists image fault)
+    → IfImageKnown store (λ image. IsRefusedAtOpening (store_settings_for_saves settings) lists image fault)
     → (fault ≡ opening.DiskFault → FaultCountRose before now) → ((fault ≡ opening.DiskFault → ⊥) → now ≡ before)
     → DealtFeedEnds settings lists tail keeping store AsBefore sink sink old old
     (record { sink = write_faults; disk = before }) (record { sink = write_faults; disk = now }) (status_of_opening fault)
@@ -127,8 +133,8 @@ dealt_report_in_part : (settings : Settings) (lists : List (List RecordValue)) (
     (store : Option (List ℕ)) (base : Option CutValue) (Kept : SessionSaving) (old new : Option (List ℕ))
     → SessionGoesOnFrom settings lists store base → SessionBaseRepresents lists base (session_opening settings.capacity lists base)
     → ((saved unfinished : List CutValue) → Kept saved unfinished → settings.store ≡ true
-    → keeping (store_settings settings) lists saved unfinished)
-    → Writes (BeginsSession (session_opening settings.capacity lists base) settings Kept tail) old new
+    → keeping (store_settings_for_saves settings) lists saved unfinished)
+    → WritesAnswer (BeginsSession (session_opening settings.capacity lists base) settings Kept tail) old new
     → DealtFeedWritesInPart settings lists tail keeping store old new
 dealt_report_in_part settings lists tail keeping store base Kept old new begins represents keeps part = record {
   base = base;
@@ -137,7 +143,7 @@ dealt_report_in_part settings lists tail keeping store base Kept old new begins 
   writes = record {
     text = part.text;
     is_text = session_text_begins_weaker (session_opening settings.capacity lists base) settings Kept
-        (λ saved unfinished. settings.store ≡ true → keeping (store_settings settings) lists saved unfinished) tail part.text keeps
+        (λ saved unfinished. settings.store ≡ true → keeping (store_settings_for_saves settings) lists saved unfinished) tail part.text keeps
         part.is_text;
     written = part.written;
   };
@@ -149,10 +155,10 @@ pub dealt_report_ends_broken_off : {K : Type 0} (settings : Settings) (lists : L
     (Same : Type 0) (sink written : K) (old new : Option (List ℕ)) (before now : RoundFaults) (status : Status)
     → SessionGoesOnFrom settings lists store base → SessionBaseRepresents lists base (session_opening settings.capacity lists base)
     → ((saved unfinished : List CutValue) → Kept saved unfinished → settings.store ≡ true
-    → keeping (store_settings settings) lists saved unfinished)
+    → keeping (store_settings_for_saves settings) lists saved unfinished)
     → (written ≡ sink → new ≡ old) → (Same → AsBefore × Kept [] [])
     → ((written ≡ sink) × Same)
-    ⊎ Writes (BeginsSession (session_opening settings.capacity lists base) settings Kept tail) old new
+    ⊎ WritesAnswer (BeginsSession (session_opening settings.capacity lists base) settings Kept tail) old new
     → IsDealtFeedFault before now status
     → DealtFeedEnds settings lists tail keeping store AsBefore sink written old new before now status
 dealt_report_ends_broken_off settings lists tail keeping store AsBefore base Kept Same sink written old new before now WriteFault begins
@@ -201,8 +207,8 @@ dealt_report_ends_broken_off settings lists tail keeping store AsBefore base Kep
 pub dealt_report_is_written : (settings : Settings) (lists : List (List RecordValue)) (tail : List ℕ) (keeping : SessionKeeping)
     (store : Option (List ℕ)) (base : Option CutValue) (Kept : List CutValue → Type 0) (old new : Option (List ℕ))
     → SessionGoesOnFrom settings lists store base → SessionBaseRepresents lists base (session_opening settings.capacity lists base)
-    → ((cuts : List CutValue) → Kept cuts → settings.store ≡ true → keeping (store_settings settings) lists cuts [])
-    → Writes (SpellsSession (session_opening settings.capacity lists base) settings Kept tail) old new
+    → ((cuts : List CutValue) → Kept cuts → settings.store ≡ true → keeping (store_settings_for_saves settings) lists cuts [])
+    → WritesAnswer (IsSessionOverShards (session_opening settings.capacity lists base) settings Kept tail) old new
     → DealtFeedWrites settings lists tail keeping store old new
 dealt_report_is_written settings lists tail keeping store base Kept old new begins represents keeps writes = record {
   base = base;
@@ -211,7 +217,7 @@ dealt_report_is_written settings lists tail keeping store base Kept old new begi
   writes = record {
     text = writes.text;
     is_text = spelled_session_text_says_less (session_opening settings.capacity lists base) settings Kept
-        (λ cuts. settings.store ≡ true → keeping (store_settings settings) lists cuts []) tail writes.text keeps
+        (λ cuts. settings.store ≡ true → keeping (store_settings_for_saves settings) lists cuts []) tail writes.text keeps
         writes.is_text;
     written = writes.written;
   };

@@ -9,7 +9,7 @@ use Rattle.command_words.specs.declared.settings.Settings.{Settings}
 use Rattle.hhh_engine.specs.Demo.{IsDemoReport}
 use Rattle.hhh_engine.specs.Session.{IsShownInSession, session_ends, new_session_shards}
 use Rattle.pcap_frames.specs.{FrameValue}
-use Rattle.frame_records.specs.{HasCaptureFrames}
+use Rattle.frame_records.specs.{CaptureFileHasFrames}
 use Rattle.hhh_engine.specs.NoText.{HasNoText}
 use Rattle.hhh_engine.specs.declared.status.Status.{Status}
 use Rattle.hhh_engine.specs.declared.status.Status.TheVariants.{Done, BadWords, BadCapture, ReadFault, WriteFault}
@@ -33,7 +33,7 @@ demo_report_counts_all_records settings lists opening report same bases shown at
 }
 
 -- a capture in memory is never refused
-pub demo_capture_is_never_refused : CaptureStatusIsFaultless → (file : List ℕ) (frames : List FrameValue) (status : Status) → HasCaptureFrames file frames
+pub demo_capture_is_never_refused : CaptureStatusIsFaultless → (file : List ℕ) (frames : List FrameValue) (status : Status) → CaptureFileHasFrames file frames
     → HasNoText (Some file) 0 0 status → (status ≡ OutOfMemory → ⊥) → ⊥
 demo_capture_is_never_refused never_both file frames Done capture none other = none
 demo_capture_is_never_refused never_both file frames (BadWords kind) capture none other = none

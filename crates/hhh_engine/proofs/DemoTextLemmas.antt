@@ -5,7 +5,7 @@ use Rattle.deal_rules.specs.{IsDealing}
 use Rattle.deal_rules.specs.declared.deal_kind.DealKind.{DealKind}
 use Rattle.shard_state.specs.{ShardValue}
 use Rattle.pcap_frames.specs.{FrameValue}
-use Rattle.frame_records.specs.{AreRecordsOf, HasCaptureFrames, frame_records_of}
+use Rattle.frame_records.specs.{AreRecordsOf, CaptureFileHasFrames, frame_records_of}
 use Rattle.frame_records.specs.declared.records.Records.{Records}
 use Rattle.frame_records.specs.declared.weigh.Weigh.{Weigh}
 use Rattle.hhh_output.specs.{IsSameReport, IsReportOf}
@@ -15,12 +15,12 @@ use Rattle.gate_workers.specs.{IsReportAtCall, cut_at_call}
 use Rattle.traffic_maker.specs.{made_capture}
 use Rattle.command_words.specs.declared.settings.Settings.{Settings}
 use Rattle.hhh_engine.specs.Demo.{IsDemoText, demo_text}
-use Rattle.hhh_engine.specs.Session.{by_formula, session_ends, new_session_shards}
+use Rattle.hhh_engine.specs.Session.{session_rules_by_formula, session_ends, new_session_shards}
 use Rattle.hhh_engine.proofs.LastReportLemmas.{LastReportIsUnique}
 
 -- a file has one list of frames
 abbrev pub DemoTextFramesAreUnique : Type 0
-DemoTextFramesAreUnique = (file : List ℕ) (frames others : List FrameValue) → HasCaptureFrames file frames → HasCaptureFrames file others
+DemoTextFramesAreUnique = (file : List ℕ) (frames others : List FrameValue) → CaptureFileHasFrames file frames → CaptureFileHasFrames file others
     → others ≡ frames
 
 -- a rule that is a formula deals records in one way
@@ -33,7 +33,7 @@ DemoTextDealingIsUnique =
 
 -- the records of a file, in their order
 demo_text_records_agree : DemoTextFramesAreUnique → (file : List ℕ) (weigh other : Weigh) (frames other_frames : List FrameValue)
-    (records others : Records) → weigh ≡ other → HasCaptureFrames file frames → HasCaptureFrames file other_frames
+    (records others : Records) → weigh ≡ other → CaptureFileHasFrames file frames → CaptureFileHasFrames file other_frames
     → AreRecordsOf weigh frames records → AreRecordsOf other other_frames others → records.list ≡ others.list
 demo_text_records_agree one file weigh other frames other_frames records others same has has_other are are_other =
     are.list ∙ ap₂ frame_records_of same (one file other_frames frames has_other has) ∙ sym are_other.list
@@ -42,14 +42,14 @@ demo_text_records_agree one file weigh other frames other_frames records others 
 demo_text_lists_agree : DemoTextDealingIsUnique → (formula : DealKind → ℕ → RecordValue → ℕ → ℕ) (kind other : DealKind) (shards other_shards : ℕ)
     (records others : List RecordValue) (lists other_lists : List (List RecordValue))
     → kind ≡ other → shards ≡ other_shards → records ≡ others
-    → IsDealing kind (by_formula formula kind) shards records lists
-    → IsDealing other (by_formula formula other) other_shards others other_lists → lists ≡ other_lists
+    → IsDealing kind (session_rules_by_formula formula kind) shards records lists
+    → IsDealing other (session_rules_by_formula formula other) other_shards others other_lists → lists ≡ other_lists
 demo_text_lists_agree one formula kind other shards other_shards records others lists other_lists same_kind same_shards same_records
     dealing dealing_other =
     one kind (formula kind) shards records lists other_lists dealing
-    (subst (λ k. IsDealing k (by_formula formula k) shards records other_lists) (sym same_kind)
-    (subst (λ n. IsDealing other (by_formula formula other) n records other_lists) (sym same_shards)
-    (subst (λ rs. IsDealing other (by_formula formula other) other_shards rs other_lists) (sym same_records)
+    (subst (λ k. IsDealing k (session_rules_by_formula formula k) shards records other_lists) (sym same_kind)
+    (subst (λ n. IsDealing other (session_rules_by_formula formula other) n records other_lists) (sym same_shards)
+    (subst (λ rs. IsDealing other (session_rules_by_formula formula other) other_shards rs other_lists) (sym same_records)
     dealing_other)))
 
 -- the report at the ends of shards
@@ -71,8 +71,8 @@ pub demo_text_is_unique : DemoTextFramesAreUnique → DemoTextDealingIsUnique �
     (settings other : Settings) (seed frames : ℕ) (text other_text : List ℕ)
     → settings.shards ≡ other.shards → settings.capacity ≡ other.capacity → settings.phi ≡ other.phi
     → settings.deal ≡ other.deal → settings.weigh ≡ other.weigh
-    → IsDemoText settings (by_formula formula) seed frames text
-    → IsDemoText other (by_formula formula) seed frames other_text → text ≡ other_text
+    → IsDemoText settings (session_rules_by_formula formula) seed frames text
+    → IsDemoText other (session_rules_by_formula formula) seed frames other_text → text ≡ other_text
 demo_text_is_unique one_frames one_dealing one_report formula settings other seed frames text other_text shards capacity phi deal
     weigh is is_other =
     let records : is.records.list ≡ is_other.records.list =

@@ -5,9 +5,9 @@ use Rattle.prefix_lattice.specs.{RecordValue, PrefixValue}
 use Rattle.shard_state.specs.{ShardValue}
 use Rattle.pcap_frames.specs.declared.file_order.FileOrder.TheVariants.{Little}
 use Rattle.pcap_frames.specs.{number_in_file_order, FrameValue, header_magic_order}
-use Rattle.frame_records.specs.{HasCaptureFrames}
+use Rattle.frame_records.specs.{CaptureFileHasFrames}
 use Rattle.frame_records.specs.declared.weigh.Weigh.TheVariants.{Bytes, Packets}
-use Rattle.hhh_engine.specs.Session.{by_formula, session_ends, new_session_shards, session_start}
+use Rattle.hhh_engine.specs.Session.{session_rules_by_formula, session_ends, new_session_shards, session_start}
 use Rattle.hhh_engine.specs.WeightText.{weight_text_capacity, weight_text, weight_text_for, IsWeightText}
 use Rattle.deal_rules.specs.declared.deal_kind.DealKind.{DealKind}
 use Rattle.deal_rules.specs.declared.deal_kind.DealKind.TheVariants.{Free}
@@ -72,7 +72,7 @@ file = header ++ frame_header ++ captured
 abbrev frame : FrameValue
 frame = record { head = captured; captured = 34; original = 100 }
 
-pub file_is_a_capture : HasCaptureFrames file (frame ∷ [])
+pub file_is_a_capture : CaptureFileHasFrames file (frame ∷ [])
 unfolding number_in_file_order header_magic_order
 file_is_a_capture = (
   Little,
@@ -109,9 +109,9 @@ packets_of_the_file = record {
 abbrev by_destination : DealKind → ℕ → RecordValue → ℕ → ℕ
 by_destination kind place rec shards = rec.dst % shards
 
-pub shard_of_the_packet : by_formula by_destination Free 0 packet 4 3
+pub shard_of_the_packet : session_rules_by_formula by_destination Free 0 packet 4 3
 shard_of_the_packet = refl
 
 -- a formula gives a record one shard alone
-pub no_other_shard_of_the_packet : by_formula by_destination Free 0 packet 4 2 → ⊥
+pub no_other_shard_of_the_packet : session_rules_by_formula by_destination Free 0 packet 4 2 → ⊥
 no_other_shard_of_the_packet is = omega (arith, is)

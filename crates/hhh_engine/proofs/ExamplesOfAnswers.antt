@@ -6,20 +6,24 @@ use Rattle.std.proofs.lemmas.List.Elements.{All-nil}
 use Rattle.pcap_frames.specs.declared.fault.FaultKind.TheVariants.{ShortHeader}
 use Rattle.pcap_frames.specs.{header_fault, header_fault_at}
 use Rattle.frame_records.specs.declared.weigh.Weigh.TheVariants.{Bytes}
-use Rattle.command_words.specs.{AskFor}
+use Rattle.command_words.specs.{AskForCommand}
 use Rattle.command_words.specs.declared.command.Command.{Command}
-use Rattle.command_words.specs.declared.command.Command.TheVariants.{Weigh, Report as report_command, Format, Audit, Make, Demo}
+use Rattle.command_words.specs.declared.command.Command.TheVariants.{Weigh, Report as report_command, Format, Audit}
+use Rattle.command_words.specs.declared.command.Command.TheVariants.{Make, Demo}
 use Rattle.command_words.specs.declared.words_kind.WordsKind.TheVariants.{NoCommand}
-use Rattle.hhh_engine.specs.Answer.{Answers, AnswersInPart, IsAnswer, IsAnswerInPart, IsWeighAnswerInPart, Writes}
+use Rattle.hhh_engine.specs.Answer.{Answers, AnswersInPart, IsAnswer, IsAnswerInPart, IsWeighAnswerInPart, WritesAnswer}
 use Rattle.hhh_engine.specs.Answer.{IsUnfinishedAnswer, formatted_answer}
-use Rattle.hhh_engine.specs.Inputs.{AskNotToUseInput, AskToUseInput, InputsCanBeAnswered, HasKnownInputCapture, UsesInputCapture, UsesInputSession}
+use Rattle.hhh_engine.specs.Inputs.{AskedCommandAvoidsInput, AskedCommandUsesInput, InputsCanBeAnswered}
+use Rattle.hhh_engine.specs.Inputs.{HasKnownInputCapture, UsesInputCapture, UsesInputSession}
 use Rattle.hhh_engine.specs.Inputs.{UsesInputStore, InputsWereAccepted, InputsWereRead, inputs}
-use Rattle.hhh_engine.specs.Ending.{Ends, EndsWithFailedDisk, EndsFailingToRead, EndsFailingToWrite, FormatEnds, EndsRefusingCapture, EndsAtFailedSource}
-use Rattle.hhh_engine.specs.Ending.{OfDiskAtEnding, OneSourceRoseAtEnding, EndsRefusingWords, RefusesAtEnding, RefusesStoreAtEnding, EndsAnswered, EndsWritingInPart}
+use Rattle.hhh_engine.specs.Ending.{Ends, EndsWithFailedDisk, EndsFailingToRead, EndsFailingToWrite, FormatEnds}
+use Rattle.hhh_engine.specs.Ending.{EndsRefusingCapture, EndsAtFailedSource}
+use Rattle.hhh_engine.specs.Ending.{HappenedToDiskAtEnding, SourceFaultsRoseAtEnding, EndsRefusingWords}
+use Rattle.hhh_engine.specs.Ending.{RefusesAtEnding, RefusesStoreAtEnding, EndsAnswered, EndsWritingInPart}
 use Rattle.hhh_engine.specs.Ending.{EndsAsBeforeUnlessFormat, ending_source_faults}
 use Rattle.recovery.specs.declared.fault.OpenFault.{OpenFault}
 use Rattle.recovery.specs.declared.fault.OpenFault.TheVariants as opening
-use Rattle.hhh_engine.specs.Saves.{store_settings}
+use Rattle.hhh_engine.specs.Saves.{store_settings_for_saves}
 use Rattle.hhh_engine.specs.NoText.{HasNoText}
 use Rattle.hhh_engine.specs.declared.status.Status.{Status}
 use Rattle.hhh_engine.specs.declared.status.Status.TheVariants.{Done, BadCapture, BadWords, ReadFault}
@@ -38,7 +42,7 @@ pub session_is_the_answer :
     IsAnswer in_turn keeps_nothing (report_command settings) (inputs (Some header) (Some []) None None None) text
 session_is_the_answer = session_over_the_header
 
-asks_for_a_report : AskFor words (report_command settings)
+asks_for_a_report : AskForCommand words (report_command settings)
 asks_for_a_report = record {
   arguments = [];
   are_words = record {
@@ -69,10 +73,10 @@ asks_for_a_report = record {
   wide = omega arith;
 }
 
-pub report_asks_to_read : AskToUseInput UsesInputCapture words
+pub report_asks_to_read : AskedCommandUsesInput UsesInputCapture words
 report_asks_to_read = record { command = report_command settings; asked = asks_for_a_report; uses = tt }
 
-no_words_ask : (command : Command) → AskFor [] command → ⊥
+no_words_ask : (command : Command) → AskForCommand [] command → ⊥
 no_words_ask (Weigh prefix settings) asked = let begun = asked.are_words.begun in cc
 no_words_ask (report_command settings) asked = let begun = asked.are_words.begun in cc
 no_words_ask (Format settings) asked = let begun = asked.are_words.begun in cc
@@ -80,7 +84,7 @@ no_words_ask (Audit settings) asked = let begun = asked.are_words.begun in cc
 no_words_ask (Make seed frames) asked = let begun = asked.are_words.begun in cc
 no_words_ask (Demo seed frames settings) asked = let begun = asked.are_words.begun in cc
 
-pub no_words_ask_to_read : AskToUseInput UsesInputCapture [] → ⊥
+pub no_words_ask_to_read : AskedCommandUsesInput UsesInputCapture [] → ⊥
 no_words_ask_to_read asks = no_words_ask asks.command asks.asked
 
 pub report_reads_a_capture : UsesInputCapture (report_command settings)
@@ -103,7 +107,7 @@ report_without_a_store uses = cc uses
 pub report_with_a_store : UsesInputStore (report_command (record settings { store = true }))
 report_with_a_store = refl
 
-pub report_asks_for_no_store : AskNotToUseInput UsesInputStore words
+pub report_asks_for_no_store : AskedCommandAvoidsInput UsesInputStore words
 report_asks_for_no_store = record {
   command = report_command settings;
   asked = asks_for_a_report;
@@ -155,10 +159,10 @@ session_was_written_in_part = record {
 }
 
 -- a text stands behind what the sink held
-pub two_bytes_were_written : Writes (λ text. text ≡ codes "no") (Some (codes "no ")) (Some (codes "no no"))
+pub two_bytes_were_written : WritesAnswer (λ text. text ≡ codes "no") (Some (codes "no ")) (Some (codes "no no"))
 two_bytes_were_written = record { text = codes "no"; is_text = refl; written = refl }
 
-pub nothing_is_not_written : Writes (λ text. text ≡ codes "no") (Some []) (Some []) → ⊥
+pub nothing_is_not_written : WritesAnswer (λ text. text ≡ codes "no") (Some []) (Some []) → ⊥
 nothing_is_not_written writes = cc (writes.written, writes.is_text)
 
 -- a sink with room for 6 bytes took the least weight, but not the end of its line
@@ -275,10 +279,10 @@ text_failed_too_early failed =
     (λ text. let none : 1 ≡ 0 = ap (λ (bytes : List ℕ). length bytes) text.read_to_end in omega (arith, none)) failed
 
 -- the text of a session may fail instead, and its count alone tells
-pub text_failed : OneSourceRoseAtEnding (ending_source_faults 3 0) (ending_source_faults 3 1)
+pub text_failed : SourceFaultsRoseAtEnding (ending_source_faults 3 0) (ending_source_faults 3 1)
 text_failed = inr (omega arith)
 
-pub no_source_failed : OneSourceRoseAtEnding (ending_source_faults 3 0) (ending_source_faults 3 0) → ⊥
+pub no_source_failed : SourceFaultsRoseAtEnding (ending_source_faults 3 0) (ending_source_faults 3 0) → ⊥
 no_source_failed rose = ⊎_elim (λ capture. omega (arith, capture)) (λ text. omega (arith, text)) rose
 
 pub sink_failed_in_the_session :
@@ -321,17 +325,17 @@ format_refuses_no_store fault refuses = refuses
 
 -- where the disk fails, `format` writes nothing; where memory runs out, the disk is as before too
 pub format_on_a_disk_that_failed :
-    FormatEnds {K = List ℕ} {D = List ℕ} (store_settings settings) None (λ image. ⊤) [] [] [] (8 ∷ []) DiskFault
+    FormatEnds {K = List ℕ} {D = List ℕ} (store_settings_for_saves settings) None (λ image. ⊤) [] [] [] (8 ∷ []) DiskFault
 format_on_a_disk_that_failed = refl
 
 pub format_without_memory :
-    FormatEnds {K = List ℕ} {D = List ℕ} (store_settings settings) None (λ image. ⊤) [] [] [] (8 ∷ []) OutOfMemory → ⊥
+    FormatEnds {K = List ℕ} {D = List ℕ} (store_settings_for_saves settings) None (λ image. ⊤) [] [] [] (8 ∷ []) OutOfMemory → ⊥
 format_without_memory ended =
     let same : 1 ≡ 0 = ap (λ (bytes : List ℕ). length bytes) ended.1 in omega (arith, same)
 
 -- `format` reads no capture that could be refused
 pub format_refuses_no_capture :
-    FormatEnds {K = List ℕ} {D = List ℕ} (store_settings settings) None (λ image. ⊤) [] [] [] []
+    FormatEnds {K = List ℕ} {D = List ℕ} (store_settings_for_saves settings) None (λ image. ⊤) [] [] [] []
     (BadCapture (header_fault_at ShortHeader 0)) → ⊥
 format_refuses_no_capture ended = ended
 
@@ -423,10 +427,10 @@ pub report_that_found_a_report : EndsAnswered (report_command settings) (AuditNo
 report_that_found_a_report answered = cc answered
 
 -- of the commands, only those with a store tell of its disk
-pub audit_uses_no_disk : OfDiskAtEnding (Audit settings) ⊤ → ⊥
+pub audit_uses_no_disk : HappenedToDiskAtEnding (Audit settings) ⊤ → ⊥
 audit_uses_no_disk happened = happened
 
-pub report_may_use_a_disk : OfDiskAtEnding (report_command settings) ⊤
+pub report_may_use_a_disk : HappenedToDiskAtEnding (report_command settings) ⊤
 report_may_use_a_disk = tt
 
 -- where no byte was written, a store that was to be opened is as before, and one that `format` began to make need not be

@@ -10,7 +10,8 @@ use Rattle.exact_audit.specs.declared.verdict.Verdict.TheVariants.{BadPositions,
 use Rattle.pcap_frames.specs.declared.fault.FaultKind.TheVariants.{ShortHeader}
 use Rattle.report_text.specs.declared.session_fault.TextFault.TheVariants.{BadLine}
 use Rattle.pcap_frames.specs.{header_fault_at}
-use Rattle.hhh_engine.specs.Audit.{IsAuditedAsFirstUnsound, IsAuditedAsSound, WasReadForAuditFault, WasReadToAuditLimit, sound_audit_text, unsound_audit_text}
+use Rattle.hhh_engine.specs.Audit.{IsAuditedAsFirstUnsound, IsAuditedAsSound, AuditReadOnFault, AuditReadPastLimit}
+use Rattle.hhh_engine.specs.Audit.{sound_audit_text, unsound_audit_text}
 use Rattle.hhh_engine.specs.Audit.{audit_verdict_text}
 use Rattle.hhh_engine.specs.Auditing.{HasNoAudit, AuditingHasNoBytes, AuditingSays}
 use Rattle.hhh_engine.specs.Demo.{IsDemoReport, demo_text}
@@ -63,14 +64,14 @@ pub good_report_is_not_unsound : IsAuditedAsFirstUnsound settings lists (last �
 good_report_is_not_unsound first = first.not_good refl
 
 -- a text that is not too long was read to its end, whatever its fault
-pub text_was_read : WasReadForAuditFault (BadLine 1) (Some (1 ∷ 2 ∷ [])) (Some [])
+pub text_was_read : AuditReadOnFault (BadLine 1) (Some (1 ∷ 2 ∷ [])) (Some [])
 text_was_read = refl
 
-pub one_byte_was_not_read : WasReadForAuditFault (BadLine 1) (Some (1 ∷ 2 ∷ [])) (Some (2 ∷ [])) → ⊥
+pub one_byte_was_not_read : AuditReadOnFault (BadLine 1) (Some (1 ∷ 2 ∷ [])) (Some (2 ∷ [])) → ⊥
 one_byte_was_not_read read = let none : 1 ≡ 0 = ap (λ (bytes : List ℕ). length bytes) read in omega (arith, none)
 
 -- the first byte of two doesn't show that a text is too long
-pub one_byte_is_not_the_limit : WasReadToAuditLimit (Some (1 ∷ 2 ∷ [])) (Some (2 ∷ [])) → ⊥
+pub one_byte_is_not_the_limit : AuditReadPastLimit (Some (1 ∷ 2 ∷ [])) (Some (2 ∷ [])) → ⊥
 one_byte_is_not_the_limit read =
     let front : 2 ≡ length read.front + 1 =
     ap (λ (bytes : List ℕ). length bytes) read.consumed ∙ length-append read.front (2 ∷ []) in

@@ -8,14 +8,18 @@ use Rattle.std.specs.Prelude.{⊤, All}
 use Rattle.shard_state.specs.{CutValue, ShardValue}
 use Rattle.hhh_output.specs.{IsSound}
 use Rattle.hhh_output.specs.declared.reports.Reported.{Reported}
-use Rattle.pass_tokens.specs.{IsOdd, SeatValue, ShardRead, WordsValue, after_reads, first_view}
-use Rattle.gate_workers.specs.{Calls, HasFeedSeenEnds, IsReportAtCall, CallReadsOnce, View, cut_at_call}
+use Rattle.pass_tokens.specs.{IsOddWord, SeatValue, ShardRead, PositionWordsValue, after_reads, first_view}
+use Rattle.gate_workers.specs.{Calls, FeedHasSeenEnds, IsReportAtCall, CallReadsOnce, View, cut_at_call}
 use Rattle.gate_workers.specs.declared.gathered.Gathered.{Gathered}
 use Rattle.report_text.specs.{report_tail_text}
-use Rattle.hhh_engine.specs.Session.{AreSessionReportsOfCaller, SessionBreaksOffInRounds, SessionSaving, session_part_text, session_parts_text}
-use Rattle.hhh_engine.specs.Rounds.{RoundsBreakOff, BreaksRound, DiskFailedInRound, EndRounds, RoundFaults, IsRoundInVain, RoundReportsOnce}
-use Rattle.hhh_engine.specs.Rounds.{SinkFailedInRound, RoundBreaksInLine, RoundBreaksInReport, WritesRounds, WritesUnsavedRound}
-use Rattle.hhh_engine.specs.DealtFeed.{IsDealtFeedCapture, IsDealtFeedFault, IsDealtFeedResult, IsDealtFeedGathered, IsDealtFeedOpening, IsDealtFeedSaveFault, DealtFeedStartsBeforeEnds}
+use Rattle.hhh_engine.specs.Session.{AreSessionReportsOfCaller, SessionBreaksOffInRounds, SessionSaving, session_part}
+use Rattle.hhh_engine.specs.Session.{session_parts}
+use Rattle.hhh_engine.specs.Rounds.{RoundsBreakOff, BreaksRound, DiskFailedInRound, EndRounds, RoundFaults}
+use Rattle.hhh_engine.specs.Rounds.{IsRoundInVain, RoundReportsOnce}
+use Rattle.hhh_engine.specs.Rounds.{SinkFailedInRound, RoundBreaksInLine, RoundBreaksInReport, WritesRounds}
+use Rattle.hhh_engine.specs.Rounds.{WritesUnsavedRound}
+use Rattle.hhh_engine.specs.DealtFeed.{IsDealtFeedCapture, IsDealtFeedFault, IsDealtFeedResult, IsDealtFeedGathered}
+use Rattle.hhh_engine.specs.DealtFeed.{IsDealtFeedOpening, IsDealtFeedSaveFault, DealtFeedStartsBeforeEnds}
 use Rattle.hhh_engine.specs.DealtFeed.{DealtFeedBreaksOffInRounds, dealt_feed_other_reports}
 use Rattle.hhh_engine.specs.declared.commands.session.Opened.{Opened}
 use Rattle.hhh_engine.specs.declared.commands.feed.Fed.{Fed}
@@ -111,16 +115,16 @@ reads = at_start ∷ at_start ∷ at_start ∷ at_start ∷ []
 abbrev after_one : View
 after_one = record first { trails = after_reads first.trails reads }
 
-no_losses : All (λ (read : ShardRead). All IsOdd read.losses) reads
+no_losses : All (λ (read : ShardRead). All IsOddWord read.losses) reads
 no_losses =
-    All-from_recursion (λ (read : ShardRead). All IsOdd read.losses) reads
-    (All-nil IsOdd, (All-nil IsOdd, (All-nil IsOdd, (All-nil IsOdd, tt))))
+    All-from_recursion (λ (read : ShardRead). All IsOddWord read.losses) reads
+    (All-nil IsOddWord, (All-nil IsOddWord, (All-nil IsOddWord, (All-nil IsOddWord, tt))))
 
 one_call : Calls opening 10000 1 first after_one (last ∷ [])
 one_call = record {
   reads = reads ∷ [];
   as_many = refl;
-  odd = All-cons (λ (round : List ShardRead). All (λ read. All IsOdd read.losses) round) reads [] no_losses (All-nil _);
+  odd = All-cons (λ (round : List ShardRead). All (λ read. All IsOddWord read.losses) round) reads [] no_losses (All-nil _);
   view = refl;
   positions = refl;
   never_fall = λ place inside. once_more _ [] (one_number _);
@@ -135,7 +139,7 @@ last_is_sound =
     All-cons (λ (reported : Reported). IsSound reported.report lists 512 10000) last [] nothing_is_sound (All-nil _)
 
 pub one_round_is_written :
-    WritesRounds opening 10000 1 first after_one false none_saved (Some []) (Some (session_part_text false last))
+    WritesRounds opening 10000 1 first after_one false none_saved (Some []) (Some (session_part false last))
 unfolding digits
 one_round_is_written = record {
   reports = last ∷ [];
@@ -146,7 +150,7 @@ one_round_is_written = record {
 }
 
 pub one_round_of_one : EndRounds opening 10000 1 first after_one false none_saved none_unfinished (Some [])
-    (Some (session_part_text false last)) calm calm None
+    (Some (session_part false last)) calm calm None
 one_round_of_one = (one_round_is_written, refl)
 
 -- with a store the cut at the positions of the report is saved, and they are written
@@ -154,7 +158,7 @@ abbrev one_saved : List CutValue → Type 0
 one_saved cuts = cuts ≡ cut_at_call opening (0 ∷ 0 ∷ 0 ∷ 0 ∷ []) ∷ []
 
 pub one_round_is_saved :
-    WritesRounds opening 10000 1 first after_one true one_saved (Some []) (Some (session_part_text true last))
+    WritesRounds opening 10000 1 first after_one true one_saved (Some []) (Some (session_part true last))
 unfolding digits
 one_round_is_saved = record {
   reports = last ∷ [];
@@ -189,12 +193,12 @@ abbrev saved_the_one : SessionSaving
 saved_the_one saved unfinished = one_saved saved × (unfinished ≡ [])
 
 pub line_in_part :
-    RoundBreaksInLine opening 10000 first after_one true saved_the_one (Some []) (Some (session_part_text false last))
+    RoundBreaksInLine opening 10000 first after_one true saved_the_one (Some []) (Some (session_part false last))
 unfolding digits
 line_in_part = record {
   report = report;
   reports = report_of_one_round;
-  between = Some (session_part_text false last);
+  between = Some (session_part false last);
   whole = refl;
   written = record {
     front = [];
@@ -209,17 +213,17 @@ line_in_part = record {
 abbrev unfinished_the_one : SessionSaving
 unfinished_the_one saved unfinished = (saved ≡ []) × one_saved unfinished
 
-pub unsaved_round : WritesUnsavedRound opening 10000 first after_one true unfinished_the_one (Some []) (Some (session_part_text false last))
+pub unsaved_round : WritesUnsavedRound opening 10000 first after_one true unfinished_the_one (Some []) (Some (session_part false last))
 unfolding digits
 unsaved_round = record { report = report; reports = report_of_one_round; written = refl; kept = (refl, refl) }
 
 -- a save that was made is none that is unfinished
 pub saved_round_is_not_unsaved :
-    WritesUnsavedRound opening 10000 first after_one true saved_the_one (Some []) (Some (session_part_text false last)) → ⊥
+    WritesUnsavedRound opening 10000 first after_one true saved_the_one (Some []) (Some (session_part false last)) → ⊥
 saved_round_is_not_unsaved unsaved = cc unsaved.kept.1
 
 -- where memory ran out, it was not begun
-pub round_not_saved : WritesUnsavedRound opening 10000 first after_one false none_unfinished (Some []) (Some (session_part_text false last))
+pub round_not_saved : WritesUnsavedRound opening 10000 first after_one false none_unfinished (Some []) (Some (session_part false last))
 unfolding digits
 round_not_saved = record { report = report; reports = report_of_one_round; written = refl; kept = (refl, refl) }
 
@@ -238,7 +242,7 @@ pub sink_breaks_a_round :
 sink_breaks_a_round = (inl report_in_part, sink_failed)
 
 pub sink_breaks_the_line :
-    BreaksRound opening 10000 first after_one true saved_the_one (Some []) (Some (session_part_text false last)) calm sink_rose
+    BreaksRound opening 10000 first after_one true saved_the_one (Some []) (Some (session_part false last)) calm sink_rose
     WriteFault
 sink_breaks_the_line = (inr line_in_part, sink_failed)
 
@@ -248,13 +252,13 @@ pub sink_that_did_not_fail :
 sink_that_did_not_fail breaks = omega (arith, breaks.1.rose)
 
 pub disk_breaks_a_round :
-    BreaksRound opening 10000 first after_one true unfinished_the_one (Some []) (Some (session_part_text false last)) calm disk_rose
+    BreaksRound opening 10000 first after_one true unfinished_the_one (Some []) (Some (session_part false last)) calm disk_rose
     DiskFault
 disk_breaks_a_round = (refl, unsaved_round, disk_failed)
 
 -- without a store no disk is written to
 pub disk_breaks_no_round_without_a_store :
-    BreaksRound opening 10000 first after_one false unfinished_the_one (Some []) (Some (session_part_text false last)) calm disk_rose
+    BreaksRound opening 10000 first after_one false unfinished_the_one (Some []) (Some (session_part false last)) calm disk_rose
     DiskFault → ⊥
 disk_breaks_no_round_without_a_store breaks = cc breaks.0
 
@@ -264,13 +268,13 @@ memory_breaks_a_round = (inl round_in_vain, refl)
 
 -- memory may also run out in a save
 pub memory_breaks_a_save :
-    BreaksRound opening 10000 first after_one true none_unfinished (Some []) (Some (session_part_text false last)) calm calm
+    BreaksRound opening 10000 first after_one true none_unfinished (Some []) (Some (session_part false last)) calm calm
     OutOfMemory
 memory_breaks_a_save = (inr (refl, round_not_saved), refl)
 
 -- then no save was made, or begun
 pub memory_ran_out_after_a_save :
-    BreaksRound opening 10000 first after_one true saved_the_one (Some []) (Some (session_part_text false last)) calm calm
+    BreaksRound opening 10000 first after_one true saved_the_one (Some []) (Some (session_part false last)) calm calm
     OutOfMemory → ⊥
 memory_ran_out_after_a_save (inl vain, same) = cc vain.kept.0
 memory_ran_out_after_a_save (inr unsaved, same) = cc unsaved.1.kept.0
@@ -360,7 +364,7 @@ pub reports_of_two_callers : (one other : SeatValue)
 reports_of_two_callers one other = refl
 
 -- a board of the shards, and its first pass
-abbrev board_of : SeatValue → WordsValue
+abbrev board_of : SeatValue → PositionWordsValue
 board_of seat = record { id = seat.table_id; opening = opening }
 
 abbrev pass_of : SeatValue → SeatValue
@@ -383,7 +387,7 @@ pub opened_with_another_cut : (seat : SeatValue)
 opened_with_another_cut seat is = cc is.shape.as_many
 
 -- lists without records are at their ends
-ends_were_seen : HasFeedSeenEnds opening first
+ends_were_seen : FeedHasSeenEnds opening first
 ends_were_seen zero state is = subst (λ (s : ShardValue). length s.list ≤ 0) (same_Some shard state is) (omega arith)
 ends_were_seen (suc zero) state is =
     subst (λ (s : ShardValue). length s.list ≤ 0) (same_Some shard state is) (omega arith)
@@ -445,7 +449,7 @@ rounds_in_part = record {
 pub no_rounds_in_part : DealtFeedBreaksOffInRounds opening settings none_unfinished (Some []) (Some (codes "report\n")) → ⊥
 no_rounds_in_part in_part = none in_part.front in_part.breaks_off in_part.written
   where
-    whole : (rounds : List Reported) → length rounds ≤ 0 → codes "report\n" ≡ session_parts_text false rounds → ⊥
+    whole : (rounds : List Reported) → length rounds ≤ 0 → codes "report\n" ≡ session_parts false rounds → ⊥
     whole [] few written = cc written
     whole (one ∷ rounds) few written = omega (arith, few)
 

@@ -16,17 +16,22 @@ use Rattle.recovery.specs.declared.fault.OpenFault.TheVariants as opening
 use Rattle.frame_records.specs.declared.records.Records.{Records}
 use Rattle.frame_records.specs.declared.weigh.Weigh.TheVariants.{Bytes}
 use Rattle.report_text.specs.{report_tail_text}
-use Rattle.slot_disk.specs.{Leaves-none, slots_of}
-use Rattle.checkpoint.specs.{StoreBelongs, StoreOpensTo, SavedValue, SaverState, StoreHolds, digest_of_lists, header_of_settings, saver_of}
+use Rattle.slot_disk.specs.{CrashLeavesAtAnyMoment-none, known_slots_of}
+use Rattle.checkpoint.specs.{StoreBelongs, StoreOpensTo, SavedValue, SaverState, StoreHolds, digest_of_lists}
+use Rattle.checkpoint.specs.{header_of_settings, saver_of}
 use Rattle.checkpoint.specs.declared.settings.StoreSettings.{StoreSettings}
 use Rattle.command_words.specs.declared.settings.Settings.{Settings}
 use Rattle.hhh_engine.specs.Ending.{EndsWithEmptyStore}
 use Rattle.hhh_engine.specs.DealtFeed.{DealtFeedGoesOn, HasNoDealtFeedBase, IsDealtFeedSaver}
 use Rattle.hhh_engine.specs.Inputs.{IsInputStore}
-use Rattle.hhh_engine.specs.Saves.{SavesBelongThroughout, SavesFitBoard, IsAsBeforeSaves, IsNoEarlierSave, KeepsSaves, OpensAmongSaves, ReopensSave, Saves}
-use Rattle.hhh_engine.specs.Saves.{SavesInPart, after_saves, saves_kept_in, last_saved, saves_reopened_in, saved_after, store_settings}
-use Rattle.hhh_engine.specs.Session.{SessionGoesOnFrom, SessionReports, session_calling_reports, session_ends, last_session_positions, new_session_shards}
-use Rattle.hhh_engine.specs.Session.{session_opening, session_part_text, resumed_session_shards, session_saved_cuts, session_saves, session_text, session_start}
+use Rattle.hhh_engine.specs.Saves.{SavesBelongThroughout, SavesFitBoard, IsAsBeforeSaves, IsNoEarlierSave, KeepsSaves}
+use Rattle.hhh_engine.specs.Saves.{OpensAsBeforeOrToSaves, SavesReopen, Saves}
+use Rattle.hhh_engine.specs.Saves.{SavesInPart, after_saves, SavesAreKeptOnDisk, last_of_saves}
+use Rattle.hhh_engine.specs.Saves.{SavesAreReopenedFromDisk, saves_after, store_settings_for_saves}
+use Rattle.hhh_engine.specs.Session.{SessionGoesOnFrom, SessionReports, session_reports_of_calling_thread, session_ends}
+use Rattle.hhh_engine.specs.Session.{last_session_positions, new_session_shards}
+use Rattle.hhh_engine.specs.Session.{session_opening, session_part, resumed_session_shards, session_saved_cuts}
+use Rattle.hhh_engine.specs.Session.{session_saves, session_text, session_start}
 use Rattle.hhh_engine.specs.declared.status.Status.TheVariants.{NotFormatted}
 use Rattle.hhh_engine.proofs.Examples.{packet}
 use Rattle.hhh_engine.proofs.ExamplesOfSessions.{last, opening as four_shards, settings}
@@ -36,14 +41,14 @@ abbrev one_shard : Settings
 one_shard = record settings { shards = 1; capacity = 2; store = true }
 
 abbrev one : StoreSettings
-one = store_settings one_shard
+one = store_settings_for_saves one_shard
 
 -- a list of one packet
 abbrev lists : List (List RecordValue)
 lists = (packet ∷ []) ∷ []
 
 -- of a command's settings a store has these
-pub settings_of_a_store : store_settings settings
+pub settings_of_a_store : store_settings_for_saves settings
     ≡ record { shards = 4; capacity = 512; weigh = Bytes; deal = RoundRobin }
 settings_of_a_store = refl
 
@@ -62,18 +67,18 @@ one_counted = record { capacity = 2; shards = snapshot ∷ [] }
 abbrev saved : ℕ → CutValue → SavedValue
 saved sequence cut = record { sequence = sequence; digest = 9 ∷ []; cut = cut }
 
-pub two_saves_after_sequence_4 : saved_after 4 (9 ∷ []) (none_counted ∷ one_counted ∷ [])
+pub two_saves_after_sequence_4 : saves_after 4 (9 ∷ []) (none_counted ∷ one_counted ∷ [])
     ≡ saved 5 none_counted ∷ saved 6 one_counted ∷ []
 two_saves_after_sequence_4 = refl
 
-pub nothing_is_saved_of_no_cut : saved_after 4 (9 ∷ []) [] ≡ []
+pub nothing_is_saved_of_no_cut : saves_after 4 (9 ∷ []) [] ≡ []
 nothing_is_saved_of_no_cut = refl
 
-pub last_of_two_saves : last_saved None (saved 1 none_counted ∷ saved 2 one_counted ∷ []) ≡ Some (saved 2 one_counted)
+pub last_of_two_saves : last_of_saves None (saved 1 none_counted ∷ saved 2 one_counted ∷ []) ≡ Some (saved 2 one_counted)
 last_of_two_saves = refl
 
 -- a store to which nothing was saved opens as before
-pub last_of_no_saves : last_saved (Some (saved 4 none_counted)) [] ≡ Some (saved 4 none_counted)
+pub last_of_no_saves : last_of_saves (Some (saved 4 none_counted)) [] ≡ Some (saved 4 none_counted)
 last_of_no_saves = refl
 
 -- with a store the cut at the positions of each report is saved, and without one none
@@ -96,20 +101,20 @@ pub formatted_opens_to_nothing : StoreOpensTo one formatted None
 formatted_opens_to_nothing = (None, None, formatted_holds_nothing, refl)
 
 -- a crash in the first save may leave the store as it was
-pub first_save_was_lost : OpensAmongSaves one None (saved_after 0 (9 ∷ []) (none_counted ∷ [])) formatted
+pub first_save_was_lost : OpensAsBeforeOrToSaves one None (saves_after 0 (9 ∷ []) (none_counted ∷ [])) formatted
 first_save_was_lost = inl formatted_opens_to_nothing
 
 -- and one in the second save a store that opens to the first
 pub second_save_was_lost : (image : List ℕ) → StoreOpensTo one image (Some (saved 1 none_counted))
-    → OpensAmongSaves one None (saved_after 0 (9 ∷ []) (none_counted ∷ one_counted ∷ [])) image
+    → OpensAsBeforeOrToSaves one None (saves_after 0 (9 ∷ []) (none_counted ∷ one_counted ∷ [])) image
 second_save_was_lost image opens = inr (inl opens)
 
 pub second_save_was_made : (image : List ℕ) → StoreOpensTo one image (Some (saved 2 one_counted))
-    → OpensAmongSaves one None (saved_after 0 (9 ∷ []) (none_counted ∷ one_counted ∷ [])) image
+    → OpensAsBeforeOrToSaves one None (saves_after 0 (9 ∷ []) (none_counted ∷ one_counted ∷ [])) image
 second_save_was_made image opens = inr (inr opens)
 
 -- but none an empty disk
-pub disk_was_emptied : OpensAmongSaves one None (saved_after 0 (9 ∷ []) (none_counted ∷ [])) [] → ⊥
+pub disk_was_emptied : OpensAsBeforeOrToSaves one None (saves_after 0 (9 ∷ []) (none_counted ∷ [])) [] → ⊥
 disk_was_emptied (inl opens) = omega (arith, opens.2.long)
 disk_was_emptied (inr opens) = omega (arith, opens.2.long)
 
@@ -123,7 +128,7 @@ pub no_saves_keep_the_store :
 no_saves_keep_the_store = record {
   opened = None;
   opens = formatted_opens_to_nothing;
-  any_moment = Leaves-none (λ disk. disk) image_since 7 (λ image. ⊥ ⊎ OpensAmongSaves one None [] image)
+  any_moment = CrashLeavesAtAnyMoment-none (λ disk. disk) image_since 7 (λ image. ⊥ ⊎ OpensAsBeforeOrToSaves one None [] image)
       (λ image is. inr (subst (λ bytes. StoreOpensTo one bytes None) (sym is) formatted_opens_to_nothing));
   afterwards = λ image is. subst (λ bytes. StoreOpensTo one bytes None) (sym is) formatted_opens_to_nothing;
 }
@@ -135,8 +140,8 @@ pub unfinished_save_left_nothing :
 unfinished_save_left_nothing = record {
   opened = None;
   opens = formatted_opens_to_nothing;
-  any_moment = Leaves-none (λ disk. disk) image_since 7
-      (λ image. ⊥ ⊎ OpensAmongSaves one None (saved_after 0 (9 ∷ []) (none_counted ∷ [])) image)
+  any_moment = CrashLeavesAtAnyMoment-none (λ disk. disk) image_since 7
+      (λ image. ⊥ ⊎ OpensAsBeforeOrToSaves one None (saves_after 0 (9 ∷ []) (none_counted ∷ [])) image)
       (λ image is. inr (inl (subst (λ bytes. StoreOpensTo one bytes None) (sym is) formatted_opens_to_nothing)));
   afterwards = λ image is. inl (subst (λ bytes. StoreOpensTo one bytes None) (sym is) formatted_opens_to_nothing);
 }
@@ -152,7 +157,7 @@ pub sequence_before_is_earlier : IsNoEarlierSave one (Some (saved 2 none_counted
 sequence_before_is_earlier is = let later : 2 ≤ 1 = is.sequence in omega (arith, later)
 
 -- the formatted store opens again as nothing was saved, also where the first save is unfinished
-pub formatted_reopens : (unfinished : List CutValue) → ReopensSave one None unfinished formatted
+pub formatted_reopens : (unfinished : List CutValue) → SavesReopen one None unfinished formatted
 formatted_reopens unfinished = record {
   found = None;
   opens = formatted_opens_to_nothing;
@@ -161,19 +166,19 @@ formatted_reopens unfinished = record {
 }
 
 -- an empty disk doesn't
-pub empty_disk_reopens : ReopensSave one None [] [] → ⊥
+pub empty_disk_reopens : SavesReopen one None [] [] → ⊥
 empty_disk_reopens reopens = omega (arith, reopens.opens.2.long)
 
-pub first_save_may_be_unfinished : saves_reopened_in {D = ℕ} (λ disk. Some formatted) (λ disk image. image ≡ formatted) 7 7 one [] []
+pub first_save_may_be_unfinished : SavesAreReopenedFromDisk {D = ℕ} (λ disk. Some formatted) (λ disk image. image ≡ formatted) 7 7 one [] []
     (none_counted ∷ [])
 first_save_may_be_unfinished store known = record {
   opened = None;
   opens = subst (λ bytes. StoreOpensTo one bytes None) (cc known) formatted_opens_to_nothing;
-  again = λ image is. subst (ReopensSave one None (none_counted ∷ [])) (sym is) (formatted_reopens (none_counted ∷ []));
+  again = λ image is. subst (SavesReopen one None (none_counted ∷ [])) (sym is) (formatted_reopens (none_counted ∷ []));
 }
 
 -- where nothing is known of a disk, nothing is said of how it opens again
-pub unknown_disk_reopens : saves_reopened_in {D = ℕ} (λ disk. None) (λ disk image. ⊤) 7 8 one [] (none_counted ∷ []) []
+pub unknown_disk_reopens : SavesAreReopenedFromDisk {D = ℕ} (λ disk. None) (λ disk image. ⊤) 7 8 one [] (none_counted ∷ []) []
 unknown_disk_reopens store told = absurd (cc told)
 
 -- a formatted store belongs to any lists, and does so throughout a session that saves nothing; an empty disk is no store
@@ -184,7 +189,7 @@ formatted_store_belongs_throughout =
     subst (StoreBelongs one lists) (sym is) (None, formatted_opens_to_nothing, tt) in
     record {
       base_represents = tt;
-      any_moment = Leaves-none (λ disk. disk) image_since 7 (StoreBelongs one lists) belongs;
+      any_moment = CrashLeavesAtAnyMoment-none (λ disk. disk) image_since 7 (StoreBelongs one lists) belongs;
       afterwards = belongs;
     }
 
@@ -197,12 +202,12 @@ pub disk_is_as_before : IsAsBeforeSaves {D = ℕ} (λ disk. Some formatted) (λ 
     image_since 7 7
 disk_is_as_before = record {
   same_reads = refl;
-  any_moment = Leaves-none (λ disk. disk) image_since 7 (λ image. image ≡ formatted) (λ image is. is);
+  any_moment = CrashLeavesAtAnyMoment-none (λ disk. disk) image_since 7 (λ image. image ≡ formatted) (λ image is. is);
 }
 
 -- the saver of the formatted store, after two saves
 abbrev saver : SaverState
-saver = saver_of (slots_of formatted) one (9 ∷ []) None
+saver = saver_of (known_slots_of formatted) one (9 ∷ []) None
 
 pub two_saves_use_two_sequences : (after_saves saver (none_counted ∷ one_counted ∷ [])).sequence ≡ 2
 two_saves_use_two_sequences = refl
@@ -221,7 +226,7 @@ nothing_is_begun_without_a_saver part = let same = part.unused refl in omega (ar
 
 -- where nothing is known of a disk, nothing is said of what it keeps
 pub unknown_disk_keeps_anything :
-    saves_kept_in {D = ℕ} (λ disk. None) (λ disk image. ⊤) (λ disk. disk) image_since 7 8 one [] (none_counted ∷ []) []
+    SavesAreKeptOnDisk {D = ℕ} (λ disk. None) (λ disk image. ⊤) (λ disk. disk) image_since 7 8 one [] (none_counted ∷ []) []
 unknown_disk_keeps_anything bytes told = absurd (cc told)
 
 -- what `format` leaves
@@ -273,7 +278,7 @@ cut_of_another_capacity goes_on = omega (arith, goes_on.alike)
 
 -- a saver for the packet, from the start on
 pub saver_for_the_packet : IsDealtFeedSaver one_shard lists (0 ∷ [])
-    (saver_of (slots_of formatted) one (digest_of_lists one lists) None)
+    (saver_of (known_slots_of formatted) one (digest_of_lists one lists) None)
 saver_for_the_packet = record { settings_are = refl; digest_is = refl; early = omega arith; positions_are = refl }
 
 -- it may save what any pass reads of new shards
@@ -328,11 +333,11 @@ pub positions_before_a_report : last_session_positions (0 ∷ []) [] ≡ 0 ∷ [
 positions_before_a_report = refl
 
 -- its only cut is saved under the sequence after that of the store
-pub saves_of_a_session : session_saves one_shard (resumed ∷ []) (Some (saved 4 one_counted)) (session_calling_reports reports)
+pub saves_of_a_session : session_saves one_shard (resumed ∷ []) (Some (saved 4 one_counted)) (session_reports_of_calling_thread reports)
     ≡ record { sequence = 5; digest = digest_of_lists one lists; cut = cut_at_call (resumed ∷ []) (1 ∷ []) } ∷ []
 saves_of_a_session = refl
 
-pub report_with_a_store : session_part_text true of_the_packet
+pub report_with_a_store : session_part true of_the_packet
     ≡ codes "report\nat 1\ntotal 100\nthreshold 1\nline 10.1.2.3/32 20.1.2.3/32 100 100\ndone\nsaved 1\n"
 unfolding digits
 report_with_a_store = refl

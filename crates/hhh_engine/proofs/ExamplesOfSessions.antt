@@ -10,7 +10,8 @@ use Rattle.std.proofs.lemmas.List.Elements.{All-nil, All-cons, All-replicate}
 use Rattle.prefix_lattice.specs.{RecordValue, NodeValue, IsPrefixKey, IsNode, node_index, node_of_prefix, prefix_key}
 use Rattle.deal_rules.specs.declared.deal_kind.DealKind.TheVariants.{RoundRobin}
 use Rattle.deal_rules.specs.{IsDealing}
-use Rattle.shard_state.specs.{CutValue, IsShard, IsSnapshot, ShardValue, empty_snapshot, snapshot_entries_at, no_snapshot_entries}
+use Rattle.shard_state.specs.{CutValue, IsShard, IsSnapshot, ShardValue, empty_snapshot, snapshot_entries_at}
+use Rattle.shard_state.specs.{no_snapshot_entries}
 use Rattle.shard_state.specs.{CoreBasesRepresent, SnapshotRepresents, snapshot_table_at}
 use Rattle.space_saving.specs.declared.entry.Entry.{Entry}
 use Rattle.space_saving.specs.{AreTableEntries, interval_in_table, table_total}
@@ -21,17 +22,21 @@ use Rattle.hhh_output.specs.declared.reports.Reported.{Reported}
 use Rattle.gate_workers.specs.{IsReportAtCall, cut_at_call}
 use Rattle.pcap_frames.specs.declared.file_order.FileOrder.TheVariants.{Little}
 use Rattle.pcap_frames.specs.{number_in_file_order, header_magic_order}
-use Rattle.frame_records.specs.{HasCaptureFrames}
+use Rattle.frame_records.specs.{CaptureFileHasFrames}
 use Rattle.frame_records.specs.declared.records.Records.{Records}
 use Rattle.frame_records.specs.declared.weigh.Weigh.TheVariants.{Bytes}
 use Rattle.report_text.specs.{report_tail_text}
 use Rattle.command_words.specs.declared.settings.Settings.{Settings}
-use Rattle.hhh_engine.specs.Session.{AreDealtInSession, AreSessionReportsOfCaller, AreSessionReports, BeginsSession, SessionBreaksOffInRounds}
-use Rattle.hhh_engine.specs.Session.{SessionBreaksOffAround, SessionBreaksOffLater, SessionGoesOnFrom, IsSession, IsSessionInPart, IsShownInSession}
+use Rattle.hhh_engine.specs.Session.{AreDealtInSession, AreSessionReportsOfCaller, AreSessionReports, BeginsSession}
+use Rattle.hhh_engine.specs.Session.{SessionBreaksOffInRounds}
+use Rattle.hhh_engine.specs.Session.{SessionBreaksOffAround, SessionBreaksOffLater, SessionGoesOnFrom, IsSession}
+use Rattle.hhh_engine.specs.Session.{IsSessionInPart, IsShownInSession}
 use Rattle.hhh_engine.specs.Session.{IsStrictSessionBeginning, SessionKeeping, session_after_saves, session_saved_cuts}
-use Rattle.hhh_engine.specs.Session.{NeverFallInSession, SessionBaseRepresents, Rules, SessionSaving, SessionReports, SpellsSession, session_calling_reports}
-use Rattle.hhh_engine.specs.Session.{session_callers_text, new_session_shards, session_opening, session_part_text, session_parts_text, session_rest_text}
-use Rattle.hhh_engine.specs.Session.{session_save_text, session_text, session_start}
+use Rattle.hhh_engine.specs.Session.{NeverFallInSession, SessionBaseRepresents, SessionRules, SessionSaving}
+use Rattle.hhh_engine.specs.Session.{SessionReports, IsSessionOverShards, session_reports_of_calling_thread}
+use Rattle.hhh_engine.specs.Session.{session_caller_parts, new_session_shards, session_opening, session_part}
+use Rattle.hhh_engine.specs.Session.{session_parts, session_rest}
+use Rattle.hhh_engine.specs.Session.{session_save_line, session_text, session_start}
 use Rattle.hhh_engine.proofs.Examples.{header, two_shards}
 
 -- `report`, with all that it doesn't say
@@ -50,14 +55,14 @@ settings = record {
 }
 
 -- what is handed in for each kind of dealing: records are dealt in turn
-abbrev pub in_turn : Rules
+abbrev pub in_turn : SessionRules
 in_turn kind place rec shards number = number ≡ place % shards
 
 -- a disk of which nothing holds, whatever was saved: it is asked of no run without a store
 abbrev pub keeps_nothing : SessionKeeping
 keeps_nothing asked dealt saved unfinished = ⊥
 
-pub header_is_a_capture : HasCaptureFrames header []
+pub header_is_a_capture : CaptureFileHasFrames header []
 unfolding number_in_file_order header_magic_order
 header_is_a_capture = (
   Little,
@@ -197,38 +202,38 @@ report_is_shown = shown_with 0 0
 abbrev later : Reported
 later = record { report = record report { positions = 1 ∷ 0 ∷ 0 ∷ 0 ∷ [] }; saved = None }
 
-pub nothing_is_saved_without_a_store : session_save_text false (1 ∷ []) ≡ []
+pub nothing_is_saved_without_a_store : session_save_line false (1 ∷ []) ≡ []
 nothing_is_saved_without_a_store = refl
 
-pub one_position_was_saved : session_save_text true (1 ∷ []) ≡ codes "saved 1\n"
+pub one_position_was_saved : session_save_line true (1 ∷ []) ≡ codes "saved 1\n"
 unfolding digits
 one_position_was_saved = refl
 
-pub text_of_a_report : session_part_text false last ≡ codes "report\nat 0 0 0 0\ntotal 0\nthreshold 1\ndone\n"
+pub text_of_a_report : session_part false last ≡ codes "report\nat 0 0 0 0\ntotal 0\nthreshold 1\ndone\n"
 unfolding digits
 text_of_a_report = refl
 
 -- the positions of the cut that was saved are those of the report
 pub text_of_a_saved_report :
-    session_part_text true later ≡ codes "report\nat 1 0 0 0\ntotal 0\nthreshold 1\ndone\nsaved 1 0 0 0\n"
+    session_part true later ≡ codes "report\nat 1 0 0 0\ntotal 0\nthreshold 1\ndone\nsaved 1 0 0 0\n"
 unfolding digits
 text_of_a_saved_report = refl
 
-pub no_report_no_text : session_parts_text true [] ≡ []
+pub no_report_no_text : session_parts true [] ≡ []
 no_report_no_text = refl
 
-pub text_of_two_reports : session_parts_text true (last ∷ later ∷ []) ≡ session_part_text true last ++ session_part_text true later
+pub text_of_two_reports : session_parts true (last ∷ later ∷ []) ≡ session_part true last ++ session_part true later
 unfolding digits
 text_of_two_reports = refl
 
 -- nothing is saved after the reports of the other callers
-pub text_of_two_callers : session_callers_text ((later ∷ []) ∷ (last ∷ []) ∷ []) ≡ session_part_text false later ++ session_part_text false last
+pub text_of_two_callers : session_caller_parts ((later ∷ []) ∷ (last ∷ []) ∷ []) ≡ session_part false later ++ session_part false last
 unfolding digits
 text_of_two_callers = refl
 
 -- the reports of two callers stand before the last one
-pub text_behind_the_rounds : session_rest_text true ((later ∷ []) ∷ (last ∷ []) ∷ []) last (codes "end\n")
-    ≡ session_part_text false later ++ session_part_text false last ++ session_part_text true last ++ codes "end\n"
+pub text_behind_the_rounds : session_rest true ((later ∷ []) ∷ (last ∷ []) ∷ []) last (codes "end\n")
+    ≡ session_part false later ++ session_part false last ++ session_part true last ++ codes "end\n"
 unfolding digits
 text_behind_the_rounds = refl
 
@@ -278,7 +283,7 @@ no_report_is_not_one are = cc are.as_many
 abbrev pub reports : SessionReports
 reports = record { rounds = []; callers = []; last = last }
 
-pub calling_thread_makes_the_last_report : session_calling_reports reports ≡ last ∷ []
+pub calling_thread_makes_the_last_report : session_reports_of_calling_thread reports ≡ last ∷ []
 calling_thread_makes_the_last_report = refl
 
 pub reports_of_the_session : AreSessionReports opening settings reports
@@ -326,20 +331,20 @@ unfolding digits
 text_of_the_session = refl
 
 pub text_of_a_running_session : session_text false (session_start opening) running_reports (codes "end\n")
-    ≡ codes "opened 0 0 0 0\n" ++ session_part_text false last ++ session_part_text false last ++ session_part_text false last
+    ≡ codes "opened 0 0 0 0\n" ++ session_part false last ++ session_part false last ++ session_part false last
     ++ codes "end\n"
 unfolding digits
 text_of_a_running_session = refl
 
 -- with a store, the cuts of the calling thread are saved, and not that of the other caller
 pub text_of_a_saving_session : session_text true (session_start opening) running_reports (codes "end\n")
-    ≡ codes "opened 0 0 0 0\n" ++ session_part_text true last ++ session_part_text false last ++ session_part_text true last
+    ≡ codes "opened 0 0 0 0\n" ++ session_part true last ++ session_part false last ++ session_part true last
     ++ codes "end\n"
 unfolding digits
 text_of_a_saving_session = refl
 
 -- no cut was saved
-spelled_where : (Kept : List CutValue → Type 0) → Kept [] → SpellsSession opening settings Kept (report_tail_text records) text
+spelled_where : (Kept : List CutValue → Type 0) → Kept [] → IsSessionOverShards opening settings Kept (report_tail_text records) text
 spelled_where Kept kept = record {
   reports = reports;
   are_reports = reports_of_the_session;
@@ -347,7 +352,7 @@ spelled_where Kept kept = record {
   kept = kept;
 }
 
-pub session_is_spelled : SpellsSession opening settings (λ cuts. ⊤) (report_tail_text records) text
+pub session_is_spelled : IsSessionOverShards opening settings (λ cuts. ⊤) (report_tail_text records) text
 session_is_spelled = spelled_where (λ cuts. ⊤) tt
 
 dealt_in_turn : IsDealing RoundRobin (in_turn RoundRobin) 4 [] lists

@@ -7,7 +7,8 @@ use Rattle.pcap_frames.specs.declared.fault.ReadRefusal.TheVariants as refusals
 use Rattle.command_words.specs.declared.opt.Opt.TheVariants.{Shards}
 use Rattle.command_words.specs.declared.words_kind.WordsKind.TheVariants.{Refused, OutOfLimits, Bound}
 use Rattle.command_words.specs.declared.words_kind.WordsRefusal.TheVariants as words
-use Rattle.hhh_engine.specs.Status.{fault_status_text, status_line, status_number, status_of, status_of_opening, status_of_words}
+use Rattle.hhh_engine.specs.Status.{fault_status_text, status_line, status_number, status_of, status_of_opening}
+use Rattle.hhh_engine.specs.Status.{status_of_words}
 use Rattle.hhh_engine.specs.Status.{session_status_text, status_of_session, status_text, words_status_text}
 use Rattle.hhh_engine.specs.declared.status.Status.TheVariants.{Done, BadWords, BadCapture, WriteFault}
 use Rattle.hhh_engine.specs.declared.status.Status.TheVariants.{DiskFault, NotFormatted, Damaged, OtherSettings}

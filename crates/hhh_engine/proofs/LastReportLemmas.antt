@@ -9,8 +9,9 @@ use Rattle.gate_workers.specs.{cut_at_call}
 use Rattle.command_words.specs.declared.settings.Settings.{Settings}
 use Rattle.report_text.specs.{report_mark_text, report_text}
 use Rattle.report_text.specs.declared.mark.Mark.TheVariants.{Opened}
-use Rattle.hhh_engine.specs.Session.{AreSessionReportsOfCaller, AreSessionReports, IsShownInSession, SessionReports, session_callers_text}
-use Rattle.hhh_engine.specs.Session.{session_part_text, session_parts_text, session_text, session_start}
+use Rattle.hhh_engine.specs.Session.{AreSessionReportsOfCaller, AreSessionReports, IsShownInSession, SessionReports}
+use Rattle.hhh_engine.specs.Session.{session_caller_parts}
+use Rattle.hhh_engine.specs.Session.{session_part, session_parts, session_text, session_start}
 
 -- what holds of all elements holds of the last one
 pub last_report_is_among_all : {A : Type 0} (P : A → Type 0) (xs : List A) (x : A) → All P (xs ++ x ∷ []) → P x
@@ -57,7 +58,7 @@ last_report_without_rounds (first ∷ rounds) last count many none = absurd (ome
 
 -- and none of the other callers
 last_report_without_callers : (opening : List ShardValue) (settings : Settings) (count : ℕ) (callers : List (List Reported))
-    → count ≡ 0 → All (AreSessionReportsOfCaller opening settings count) callers → session_callers_text callers ≡ []
+    → count ≡ 0 → All (AreSessionReportsOfCaller opening settings count) callers → session_caller_parts callers ≡ []
 last_report_without_callers opening settings count [] none all = refl
 last_report_without_callers opening settings count ([] ∷ callers) none all =
     last_report_without_callers opening settings count callers none
@@ -71,11 +72,11 @@ last_report_without_callers opening settings count ((first ∷ reports) ∷ call
 pub last_report_stands_alone : (opening : List ShardValue) (settings : Settings) (reports : SessionReports) (tail : List ℕ)
     → settings.rounds ≡ 0 → AreSessionReports opening settings reports
     → session_text settings.store (session_start opening) reports tail
-    ≡ report_mark_text Opened (session_start opening) ++ (session_part_text settings.store reports.last ++ tail)
+    ≡ report_mark_text Opened (session_start opening) ++ (session_part settings.store reports.last ++ tail)
 last_report_stands_alone opening settings reports tail none are =
     let line = report_mark_text Opened (session_start opening) in
     let no_round : reports.rounds ≡ [] = last_report_without_rounds reports.rounds reports.last settings.rounds are.calling.as_many none in
-    let nobody : session_callers_text reports.callers ≡ [] =
+    let nobody : session_caller_parts reports.callers ≡ [] =
     last_report_without_callers opening settings settings.rounds reports.callers none are.callers in
-    ap₂ (λ rounds callers. line ++ (session_parts_text settings.store rounds
-    ++ (callers ++ (session_part_text settings.store reports.last ++ tail)))) no_round nobody
+    ap₂ (λ rounds callers. line ++ (session_parts settings.store rounds
+    ++ (callers ++ (session_part settings.store reports.last ++ tail)))) no_round nobody

@@ -6,27 +6,30 @@ use Rattle.std.proofs.lemmas.List.{length-map, map-append}
 use Rattle.std.proofs.lemmas.List.Elements.{All-head, All-tail}
 use Rattle.shard_state.specs.{AreCutPositionsNotPast, CutValue, HasCoreShape, ShardValue, core_capacity, cut_positions}
 use Rattle.hhh_output.specs.declared.reports.Reported.{Reported}
-use Rattle.pass_tokens.specs.{WordsValue, first_view}
+use Rattle.pass_tokens.specs.{PositionWordsValue, first_view}
 use Rattle.gate_workers.specs.{IsReportAtCall, View, cut_at_call}
 use Rattle.gate_workers.specs.declared.gathered.Called.{Called}
-use Rattle.checkpoint.specs.{AreHeaderSettings, SaverState, StoresOpenToOne, saver_after_save, last_body_sequence}
+use Rattle.checkpoint.specs.{AreHeaderSettings, SaverState, StoresOpenToOneThing, saver_after_save}
+use Rattle.checkpoint.specs.{greatest_body_sequence}
 use Rattle.command_words.specs.declared.settings.Settings.{Settings}
 use Rattle.hhh_engine.specs.DealtFeed.{DealtFeedCanSaveCut, IsDealtFeedRest, DealtFeedStartsBeforeEnds}
-use Rattle.hhh_engine.specs.Saves.{CanSave, Saves, SavesInPart, SavesInTurn, after_saves}
-use Rattle.hhh_engine.specs.Session.{AreSessionReportsOfCaller, IsShownInSession, session_ends, session_saved_cuts, session_start}
+use Rattle.hhh_engine.specs.Saves.{CanMakeSaves, Saves, SavesInPart, SavesInTurn, after_saves}
+use Rattle.hhh_engine.specs.Session.{AreSessionReportsOfCaller, IsShownInSession, session_ends, session_saved_cuts}
+use Rattle.hhh_engine.specs.Session.{session_start}
 use Rattle.hhh_engine.specs.declared.commands.session.Rest.{Rest}
 use Rattle.hhh_engine.proofs.SaveLemmas.{broken_off_save_follows, saves_raise_sequence, saves_leave_settings}
-use Rattle.hhh_engine.proofs.SeenPositionLemmas.{seen_positions_of_cut, seen_position_is_not_past, seen_positions_are_not_past, seen_positions_same_length}
+use Rattle.hhh_engine.proofs.SeenPositionLemmas.{seen_positions_of_cut, seen_position_is_not_past}
+use Rattle.hhh_engine.proofs.SeenPositionLemmas.{seen_positions_are_not_past, seen_positions_same_length}
 use Rattle.hhh_engine.proofs.SessionThreadLemmas.{first_session_thread_sees_starts}
 use Rattle.hhh_engine.proofs.SessionTextLemmas.{SessionTextFollowsSaves, session_text_within_ends}
 
 -- a saver that may make more saves may make fewer
 pub last_save_after_fewer_saves : (reads : Option (List ℕ)) (possible : List ℕ → Type 0) (opening : List ShardValue)
     (view first : View) (count : ℕ) (saver : Option SaverState) → view ≡ first
-    → IfSome saver (CanSave reads possible opening first (count + 1)) → IfSome saver (CanSave reads possible opening view count)
+    → IfSome saver (CanMakeSaves reads possible opening first (count + 1)) → IfSome saver (CanMakeSaves reads possible opening view count)
 last_save_after_fewer_saves reads possible opening view first count None same can = tt
 last_save_after_fewer_saves reads possible opening view first count (Some saver) same can =
-    subst (λ v. CanSave reads possible opening v count saver) (sym same)
+    subst (λ v. CanMakeSaves reads possible opening v count saver) (sym same)
     (record { fits = can.fits; stands = can.stands; early = let more = can.early in omega (arith, more) })
 
 -- positions that aren't past the starts aren't past the ends
@@ -71,9 +74,9 @@ last_save_count opening reports = length-map reports _
 
 -- after the rounds of a session its last cut may be saved
 pub last_save_is_possible : {D : Type 0} (reads : D → Option (List ℕ)) (image_now : D → List ℕ → Type 0) (moment : D → ℕ)
-    (image_since : D → ℕ → List ℕ → Type 0) (board : WordsValue) (settings : Settings) (called : List Called)
+    (image_since : D → ℕ → List ℕ → Type 0) (board : PositionWordsValue) (settings : Settings) (called : List Called)
     (tail : List ℕ) (rest : Rest) (rounds : List Reported) (saver now : Option SaverState) (old new : D)
-    → IfSome saver (CanSave (reads old) (image_now old) board.opening (first_view board.opening) (settings.rounds + 1))
+    → IfSome saver (CanMakeSaves (reads old) (image_now old) board.opening (first_view board.opening) (settings.rounds + 1))
     → is_some saver ≡ settings.store → DealtFeedStartsBeforeEnds board.opening
     → AreSessionReportsOfCaller board.opening settings settings.rounds rounds
     → SavesInTurn reads image_now moment image_since saver now old new (session_saved_cuts settings.store board.opening rounds)
@@ -93,7 +96,7 @@ last_save_is_possible reads image_now moment image_since board settings called t
     let sequence : after.sequence ≡ saver.sequence + length cuts = saves_raise_sequence saver cuts in
     let many : length cuts ≡ length rounds = last_save_count opening rounds in
     let as_many : length rounds ≡ settings.rounds = are.as_many in
-    let early : saver.sequence + (settings.rounds + 1) ≤ last_body_sequence = can.early in
+    let early : saver.sequence + (settings.rounds + 1) ≤ greatest_body_sequence = can.early in
     let seen : AreCutPositionsNotPast saver.positions (session_start opening) =
     subst (AreCutPositionsNotPast saver.positions) (first_session_thread_sees_starts opening) can.fits.seen in
     let at = end.shown.is_report in
@@ -131,7 +134,7 @@ last_save_completes_session reads image_now moment image_since opening store rou
     (session_saved_cuts b opening rounds ++ cut ∷ [])) (sym used) saves).saves))
 
 -- what became of all cuts of a session whose last save, or what follows it, broke off
-pub last_save_broken_off : StoresOpenToOne → {D : Type 0} (reads : D → Option (List ℕ)) (image_now : D → List ℕ → Type 0)
+pub last_save_broken_off : StoresOpenToOneThing → {D : Type 0} (reads : D → Option (List ℕ)) (image_now : D → List ℕ → Type 0)
     (moment : D → ℕ) (image_since : D → ℕ → List ℕ → Type 0) (opening : List ShardValue) (store : Bool)
     (rounds : List Reported) (last : Reported) (cut : CutValue) (saver between : Option SaverState) (old mid new : D)
     → is_some saver ≡ store → cut ≡ cut_at_call opening last.report.positions

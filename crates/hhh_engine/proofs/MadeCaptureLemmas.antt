@@ -6,11 +6,14 @@ use Rattle.std.specs.Int.{byte_at}
 use Rattle.std.specs.List.{range_with_len}
 use Rattle.std.proofs.lemmas.Bool.{cond_both}
 use Rattle.std.proofs.lemmas.List.FromFn.{length-map-range_with_len}
-use Rattle.frame_records.specs.{HasCaptureFrames}
+use Rattle.frame_records.specs.{CaptureFileHasFrames}
 use Rattle.pcap_frames.specs.declared.file_order.FileOrder.TheVariants.{Little}
-use Rattle.pcap_frames.specs.{BeginsFrame, BeginsFrames, FrameValue, IsHeader, header_magic_order, number_in_file_order}
-use Rattle.traffic_maker.specs.{made_address, made_capture_header, draw, made_frame_ethernet_header, made_frame_bytes, made_frame_ip_header}
-use Rattle.traffic_maker.specs.{made_capture, made_frame, made_capture_frames, most_made_capture_frames, made_frame_wire_length}
+use Rattle.pcap_frames.specs.{BeginsWithFrame, BeginsWithFrames, FrameValue, IsHeader, header_magic_order}
+use Rattle.pcap_frames.specs.{number_in_file_order}
+use Rattle.traffic_maker.specs.{made_address, made_capture_header, draw, made_frame_ethernet_header, made_frame_bytes}
+use Rattle.traffic_maker.specs.{made_frame_ip_header}
+use Rattle.traffic_maker.specs.{made_capture, made_frame, made_capture_frames, most_made_capture_frames}
+use Rattle.traffic_maker.specs.{made_frame_wire_length}
 
 -- a list of four numbers
 record IsMadeCaptureAddress (bytes : List ℕ) : Type 0 where
@@ -46,7 +49,7 @@ made_capture_length_is_spelled index = omega arith
 
 -- over two addresses of four bytes the bytes of a made frame begin with that frame
 made_capture_spells_value : (index a b c d e f g h : ℕ) (rest : List ℕ)
-    → BeginsFrame Little (made_frame_bytes index (a ∷ b ∷ c ∷ d ∷ []) (e ∷ f ∷ g ∷ h ∷ []) ++ rest)
+    → BeginsWithFrame Little (made_frame_bytes index (a ∷ b ∷ c ∷ d ∷ []) (e ∷ f ∷ g ∷ h ∷ []) ++ rest)
     (made_capture_value_between index (a ∷ b ∷ c ∷ d ∷ []) (e ∷ f ∷ g ∷ h ∷ []))
 unfolding made_frame_bytes number_in_file_order
 made_capture_spells_value index a b c d e f g h rest = record {
@@ -70,8 +73,8 @@ made_capture_behind_value index a b c d e f g h rest = refl
 
 -- the bytes of a frame, and then those of others, are that frame and the others
 made_capture_values_follow : (index : ℕ) (source dest : List ℕ) → IsMadeCaptureAddress source → IsMadeCaptureAddress dest
-    → (rest : List ℕ) (frames : List FrameValue) → BeginsFrames Little rest frames []
-    → BeginsFrames Little (made_frame_bytes index source dest ++ rest) (made_capture_value_between index source dest ∷ frames) []
+    → (rest : List ℕ) (frames : List FrameValue) → BeginsWithFrames Little rest frames []
+    → BeginsWithFrames Little (made_frame_bytes index source dest ++ rest) (made_capture_value_between index source dest ∷ frames) []
 made_capture_values_follow index source dest from to rest frames others =
     let behind =
     made_capture_behind_value index from.first from.second from.third from.fourth to.first to.second to.third to.fourth rest in
@@ -91,7 +94,7 @@ made_capture_values seed first count = map (made_capture_value seed) (range_with
 
 -- the bytes of made frames are those frames
 made_capture_begins_with_values : (seed first count : ℕ)
-    → BeginsFrames Little (made_capture_frames seed first count) (made_capture_values seed first count) []
+    → BeginsWithFrames Little (made_capture_frames seed first count) (made_capture_values seed first count) []
 unfolding made_frame
 made_capture_begins_with_values seed first zero = refl
 made_capture_begins_with_values seed first (suc count) =
@@ -116,7 +119,7 @@ made_capture_value_count seed count = length-map-range_with_len (made_capture_va
 
 -- the frames of a made capture are those made
 pub made_capture_has_values : (seed count : ℕ) → count ≤ most_made_capture_frames
-    → HasCaptureFrames (made_capture seed count) (made_capture_values seed 0 count)
+    → CaptureFileHasFrames (made_capture seed count) (made_capture_values seed 0 count)
 made_capture_has_values seed count few = (
   Little,
   record {
@@ -128,5 +131,5 @@ made_capture_has_values seed count few = (
 
 -- a made capture is a capture
 pub made_capture_has_frames : (seed count : ℕ) → count ≤ most_made_capture_frames
-    → (frames : List FrameValue) × HasCaptureFrames (made_capture seed count) frames
+    → (frames : List FrameValue) × CaptureFileHasFrames (made_capture seed count) frames
 made_capture_has_frames seed count few = (made_capture_values seed 0 count, made_capture_has_values seed count few)

@@ -1,11 +1,12 @@
 -- Shards before any record is counted.
-use Rattle.std.proofs.Common.{◌≡◌, ◌∙◌, ◌≤◌, ℕ, zero, suc, List, [], ◌∷◌, ◌++◌, All, refl, sym, ap, subst, arith, length, map}
+use Rattle.std.proofs.Common.{◌≡◌, ◌∙◌, ◌≤◌, ℕ, zero, suc, List, [], ◌∷◌, ◌++◌, All, refl, sym, ap, subst, arith}
+use Rattle.std.proofs.Common.{length, map}
 use Rattle.std.proofs.Common.{append_assoc, replicate}
 use Rattle.std.specs.List.{sum_by}
 use Rattle.std.proofs.lemmas.List.{length-map, map-append, length-replicate}
 use Rattle.std.proofs.lemmas.List.Elements.{All-map, All-replicate}
 use Rattle.std.proofs.lemmas.List.Sums.{get_or-le-sum_by}
-use Rattle.prefix_lattice.specs.{RecordValue, most_records, most_shards}
+use Rattle.prefix_lattice.specs.{RecordValue, record_limit, shard_limit}
 use Rattle.deal_rules.specs.{AreDealingLists}
 use Rattle.std.proofs.Common.{Option, None, Some}
 use Rattle.std.specs.Prelude.{IfSome}
@@ -17,7 +18,8 @@ use Rattle.shard_state.specs.{core_lists}
 use Rattle.report_text.specs.{ReportTextShowsPositions}
 use Rattle.recovery.specs.{OpeningContinuesList}
 use Rattle.hhh_engine.specs.DealtFeed.{DealtFeedGoesOn, DealtFeedStartsBeforeEnds}
-use Rattle.hhh_engine.specs.Session.{SessionBaseRepresents, new_session_shards, session_opening, resumed_session_shards, session_start}
+use Rattle.hhh_engine.specs.Session.{SessionBaseRepresents, new_session_shards, session_opening, resumed_session_shards}
+use Rattle.hhh_engine.specs.Session.{session_start}
 
 -- of few records in all each list has few
 pub opening_shards_have_few_records : (most : ℕ) (lists : List (List RecordValue)) → sum_by (λ list. length list) lists ≤ most
@@ -58,11 +60,11 @@ new_opening_shards_have_capacity capacity [] some = absurd (omega (arith, some))
 new_opening_shards_have_capacity capacity (list ∷ lists) some = refl
 
 -- they are shards of one capacity
-pub new_opening_shards_are_shards : (capacity : ℕ) (lists : List (List RecordValue)) → 1 ≤ length lists → length lists ≤ most_shards
+pub new_opening_shards_are_shards : (capacity : ℕ) (lists : List (List RecordValue)) → 1 ≤ length lists → length lists ≤ shard_limit
     → AreCoreShards (new_session_shards capacity lists)
 new_opening_shards_are_shards capacity lists some few = record {
   some = subst (λ n. 1 ≤ n) (sym (length-map lists _)) some;
-  few = subst (λ n. n ≤ most_shards) (sym (length-map lists _)) few;
+  few = subst (λ n. n ≤ shard_limit) (sym (length-map lists _)) few;
   alike =
       All-map (λ (shard : ShardValue). shard.base.capacity ≡ core_capacity (new_session_shards capacity lists)) _ lists
       (λ k d lt. sym (new_opening_shards_have_capacity capacity lists some));
@@ -112,7 +114,7 @@ resumed_opening_shards_capacity capacity (list ∷ lists) (base ∷ bases) some 
 
 -- they are shards of one capacity
 pub resumed_opening_shards_are_shards : (cut : CutValue) (lists : List (List RecordValue)) → 1 ≤ length lists
-    → length lists ≤ most_shards → AllZip OpeningContinuesList cut.shards lists
+    → length lists ≤ shard_limit → AllZip OpeningContinuesList cut.shards lists
     → All (λ (snapshot : SnapshotValue). snapshot.capacity ≡ cut.capacity) cut.shards
     → AreCoreShards (resumed_session_shards lists cut.shards)
 resumed_opening_shards_are_shards cut lists some few continues alike =
@@ -121,7 +123,7 @@ resumed_opening_shards_are_shards cut lists some few continues alike =
     resumed_opening_shards_capacity cut.capacity lists cut.shards some continues alike in
     record {
       some = subst (λ n. 1 ≤ n) (sym many) some;
-      few = subst (λ n. n ≤ most_shards) (sym many) few;
+      few = subst (λ n. n ≤ shard_limit) (sym many) few;
       alike =
           subst (λ n. All (λ (shard : ShardValue). shard.base.capacity ≡ n) (resumed_session_shards lists cut.shards))
           (sym capacity_is) (resumed_opening_shards_alike cut.capacity lists cut.shards alike);
@@ -204,9 +206,9 @@ resumed_opening_shards_grow states all state list base lists bases is before =
     ∙ ap (λ s. states ++ s ∷ resumed_session_shards lists bases) is ∙ before
 
 opening_shard_positions_are_small : (bases : List SnapshotValue) → All IsSnapshot bases
-    → All (λ position. position ≤ most_records) (map (λ (snapshot : SnapshotValue). snapshot.position) bases)
+    → All (λ position. position ≤ record_limit) (map (λ (snapshot : SnapshotValue). snapshot.position) bases)
 opening_shard_positions_are_small bases kept =
-    All-map (λ position. position ≤ most_records) (λ (snapshot : SnapshotValue). snapshot.position) bases
+    All-map (λ position. position ≤ record_limit) (λ (snapshot : SnapshotValue). snapshot.position) bases
     (λ k d lt. (kept k d lt).placed)
 
 -- a text can show the positions at which the shards of a run start
@@ -223,5 +225,5 @@ opening_shards_have_positions capacity lists (Some cut) shards goes_on kept =
     record {
       some = subst (λ n. 1 ≤ n) (sym many) shards.some;
       few = subst (λ n. n ≤ 16) (sym many) shards.few;
-      within = subst (All (λ position. position ≤ most_records)) (sym starts) (opening_shard_positions_are_small cut.shards kept.kept);
+      within = subst (All (λ position. position ≤ record_limit)) (sym starts) (opening_shard_positions_are_small cut.shards kept.kept);
     }

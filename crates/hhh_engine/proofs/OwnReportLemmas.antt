@@ -12,7 +12,8 @@ use Rattle.exact_audit.specs.declared.verdict.Verdict.{Verdict}
 use Rattle.exact_audit.specs.declared.verdict.Verdict.TheVariants.{Good}
 use Rattle.command_words.specs.declared.settings.Settings.{Settings}
 use Rattle.hhh_engine.specs.Audit.{IsAuditedAsSound}
-use Rattle.hhh_engine.specs.Session.{AreSessionReportsOfCaller, SessionGoesOnFrom, IsSession, IsShownInSession, SessionKeeping, Rules, session_calling_reports}
+use Rattle.hhh_engine.specs.Session.{AreSessionReportsOfCaller, SessionGoesOnFrom, IsSession, IsShownInSession}
+use Rattle.hhh_engine.specs.Session.{SessionKeeping, SessionRules, session_reports_of_calling_thread}
 use Rattle.hhh_engine.specs.Session.{session_opening, session_reports_in, resumed_session_shards}
 use Rattle.hhh_engine.proofs.AuditFindingLemmas.{AuditFindingIsUnique}
 use Rattle.hhh_engine.proofs.OpeningShardLemmas.{new_opening_shards_as_dealt}
@@ -50,18 +51,18 @@ own_caller_reports_are_shown opening settings count (reports ∷ callers) are =
     (All-tail (AreSessionReportsOfCaller opening settings count) reports callers are))
 
 -- the reports of a session are shown
-pub own_reports_are_shown : (settings : Settings) (rules : Rules) (keeping : SessionKeeping) (store : Option (List ℕ))
+pub own_reports_are_shown : (settings : Settings) (rules : SessionRules) (keeping : SessionKeeping) (store : Option (List ℕ))
     (file text : List ℕ) (is : IsSession settings rules keeping store file text)
     → All (IsShownInSession (session_opening settings.capacity is.lists is.base) settings) (session_reports_in is.spelled.reports)
 own_reports_are_shown settings rules keeping store file text is =
     let opening = session_opening settings.capacity is.lists is.base in
     let reports = is.spelled.reports in
-    All-append (IsShownInSession opening settings) (session_calling_reports reports) (flat_map (λ made. made) reports.callers)
+    All-append (IsShownInSession opening settings) (session_reports_of_calling_thread reports) (flat_map (λ made. made) reports.callers)
     is.spelled.are_reports.calling.shown
     (own_caller_reports_are_shown opening settings settings.rounds reports.callers is.spelled.are_reports.callers)
 
 -- so they are sound, if the saved cut that it went on from represents the lists
-pub own_reports_are_sound : (settings : Settings) (rules : Rules) (keeping : SessionKeeping) (store : Option (List ℕ))
+pub own_reports_are_sound : (settings : Settings) (rules : SessionRules) (keeping : SessionKeeping) (store : Option (List ℕ))
     (file text : List ℕ) (is : IsSession settings rules keeping store file text)
     → IfSome is.base (λ cut. CutRepresents cut is.lists)
     → All (IsAuditedAsSound settings is.lists) (session_reports_in is.spelled.reports)
@@ -71,7 +72,7 @@ own_reports_are_sound settings rules keeping store file text is represents =
     (own_reports_are_shown settings rules keeping store file text is)
 
 -- so the verdict on each report of a session is that it is good
-pub own_reports_have_good_verdicts : AuditFindingIsUnique → (settings : Settings) (rules : Rules) (keeping : SessionKeeping) (store : Option (List ℕ))
+pub own_reports_have_good_verdicts : AuditFindingIsUnique → (settings : Settings) (rules : SessionRules) (keeping : SessionKeeping) (store : Option (List ℕ))
     (file text : List ℕ) (is : IsSession settings rules keeping store file text) (verdict : Verdict)
     → IfSome is.base (λ cut. CutRepresents cut is.lists)
     → All (λ reported. IsVerdict is.lists settings.capacity settings.phi reported.report verdict → verdict ≡ Good)

@@ -6,38 +6,42 @@ use Rattle.std.proofs.lemmas.List.{length-append, length-map}
 use Rattle.std.proofs.lemmas.List.Elements.{All-from_get_or, All-get_or, All-map}
 use Rattle.std.proofs.lemmas.List.FromFn.{length-range_with_len}
 use Rattle.std.proofs.lemmas.List.Sums.{count_by-le-length}
-use Rattle.prefix_lattice.specs.{RecordValue, most_records}
+use Rattle.prefix_lattice.specs.{RecordValue, record_limit}
 use Rattle.deal_rules.specs.{IsDealing}
 use Rattle.deal_rules.specs.declared.deal_kind.DealKind.{DealKind}
 use Rattle.shard_state.specs.{CutRepresents, ShardValue}
-use Rattle.pcap_frames.specs.{FrameValue, most_frames_in_file}
+use Rattle.pcap_frames.specs.{FrameValue, frame_count_limit}
 use Rattle.frame_records.specs.{AreRecordsOf}
 use Rattle.frame_records.specs.declared.records.Records.{Records}
 use Rattle.frame_records.specs.declared.weigh.Weigh.{Weigh}
 use Rattle.hhh_output.specs.{IsSound}
 use Rattle.hhh_output.specs.declared.reports.Reported.{Reported}
-use Rattle.report_text.specs.{ReportTextShowsPositions, IsSession as IsShowableSession, IsSessionText, longest_session_text, printed_session_text}
+use Rattle.report_text.specs.{ReportTextShowsPositions, IsTextSession as IsShowableSession, IsSessionText}
+use Rattle.report_text.specs.{longest_session_text_length, printed_session_text}
 use Rattle.report_text.specs.{session_text}
 use Rattle.report_text.specs.declared.session.Session.{Session}
 use Rattle.command_words.specs.{AreLimitedSettings}
 use Rattle.command_words.specs.declared.settings.Settings.{Settings}
 use Rattle.hhh_engine.specs.Audit.{IsAuditedAsSound, IsSoundAudit, sound_audit_text}
-use Rattle.hhh_engine.specs.Session.{AreDealtInSession, IsSession, IsShownInSession, SessionKeeping, Rules}
+use Rattle.hhh_engine.specs.Session.{AreDealtInSession, IsSession, IsShownInSession, SessionKeeping, SessionRules}
 use Rattle.hhh_engine.specs.Session.{SessionReports, session_ends, session_opening, session_reports_in, session_start}
 use Rattle.hhh_engine.proofs.BaseLemmas.{base_goes_on}
 use Rattle.hhh_engine.proofs.LastReportLemmas.{last_report_is_among_all}
 use Rattle.hhh_engine.proofs.OpeningShardLemmas.{opening_shards_count, opening_shards_before_ends}
 use Rattle.hhh_engine.proofs.OwnReportLemmas.{own_report_lists_of_opening, own_reports_are_shown, own_reports_are_sound}
-use Rattle.hhh_engine.proofs.ShownSessionLemmas.{shown_session_prints_the_same, shown_session_reports_are_shown, shown_session_report, shown_session_keeps_property, shown_session_report_count}
+use Rattle.hhh_engine.proofs.ShownSessionLemmas.{shown_session_prints_the_same, shown_session_reports_are_shown}
+use Rattle.hhh_engine.proofs.ShownSessionLemmas.{shown_session_report, shown_session_keeps_property}
+use Rattle.hhh_engine.proofs.ShownSessionLemmas.{shown_session_report_count}
 use Rattle.hhh_engine.proofs.ShownSessionLemmas.{shown_session_reports, shown_session}
-use Rattle.hhh_engine.proofs.BoundedReportLemmas.{IsBoundedReport, IsBoundedReportList, bounded_report_lists_if_kept, bounded_report_if_sound}
+use Rattle.hhh_engine.proofs.BoundedReportLemmas.{IsBoundedReport, IsBoundedReportList, bounded_report_lists_if_kept}
+use Rattle.hhh_engine.proofs.BoundedReportLemmas.{bounded_report_if_sound}
 
 -- a session is printed as its text
 abbrev pub PrintsOwnSession : Type 0
 PrintsOwnSession = (session : Session) → printed_session_text session ≡ session_text session
 
 -- a count of some frames is a number of 64 bits
-own_session_count_is_bounded : (counts : FrameValue → Bool) (frames : List FrameValue) (count : ℕ) → length frames ≤ most_frames_in_file
+own_session_count_is_bounded : (counts : FrameValue → Bool) (frames : List FrameValue) (count : ℕ) → length frames ≤ frame_count_limit
     → count ≡ count_by counts frames → count < 2 ^ 64
 own_session_count_is_bounded counts frames count few is = omega (arith, few, is, count_by-le-length counts frames)
 
@@ -53,7 +57,7 @@ own_session_shows_something store reports =
 -- what the text of a session says is a session that a text can show
 own_session_is_showable : (settings : Settings) (opened : List ℕ) (reports : SessionReports) (records : Records)
     (frames : List FrameValue) → ReportTextShowsPositions opened → length opened ≡ settings.shards
-    → length frames ≤ most_frames_in_file → AreRecordsOf settings.weigh frames records
+    → length frames ≤ frame_count_limit → AreRecordsOf settings.weigh frames records
     → All (λ reported. IsBoundedReport settings.shards reported.report) (session_reports_in reports)
     → IsShowableSession (shown_session settings.store opened reports records)
 own_session_is_showable settings opened reports records frames positions many few are fit =
@@ -100,20 +104,20 @@ own_session_starts_are_positions : (opening : List ShardValue) (settings : Setti
     → All (λ shard. IsBoundedReportList shard.list) opening → ReportTextShowsPositions (session_start opening)
 own_session_starts_are_positions opening settings limited many before small =
     let as_many : length (session_start opening) ≡ settings.shards = length-map opening _ ∙ many in
-    let ends : All (λ position. position ≤ most_records) (session_ends opening) =
-    All-map (λ position. position ≤ most_records) (λ (shard : ShardValue). length shard.list) opening
+    let ends : All (λ position. position ≤ record_limit) (session_ends opening) =
+    All-map (λ position. position ≤ record_limit) (λ (shard : ShardValue). length shard.list) opening
     (λ k d lt. (small k d lt).few) in
     record {
       some = subst (λ n. 1 ≤ n) (sym as_many) limited.some_shards;
       few = subst (λ n. n ≤ 16) (sym as_many) limited.few_shards;
-      within = All-from_get_or (λ position. position ≤ most_records) (session_start opening) 0 (λ shard lt.
-          let end = All-get_or (λ position. position ≤ most_records) (session_ends opening) shard 0
+      within = All-from_get_or (λ position. position ≤ record_limit) (session_start opening) 0 (λ shard lt.
+          let end = All-get_or (λ position. position ≤ record_limit) (session_ends opening) shard 0
           (omega (arith, lt, as_many, many, length-map opening (λ (shard : ShardValue). length shard.list))) ends in
           omega (arith, before shard, end));
     }
 
 -- the session that `report` writes is one, if the saved cut that it went on from represents the lists
-pub own_session_is_valid : PrintsOwnSession → (settings : Settings) (rules : Rules) (keeping : SessionKeeping) (store : Option (List ℕ))
+pub own_session_is_valid : PrintsOwnSession → (settings : Settings) (rules : SessionRules) (keeping : SessionKeeping) (store : Option (List ℕ))
     (file text : List ℕ) (is : IsSession settings rules keeping store file text) → AreLimitedSettings settings
     → IfSome is.base (λ cut. CutRepresents cut is.lists)
     → IsSessionText text (shown_session settings.store (session_start (session_opening settings.capacity is.lists is.base))
@@ -146,7 +150,7 @@ own_session_is_valid prints settings rules keeping store file text is limited re
     }
 
 -- records that are dealt for some settings are dealt for all that agree on this
-own_session_is_dealt_alike : (settings other : Settings) (rules : Rules) (file : List ℕ) (records : Records)
+own_session_is_dealt_alike : (settings other : Settings) (rules : SessionRules) (file : List ℕ) (records : Records)
     (lists : List (List RecordValue)) → settings.shards ≡ other.shards → settings.deal ≡ other.deal
     → settings.weigh ≡ other.weigh → AreDealtInSession settings rules file records lists
     → AreDealtInSession other rules file records lists
@@ -159,11 +163,11 @@ own_session_is_dealt_alike settings other rules file records lists shards deal w
 }
 
 -- an audit of it finds all its reports sound: as many as each caller made rounds, with the calling thread, and the last
-pub own_session_passes_audit : PrintsOwnSession → (settings other : Settings) (rules : Rules) (keeping : SessionKeeping)
+pub own_session_passes_audit : PrintsOwnSession → (settings other : Settings) (rules : SessionRules) (keeping : SessionKeeping)
     (store : Option (List ℕ)) (file text : List ℕ) (is : IsSession settings rules keeping store file text)
     → AreLimitedSettings settings → settings.shards ≡ other.shards → settings.capacity ≡ other.capacity
     → settings.phi ≡ other.phi → settings.deal ≡ other.deal → settings.weigh ≡ other.weigh
-    → length text ≤ longest_session_text → IfSome is.base (λ cut. CutRepresents cut is.lists)
+    → length text ≤ longest_session_text_length → IfSome is.base (λ cut. CutRepresents cut is.lists)
     → IsSoundAudit other rules file text (sound_audit_text ((settings.callers + 1) * settings.rounds + 1))
 own_session_passes_audit prints settings other rules keeping store file text is limited shards capacity phi deal weigh short
     represents =

@@ -9,15 +9,17 @@ use Rattle.recovery.specs.declared.fault.OpenFault.{OpenFault}
 use Rattle.report_text.specs.declared.session_fault.SessionFault.{SessionFault}
 use Rattle.report_text.specs.declared.session_fault.SessionFault.TheVariants as session
 use Rattle.hhh_output.specs.declared.reports.Reported.{Reported}
-use Rattle.command_words.specs.{AskFor}
+use Rattle.command_words.specs.{AskForCommand}
 use Rattle.command_words.specs.declared.command.Command.{Command}
 use Rattle.command_words.specs.declared.command.Command.TheVariants.{Weigh, Report, Format, Audit, Make, Demo}
 use Rattle.command_words.specs.declared.settings.Settings.{Settings}
 use Rattle.hhh_engine.specs.Auditing.{AuditingHasNoBytes, AuditingSays}
-use Rattle.hhh_engine.specs.Ending.{Ends, EndsWithFailedDisk, EndsFailingToRead, OfDiskAtEnding, EndsRefusingCapture, EndsAtFailedSource, EndingSourceFaults}
+use Rattle.hhh_engine.specs.Ending.{Ends, EndsWithFailedDisk, EndsFailingToRead, HappenedToDiskAtEnding}
+use Rattle.hhh_engine.specs.Ending.{EndsRefusingCapture, EndsAtFailedSource, EndingSourceFaults}
 use Rattle.hhh_engine.specs.Ending.{EndsInOrder, EndsAsBeforeUnlessFormat, ending_source_faults}
-use Rattle.hhh_engine.specs.Inputs.{AskToUseInput, InputBytes, IsInputCapture, MayUseInputStore, UsesInputCapture, UsesInputSession, InputsWereRead}
-use Rattle.hhh_engine.specs.Session.{SessionKeeping, Rules}
+use Rattle.hhh_engine.specs.Inputs.{AskedCommandUsesInput, InputBytes, IsInputCapture, MayUseInputStore}
+use Rattle.hhh_engine.specs.Inputs.{UsesInputCapture, UsesInputSession, InputsWereRead}
+use Rattle.hhh_engine.specs.Session.{SessionKeeping, SessionRules}
 use Rattle.hhh_engine.specs.Status.{status_of_session}
 use Rattle.hhh_engine.specs.declared.status.Status.{Status}
 use Rattle.hhh_engine.specs.declared.status.Status.TheVariants.{Done, BadWords, BadCapture, ReadFault, WriteFault}
@@ -157,15 +159,15 @@ read_order_of_variant command other read before now text text_read status is sto
 -- ---- the top call
 
 -- the arguments ask for what their command uses
-read_order_as_asked : (Uses : Command → Type 0) (words : List (List ℕ)) (command : Command) → AskFor words command
-    → Uses command → AskToUseInput Uses words
+read_order_as_asked : (Uses : Command → Type 0) (words : List (List ℕ)) (command : Command) → AskForCommand words command
+    → Uses command → AskedCommandUsesInput Uses words
 read_order_as_asked Uses words command asked uses = record { command = command; asked = asked; uses = uses }
 
 -- the capture was refused
-pub read_order_at_refused_capture : {T K D : Type 0} (rules : Rules) (keeping : SessionKeeping) (words : List (List ℕ))
+pub read_order_at_refused_capture : {T K D : Type 0} (rules : SessionRules) (keeping : SessionKeeping) (words : List (List ℕ))
     (command : Command) (given : InputBytes) (AsBefore : Type 0) (ReadToEnd DiskRose : Type 0)
     (before now : EndingSourceFaults) (text text_read : T) (sink written : K) (disk stands : D) (old new : Option (List ℕ))
-    (write_before write_now : ℕ) (status : Status) (fault : CaptureFault) → AskFor words command
+    (write_before write_now : ℕ) (status : Status) (fault : CaptureFault) → AskForCommand words command
     → status ≡ BadCapture fault
     → EndsInOrder (UsesInputCapture command) (UsesInputSession command) given before now text text_read status
     → EndsWithStatus rules keeping command given AsBefore ReadToEnd DiskRose (stands ≡ disk) before now sink written old new
@@ -185,10 +187,10 @@ read_order_at_refused_capture rules keeping words command given AsBefore ReadToE
     }
 
 -- a source failed
-pub read_order_at_read_failure : {T K D : Type 0} (rules : Rules) (keeping : SessionKeeping) (words : List (List ℕ))
+pub read_order_at_read_failure : {T K D : Type 0} (rules : SessionRules) (keeping : SessionKeeping) (words : List (List ℕ))
     (command : Command) (given : InputBytes) (AsBefore : Type 0) (ReadToEnd DiskRose : Type 0)
     (before now : EndingSourceFaults) (text text_read : T) (sink written : K) (disk stands : D) (old new : Option (List ℕ))
-    (write_before write_now : ℕ) (status : Status) → AskFor words command → status ≡ ReadFault
+    (write_before write_now : ℕ) (status : Status) → AskForCommand words command → status ≡ ReadFault
     → EndsInOrder (UsesInputCapture command) (UsesInputSession command) given before now text text_read status
     → EndsWithStatus rules keeping command given AsBefore ReadToEnd DiskRose (stands ≡ disk) before now sink written old new
     write_before write_now status
@@ -199,15 +201,15 @@ read_order_at_read_failure rules keeping words command given AsBefore ReadToEnd 
     let ended = subst (EndsWithStatus rules keeping command given AsBefore ReadToEnd DiskRose (stands ≡ disk) before now sink
     written old new write_before write_now) is ends in
     record {
-      failed = read_order_in_other_terms (UsesInputCapture command) (UsesInputSession command) (AskToUseInput UsesInputCapture words)
-          (AskToUseInput UsesInputSession words) given before now text text_read
+      failed = read_order_in_other_terms (UsesInputCapture command) (UsesInputSession command) (AskedCommandUsesInput UsesInputCapture words)
+          (AskedCommandUsesInput UsesInputSession words) given before now text text_read
           (read_order_as_asked UsesInputCapture words command asked) (read_order_as_asked UsesInputSession words command asked) order;
       unwritten = ended.1;
       untouched = ended.2;
     }
 
 -- only a command that may use a store has a disk that fails
-read_order_lets_use_store : (command : Command) (Happened : Type 0) → OfDiskAtEnding command Happened → MayUseInputStore command × Happened
+read_order_lets_use_store : (command : Command) (Happened : Type 0) → HappenedToDiskAtEnding command Happened → MayUseInputStore command × Happened
 read_order_lets_use_store (Weigh prefix settings) Happened happened = absurd happened
 read_order_lets_use_store (Report settings) Happened happened = (tt, happened)
 read_order_lets_use_store (Format settings) Happened happened = (tt, happened)
@@ -216,17 +218,17 @@ read_order_lets_use_store (Make seed frames) Happened happened = absurd happened
 read_order_lets_use_store (Demo seed frames settings) Happened happened = absurd happened
 
 -- the disk failed
-pub read_order_at_failed_disk : {K : Type 0} (rules : Rules) (keeping : SessionKeeping) (words : List (List ℕ)) (command : Command)
+pub read_order_at_failed_disk : {K : Type 0} (rules : SessionRules) (keeping : SessionKeeping) (words : List (List ℕ)) (command : Command)
     (given : InputBytes) (AsBefore : Type 0) (DiskSame : Type 0) (disk_before disk_now : ℕ)
     (before now : EndingSourceFaults) (sink written : K) (old new : Option (List ℕ)) (write_before write_now : ℕ)
-    (status : Status) → AskFor words command → status ≡ DiskFault
+    (status : Status) → AskForCommand words command → status ≡ DiskFault
     → EndsWithStatus rules keeping command given AsBefore (InputsWereRead command given)
-    (OfDiskAtEnding command (FaultCountRose disk_before disk_now)) DiskSame before now sink written old new write_before write_now status
+    (HappenedToDiskAtEnding command (FaultCountRose disk_before disk_now)) DiskSame before now sink written old new write_before write_now status
     → EndsWithFailedDisk rules keeping words given AsBefore sink written old new disk_before disk_now
 read_order_at_failed_disk rules keeping words command given AsBefore DiskSame disk_before disk_now before now sink written old new
     write_before write_now status asked is ends =
     let ended = subst (EndsWithStatus rules keeping command given AsBefore (InputsWereRead command given)
-    (OfDiskAtEnding command (FaultCountRose disk_before disk_now)) DiskSame before now sink written old new write_before write_now) is ends in
+    (HappenedToDiskAtEnding command (FaultCountRose disk_before disk_now)) DiskSame before now sink written old new write_before write_now) is ends in
     let used = read_order_lets_use_store command (FaultCountRose disk_before disk_now) ended.3 in
     record {
       command = command;

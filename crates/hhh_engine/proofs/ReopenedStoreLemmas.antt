@@ -9,22 +9,25 @@ use Rattle.prefix_lattice.specs.{RecordValue}
 use Rattle.shard_state.specs.{AreCutPositionsNotPast, CutValue, ShardValue, cut_positions}
 use Rattle.hhh_output.specs.declared.reports.Reported.{Reported}
 use Rattle.gate_workers.specs.{cut_at_call}
-use Rattle.checkpoint.specs.{StoreOpensTo, SavedValue, StoresOpenToOne, digest_of_lists, opened_store_positions, opened_store_sequence}
+use Rattle.checkpoint.specs.{StoreOpensTo, SavedValue, StoresOpenToOneThing, digest_of_lists, store_positions}
+use Rattle.checkpoint.specs.{store_sequence}
 use Rattle.checkpoint.specs.declared.settings.StoreSettings.{StoreSettings}
 use Rattle.report_text.specs.{report_tail_text}
 use Rattle.recovery.specs.{IsOpeningBase, OpensToBase, opening_base_positions}
 use Rattle.command_words.specs.{AreLimitedSettings}
 use Rattle.command_words.specs.declared.settings.Settings.{Settings}
-use Rattle.hhh_engine.specs.Saves.{saves_kept_in, last_saved, saves_reopened_in}
-use Rattle.hhh_engine.specs.Saves.{saved_after, store_settings}
+use Rattle.hhh_engine.specs.Saves.{SavesAreKeptOnDisk, last_of_saves, SavesAreReopenedFromDisk}
+use Rattle.hhh_engine.specs.Saves.{saves_after, store_settings_for_saves}
 use Rattle.hhh_engine.specs.Session.{AreSessionReportsOfCaller}
-use Rattle.hhh_engine.specs.Session.{SessionGoesOnFrom, IsSession, IsSessionInPart, Rules, SessionSaving}
-use Rattle.hhh_engine.specs.Session.{session_after_saves, last_session_positions, session_opening, session_saved_cuts, session_start}
+use Rattle.hhh_engine.specs.Session.{SessionGoesOnFrom, IsSession, IsSessionInPart, SessionRules, SessionSaving}
+use Rattle.hhh_engine.specs.Session.{session_after_saves, last_session_positions, session_opening, session_saved_cuts}
+use Rattle.hhh_engine.specs.Session.{session_start}
 use Rattle.hhh_engine.proofs.BaseLemmas.{base_settings_are_allowed, base_starts}
 use Rattle.hhh_engine.proofs.LastReportLemmas.{last_report_is_among_all}
 use Rattle.hhh_engine.proofs.OwnSessionLemmas.{own_session_lists_match_shards}
 use Rattle.hhh_engine.proofs.SessionTextLemmas.{session_text_begins_saying_less, spelled_session_text_says_less}
-use Rattle.hhh_engine.proofs.SeenPositionLemmas.{seen_positions_of_cut, seen_positions_are_not_past, seen_positions_not_past_self}
+use Rattle.hhh_engine.proofs.SeenPositionLemmas.{seen_positions_of_cut, seen_positions_are_not_past}
+use Rattle.hhh_engine.proofs.SeenPositionLemmas.{seen_positions_not_past_self}
 
 -- from these positions on, those of these reports never fall, and each report has one for each shard
 record RisesInReopenedStore (shards : ℕ) (positions : List ℕ) (reports : List Reported) : Type 0 where
@@ -58,21 +61,21 @@ reopened_store_next_not_before shards positions (first ∷ reports) next rises =
 
 -- the sequence of the last save counts the saves
 reopened_store_sequence : (opened : Option SavedValue) (sequence : ℕ) (digest : List ℕ) (cuts : List CutValue)
-    → opened_store_sequence opened ≡ sequence
-    → opened_store_sequence (last_saved opened (saved_after sequence digest cuts)) ≡ sequence + length cuts
+    → store_sequence opened ≡ sequence
+    → store_sequence (last_of_saves opened (saves_after sequence digest cuts)) ≡ sequence + length cuts
 reopened_store_sequence opened sequence digest [] same = omega (arith, same)
 reopened_store_sequence opened sequence digest (cut ∷ later) same =
-    let counted : opened_store_sequence (last_saved (Some (record { sequence = sequence + 1; digest = digest; cut = cut }))
-    (saved_after (sequence + 1) digest later)) ≡ sequence + 1 + length later =
+    let counted : store_sequence (last_of_saves (Some (record { sequence = sequence + 1; digest = digest; cut = cut }))
+    (saves_after (sequence + 1) digest later)) ≡ sequence + 1 + length later =
     reopened_store_sequence (Some (record { sequence = sequence + 1; digest = digest; cut = cut })) (sequence + 1) digest later refl
     in
     omega (arith, counted)
 
 -- the positions of the last save are those of the last report that was saved
 reopened_store_positions : (settings : StoreSettings) (opening : List ShardValue) (digest positions : List ℕ)
-    (opened : Option SavedValue) (sequence : ℕ) (reports more : List Reported) → opened_store_positions settings opened ≡ positions
+    (opened : Option SavedValue) (sequence : ℕ) (reports more : List Reported) → store_positions settings opened ≡ positions
     → All (λ reported. length reported.report.positions ≡ length opening) (reports ++ more)
-    → opened_store_positions settings (last_saved opened (saved_after sequence digest (session_saved_cuts true opening reports)))
+    → store_positions settings (last_of_saves opened (saves_after sequence digest (session_saved_cuts true opening reports)))
     ≡ last_session_positions positions reports
 reopened_store_positions settings opening digest positions opened sequence [] more same each = same
 reopened_store_positions settings opening digest positions opened sequence (next ∷ later) more same each =
@@ -85,64 +88,64 @@ reopened_store_positions settings opening digest positions opened sequence (next
 
 -- the positions of a base are those that the store opened to
 reopened_store_base_positions : (settings : StoreSettings) (opened : Option SavedValue)
-    → opened_store_positions settings opened ≡ opening_base_positions settings (option_map (λ (saved : SavedValue). saved.cut) opened)
+    → store_positions settings opened ≡ opening_base_positions settings (option_map (λ (saved : SavedValue). saved.cut) opened)
 reopened_store_base_positions settings None = refl
 reopened_store_base_positions settings (Some saved) = refl
 
 -- the positions at which the shards start are those that the store opened to
-reopened_store_start_positions : StoresOpenToOne → (settings : Settings) (lists : List (List RecordValue)) (store : List ℕ)
+reopened_store_start_positions : StoresOpenToOneThing → (settings : Settings) (lists : List (List RecordValue)) (store : List ℕ)
     (base : Option CutValue) (opened : Option SavedValue) → AreLimitedSettings settings → length lists ≡ settings.shards
-    → IfSome base (IsOpeningBase (store_settings settings) lists) → OpensToBase (store_settings settings) lists store base
-    → StoreOpensTo (store_settings settings) store opened
-    → opened_store_positions (store_settings settings) opened ≡ session_start (session_opening settings.capacity lists base)
+    → IfSome base (IsOpeningBase (store_settings_for_saves settings) lists) → OpensToBase (store_settings_for_saves settings) lists store base
+    → StoreOpensTo (store_settings_for_saves settings) store opened
+    → store_positions (store_settings_for_saves settings) opened ≡ session_start (session_opening settings.capacity lists base)
 reopened_store_start_positions one settings lists store base opened limited many fits found opens =
     let same : found.0 ≡ opened =
-    one (store_settings settings) store found.0 opened (base_settings_are_allowed settings limited) found.1 opens in
-    reopened_store_base_positions (store_settings settings) opened
-    ∙ ap (opening_base_positions (store_settings settings))
+    one (store_settings_for_saves settings) store found.0 opened (base_settings_are_allowed settings limited) found.1 opens in
+    reopened_store_base_positions (store_settings_for_saves settings) opened
+    ∙ ap (opening_base_positions (store_settings_for_saves settings))
     (sym (found.3 ∙ ap (option_map (λ (saved : SavedValue). saved.cut)) same))
     ∙ base_starts settings lists base many fits
 
 -- after whole saves alone the store opens to the last of them
 reopened_store_after_whole_saves : {D : Type 0} (reads : D → Option (List ℕ)) (image_now : D → List ℕ → Type 0) (moment : D → ℕ)
     (image_since : D → ℕ → List ℕ → Type 0) (settings : StoreSettings) (lists : List (List RecordValue))
-    (saved : List CutValue) (old new : D) → saves_kept_in reads image_now moment image_since old new settings lists saved []
-    → saves_reopened_in reads image_now old new settings lists saved []
+    (saved : List CutValue) (old new : D) → SavesAreKeptOnDisk reads image_now moment image_since old new settings lists saved []
+    → SavesAreReopenedFromDisk reads image_now old new settings lists saved []
 reopened_store_after_whole_saves reads image_now moment image_since settings lists saved old new kept = λ store known.
     let keeps = kept store known in
     let last : Option SavedValue =
-    last_saved keeps.opened (saved_after (opened_store_sequence keeps.opened) (digest_of_lists settings lists) saved) in
+    last_of_saves keeps.opened (saves_after (store_sequence keeps.opened) (digest_of_lists settings lists) saved) in
     record {
       opened = keeps.opened;
       opens = keeps.opens;
       again = λ image possible. record {
         found = last;
         opens = keeps.afterwards image possible;
-        no_earlier = record { sequence = omega arith; positions = seen_positions_not_past_self (opened_store_positions settings last) };
+        no_earlier = record { sequence = omega arith; positions = seen_positions_not_past_self (store_positions settings last) };
         exact = λ none. refl;
       };
     }
 
 -- where the save of the next report is unfinished, the store opens to the last one before it, or to it
-reopened_store_after_broken_save : StoresOpenToOne → {D : Type 0} (reads : D → Option (List ℕ)) (image_now : D → List ℕ → Type 0)
+reopened_store_after_broken_save : StoresOpenToOneThing → {D : Type 0} (reads : D → Option (List ℕ)) (image_now : D → List ℕ → Type 0)
     (moment : D → ℕ) (image_since : D → ℕ → List ℕ → Type 0) (settings : Settings) (lists : List (List RecordValue))
     (base : Option CutValue) (count : ℕ) (rounds : List Reported) (next : Reported) (old new : D) → AreLimitedSettings settings
     → length lists ≡ settings.shards → settings.store ≡ true → SessionGoesOnFrom settings lists (reads old) base
     → AreSessionReportsOfCaller (session_opening settings.capacity lists base) settings count (rounds ++ next ∷ [])
-    → saves_kept_in reads image_now moment image_since old new (store_settings settings) lists
+    → SavesAreKeptOnDisk reads image_now moment image_since old new (store_settings_for_saves settings) lists
     (session_saved_cuts true (session_opening settings.capacity lists base) rounds)
     (session_saved_cuts true (session_opening settings.capacity lists base) (next ∷ []))
-    → saves_reopened_in reads image_now old new (store_settings settings) lists
+    → SavesAreReopenedFromDisk reads image_now old new (store_settings_for_saves settings) lists
     (session_saved_cuts true (session_opening settings.capacity lists base) rounds)
     (session_saved_cuts true (session_opening settings.capacity lists base) (next ∷ []))
 reopened_store_after_broken_save one reads image_now moment image_since settings lists base count rounds next old new limited many used begins
     are kept = λ store known.
     let keeps = kept store known in
     let opening : List ShardValue = session_opening settings.capacity lists base in
-    let digest : List ℕ = digest_of_lists (store_settings settings) lists in
-    let sequence : ℕ = opened_store_sequence keeps.opened in
+    let digest : List ℕ = digest_of_lists (store_settings_for_saves settings) lists in
+    let sequence : ℕ = store_sequence keeps.opened in
     let cuts : List CutValue = session_saved_cuts true opening rounds in
-    let last : Option SavedValue = last_saved keeps.opened (saved_after sequence digest cuts) in
+    let last : Option SavedValue = last_of_saves keeps.opened (saves_after sequence digest cuts) in
     let cut : CutValue = cut_at_call opening next.report.positions in
     let starts : length (session_start opening) ≡ length opening = length-map opening _ in
     let rises : RisesInReopenedStore (length opening) (session_start opening) (rounds ++ next ∷ []) = record {
@@ -150,21 +153,21 @@ reopened_store_after_broken_save one reads image_now moment image_since settings
       each = λ k d lt. (are.shown k d lt).is_report.as_many;
       never_fall = λ shard inside. are.never_fall shard (omega (arith, inside, starts));
     } in
-    let positions : opened_store_positions (store_settings settings) last ≡ last_session_positions (session_start opening) rounds =
-    reopened_store_positions (store_settings settings) opening digest (session_start opening) keeps.opened sequence rounds (next ∷ [])
+    let positions : store_positions (store_settings_for_saves settings) last ≡ last_session_positions (session_start opening) rounds =
+    reopened_store_positions (store_settings_for_saves settings) opening digest (session_start opening) keeps.opened sequence rounds (next ∷ [])
     (reopened_store_start_positions one settings lists store base keeps.opened limited many begins.fits (begins.opens used store known)
     keeps.opens) rises.each in
-    let counted : opened_store_sequence last ≡ sequence + length cuts = reopened_store_sequence keeps.opened sequence digest cuts refl in
+    let counted : store_sequence last ≡ sequence + length cuts = reopened_store_sequence keeps.opened sequence digest cuts refl in
     record {
       opened = keeps.opened;
       opens = keeps.opens;
       again = λ image possible. ⊎_elim
-          (λ (opens : StoreOpensTo (store_settings settings) image last). record {
+          (λ (opens : StoreOpensTo (store_settings_for_saves settings) image last). record {
             found = last;
             opens = opens;
             no_earlier = record {
               sequence = omega arith;
-              positions = seen_positions_not_past_self (opened_store_positions (store_settings settings) last);
+              positions = seen_positions_not_past_self (store_positions (store_settings_for_saves settings) last);
             };
             exact = λ none. refl;
           })
@@ -185,24 +188,24 @@ reopened_store_after_broken_save one reads image_now moment image_since settings
     }
 
 -- the same of what a session keeps, with or without a store
-reopened_store_of_session : StoresOpenToOne → {D : Type 0} (reads : D → Option (List ℕ)) (image_now : D → List ℕ → Type 0)
+reopened_store_of_session : StoresOpenToOneThing → {D : Type 0} (reads : D → Option (List ℕ)) (image_now : D → List ℕ → Type 0)
     (moment : D → ℕ) (image_since : D → ℕ → List ℕ → Type 0) (settings : Settings) (lists : List (List RecordValue))
     (base : Option CutValue) (count : ℕ) (rounds : List Reported) (next : Reported) (old new : D) → AreLimitedSettings settings
     → length lists ≡ settings.shards → SessionGoesOnFrom settings lists (reads old) base
     → AreSessionReportsOfCaller (session_opening settings.capacity lists base) settings count (rounds ++ next ∷ [])
     → session_after_saves settings.store (session_opening settings.capacity lists base) rounds (λ saved unfinished.
     settings.store ≡ true
-    → saves_kept_in reads image_now moment image_since old new (store_settings settings) lists saved unfinished)
+    → SavesAreKeptOnDisk reads image_now moment image_since old new (store_settings_for_saves settings) lists saved unfinished)
     [] (session_saved_cuts settings.store (session_opening settings.capacity lists base) (next ∷ []))
     → session_after_saves settings.store (session_opening settings.capacity lists base) rounds (λ saved unfinished.
-    settings.store ≡ true → saves_reopened_in reads image_now old new (store_settings settings) lists saved unfinished)
+    settings.store ≡ true → SavesAreReopenedFromDisk reads image_now old new (store_settings_for_saves settings) lists saved unfinished)
     [] (session_saved_cuts settings.store (session_opening settings.capacity lists base) (next ∷ []))
 reopened_store_of_session one reads image_now moment image_since settings lists base count rounds next old new limited many begins are
     kept = λ used.
     let opening : List ShardValue = session_opening settings.capacity lists base in
     let Kept : List CutValue → List CutValue → Type 0 =
-    saves_kept_in reads image_now moment image_since old new (store_settings settings) lists in
-    let Less : List CutValue → List CutValue → Type 0 = saves_reopened_in reads image_now old new (store_settings settings) lists in
+    SavesAreKeptOnDisk reads image_now moment image_since old new (store_settings_for_saves settings) lists in
+    let Less : List CutValue → List CutValue → Type 0 = SavesAreReopenedFromDisk reads image_now old new (store_settings_for_saves settings) lists in
     let cuts : List CutValue = session_saved_cuts true opening rounds in
     let one_more : List CutValue = session_saved_cuts true opening (next ∷ []) in
     subst (λ b. Less (session_saved_cuts b opening rounds ++ []) (session_saved_cuts b opening (next ∷ []))) (sym used)
@@ -214,9 +217,9 @@ reopened_store_of_session one reads image_now moment image_since settings lists 
 
 -- a whole session
 pub reopened_store_after_completion : {D : Type 0} (reads : D → Option (List ℕ)) (image_now : D → List ℕ → Type 0) (moment : D → ℕ)
-    (image_since : D → ℕ → List ℕ → Type 0) (rules : Rules) (settings : Settings) (old new : D) (file text : List ℕ)
-    → IsSession settings rules (saves_kept_in reads image_now moment image_since old new) (reads old) file text
-    → IsSession settings rules (saves_reopened_in reads image_now old new) (reads old) file text
+    (image_since : D → ℕ → List ℕ → Type 0) (rules : SessionRules) (settings : Settings) (old new : D) (file text : List ℕ)
+    → IsSession settings rules (SavesAreKeptOnDisk reads image_now moment image_since old new) (reads old) file text
+    → IsSession settings rules (SavesAreReopenedFromDisk reads image_now old new) (reads old) file text
 reopened_store_after_completion reads image_now moment image_since rules settings old new file text session = record {
   records = session.records;
   lists = session.lists;
@@ -226,19 +229,19 @@ reopened_store_after_completion reads image_now moment image_since rules setting
   represents = session.represents;
   spelled = spelled_session_text_says_less (session_opening settings.capacity session.lists session.base) settings
       (λ cuts. settings.store ≡ true
-      → saves_kept_in reads image_now moment image_since old new (store_settings settings) session.lists cuts [])
-      (λ cuts. settings.store ≡ true → saves_reopened_in reads image_now old new (store_settings settings) session.lists cuts [])
+      → SavesAreKeptOnDisk reads image_now moment image_since old new (store_settings_for_saves settings) session.lists cuts [])
+      (λ cuts. settings.store ≡ true → SavesAreReopenedFromDisk reads image_now old new (store_settings_for_saves settings) session.lists cuts [])
       (report_tail_text session.records) text
-      (λ cuts kept used. reopened_store_after_whole_saves reads image_now moment image_since (store_settings settings) session.lists cuts
+      (λ cuts kept used. reopened_store_after_whole_saves reads image_now moment image_since (store_settings_for_saves settings) session.lists cuts
       old new (kept used)) session.spelled;
 }
 
 -- a session that broke off
-pub reopened_store_after_breaking_off : StoresOpenToOne → {D : Type 0} (reads : D → Option (List ℕ)) (image_now : D → List ℕ → Type 0)
-    (moment : D → ℕ) (image_since : D → ℕ → List ℕ → Type 0) (rules : Rules) (settings : Settings) (old new : D)
+pub reopened_store_after_breaking_off : StoresOpenToOneThing → {D : Type 0} (reads : D → Option (List ℕ)) (image_now : D → List ℕ → Type 0)
+    (moment : D → ℕ) (image_since : D → ℕ → List ℕ → Type 0) (rules : SessionRules) (settings : Settings) (old new : D)
     (file front : List ℕ) → AreLimitedSettings settings
-    → IsSessionInPart settings rules (saves_kept_in reads image_now moment image_since old new) (reads old) file front
-    → IsSessionInPart settings rules (saves_reopened_in reads image_now old new) (reads old) file front
+    → IsSessionInPart settings rules (SavesAreKeptOnDisk reads image_now moment image_since old new) (reads old) file front
+    → IsSessionInPart settings rules (SavesAreReopenedFromDisk reads image_now old new) (reads old) file front
 reopened_store_after_breaking_off one reads image_now moment image_since rules settings old new file front limited session =
     let lists : List (List RecordValue) = session.lists in
     let base : Option CutValue = session.base in
@@ -246,11 +249,11 @@ reopened_store_after_breaking_off one reads image_now moment image_since rules s
     let many : length lists ≡ settings.shards =
     own_session_lists_match_shards settings.deal (rules settings.deal) settings.shards session.records.list lists session.dealt.dealt in
     let Kept : SessionSaving = λ saved unfinished. settings.store ≡ true
-    → saves_kept_in reads image_now moment image_since old new (store_settings settings) lists saved unfinished in
+    → SavesAreKeptOnDisk reads image_now moment image_since old new (store_settings_for_saves settings) lists saved unfinished in
     let Less : SessionSaving = λ saved unfinished. settings.store ≡ true
-    → saves_reopened_in reads image_now old new (store_settings settings) lists saved unfinished in
+    → SavesAreReopenedFromDisk reads image_now old new (store_settings_for_saves settings) lists saved unfinished in
     let finished : (saved : List CutValue) → Kept saved [] → Less saved [] = λ saved kept used.
-    reopened_store_after_whole_saves reads image_now moment image_since (store_settings settings) lists saved old new (kept used) in
+    reopened_store_after_whole_saves reads image_now moment image_since (store_settings_for_saves settings) lists saved old new (kept used) in
     let cuts : List Reported → List CutValue = session_saved_cuts settings.store opening in
     record {
       records = session.records;

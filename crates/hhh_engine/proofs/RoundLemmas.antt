@@ -1,5 +1,6 @@
 -- The rounds of the calling thread, and the texts of their reports.
-use Rattle.std.proofs.Common.{◌≡◌, ◌∙◌, ◌≤◌, ◌<◌, ◌+◌, ℕ, List, [], ◌∷◌, ◌++◌, Option, None, Some, All, refl, sym, ap, subst, arith}
+use Rattle.std.proofs.Common.{◌≡◌, ◌∙◌, ◌≤◌, ◌<◌, ◌+◌, ℕ, List, [], ◌∷◌, ◌++◌, Option, None, Some, All, refl, sym, ap}
+use Rattle.std.proofs.Common.{subst, arith}
 use Rattle.std.proofs.Common.{Bool, true, false, ◌⊎◌, inl, inr, ⊎_elim, ap₂}
 use Rattle.std.specs.Prelude.{⊤, is_some, option_map}
 use Rattle.std.proofs.Common.{Ok, Err}
@@ -11,17 +12,20 @@ use Rattle.std.specs.List.{flat_map}
 use Rattle.std.specs.Io.KnownBytes.{Appends}
 use Rattle.std.proofs.KnownBytes.{Appends-trans, Appends-nil}
 use Rattle.std.proofs.lemmas.List.Elements.{All-nil, All-cons, All-head, All-tail, All-append}
-use Rattle.shard_state.specs.{AreCoreShards, CoreBasesRepresent, CutValue, IsShard, ShardValue, core_capacity, core_lists, shard_state_at}
-use Rattle.prefix_lattice.specs.{most_records}
+use Rattle.shard_state.specs.{AreCoreShards, CoreBasesRepresent, CutValue, IsShard, ShardValue, core_capacity}
+use Rattle.shard_state.specs.{core_lists, shard_state_at}
+use Rattle.prefix_lattice.specs.{record_limit}
 use Rattle.hhh_output.specs.{IsSound}
 use Rattle.hhh_output.specs.declared.report.Report.{Report}
 use Rattle.hhh_output.specs.declared.reports.Reported.{Reported}
 use Rattle.gate_workers.specs.{Calls, IsReportAtCall, CallReadsOnce, View, states_at_call}
 use Rattle.report_text.specs.{ReportTextShowsPositions}
 use Rattle.hhh_engine.specs.DealtFeed.{IsDealtFeedSaveFault}
-use Rattle.hhh_engine.specs.Rounds.{RoundsBreakOff, BreaksRound, EndRounds, RoundFaults, IsRoundInVain, RoundBreaksInLine}
+use Rattle.hhh_engine.specs.Rounds.{RoundsBreakOff, BreaksRound, EndRounds, RoundFaults, IsRoundInVain}
+use Rattle.hhh_engine.specs.Rounds.{RoundBreaksInLine}
 use Rattle.hhh_engine.specs.Rounds.{RoundBreaksInReport, WritesRounds, WritesUnsavedRound}
-use Rattle.hhh_engine.specs.Session.{SessionSaving, session_after_saves, session_part_text, session_parts_text, session_saved_cuts}
+use Rattle.hhh_engine.specs.Session.{SessionSaving, session_after_saves, session_part, session_parts}
+use Rattle.hhh_engine.specs.Session.{session_saved_cuts}
 use Rattle.hhh_engine.specs.declared.status.Status.{Status}
 use Rattle.hhh_engine.specs.declared.status.Status.TheVariants.{Done, BadWords, BadCapture, ReadFault, WriteFault}
 use Rattle.hhh_engine.specs.declared.status.Status.TheVariants.{DiskFault, NotFormatted, Damaged, OtherSettings}
@@ -30,14 +34,14 @@ use Rattle.hhh_engine.proofs.SaveLemmas.{session_saved_cuts-append_saves}
 
 -- positions within the lists of shards are positions that a text can show
 round_positions_are_within : (opening : List ShardValue) (positions : List ℕ) → length positions ≡ length opening
-    → All IsShard (states_at_call opening positions) → All (λ position. position ≤ most_records) positions
-round_positions_are_within [] [] many kept = All-nil (λ position. position ≤ most_records)
+    → All IsShard (states_at_call opening positions) → All (λ position. position ≤ record_limit) positions
+round_positions_are_within [] [] many kept = All-nil (λ position. position ≤ record_limit)
 round_positions_are_within [] (position ∷ positions) many kept = absurd (omega (arith, many))
 round_positions_are_within (shard ∷ rest) [] many kept = absurd (omega (arith, many))
 round_positions_are_within (shard ∷ rest) (position ∷ positions) many kept =
     let is_shard : IsShard (shard_state_at position shard) =
     All-head IsShard (shard_state_at position shard) (states_at_call rest positions) kept in
-    All-cons (λ position. position ≤ most_records) position positions
+    All-cons (λ position. position ≤ record_limit) position positions
     (omega (arith, is_shard.few, is_shard.within))
     (round_positions_are_within rest positions (omega (arith, many))
     (All-tail IsShard (shard_state_at position shard) (states_at_call rest positions) kept))
@@ -58,8 +62,8 @@ round_makes_report opening phi before now report calls =
     (record { report = report; saved = None }) [] calls.each
 
 -- the text of a list of one report
-pub round_prints_its_report : (store : Bool) (reported : Reported) → session_parts_text store (reported ∷ []) ≡ session_part_text store reported
-round_prints_its_report store reported = append-nil (session_part_text store reported)
+pub round_prints_its_report : (store : Bool) (reported : Reported) → session_parts store (reported ∷ []) ≡ session_part store reported
+round_prints_its_report store reported = append-nil (session_part store reported)
 
 pub flat_map-append_rounds : {A B : Type 0} (f : A → List B) (xs ys : List A)
     → flat_map f (xs ++ ys) ≡ flat_map f xs ++ flat_map f ys
@@ -77,7 +81,7 @@ pub writes_one_round : (opening : List ShardValue) (phi : ℕ) (before now : Vie
     (Kept : List CutValue → Type 0) (old new : Option (List ℕ)) (report : Report)
     → Calls opening phi 1 before now (record { report = report; saved = None } ∷ [])
     → (CoreBasesRepresent opening → IsSound report (core_lists opening) (core_capacity opening) phi)
-    → Appends old new (session_part_text store (record { report = report; saved = None }))
+    → Appends old new (session_part store (record { report = report; saved = None }))
     → Kept (session_saved_cuts store opening (record { report = report; saved = None } ∷ []))
     → WritesRounds opening phi 1 before now store Kept old new
 writes_one_round opening phi before now store Kept old new report calls sound written kept = record {
@@ -124,8 +128,8 @@ writes_more_rounds opening phi rounds more before middle now store First Second 
       All-append (λ (reported : Reported). IsSound reported.report (core_lists opening) (core_capacity opening) phi)
       one.reports two.reports (one.sound bases) (two.sound bases);
   written =
-      subst (Appends old new) (sym (flat_map-append_rounds (session_part_text store) one.reports two.reports))
-      (Appends-trans old between new (session_parts_text store one.reports) (session_parts_text store two.reports) one.written
+      subst (Appends old new) (sym (flat_map-append_rounds (session_part store) one.reports two.reports))
+      (Appends-trans old between new (session_parts store one.reports) (session_parts store two.reports) one.written
       two.written);
   kept =
       subst Both (sym (session_saved_cuts-append_saves store opening one.reports two.reports))

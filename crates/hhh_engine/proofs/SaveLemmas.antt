@@ -1,5 +1,6 @@
 -- Saves into a store, one after the other.
-use Rattle.std.proofs.Common.{◌≡◌, ◌∙◌, ◌+◌, ◌⊎◌, inl, inr, ⊎_elim, ℕ, Bool, true, false, List, [], ◌∷◌, ◌++◌, Option, None, Some}
+use Rattle.std.proofs.Common.{◌≡◌, ◌∙◌, ◌+◌, ◌⊎◌, inl, inr, ⊎_elim, ℕ, Bool, true, false, List, [], ◌∷◌, ◌++◌, Option}
+use Rattle.std.proofs.Common.{None, Some}
 use Rattle.std.proofs.Common.{◌≤◌, refl, sym, ap, subst, arith, length, fold, append_assoc, append-nil}
 use Rattle.std.specs.Prelude.{IfSome, is_some}
 use Rattle.std.proofs.lemmas.List.{length-append, map-append}
@@ -7,41 +8,44 @@ use Rattle.shard_state.specs.{CutValue, ShardValue}
 use Rattle.hhh_output.specs.declared.report.Report.{Report}
 use Rattle.hhh_output.specs.declared.reports.Reported.{Reported}
 use Rattle.gate_workers.specs.{cut_at_call}
-use Rattle.slot_disk.specs.{IfImageKnown, Leaves, Leaves-none, Leaves-trans, Leaves-weaker}
-use Rattle.checkpoint.specs.{AreHeaderSettings, IsKnownToSaver, StoreOpensOldOrNew, StoreOpensTo, SavedValue, SaverState, StandsForSaver, StoresOpenToOne}
-use Rattle.checkpoint.specs.{saver_after_save, newest_in_store, next_saved, opened_store_sequence}
+use Rattle.slot_disk.specs.{IfImageKnown, CrashLeavesAtAnyMoment, CrashLeavesAtAnyMoment-none}
+use Rattle.slot_disk.specs.{CrashLeavesAtAnyMoment-trans, CrashLeavesAtAnyMoment-weaker}
+use Rattle.checkpoint.specs.{AreHeaderSettings, IsKnownToSaver, StoreOpensAsOldOrNew, StoreOpensTo, SavedValue}
+use Rattle.checkpoint.specs.{SaverState, DiskMatchesSaver, StoresOpenToOneThing}
+use Rattle.checkpoint.specs.{saver_after_save, newest_in_store, next_saved, store_sequence}
 use Rattle.checkpoint.specs.declared.settings.StoreSettings.{StoreSettings}
 use Rattle.hhh_engine.specs.DealtFeed.{DealtFeedCanSaveCut}
-use Rattle.hhh_engine.specs.Saves.{IsAsBeforeSaves, KeepsSaves, OpensAmongSaves, Saves, SavesCuts, SavesInPart, SavesInTurn, after_saves}
-use Rattle.hhh_engine.specs.Saves.{last_saved, saved_after}
+use Rattle.hhh_engine.specs.Saves.{IsAsBeforeSaves, KeepsSaves, OpensAsBeforeOrToSaves, Saves, SavesCuts, SavesInPart}
+use Rattle.hhh_engine.specs.Saves.{SavesInTurn, after_saves}
+use Rattle.hhh_engine.specs.Saves.{last_of_saves, saves_after}
 use Rattle.hhh_engine.specs.Session.{session_saved_cuts}
 
 -- one save after others
-pub saved_after-append_saves : (sequence : ℕ) (digest : List ℕ) (cuts later : List CutValue)
-    → saved_after sequence digest (cuts ++ later)
-    ≡ saved_after sequence digest cuts ++ saved_after (sequence + length cuts) digest later
-saved_after-append_saves sequence digest [] later = ap (λ n. saved_after n digest later) (omega arith)
-saved_after-append_saves sequence digest (cut ∷ cuts) later =
+pub saves_after-append_saves : (sequence : ℕ) (digest : List ℕ) (cuts later : List CutValue)
+    → saves_after sequence digest (cuts ++ later)
+    ≡ saves_after sequence digest cuts ++ saves_after (sequence + length cuts) digest later
+saves_after-append_saves sequence digest [] later = ap (λ n. saves_after n digest later) (omega arith)
+saves_after-append_saves sequence digest (cut ∷ cuts) later =
     ap (λ rest. record { sequence = sequence + 1; digest = digest; cut = cut } ∷ rest)
-    (saved_after-append_saves (sequence + 1) digest cuts later
-    ∙ ap (λ n. saved_after (sequence + 1) digest cuts ++ saved_after n digest later) (omega arith))
+    (saves_after-append_saves (sequence + 1) digest cuts later
+    ∙ ap (λ n. saves_after (sequence + 1) digest cuts ++ saves_after n digest later) (omega arith))
 
 save_after_saves_is_newest : (opened : Option SavedValue) (saves later : List SavedValue)
-    → last_saved opened (saves ++ later) ≡ last_saved (last_saved opened saves) later
+    → last_of_saves opened (saves ++ later) ≡ last_of_saves (last_of_saves opened saves) later
 save_after_saves_is_newest opened [] later = refl
 save_after_saves_is_newest opened (saved ∷ saves) later = save_after_saves_is_newest (Some saved) saves later
 
 -- each save takes the next sequence
 pub save_takes_next_sequence : (opened : Option SavedValue) (digest : List ℕ) (cuts : List CutValue)
-    → opened_store_sequence (last_saved opened (saved_after (opened_store_sequence opened) digest cuts))
-    ≡ opened_store_sequence opened + length cuts
+    → store_sequence (last_of_saves opened (saves_after (store_sequence opened) digest cuts))
+    ≡ store_sequence opened + length cuts
 save_takes_next_sequence opened digest [] = omega arith
 save_takes_next_sequence opened digest (cut ∷ cuts) =
-    save_takes_next_sequence (Some (record { sequence = opened_store_sequence opened + 1; digest = digest; cut = cut })) digest cuts
+    save_takes_next_sequence (Some (record { sequence = store_sequence opened + 1; digest = digest; cut = cut })) digest cuts
     ∙ omega arith
 
 opens_at_earlier_saves : (settings : StoreSettings) (opened : Option SavedValue) (saves later : List SavedValue) (image : List ℕ)
-    → OpensAmongSaves settings opened saves image → OpensAmongSaves settings opened (saves ++ later) image
+    → OpensAsBeforeOrToSaves settings opened saves image → OpensAsBeforeOrToSaves settings opened (saves ++ later) image
 opens_at_earlier_saves settings opened [] [] image opens = opens
 opens_at_earlier_saves settings opened [] (saved ∷ later) image opens = inl opens
 opens_at_earlier_saves settings opened (saved ∷ saves) later image (inl opens) = inl opens
@@ -49,7 +53,7 @@ opens_at_earlier_saves settings opened (saved ∷ saves) later image (inr among)
     inr (opens_at_earlier_saves settings (Some saved) saves later image among)
 
 opens_at_later_saves : (settings : StoreSettings) (opened : Option SavedValue) (saves later : List SavedValue) (image : List ℕ)
-    → OpensAmongSaves settings (last_saved opened saves) later image → OpensAmongSaves settings opened (saves ++ later) image
+    → OpensAsBeforeOrToSaves settings (last_of_saves opened saves) later image → OpensAsBeforeOrToSaves settings opened (saves ++ later) image
 opens_at_later_saves settings opened [] later image among = among
 opens_at_later_saves settings opened (saved ∷ saves) later image among =
     inr (opens_at_later_saves settings (Some saved) saves later image among)
@@ -61,7 +65,7 @@ save_leaves_bytes_known old None bytes known is = cc (known, is)
 save_leaves_bytes_known old (Some now) bytes known is = (now, refl)
 
 -- saves that follow others, into the store that these left
-kept_saves_follow : StoresOpenToOne → {D : Type 0} (image_now : D → List ℕ → Type 0) (moment : D → ℕ)
+kept_saves_follow : StoresOpenToOneThing → {D : Type 0} (image_now : D → List ℕ → Type 0) (moment : D → ℕ)
     (image_since : D → ℕ → List ℕ → Type 0) (settings : StoreSettings) (digest : List ℕ) (Earlier : List ℕ → Type 0)
     (cuts later unfinished : List CutValue) (old mid new : D) (store between : List ℕ) → AreHeaderSettings settings
     → image_now mid between → KeepsSaves image_now moment image_since settings digest Earlier cuts [] old mid store
@@ -70,81 +74,81 @@ kept_saves_follow : StoresOpenToOne → {D : Type 0} (image_now : D → List ℕ
 kept_saves_follow one {D} image_now moment image_since settings digest Earlier cuts later unfinished old mid new store between are now
     first second =
     let opened : Option SavedValue = first.opened in
-    let start : ℕ = opened_store_sequence opened in
-    let saves : List SavedValue = saved_after start digest cuts in
-    let all : List SavedValue = saved_after start digest ((cuts ++ later) ++ unfinished) in
-    let then : ℕ = opened_store_sequence second.opened in
-    let next : List SavedValue = saved_after then digest (later ++ unfinished) in
-    let same : second.opened ≡ last_saved opened saves =
-    one settings between second.opened (last_saved opened saves) are second.opens (first.afterwards between now) in
-    let sequence : then ≡ start + length cuts = ap opened_store_sequence same ∙ save_takes_next_sequence opened digest cuts in
+    let start : ℕ = store_sequence opened in
+    let saves : List SavedValue = saves_after start digest cuts in
+    let all : List SavedValue = saves_after start digest ((cuts ++ later) ++ unfinished) in
+    let then : ℕ = store_sequence second.opened in
+    let next : List SavedValue = saves_after then digest (later ++ unfinished) in
+    let same : second.opened ≡ last_of_saves opened saves =
+    one settings between second.opened (last_of_saves opened saves) are second.opens (first.afterwards between now) in
+    let sequence : then ≡ start + length cuts = ap store_sequence same ∙ save_takes_next_sequence opened digest cuts in
     let parted : all ≡ saves ++ next =
-    ap (saved_after start digest) (append_assoc cuts later unfinished) ∙ saved_after-append_saves start digest cuts (later ++ unfinished)
-    ∙ ap (λ n. saves ++ saved_after n digest (later ++ unfinished)) (sym sequence) in
-    let last : last_saved opened (saved_after start digest (cuts ++ later))
-    ≡ last_saved second.opened (saved_after then digest later) =
-    ap (last_saved opened) (saved_after-append_saves start digest cuts later)
-    ∙ save_after_saves_is_newest opened saves (saved_after (start + length cuts) digest later)
-    ∙ ap (λ n. last_saved (last_saved opened saves) (saved_after n digest later)) (sym sequence)
-    ∙ ap (λ held. last_saved held (saved_after then digest later)) (sym same) in
+    ap (saves_after start digest) (append_assoc cuts later unfinished) ∙ saves_after-append_saves start digest cuts (later ++ unfinished)
+    ∙ ap (λ n. saves ++ saves_after n digest (later ++ unfinished)) (sym sequence) in
+    let last : last_of_saves opened (saves_after start digest (cuts ++ later))
+    ≡ last_of_saves second.opened (saves_after then digest later) =
+    ap (last_of_saves opened) (saves_after-append_saves start digest cuts later)
+    ∙ save_after_saves_is_newest opened saves (saves_after (start + length cuts) digest later)
+    ∙ ap (λ n. last_of_saves (last_of_saves opened saves) (saves_after n digest later)) (sym sequence)
+    ∙ ap (λ held. last_of_saves held (saves_after then digest later)) (sym same) in
     record {
       opened = opened;
       opens = first.opens;
-      any_moment = Leaves-trans moment image_since old mid new
-          (λ image. Earlier image ⊎ OpensAmongSaves settings opened all image)
-          (Leaves-weaker moment image_since old mid
-          (λ image. Earlier image ⊎ OpensAmongSaves settings opened (saved_after start digest (cuts ++ [])) image)
-          (λ image. Earlier image ⊎ OpensAmongSaves settings opened all image) first.any_moment
+      any_moment = CrashLeavesAtAnyMoment-trans moment image_since old mid new
+          (λ image. Earlier image ⊎ OpensAsBeforeOrToSaves settings opened all image)
+          (CrashLeavesAtAnyMoment-weaker moment image_since old mid
+          (λ image. Earlier image ⊎ OpensAsBeforeOrToSaves settings opened (saves_after start digest (cuts ++ [])) image)
+          (λ image. Earlier image ⊎ OpensAsBeforeOrToSaves settings opened all image) first.any_moment
           (λ image. ⊎_elim (λ earlier. inl earlier)
-          (λ among. inr (subst (λ list. OpensAmongSaves settings opened list image) (sym parted)
+          (λ among. inr (subst (λ list. OpensAsBeforeOrToSaves settings opened list image) (sym parted)
           (opens_at_earlier_saves settings opened saves next image
-          (subst (λ list. OpensAmongSaves settings opened (saved_after start digest list) image) (append-nil cuts) among))))))
-          (Leaves-weaker moment image_since mid new
-          (λ image. ⊥ ⊎ OpensAmongSaves settings second.opened next image)
-          (λ image. Earlier image ⊎ OpensAmongSaves settings opened all image) second.any_moment
+          (subst (λ list. OpensAsBeforeOrToSaves settings opened (saves_after start digest list) image) (append-nil cuts) among))))))
+          (CrashLeavesAtAnyMoment-weaker moment image_since mid new
+          (λ image. ⊥ ⊎ OpensAsBeforeOrToSaves settings second.opened next image)
+          (λ image. Earlier image ⊎ OpensAsBeforeOrToSaves settings opened all image) second.any_moment
           (λ image. ⊎_elim (λ never. absurd never)
-          (λ among. inr (subst (λ list. OpensAmongSaves settings opened list image) (sym parted)
+          (λ among. inr (subst (λ list. OpensAsBeforeOrToSaves settings opened list image) (sym parted)
           (opens_at_later_saves settings opened saves next image
-          (subst (λ held. OpensAmongSaves settings held next image) same among))))));
+          (subst (λ held. OpensAsBeforeOrToSaves settings held next image) same among))))));
       afterwards = λ image is.
-          subst (λ held. OpensAmongSaves settings held
-          (saved_after (start + length (cuts ++ later)) digest unfinished) image) (sym last)
-          (subst (λ n. OpensAmongSaves settings (last_saved second.opened (saved_after then digest later))
-          (saved_after n digest unfinished) image) (omega (arith, sequence, length-append cuts later))
+          subst (λ held. OpensAsBeforeOrToSaves settings held
+          (saves_after (start + length (cuts ++ later)) digest unfinished) image) (sym last)
+          (subst (λ n. OpensAsBeforeOrToSaves settings (last_of_saves second.opened (saves_after then digest later))
+          (saves_after n digest unfinished) image) (omega (arith, sequence, length-append cuts later))
           (second.afterwards image is));
     }
 
 -- what a save may leave at any moment
-save_leaves : StoresOpenToOne → {D : Type 0} (moment : D → ℕ) (image_since : D → ℕ → List ℕ → Type 0)
+save_leaves : StoresOpenToOneThing → {D : Type 0} (moment : D → ℕ) (image_since : D → ℕ → List ℕ → Type 0)
     (saver : SaverState) (cut : CutValue) (old new : D) (bytes : List ℕ) → AreHeaderSettings saver.settings
     → (store : IsKnownToSaver saver bytes)
-    → Leaves moment image_since old new (StoreOpensOldOrNew saver.settings bytes (next_saved saver cut))
-    → Leaves moment image_since old new (λ image. ⊥ ⊎ OpensAmongSaves saver.settings (newest_in_store store.first store.second)
-    (saved_after (opened_store_sequence (newest_in_store store.first store.second)) saver.digest (cut ∷ [])) image)
+    → CrashLeavesAtAnyMoment moment image_since old new (StoreOpensAsOldOrNew saver.settings bytes (next_saved saver cut))
+    → CrashLeavesAtAnyMoment moment image_since old new (λ image. ⊥ ⊎ OpensAsBeforeOrToSaves saver.settings (newest_in_store store.first store.second)
+    (saves_after (store_sequence (newest_in_store store.first store.second)) saver.digest (cut ∷ [])) image)
 save_leaves one moment image_since saver cut old new bytes are store any_moment =
     let opened : Option SavedValue = newest_in_store store.first store.second in
     let saved : SavedValue = next_saved saver cut in
-    let same : saved ≡ record { sequence = opened_store_sequence opened + 1; digest = saver.digest; cut = cut } =
+    let same : saved ≡ record { sequence = store_sequence opened + 1; digest = saver.digest; cut = cut } =
     ap (λ n. record { sequence = n + 1; digest = saver.digest; cut = cut }) store.sequence_is in
     let was : StoreOpensTo saver.settings bytes opened = (store.first, store.second, store.holds, refl) in
-    Leaves-weaker moment image_since old new (StoreOpensOldOrNew saver.settings bytes saved)
-    (λ image. ⊥ ⊎ OpensAmongSaves saver.settings opened
-    (saved_after (opened_store_sequence opened) saver.digest (cut ∷ [])) image) any_moment
+    CrashLeavesAtAnyMoment-weaker moment image_since old new (StoreOpensAsOldOrNew saver.settings bytes saved)
+    (λ image. ⊥ ⊎ OpensAsBeforeOrToSaves saver.settings opened
+    (saves_after (store_sequence opened) saver.digest (cut ∷ [])) image) any_moment
     (λ image. ⊎_elim
     (λ alike. inr (inl (subst (StoreOpensTo saver.settings image)
     (one saver.settings bytes alike.0 opened are alike.1 was) alike.2)))
     (λ is_new. inr (inr (subst (λ s. StoreOpensTo saver.settings image (Some s)) same is_new))))
 
 -- one save, as its contract tells it
-pub one_save : StoresOpenToOne → {D : Type 0} (reads : D → Option (List ℕ)) (image_now : D → List ℕ → Type 0)
+pub one_save : StoresOpenToOneThing → {D : Type 0} (reads : D → Option (List ℕ)) (image_now : D → List ℕ → Type 0)
     (moment : D → ℕ) (image_since : D → ℕ → List ℕ → Type 0) (saver : SaverState) (cut : CutValue) (old new : D)
-    → AreHeaderSettings saver.settings → StandsForSaver (reads old) (image_now old) saver
+    → AreHeaderSettings saver.settings → DiskMatchesSaver (reads old) (image_now old) saver
     → is_some (reads new) ≡ is_some (reads old)
-    → StandsForSaver (reads new) (image_now new) (saver_after_save saver cut)
+    → DiskMatchesSaver (reads new) (image_now new) (saver_after_save saver cut)
     → IfImageKnown (reads new) (λ bytes. (image : List ℕ) → image_now new image
     → StoreOpensTo saver.settings image (Some (next_saved saver cut)))
     → IfImageKnown (reads old)
-    (λ bytes. Leaves moment image_since old new (StoreOpensOldOrNew saver.settings bytes (next_saved saver cut)))
+    (λ bytes. CrashLeavesAtAnyMoment moment image_since old new (StoreOpensAsOldOrNew saver.settings bytes (next_saved saver cut)))
     → SavesCuts reads image_now moment image_since saver (cut ∷ []) old new
 one_save one reads image_now moment image_since saver cut old new are before known stands opens any_moment = record {
   known = known;
@@ -152,7 +156,7 @@ one_save one reads image_now moment image_since saver cut old new are before kno
   kept = λ bytes is.
       let store = (before bytes is).is_known in
       let opened : Option SavedValue = newest_in_store store.first store.second in
-      let same : next_saved saver cut ≡ record { sequence = opened_store_sequence opened + 1; digest = saver.digest; cut = cut } =
+      let same : next_saved saver cut ≡ record { sequence = store_sequence opened + 1; digest = saver.digest; cut = cut } =
       ap (λ n. record { sequence = n + 1; digest = saver.digest; cut = cut }) store.sequence_is in
       record {
         opened = opened;
@@ -165,12 +169,12 @@ one_save one reads image_now moment image_since saver cut old new are before kno
 }
 
 -- an unfinished save, as its contract tells it
-unfinished_save : StoresOpenToOne → {D : Type 0} (reads : D → Option (List ℕ)) (image_now : D → List ℕ → Type 0)
+unfinished_save : StoresOpenToOneThing → {D : Type 0} (reads : D → Option (List ℕ)) (image_now : D → List ℕ → Type 0)
     (moment : D → ℕ) (image_since : D → ℕ → List ℕ → Type 0) (saver : SaverState) (cut : CutValue) (old new : D)
-    → AreHeaderSettings saver.settings → StandsForSaver (reads old) (image_now old) saver
+    → AreHeaderSettings saver.settings → DiskMatchesSaver (reads old) (image_now old) saver
     → ((disk : D) (t : ℕ) (image : List ℕ) → t ≤ moment disk → image_now disk image → image_since disk t image)
     → IfImageKnown (reads old)
-    (λ bytes. Leaves moment image_since old new (StoreOpensOldOrNew saver.settings bytes (next_saved saver cut)))
+    (λ bytes. CrashLeavesAtAnyMoment moment image_since old new (StoreOpensAsOldOrNew saver.settings bytes (next_saved saver cut)))
     → SavesInPart reads image_now moment image_since (Some saver) old new [] (cut ∷ [])
 unfinished_save one reads image_now moment image_since saver cut old new are before now_is_since any_moment = record {
   unused = λ none. cc none;
@@ -183,20 +187,20 @@ unfinished_save one reads image_now moment image_since saver cut old new are bef
         opens = (store.first, store.second, store.holds, refl);
         any_moment = leaves;
         afterwards = λ image now.
-            subst (λ n. OpensAmongSaves saver.settings opened (saved_after n saver.digest (cut ∷ [])) image) (omega arith)
+            subst (λ n. OpensAsBeforeOrToSaves saver.settings opened (saves_after n saver.digest (cut ∷ [])) image) (omega arith)
             (⊎_elim (λ never. absurd never) (λ among. among)
             (leaves.each image (now_is_since new (moment old) image leaves.later now)));
       };
 }
 
 -- and by whichever saver is there
-pub unfinished_save_of : StoresOpenToOne → {D : Type 0} (reads : D → Option (List ℕ)) (image_now : D → List ℕ → Type 0)
+pub unfinished_save_of : StoresOpenToOneThing → {D : Type 0} (reads : D → Option (List ℕ)) (image_now : D → List ℕ → Type 0)
     (moment : D → ℕ) (image_since : D → ℕ → List ℕ → Type 0) (before : Option SaverState) (saver : SaverState)
     (cut : CutValue) (old new : D) → before ≡ Some saver
     → IfSome before (DealtFeedCanSaveCut (reads old) (image_now old) cut)
     → ((disk : D) (t : ℕ) (image : List ℕ) → t ≤ moment disk → image_now disk image → image_since disk t image)
     → IfImageKnown (reads old)
-    (λ bytes. Leaves moment image_since old new (StoreOpensOldOrNew saver.settings bytes (next_saved saver cut)))
+    (λ bytes. CrashLeavesAtAnyMoment moment image_since old new (StoreOpensAsOldOrNew saver.settings bytes (next_saved saver cut)))
     → SavesInPart reads image_now moment image_since before old new [] (cut ∷ [])
 unfinished_save_of one reads image_now moment image_since before saver cut old new is can now_is_since any_moment =
     let may : DealtFeedCanSaveCut (reads old) (image_now old) cut saver =
@@ -208,7 +212,7 @@ unfinished_save_of one reads image_now moment image_since before saver cut old n
 pub no_save : {D : Type 0} (reads : D → Option (List ℕ)) (image_now : D → List ℕ → Type 0) (moment : D → ℕ)
     (image_since : D → ℕ → List ℕ → Type 0) (before : Option SaverState) (disk : D)
     → ((image : List ℕ) → image_since disk (moment disk) image → image_now disk image)
-    → IfSome before (StandsForSaver (reads disk) (image_now disk))
+    → IfSome before (DiskMatchesSaver (reads disk) (image_now disk))
     → SavesInTurn reads image_now moment image_since before before disk disk []
 no_save reads image_now moment image_since None disk only_now stands = record { saver = refl; saves = refl }
 no_save reads image_now moment image_since (Some saver) disk only_now stands = record {
@@ -224,7 +228,7 @@ no_save reads image_now moment image_since (Some saver) disk only_now stands = r
         record {
           opened = newest_in_store first second;
           opens = was;
-          any_moment = Leaves-none moment image_since disk
+          any_moment = CrashLeavesAtAnyMoment-none moment image_since disk
               (λ image. ⊥ ⊎ StoreOpensTo saver.settings image (newest_in_store first second))
               (λ image since. inr (subst (λ i. StoreOpensTo saver.settings i (newest_in_store first second))
               (sym (store.only image (only_now image since))) was));
@@ -265,7 +269,7 @@ saves_kept_as_before image_now moment image_since saver cuts saved unfinished mi
     (subst (λ digest. KeepsSaves image_now moment image_since (after_saves saver cuts).settings digest (λ image. ⊥) saved
     unfinished mid new store) (saves_leave_digest saver cuts) kept)
 
-saves_of_cuts_follow : StoresOpenToOne → {D : Type 0} (reads : D → Option (List ℕ)) (image_now : D → List ℕ → Type 0)
+saves_of_cuts_follow : StoresOpenToOneThing → {D : Type 0} (reads : D → Option (List ℕ)) (image_now : D → List ℕ → Type 0)
     (moment : D → ℕ) (image_since : D → ℕ → List ℕ → Type 0) (saver : SaverState) (cuts later : List CutValue)
     (old mid new : D) → AreHeaderSettings saver.settings
     → ((disk : D) (bytes : List ℕ) → reads disk ≡ Some bytes → image_now disk bytes)
@@ -275,7 +279,7 @@ saves_of_cuts_follow : StoresOpenToOne → {D : Type 0} (reads : D → Option (L
 saves_of_cuts_follow one reads image_now moment image_since saver cuts later old mid new are is_image first second = record {
   known = second.known ∙ first.known;
   stands =
-      subst (StandsForSaver (reads new) (image_now new)) (sym (fold-append_saves saver_after_save saver cuts later)) second.stands;
+      subst (DiskMatchesSaver (reads new) (image_now new)) (sym (fold-append_saves saver_after_save saver cuts later)) second.stands;
   kept = λ bytes is.
       let between = save_leaves_bytes_known (reads old) (reads mid) bytes first.known is in
       kept_saves_follow one image_now moment image_since saver.settings saver.digest (λ image. ⊥) cuts later [] old mid new bytes
@@ -285,7 +289,7 @@ saves_of_cuts_follow one reads image_now moment image_since saver cuts later old
 }
 
 -- saves after saves
-pub saves_follow : StoresOpenToOne → {D : Type 0} (reads : D → Option (List ℕ)) (image_now : D → List ℕ → Type 0)
+pub saves_follow : StoresOpenToOneThing → {D : Type 0} (reads : D → Option (List ℕ)) (image_now : D → List ℕ → Type 0)
     (moment : D → ℕ) (image_since : D → ℕ → List ℕ → Type 0) (before between after : Option SaverState)
     (cuts later : List CutValue) (old mid new : D) → IfSome before (λ saver. AreHeaderSettings saver.settings)
     → ((disk : D) (bytes : List ℕ) → reads disk ≡ Some bytes → image_now disk bytes)
@@ -321,7 +325,7 @@ part_of_saves reads image_now moment image_since (Some saver) old new cuts saves
 pub no_save_into_untouched_disk : {D : Type 0} (reads : D → Option (List ℕ)) (image_now : D → List ℕ → Type 0) (moment : D → ℕ)
     (image_since : D → ℕ → List ℕ → Type 0) (before : Option SaverState) (old new : D)
     → ((disk : D) (image : List ℕ) → image_since disk (moment disk) image → image_now disk image)
-    → IfSome before (StandsForSaver (reads old) (image_now old)) → new ≡ old
+    → IfSome before (DiskMatchesSaver (reads old) (image_now old)) → new ≡ old
     → SavesInPart reads image_now moment image_since before old new [] []
 no_save_into_untouched_disk reads image_now moment image_since before old new only_now stands same =
     subst (λ disk. SavesInPart reads image_now moment image_since before old disk [] []) (sym same)
@@ -329,7 +333,7 @@ no_save_into_untouched_disk reads image_now moment image_since before old new on
     (no_save reads image_now moment image_since before old (only_now old) stands).saves)
 
 -- what broke off after saves
-pub broken_off_save_follows : StoresOpenToOne → {D : Type 0} (reads : D → Option (List ℕ)) (image_now : D → List ℕ → Type 0)
+pub broken_off_save_follows : StoresOpenToOneThing → {D : Type 0} (reads : D → Option (List ℕ)) (image_now : D → List ℕ → Type 0)
     (moment : D → ℕ) (image_since : D → ℕ → List ℕ → Type 0) (before between : Option SaverState)
     (cuts saved unfinished : List CutValue) (old mid new : D) → IfSome before (λ saver. AreHeaderSettings saver.settings)
     → ((disk : D) (bytes : List ℕ) → reads disk ≡ Some bytes → image_now disk bytes)
@@ -357,7 +361,7 @@ pub disk_without_save_is_unchanged : {D : Type 0} (reads : D → Option (List �
     → IsAsBeforeSaves reads image_now moment image_since old new
 disk_without_save_is_unchanged reads image_now moment image_since old new only_now same =
     subst (IsAsBeforeSaves reads image_now moment image_since old) (sym same)
-    (record { same_reads = refl; any_moment = Leaves-none moment image_since old (image_now old) (only_now old) })
+    (record { same_reads = refl; any_moment = CrashLeavesAtAnyMoment-none moment image_since old (image_now old) (only_now old) })
 
 -- the cuts saved after some reports and more
 pub session_saved_cuts-append_saves : (store : Bool) (opening : List ShardValue) (reports later : List Reported)

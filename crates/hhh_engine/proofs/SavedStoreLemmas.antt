@@ -5,18 +5,20 @@ use Rattle.std.specs.Prelude.{IsSomeAnd}
 use Rattle.std.proofs.lemmas.List.{length-append, length-map, map-append}
 use Rattle.std.proofs.lemmas.List.Elements.{All-head, All-map, All-tail}
 use Rattle.prefix_lattice.specs.{RecordValue}
-use Rattle.shard_state.specs.{AreCoreShards, CoreBasesRepresent, CutRepresents, CutValue, ShardValue, core_capacity, core_lists}
+use Rattle.shard_state.specs.{AreCoreShards, CoreBasesRepresent, CutRepresents, CutValue, ShardValue, core_capacity}
+use Rattle.shard_state.specs.{core_lists}
 use Rattle.shard_state.specs.{cut_positions}
 use Rattle.hhh_output.specs.{AreReportLines, IsSameReport, IsReportOf}
 use Rattle.hhh_output.specs.declared.report.Report.{Report}
 use Rattle.hhh_output.specs.declared.reports.Reported.{Reported}
 use Rattle.gate_workers.specs.{IsReportAtCall, cut_at_call}
-use Rattle.checkpoint.specs.{StoreBelongs, IsStoreOfLists, SavedValue, digest_of_lists, opened_store_sequence}
+use Rattle.checkpoint.specs.{StoreBelongs, IsStoreOfLists, SavedValue, digest_of_lists, store_sequence}
 use Rattle.checkpoint.specs.declared.settings.StoreSettings.{StoreSettings}
 use Rattle.command_words.specs.declared.settings.Settings.{Settings}
 use Rattle.report_text.specs.{report_text}
-use Rattle.hhh_engine.specs.Saves.{OpensAmongSaves, last_saved, saved_after, store_settings}
-use Rattle.hhh_engine.specs.Session.{AreSessionReports, IsShownInSession, SessionReports, session_calling_reports, session_ends, session_saved_cuts}
+use Rattle.hhh_engine.specs.Saves.{OpensAsBeforeOrToSaves, last_of_saves, saves_after, store_settings_for_saves}
+use Rattle.hhh_engine.specs.Session.{AreSessionReports, IsShownInSession, SessionReports}
+use Rattle.hhh_engine.specs.Session.{session_reports_of_calling_thread, session_ends, session_saved_cuts}
 use Rattle.hhh_engine.specs.Session.{session_saves}
 use Rattle.hhh_engine.proofs.LastReportLemmas.{LastReportTextIsUnique, last_report_is_among_all}
 use Rattle.hhh_engine.proofs.SeenPositionLemmas.{seen_positions_of_cut}
@@ -68,7 +70,7 @@ saved_store_sessions_end_alike one represent text opening other_opening settings
 pub saved_store_belongs : (settings : StoreSettings) (lists : List (List RecordValue)) (opened : Option SavedValue)
     (sequence : ℕ) (cuts : List CutValue) (image : List ℕ) → IsStoreOfLists settings lists opened
     → All (λ cut. CutRepresents cut lists) cuts
-    → OpensAmongSaves settings opened (saved_after sequence (digest_of_lists settings lists) cuts) image
+    → OpensAsBeforeOrToSaves settings opened (saves_after sequence (digest_of_lists settings lists) cuts) image
     → StoreBelongs settings lists image
 saved_store_belongs settings lists opened sequence [] image of_lists all opens = (opened, opens, of_lists)
 saved_store_belongs settings lists opened sequence (cut ∷ cuts) image of_lists all (inl opens) = (opened, opens, of_lists)
@@ -86,17 +88,17 @@ saved_store_cuts_represent represent opening settings reports shards bases shown
 
 pub saved_store_of_session_belongs : SavedStoreCutsRepresent → (opening : List ShardValue) (settings : Settings) (reports : List Reported)
     (opened : Option SavedValue) (image : List ℕ) → AreCoreShards opening → CoreBasesRepresent opening
-    → All (IsShownInSession opening settings) reports → IsStoreOfLists (store_settings settings) (core_lists opening) opened
-    → OpensAmongSaves (store_settings settings) opened (session_saves settings opening opened reports) image
-    → StoreBelongs (store_settings settings) (core_lists opening) image
+    → All (IsShownInSession opening settings) reports → IsStoreOfLists (store_settings_for_saves settings) (core_lists opening) opened
+    → OpensAsBeforeOrToSaves (store_settings_for_saves settings) opened (session_saves settings opening opened reports) image
+    → StoreBelongs (store_settings_for_saves settings) (core_lists opening) image
 saved_store_of_session_belongs represent opening settings reports opened image shards bases shown of_lists among =
-    saved_store_belongs (store_settings settings) (core_lists opening) opened (opened_store_sequence opened)
+    saved_store_belongs (store_settings_for_saves settings) (core_lists opening) opened (store_sequence opened)
     (session_saved_cuts true opening reports) image of_lists
     (saved_store_cuts_represent represent opening settings reports shards bases shown) among
 
 -- the last of some saves
 saved_store_holds_newest : (opened : Option SavedValue) (sequence : ℕ) (digest : List ℕ) (cuts : List CutValue) (cut : CutValue)
-    → last_saved opened (saved_after sequence digest (cuts ++ cut ∷ []))
+    → last_of_saves opened (saves_after sequence digest (cuts ++ cut ∷ []))
     ≡ Some (record { sequence = sequence + (length cuts + 1); digest = digest; cut = cut })
 saved_store_holds_newest opened sequence digest [] cut = refl
 saved_store_holds_newest opened sequence digest (first ∷ cuts) cut =
@@ -105,23 +107,23 @@ saved_store_holds_newest opened sequence digest (first ∷ cuts) cut =
 
 pub saved_store_stands_at_ends : (opening : List ShardValue) (settings : Settings) (reports : SessionReports)
     (opened : Option SavedValue) → AreSessionReports opening settings reports
-    → IsSomeAnd (last_saved opened (session_saves settings opening opened (session_calling_reports reports))) (λ saved.
-    (cut_positions saved.cut ≡ session_ends opening) × (saved.sequence ≡ opened_store_sequence opened + (settings.rounds + 1)))
+    → IsSomeAnd (last_of_saves opened (session_saves settings opening opened (session_reports_of_calling_thread reports))) (λ saved.
+    (cut_positions saved.cut ≡ session_ends opening) × (saved.sequence ≡ store_sequence opened + (settings.rounds + 1)))
 saved_store_stands_at_ends opening settings reports opened are =
     let f : Reported → CutValue = λ reported. cut_at_call opening reported.report.positions in
-    let digest : List ℕ = digest_of_lists (store_settings settings) (core_lists opening) in
+    let digest : List ℕ = digest_of_lists (store_settings_for_saves settings) (core_lists opening) in
     let first : IsShownInSession opening settings reports.last =
     last_report_is_among_all (IsShownInSession opening settings) reports.rounds reports.last are.calling.shown in
-    let parted : session_saved_cuts true opening (session_calling_reports reports) ≡ map f reports.rounds ++ f reports.last ∷ [] =
+    let parted : session_saved_cuts true opening (session_reports_of_calling_thread reports) ≡ map f reports.rounds ++ f reports.last ∷ [] =
     map-append f reports.rounds (reports.last ∷ []) in
     let many : length (map f reports.rounds) ≡ length reports.rounds = length-map reports.rounds f in
-    let all : length (session_calling_reports reports) ≡ settings.rounds + 1 = are.calling.as_many in
-    let last_one : length (session_calling_reports reports) ≡ length reports.rounds + 1 =
+    let all : length (session_reports_of_calling_thread reports) ≡ settings.rounds + 1 = are.calling.as_many in
+    let last_one : length (session_reports_of_calling_thread reports) ≡ length reports.rounds + 1 =
     length-append reports.rounds (reports.last ∷ []) in
     subst (λ held. IsSomeAnd held (λ (saved : SavedValue). (cut_positions saved.cut ≡ session_ends opening)
-    × (saved.sequence ≡ opened_store_sequence opened + (settings.rounds + 1))))
-    (sym (ap (λ cuts. last_saved opened (saved_after (opened_store_sequence opened) digest cuts)) parted
-    ∙ saved_store_holds_newest opened (opened_store_sequence opened) digest (map f reports.rounds) (f reports.last))) (
+    × (saved.sequence ≡ store_sequence opened + (settings.rounds + 1))))
+    (sym (ap (λ cuts. last_of_saves opened (saves_after (store_sequence opened) digest cuts)) parted
+    ∙ saved_store_holds_newest opened (store_sequence opened) digest (map f reports.rounds) (f reports.last))) (
       seen_positions_of_cut opening reports.last.report.positions first.is_report.as_many ∙ are.at_ends,
       omega (arith, many, all, last_one),
     )

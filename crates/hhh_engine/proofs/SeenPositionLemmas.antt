@@ -1,17 +1,19 @@
 -- What a view has seen after a round, and the positions that a saver may save then.
-use Rattle.std.proofs.Common.{◌≡◌, ◌∙◌, ◌≤◌, ◌<◌, ◌+◌, ℕ, zero, suc, List, [], ◌∷◌, Option, None, Some, refl, sym, ap, subst, arith}
+use Rattle.std.proofs.Common.{◌≡◌, ◌∙◌, ◌≤◌, ◌<◌, ◌+◌, ℕ, zero, suc, List, [], ◌∷◌, Option, None, Some, refl, sym, ap}
+use Rattle.std.proofs.Common.{subst, arith}
 use Rattle.std.proofs.Common.{length, map, fold, get_or, true}
 use Rattle.std.specs.Prelude.{IfSome, is_some, option_map, slice_index}
 use Rattle.std.specs.List.Sorted.{IsNonDecreasing}
 use Rattle.std.proofs.lemmas.List.{length-map}
-use Rattle.shard_state.specs.{AreCutPositionsNotPast, CutValue, HasCoreShape, ShardValue, core_capacity, cut_positions, snapshot_of_shard}
+use Rattle.shard_state.specs.{AreCutPositionsNotPast, CutValue, HasCoreShape, ShardValue, core_capacity, cut_positions}
+use Rattle.shard_state.specs.{snapshot_of_shard}
 use Rattle.hhh_output.specs.declared.report.Report.{Report}
 use Rattle.hhh_output.specs.declared.reports.Reported.{Reported}
 use Rattle.pass_tokens.specs.{ShardRead, after_reads, seen_in_view}
 use Rattle.gate_workers.specs.{Calls, Trail, View, cut_at_call, states_at_call}
-use Rattle.checkpoint.specs.{AreHeaderSettings, SaverState, StandsForSaver, last_body_sequence}
+use Rattle.checkpoint.specs.{AreHeaderSettings, SaverState, DiskMatchesSaver, greatest_body_sequence}
 use Rattle.hhh_engine.specs.DealtFeed.{DealtFeedCanSaveCut}
-use Rattle.hhh_engine.specs.Saves.{CanSave, SavesFitBoard, SavesInTurn, after_saves}
+use Rattle.hhh_engine.specs.Saves.{CanMakeSaves, SavesFitBoard, SavesInTurn, after_saves}
 use Rattle.hhh_engine.specs.Session.{session_saved_cuts}
 use Rattle.hhh_engine.proofs.RoundLemmas.{round_makes_report}
 use Rattle.hhh_engine.proofs.SaveLemmas.{saves_raise_sequence}
@@ -146,7 +148,7 @@ pub seen_positions_can_be_saved : (reads : Option (List ℕ)) (possible : List �
     (before now : View) (report : Report) (saver : Option SaverState) (cut : CutValue)
     → cut ≡ cut_at_call opening report.positions → length before.trails ≡ length opening
     → Calls opening phi 1 before now (record { report = report; saved = None } ∷ [])
-    → IfSome saver (CanSave reads possible opening before 1) → IfSome saver (DealtFeedCanSaveCut reads possible cut)
+    → IfSome saver (CanMakeSaves reads possible opening before 1) → IfSome saver (DealtFeedCanSaveCut reads possible cut)
 seen_positions_can_be_saved reads possible opening phi before now report None cut is trails calls can = tt
 seen_positions_can_be_saved reads possible opening phi before now report (Some saver) cut is trails calls can =
     let at = round_makes_report opening phi before now report calls in
@@ -169,7 +171,7 @@ pub seen_positions_fit_next_saver : (reads : Option (List ℕ)) (possible : List
     (before now : View) (report : Report) (saver next : Option SaverState) (cut : CutValue)
     → cut ≡ cut_at_call opening report.positions → length before.trails ≡ length opening
     → Calls opening phi 1 before now (record { report = report; saved = None } ∷ [])
-    → IfSome saver (CanSave reads possible opening before 1)
+    → IfSome saver (CanMakeSaves reads possible opening before 1)
     → next ≡ option_map (λ saver. after_saves saver (cut ∷ [])) saver → IfSome next (SavesFitBoard opening now)
 seen_positions_fit_next_saver reads possible opening phi before now report None next cut is trails calls can saved =
     subst (λ o. IfSome o (SavesFitBoard opening now)) (sym saved) tt
@@ -197,18 +199,18 @@ pub seen_positions_allow_more_saves : {D : Type 0} (reads : D → Option (List �
     (before saver : Option SaverState) (reports : List Reported) (old new : D) (made count rounds : ℕ)
     → length reports ≡ made → made + count ≤ rounds → IfSome saver (SavesFitBoard opening view)
     → SavesInTurn reads image_now moment image_since before saver old new (session_saved_cuts (is_some before) opening reports)
-    → IfSome before (λ saver. saver.sequence + rounds ≤ last_body_sequence)
-    → IfSome saver (CanSave (reads new) (image_now new) opening view count)
+    → IfSome before (λ saver. saver.sequence + rounds ≤ greatest_body_sequence)
+    → IfSome saver (CanMakeSaves (reads new) (image_now new) opening view count)
 seen_positions_allow_more_saves reads image_now moment image_since opening view None saver reports old new made count rounds many few fits
     saves early =
-    subst (λ o. IfSome o (CanSave (reads new) (image_now new) opening view count)) (sym saves.saver) tt
+    subst (λ o. IfSome o (CanMakeSaves (reads new) (image_now new) opening view count)) (sym saves.saver) tt
 seen_positions_allow_more_saves reads image_now moment image_since opening view (Some first) saver reports old new made count rounds many few
     fits saves early =
     let cuts : List CutValue = session_saved_cuts true opening reports in
     let now : SaverState = after_saves first cuts in
     let sequence : now.sequence ≡ first.sequence + length cuts = saves_raise_sequence first cuts in
     let as_many : length cuts ≡ length reports = seen_position_saved_count opening reports in
-    subst (λ o. IfSome o (CanSave (reads new) (image_now new) opening view count)) (sym saves.saver)
+    subst (λ o. IfSome o (CanMakeSaves (reads new) (image_now new) opening view count)) (sym saves.saver)
     (record {
       fits = subst (λ o. IfSome o (SavesFitBoard opening view)) saves.saver fits;
       stands = saves.saves.stands;
@@ -217,30 +219,30 @@ seen_positions_allow_more_saves reads image_now moment image_since opening view 
 
 -- what a saver that may save has
 pub seen_positions_fit_saver : (reads : Option (List ℕ)) (possible : List ℕ → Type 0) (opening : List ShardValue) (view : View)
-    (count : ℕ) (saver : Option SaverState) → IfSome saver (CanSave reads possible opening view count)
+    (count : ℕ) (saver : Option SaverState) → IfSome saver (CanMakeSaves reads possible opening view count)
     → IfSome saver (SavesFitBoard opening view)
 seen_positions_fit_saver reads possible opening view count None can = tt
 seen_positions_fit_saver reads possible opening view count (Some saver) can = can.fits
 
 pub seen_positions_saver_stands : (reads : Option (List ℕ)) (possible : List ℕ → Type 0) (opening : List ShardValue) (view : View)
-    (count : ℕ) (saver : Option SaverState) → IfSome saver (CanSave reads possible opening view count)
-    → IfSome saver (StandsForSaver reads possible)
+    (count : ℕ) (saver : Option SaverState) → IfSome saver (CanMakeSaves reads possible opening view count)
+    → IfSome saver (DiskMatchesSaver reads possible)
 seen_positions_saver_stands reads possible opening view count None can = tt
 seen_positions_saver_stands reads possible opening view count (Some saver) can = can.stands
 
 pub seen_positions_saver_is_early : (reads : Option (List ℕ)) (possible : List ℕ → Type 0) (opening : List ShardValue) (view : View)
-    (count : ℕ) (saver : Option SaverState) → IfSome saver (CanSave reads possible opening view count)
-    → IfSome saver (λ saver. saver.sequence + count ≤ last_body_sequence)
+    (count : ℕ) (saver : Option SaverState) → IfSome saver (CanMakeSaves reads possible opening view count)
+    → IfSome saver (λ saver. saver.sequence + count ≤ greatest_body_sequence)
 seen_positions_saver_is_early reads possible opening view count None can = tt
 seen_positions_saver_is_early reads possible opening view count (Some saver) can = can.early
 
 pub seen_positions_allowed_settings : (reads : Option (List ℕ)) (possible : List ℕ → Type 0) (opening : List ShardValue) (view : View)
-    (count : ℕ) (saver : Option SaverState) → IfSome saver (CanSave reads possible opening view count)
+    (count : ℕ) (saver : Option SaverState) → IfSome saver (CanMakeSaves reads possible opening view count)
     → IfSome saver (λ saver. AreHeaderSettings saver.settings)
 seen_positions_allowed_settings reads possible opening view count None can = tt
 seen_positions_allowed_settings reads possible opening view count (Some saver) can = can.fits.settings
 
 pub seen_positions_cut_saver_stands : (reads : Option (List ℕ)) (possible : List ℕ → Type 0) (cut : CutValue) (saver : Option SaverState)
-    → IfSome saver (DealtFeedCanSaveCut reads possible cut) → IfSome saver (StandsForSaver reads possible)
+    → IfSome saver (DealtFeedCanSaveCut reads possible cut) → IfSome saver (DiskMatchesSaver reads possible)
 seen_positions_cut_saver_stands reads possible cut None can = tt
 seen_positions_cut_saver_stands reads possible cut (Some saver) can = can.stands

@@ -3,7 +3,7 @@ use Rattle.std.proofs.Common.{◌≡◌, ◌∙◌, ◌≤◌, ◌<◌, ◌+◌,
 use Rattle.std.proofs.Common.{refl, sym, ap, ap₂, subst, arith, length, map, append_assoc, get_or}
 use Rattle.std.specs.Prelude.{codes, decimal, slice_index}
 use Rattle.std.specs.List.{join_with_byte}
-use Rattle.prefix_lattice.specs.{space}
+use Rattle.prefix_lattice.specs.{prefix_text_space}
 use Rattle.std.specs.List.Sorted.{IsNonDecreasing}
 use Rattle.std.specs.Io.KnownBytes.{Appends}
 use Rattle.std.proofs.KnownBytes.{Appends-nil, Appends-trans}
@@ -15,22 +15,26 @@ use Rattle.std.proofs.Common.{Bool}
 use Rattle.shard_state.specs.{CutValue, IsShard, ShardValue, shard_state_at}
 use Rattle.hhh_output.specs.declared.reports.Reported.{Reported}
 use Rattle.gate_workers.specs.{states_at_call}
-use Rattle.pass_tokens.specs.{WordsValue}
+use Rattle.pass_tokens.specs.{PositionWordsValue}
 use Rattle.command_words.specs.declared.settings.Settings.{Settings}
 use Rattle.report_text.specs.{report_mark_text, report_text}
 use Rattle.report_text.specs.declared.mark.Mark.TheVariants.{Opened}
-use Rattle.hhh_engine.specs.Answer.{Writes}
-use Rattle.hhh_engine.specs.DealtFeed.{IsDealtFeedResult, IsDealtFeedRest, DealtFeedStartsBeforeEnds, DealtFeedBreaksOffInRounds, dealt_feed_other_reports}
-use Rattle.hhh_engine.specs.Session.{AreSessionReportsOfCaller, AreSessionReports, BeginsSession, SessionBreaksOffAround, SessionBreaksOffInRounds}
-use Rattle.hhh_engine.specs.Session.{IsShownInSession, IsStrictSessionBeginning, SessionSaving, SpellsSession, session_after_saves, session_calling_reports}
-use Rattle.hhh_engine.specs.Session.{session_callers_text, session_ends, session_parts_text, session_saved_cuts, session_save_text, session_start}
+use Rattle.hhh_engine.specs.Answer.{WritesAnswer}
+use Rattle.hhh_engine.specs.DealtFeed.{IsDealtFeedResult, IsDealtFeedRest, DealtFeedStartsBeforeEnds}
+use Rattle.hhh_engine.specs.DealtFeed.{DealtFeedBreaksOffInRounds, dealt_feed_other_reports}
+use Rattle.hhh_engine.specs.Session.{AreSessionReportsOfCaller, AreSessionReports, BeginsSession}
+use Rattle.hhh_engine.specs.Session.{SessionBreaksOffAround, SessionBreaksOffInRounds}
+use Rattle.hhh_engine.specs.Session.{IsShownInSession, IsStrictSessionBeginning, SessionSaving, IsSessionOverShards}
+use Rattle.hhh_engine.specs.Session.{session_after_saves, session_reports_of_calling_thread}
+use Rattle.hhh_engine.specs.Session.{session_caller_parts, session_ends, session_parts, session_saved_cuts}
+use Rattle.hhh_engine.specs.Session.{session_save_line, session_start}
 use Rattle.hhh_engine.specs.declared.commands.feed.Fed.{Fed}
 use Rattle.hhh_engine.specs.declared.commands.session.Rest.{Rest}
 
 -- the first line was written in part
 pub session_text_breaks_in_line : (opening : List ShardValue) (settings : Settings) (Kept : SessionSaving) (tail line : List ℕ)
     (old new : Option (List ℕ)) → line ≡ report_mark_text Opened (session_start opening) → AppendsBeginning old new line → Kept [] []
-    → Writes (BeginsSession opening settings Kept tail) old new
+    → WritesAnswer (BeginsSession opening settings Kept tail) old new
 session_text_breaks_in_line opening settings Kept tail line old new is written kept = record {
   text = written.front;
   is_text = inl (subst (IsStrictSessionBeginning written.front) is (written.is_beginning, written.cut), kept);
@@ -40,7 +44,7 @@ session_text_breaks_in_line opening settings Kept tail line old new is written k
 -- the first line, and rounds in part
 pub session_text_breaks_in_rounds : (opening : List ShardValue) (settings : Settings) (Kept : SessionSaving) (tail line : List ℕ)
     (old between new : Option (List ℕ)) → line ≡ report_mark_text Opened (session_start opening) → Appends old between line
-    → DealtFeedBreaksOffInRounds opening settings Kept between new → Writes (BeginsSession opening settings Kept tail) old new
+    → DealtFeedBreaksOffInRounds opening settings Kept between new → WritesAnswer (BeginsSession opening settings Kept tail) old new
 session_text_breaks_in_rounds opening settings Kept tail line old between new is first part = record {
   text = line ++ part.front;
   is_text = inr (inl (part.front, part.breaks_off, ap (λ first. first ++ part.front) is));
@@ -48,14 +52,14 @@ session_text_breaks_in_rounds opening settings Kept tail line old between new is
 }
 
 -- rounds that were made whole, as rounds in part
-pub session_text_of_fed_rounds : (board : WordsValue) (settings : Settings) (Kept : List CutValue → Type 0) (KeptInPart : SessionSaving)
+pub session_text_of_fed_rounds : (board : PositionWordsValue) (settings : Settings) (Kept : List CutValue → Type 0) (KeptInPart : SessionSaving)
     (old new : Option (List ℕ)) (fed : Fed) → ((cuts : List CutValue) → Kept cuts → KeptInPart cuts [])
     → IsDealtFeedResult board settings Kept old new fed → DealtFeedBreaksOffInRounds board.opening settings KeptInPart old new
 session_text_of_fed_rounds board settings Kept KeptInPart old new fed part is =
     let gathered = is.gathered in
     let many : length gathered.rounds ≡ settings.rounds = gathered.are_rounds.as_many in
     record {
-      front = session_parts_text settings.store gathered.rounds;
+      front = session_parts settings.store gathered.rounds;
       breaks_off = inl (record {
         rounds = gathered.rounds;
         few = omega (arith, many);
@@ -113,16 +117,16 @@ session_text_with_last opening settings count reports last starts are shown ends
 -- a session of which less is said
 pub spelled_session_text_says_less : (opening : List ShardValue) (settings : Settings) (Kept Less : List CutValue → Type 0)
     (tail text : List ℕ) → ((cuts : List CutValue) → Kept cuts → Less cuts)
-    → SpellsSession opening settings Kept tail text → SpellsSession opening settings Less tail text
+    → IsSessionOverShards opening settings Kept tail text → IsSessionOverShards opening settings Less tail text
 spelled_session_text_says_less opening settings Kept Less tail text less session = record {
   reports = session.reports;
   are_reports = session.are_reports;
   spelled = session.spelled;
-  kept = less (session_saved_cuts settings.store opening (session_calling_reports session.reports)) session.kept;
+  kept = less (session_saved_cuts settings.store opening (session_reports_of_calling_thread session.reports)) session.kept;
 }
 
 -- the reports of a whole session
-session_text_of_all_reports : (board : WordsValue) (settings : Settings) (Fed_kept : List CutValue → Type 0) (tail : List ℕ)
+session_text_of_all_reports : (board : PositionWordsValue) (settings : Settings) (Fed_kept : List CutValue → Type 0) (tail : List ℕ)
     (old new : Option (List ℕ)) (fed : Fed) (rest : Rest) → DealtFeedStartsBeforeEnds board.opening
     → (is : IsDealtFeedResult board settings Fed_kept old new fed) → (end : IsDealtFeedRest board settings fed.gathered.called.items tail rest)
     → AreSessionReports board.opening settings
@@ -136,18 +140,18 @@ session_text_of_all_reports board settings Fed_kept tail old new fed rest starts
 }
 
 -- a whole session
-pub session_text_is_spelled : (board : WordsValue) (settings : Settings) (Fed_kept Kept : List CutValue → Type 0)
+pub session_text_is_spelled : (board : PositionWordsValue) (settings : Settings) (Fed_kept Kept : List CutValue → Type 0)
     (tail line : List ℕ) (old new : Option (List ℕ)) (fed : Fed) (rest : Rest)
     → DealtFeedStartsBeforeEnds board.opening → line ≡ report_mark_text Opened (session_start board.opening)
     → (is : IsDealtFeedResult board settings Fed_kept old new fed) → (end : IsDealtFeedRest board settings fed.gathered.called.items tail rest)
     → Kept (session_saved_cuts settings.store board.opening (is.gathered.rounds ++ end.last ∷ []))
-    → SpellsSession board.opening settings Kept tail
-    (line ++ (session_parts_text settings.store is.gathered.rounds ++ (rest.front.items ++ rest.back.items)))
+    → IsSessionOverShards board.opening settings Kept tail
+    (line ++ (session_parts settings.store is.gathered.rounds ++ (rest.front.items ++ rest.back.items)))
 session_text_is_spelled board settings Fed_kept Kept tail line old new fed rest starts is_line is end kept =
     let store : Bool = settings.store in
-    let callers : List ℕ = session_callers_text (dealt_feed_other_reports fed.gathered.called.items) in
+    let callers : List ℕ = session_caller_parts (dealt_feed_other_reports fed.gathered.called.items) in
     let report : List ℕ = report_text end.last.report in
-    let saved : List ℕ = session_save_text store end.last.report.positions in
+    let saved : List ℕ = session_save_line store end.last.report.positions in
     let texts : rest.front.items ++ rest.back.items ≡ callers ++ ((report ++ saved) ++ tail) =
     ap₂ (λ a b. a ++ b) end.front_is end.back_is ∙ append_assoc callers report (saved ++ tail)
     ∙ ap (λ t. callers ++ t) (sym (append_assoc report saved tail)) in
@@ -158,16 +162,16 @@ session_text_is_spelled board settings Fed_kept Kept tail line old new fed rest 
         last = end.last;
       };
       are_reports = session_text_of_all_reports board settings Fed_kept tail old new fed rest starts is end;
-      spelled = ap₂ (λ a b. a ++ (session_parts_text store is.gathered.rounds ++ b)) is_line texts;
+      spelled = ap₂ (λ a b. a ++ (session_parts store is.gathered.rounds ++ b)) is_line texts;
       kept = kept;
     }
 
 -- the whole session was written
 pub session_text_is_written : (opening : List ShardValue) (settings : Settings) (Kept : List CutValue → Type 0)
     (tail line rounds rest : List ℕ) (old first second new : Option (List ℕ))
-    → SpellsSession opening settings Kept tail (line ++ (rounds ++ rest))
+    → IsSessionOverShards opening settings Kept tail (line ++ (rounds ++ rest))
     → Appends old first line → Appends first second rounds → Appends second new rest
-    → Writes (SpellsSession opening settings Kept tail) old new
+    → WritesAnswer (IsSessionOverShards opening settings Kept tail) old new
 session_text_is_written opening settings Kept tail line rounds rest old first second new spelled one two three = record {
   text = line ++ (rounds ++ rest);
   is_text = spelled;
@@ -196,17 +200,17 @@ SessionTextFollowsSaves store opening rounds last cut Rest Kept =
     × (Rest (cut ∷ []) [] → session_after_saves store opening rounds Kept (session_saved_cuts store opening (last ∷ [])) [])
 
 -- the session was written but for a part of its rest
-pub session_text_breaks_in_rest : (board : WordsValue) (settings : Settings) (Fed_kept : List CutValue → Type 0)
+pub session_text_breaks_in_rest : (board : PositionWordsValue) (settings : Settings) (Fed_kept : List CutValue → Type 0)
     (KeptInRest KeptInPart : SessionSaving) (tail line : List ℕ) (old first second new : Option (List ℕ)) (fed : Fed)
     (rest : Rest) → DealtFeedStartsBeforeEnds board.opening → line ≡ report_mark_text Opened (session_start board.opening)
     → (is : IsDealtFeedResult board settings Fed_kept first second fed)
     → (end : IsDealtFeedRest board settings fed.gathered.called.items tail rest) → Appends old first line
     → SessionTextFollowsSaves settings.store board.opening is.gathered.rounds end.last rest.cut KeptInRest KeptInPart
-    → Writes (SessionBreaksOffAround rest.front.items rest.back.items (rest.cut ∷ []) KeptInRest) second new
-    → Writes (BeginsSession board.opening settings KeptInPart tail) old new
+    → WritesAnswer (SessionBreaksOffAround rest.front.items rest.back.items (rest.cut ∷ []) KeptInRest) second new
+    → WritesAnswer (BeginsSession board.opening settings KeptInPart tail) old new
 session_text_breaks_in_rest board settings Fed_kept KeptInRest KeptInPart tail line old first second new fed rest starts is_line is
     end one kept part =
-    let rounds : List ℕ = session_parts_text settings.store is.gathered.rounds in
+    let rounds : List ℕ = session_parts settings.store is.gathered.rounds in
     record {
       text = line ++ (rounds ++ part.text);
       is_text = inr (inr (record {
@@ -218,8 +222,8 @@ session_text_breaks_in_rest board settings Fed_kept KeptInRest KeptInPart tail l
         are_reports = session_text_of_all_reports board settings Fed_kept tail first second fed rest starts is end;
         more = part.text;
         breaks_off = session_text_around_save rest.front.items rest.back.items
-            (session_callers_text (dealt_feed_other_reports fed.gathered.called.items) ++ report_text end.last.report)
-            (session_save_text settings.store end.last.report.positions ++ tail) (rest.cut ∷ [])
+            (session_caller_parts (dealt_feed_other_reports fed.gathered.called.items) ++ report_text end.last.report)
+            (session_save_line settings.store end.last.report.positions ++ tail) (rest.cut ∷ [])
             (session_saved_cuts settings.store board.opening (end.last ∷ [])) KeptInRest
             (session_after_saves settings.store board.opening is.gathered.rounds KeptInPart) part.text end.front_is end.back_is
             kept.0 kept.1 kept.2 part.is_text;
@@ -279,7 +283,7 @@ session_text_rounds_say_less opening settings Kept Less front less (inr within) 
   are_reports = within.are_reports;
   more = within.more;
   breaks_off = session_text_around_says_less opening settings Kept Less (length within.rounds + 1) within.rounds within.next
-      (report_text within.next.report) (session_save_text settings.store within.next.report.positions) within.more less
+      (report_text within.next.report) (session_save_line settings.store within.next.report.positions) within.more less
       within.are_reports within.breaks_off;
   written = within.written;
 })
@@ -295,8 +299,8 @@ session_text_begins_saying_less opening settings Kept Less tail front less (inr 
   are_reports = later.are_reports;
   more = later.more;
   breaks_off = session_text_around_says_less opening settings Kept Less (settings.rounds + 1) later.reports.rounds later.reports.last
-      (session_callers_text later.reports.callers ++ report_text later.reports.last.report)
-      (session_save_text settings.store later.reports.last.report.positions ++ tail) later.more less
+      (session_caller_parts later.reports.callers ++ report_text later.reports.last.report)
+      (session_save_line settings.store later.reports.last.report.positions ++ tail) later.more less
       later.are_reports.calling later.breaks_off;
   written = later.written;
 }))
@@ -313,11 +317,11 @@ pub session_text_whatever_was_saved : (opening : List ShardValue) (settings : Se
 session_text_whatever_was_saved opening settings Said tail front (inl (short, said)) = said
 session_text_whatever_was_saved opening settings Said tail front (inr (inl (more, inl between, parted))) = between.kept
 session_text_whatever_was_saved opening settings Said tail front (inr (inl (more, inr within, parted))) =
-    session_text_around_any_saves (report_text within.next.report) (session_save_text settings.store within.next.report.positions)
+    session_text_around_any_saves (report_text within.next.report) (session_save_line settings.store within.next.report.positions)
     (session_saved_cuts settings.store opening (within.next ∷ [])) Said within.more within.breaks_off
 session_text_whatever_was_saved opening settings Said tail front (inr (inr later)) =
-    session_text_around_any_saves (session_callers_text later.reports.callers ++ report_text later.reports.last.report)
-    (session_save_text settings.store later.reports.last.report.positions ++ tail)
+    session_text_around_any_saves (session_caller_parts later.reports.callers ++ report_text later.reports.last.report)
+    (session_save_line settings.store later.reports.last.report.positions ++ tail)
     (session_saved_cuts settings.store opening (later.reports.last ∷ [])) Said later.more later.breaks_off
 
 -- where less is said of any cuts
@@ -338,11 +342,11 @@ session_text_begins_weaker opening settings Kept Less tail front less =
 -- the first line of a session isn't empty
 session_text_line_is_some : (positions : List ℕ) → 0 < length (report_mark_text Opened positions)
 session_text_line_is_some positions =
-    omega (arith, length-append (join_with_byte space (codes "opened" ∷ map decimal positions)) (codes "\n"))
+    omega (arith, length-append (join_with_byte prefix_text_space (codes "opened" ∷ map decimal positions)) (codes "\n"))
 
 -- no byte was written
 pub session_text_without_a_byte : (opening : List ShardValue) (settings : Settings) (Kept : SessionSaving) (tail : List ℕ)
-    (old new : Option (List ℕ)) → new ≡ old → Kept [] [] → Writes (BeginsSession opening settings Kept tail) old new
+    (old new : Option (List ℕ)) → new ≡ old → Kept [] [] → WritesAnswer (BeginsSession opening settings Kept tail) old new
 session_text_without_a_byte opening settings Kept tail old new same kept = record {
   text = [];
   is_text = inl (((report_mark_text Opened (session_start opening), refl), session_text_line_is_some (session_start opening)), kept);

@@ -1,7 +1,8 @@
 -- The reports of a session, by what threads did.
 use Rattle.std.proofs.Common.{Bool, true, false, ⊎_elim}
 use Rattle.std.proofs.Common.{◌≡◌, ◌∙◌, ◌≤◌, ◌<◌, ◌+◌, ◌⊎◌, inl, inr, ℕ, List, [], ◌∷◌, ◌++◌, Option, None, Some}
-use Rattle.std.proofs.Common.{Ok, Err, All, refl, sym, ap, ap₂, subst, arith, length, map, append-nil, get_or, take, zero, suc, slice_get}
+use Rattle.std.proofs.Common.{Ok, Err, All, refl, sym, ap, ap₂, subst, arith, length, map, append-nil, get_or, take}
+use Rattle.std.proofs.Common.{zero, suc, slice_get}
 use Rattle.std.specs.Prelude.{slice_index}
 use Rattle.std.specs.Result.{IfErr, IfOk, OnErr, OnOk}
 use Rattle.std.specs.List.Sorted.{IsNonDecreasing}
@@ -11,27 +12,32 @@ use Rattle.std.proofs.KnownBytes.{Appends-trans, Appends-nil}
 use Rattle.std.proofs.lemmas.List.{length-map, take_more}
 use Rattle.std.proofs.lemmas.List.Elements.{All-map, All-append, All-cons, All-head, All-nil, All-tail}
 use Rattle.std.proofs.lemmas.List.Sorted.{IsNonDecreasingBy-short}
-use Rattle.shard_state.specs.{CoreBasesRepresent, CutValue, IsShard, ShardValue, core_capacity, core_lists, shard_state_at}
+use Rattle.shard_state.specs.{CoreBasesRepresent, CutValue, IsShard, ShardValue, core_capacity, core_lists}
+use Rattle.shard_state.specs.{shard_state_at}
 use Rattle.hhh_output.specs.{IsSound}
 use Rattle.hhh_output.specs.declared.report.Report.{Report}
 use Rattle.hhh_output.specs.declared.reports.Reported.{Reported}
 use Rattle.pass_tokens.specs.{first_view, newcomer_view, seen_in_view, view as view_of}
-use Rattle.gate_workers.specs.{AreGatheredSound, Calls, Gathers, GathersOnce, HasFeedSeenEnds, View, states_at_call}
+use Rattle.gate_workers.specs.{AreSoundThreadReports, Calls, ThreadsBringBack, CallingThreadMakesRounds}
+use Rattle.gate_workers.specs.{FeedHasSeenEnds, View, states_at_call}
 use Rattle.gate_workers.specs.declared.gathered.Called.{Called}
 use Rattle.gate_workers.specs.declared.gathered.Gathered.{Gathered}
 use Rattle.gate_workers.specs.declared.plan.ThreadPlan.{ThreadPlan}
 use Rattle.command_words.specs.declared.settings.Settings.{Settings}
 use Rattle.report_text.specs.{report_text}
 use Rattle.hhh_engine.specs.DealtFeed.{DealtFeedBreaksOffInRounds, dealt_feed_other_reports}
-use Rattle.hhh_engine.specs.Rounds.{RoundsBreakOff, EndRounds, RoundFaults, IsRoundInVain, RoundReportsOnce, RoundBreaksInLine}
+use Rattle.hhh_engine.specs.Rounds.{RoundsBreakOff, EndRounds, RoundFaults, IsRoundInVain, RoundReportsOnce}
+use Rattle.hhh_engine.specs.Rounds.{RoundBreaksInLine}
 use Rattle.hhh_engine.specs.Rounds.{RoundBreaksInReport, WritesRounds, WritesUnsavedRound}
-use Rattle.hhh_engine.specs.Session.{AreSessionReportsOfCaller, SessionBreaksOffAround, IsShownInSession, SessionSaving, session_after_saves, session_callers_text, session_ends}
-use Rattle.hhh_engine.specs.Session.{session_part_text, session_parts_text, session_saved_cuts, session_save_text, session_start}
+use Rattle.hhh_engine.specs.Session.{AreSessionReportsOfCaller, SessionBreaksOffAround, IsShownInSession, SessionSaving}
+use Rattle.hhh_engine.specs.Session.{session_after_saves, session_caller_parts, session_ends}
+use Rattle.hhh_engine.specs.Session.{session_part, session_parts, session_saved_cuts, session_save_line, session_start}
 use Rattle.hhh_engine.specs.declared.status.Status.{Status}
 use Rattle.hhh_engine.specs.declared.status.Status.TheVariants.{Done, BadWords, BadCapture, ReadFault, WriteFault}
 use Rattle.hhh_engine.specs.declared.status.Status.TheVariants.{DiskFault, NotFormatted, Damaged, OtherSettings}
 use Rattle.hhh_engine.specs.declared.status.Status.TheVariants.{OtherCapture, AuditNo, BadReport, OutOfMemory}
-use Rattle.hhh_engine.proofs.RoundLemmas.{RoundsFollowRounds, flat_map-append_rounds, round_makes_report, session_saved_cuts-no_rounds}
+use Rattle.hhh_engine.proofs.RoundLemmas.{RoundsFollowRounds, flat_map-append_rounds, round_makes_report}
+use Rattle.hhh_engine.proofs.RoundLemmas.{session_saved_cuts-no_rounds}
 use Rattle.hhh_engine.proofs.SeenPositionLemmas.{seen_position_report_count, seen_position_before_one_read}
 
 -- a view has seen the positions at which shards start, and no others
@@ -54,7 +60,7 @@ new_session_thread_sees_starts opening view seen = map-map_of_session_threads _ 
 -- what a caller with such a view reports in its rounds
 pub session_thread_reports_of_calls : (opening : List ShardValue) (settings : Settings) (rounds : ℕ) (before now : View)
     (reports : List Reported) → core_capacity opening ≡ settings.capacity → HasSessionThreadSeenStarts opening before
-    → Calls opening settings.phi rounds before now reports → (CoreBasesRepresent opening → AreGatheredSound opening settings.phi reports)
+    → Calls opening settings.phi rounds before now reports → (CoreBasesRepresent opening → AreSoundThreadReports opening settings.phi reports)
     → AreSessionReportsOfCaller opening settings rounds reports
 session_thread_reports_of_calls opening settings rounds before now reports alike seen calls sound = record {
   as_many = seen_position_report_count opening settings.phi rounds before now reports calls;
@@ -64,7 +70,7 @@ session_thread_reports_of_calls opening settings rounds before now reports alike
         subst (λ capacity. IsSound (get_or reports k d).report (core_lists opening) capacity settings.phi) alike
         (sound bases k d lt);
   };
-  never_fall = λ shard session_thread_index_is_inside.
+  never_fall = λ shard inside.
       let many : length (session_start opening) ≡ length opening = length-map opening _ in
       let read : List ℕ = map (λ reads. slice_index (map (λ read. read.position) reads) shard) calls.reads in
       let same : map (λ (reported : Reported). slice_index reported.report.positions shard) reports ≡ read =
@@ -72,7 +78,7 @@ session_thread_reports_of_calls opening settings rounds before now reports alike
       ∙ ap (map (λ ps. slice_index ps shard)) calls.positions ∙ map-map_of_session_threads _ (λ ps. slice_index ps shard) calls.reads in
       subst (λ ps. IsNonDecreasing (slice_index (session_start opening) shard ∷ ps)) (sym same)
       (subst (λ positions. IsNonDecreasing (slice_index positions shard ∷ read)) seen
-      (calls.never_fall shard (omega (arith, session_thread_index_is_inside, many))));
+      (calls.never_fall shard (omega (arith, inside, many))));
 }
 
 -- whole rounds, and one more that broke off
@@ -80,10 +86,10 @@ session_thread_breaks_in_round : (opening : List ShardValue) (settings : Setting
     (old between new : Option (List ℕ)) (reports : List Reported) (report : Report) (more : List ℕ)
     → core_capacity opening ≡ settings.capacity → HasSessionThreadSeenStarts opening before → RoundsFollowRounds opening before
     → whole < settings.rounds → Calls opening settings.phi whole before middle reports
-    → (CoreBasesRepresent opening → AreGatheredSound opening settings.phi reports)
-    → Appends old between (session_parts_text settings.store reports)
+    → (CoreBasesRepresent opening → AreSoundThreadReports opening settings.phi reports)
+    → Appends old between (session_parts settings.store reports)
     → RoundReportsOnce opening settings.phi middle now report
-    → SessionBreaksOffAround (report_text report) (session_save_text settings.store report.positions)
+    → SessionBreaksOffAround (report_text report) (session_save_line settings.store report.positions)
     (session_saved_cuts settings.store opening (record { report = report; saved = None } ∷ []))
     (session_after_saves settings.store opening reports Kept) more
     → Appends between new more → DealtFeedBreaksOffInRounds opening settings Kept old new
@@ -93,7 +99,7 @@ session_thread_breaks_in_round opening settings whole before middle now Kept old
     let all : List Reported = reports ++ next ∷ [] in
     let calls : Calls opening settings.phi (whole + 1) before now all =
     follow settings.phi whole 1 middle now reports (next ∷ []) made once.calls in
-    let are_sound : CoreBasesRepresent opening → AreGatheredSound opening settings.phi all =
+    let are_sound : CoreBasesRepresent opening → AreSoundThreadReports opening settings.phi all =
     λ bases.
     All-append (λ (reported : Reported). IsSound reported.report (core_lists opening) (core_capacity opening) settings.phi)
     reports (next ∷ []) (sound bases)
@@ -104,7 +110,7 @@ session_thread_breaks_in_round opening settings whole before middle now Kept old
     session_thread_reports_of_calls opening settings (whole + 1) before now all alike seen calls are_sound in
     let many : length reports ≡ whole = seen_position_report_count opening settings.phi whole before middle reports made in
     record {
-      front = session_parts_text settings.store reports ++ more;
+      front = session_parts settings.store reports ++ more;
       breaks_off = inr (record {
         rounds = reports;
         next = next;
@@ -114,7 +120,7 @@ session_thread_breaks_in_round opening settings whole before middle now Kept old
         breaks_off = breaks_off;
         written = refl;
       });
-      written = Appends-trans old between new (session_parts_text settings.store reports) more written appended;
+      written = Appends-trans old between new (session_parts settings.store reports) more written appended;
     }
 
 -- whole rounds, and nothing more
@@ -122,15 +128,15 @@ session_thread_between_rounds : (opening : List ShardValue) (settings : Settings
     (old between new : Option (List ℕ)) (reports : List Reported)
     → core_capacity opening ≡ settings.capacity → HasSessionThreadSeenStarts opening before
     → whole ≤ settings.rounds → Calls opening settings.phi whole before middle reports
-    → (CoreBasesRepresent opening → AreGatheredSound opening settings.phi reports)
-    → Appends old between (session_parts_text settings.store reports) → new ≡ between
+    → (CoreBasesRepresent opening → AreSoundThreadReports opening settings.phi reports)
+    → Appends old between (session_parts settings.store reports) → new ≡ between
     → Kept (session_saved_cuts settings.store opening reports) [] → DealtFeedBreaksOffInRounds opening settings Kept old new
 session_thread_between_rounds opening settings whole before middle Kept old between new reports alike seen few made sound written same
     kept =
     let are : AreSessionReportsOfCaller opening settings whole reports =
     session_thread_reports_of_calls opening settings whole before middle reports alike seen made sound in
     record {
-      front = session_parts_text settings.store reports;
+      front = session_parts settings.store reports;
       breaks_off = inl (record {
         rounds = reports;
         few = omega (arith, few, are.as_many);
@@ -138,7 +144,7 @@ session_thread_between_rounds opening settings whole before middle Kept old betw
         written = refl;
         kept = kept;
       });
-      written = subst (λ o. Appends old o (session_parts_text settings.store reports)) (sym same) written;
+      written = subst (λ o. Appends old o (session_parts settings.store reports)) (sym same) written;
     }
 
 -- whole rounds, and a report whose cut wasn't saved
@@ -149,7 +155,7 @@ session_thread_unsaved_round : (opening : List ShardValue) (settings : Settings)
     status)
     → (unsaved : WritesUnsavedRound opening settings.phi off.middle now unfinished
     (session_after_saves settings.store opening off.written.reports Kept) off.between new)
-    → SessionBreaksOffAround (report_text unsaved.report) (session_save_text settings.store unsaved.report.positions)
+    → SessionBreaksOffAround (report_text unsaved.report) (session_save_line settings.store unsaved.report.positions)
     (session_saved_cuts settings.store opening (record { report = unsaved.report; saved = None } ∷ []))
     (session_after_saves settings.store opening off.written.reports Kept) (report_text unsaved.report)
     → DealtFeedBreaksOffInRounds opening settings Kept old new
@@ -252,7 +258,7 @@ session_thread_without_round opening settings Kept old new same kept = record {
     are_reports = record {
       as_many = refl;
       shown = All-nil (IsShownInSession opening settings);
-      never_fall = λ shard session_thread_index_is_inside. IsNonDecreasingBy-short (λ x. x) (slice_index (session_start opening) shard ∷ []) (omega arith);
+      never_fall = λ shard inside. IsNonDecreasingBy-short (λ x. x) (slice_index (session_start opening) shard ∷ []) (omega arith);
     };
     written = refl;
     kept = subst (λ cuts. Kept cuts []) (sym (session_saved_cuts-no_rounds settings.store opening)) kept;
@@ -272,7 +278,7 @@ pub session_threads_leave_rounds : (same : Type 0) (relates : View → View → 
     → length before.trails ≡ length opening → Calls opening phi rounds before middle reports
     → Calls opening phi more middle now later → Calls opening phi (rounds + more) before now (reports ++ later))
     → ((cuts : List CutValue) → Kept cuts → KeptInPart cuts [])
-    → (same → (new ≡ old) × KeptInPart [] []) → same ⊎ GathersOnce relates passes view
+    → (same → (new ≡ old) × KeptInPart [] []) → same ⊎ CallingThreadMakesRounds relates passes view
     → DealtFeedBreaksOffInRounds opening settings KeptInPart old new
 session_threads_leave_rounds same relates opening settings passes view Kept KeptInPart old new faults_before faults_now stop first alike
     ends follow part unmoved (inl is_same) =
@@ -295,9 +301,9 @@ session_threads_leave_rounds same relates opening settings passes view Kept Kept
 -- either the threads were run, or memory ran out before
 pub session_threads_ran_or_not : {E : Type 0} (same : Type 0) (relates : View → View → Type 0) (opening : List ShardValue)
     (plan : ThreadPlan) (view : View) (result : Result Gathered E)
-    → IfOk result (Gathers opening plan relates view)
-    → OnErr result (same ⊎ GathersOnce relates (plan.workers + plan.callers) view)
-    → same ⊎ GathersOnce relates (plan.workers + plan.callers) view
+    → IfOk result (ThreadsBringBack opening plan relates view)
+    → OnErr result (same ⊎ CallingThreadMakesRounds relates (plan.workers + plan.callers) view)
+    → same ⊎ CallingThreadMakesRounds relates (plan.workers + plan.callers) view
 session_threads_ran_or_not same relates opening plan view (Ok gathered) gathers memory = inr gathers.rounds
 session_threads_ran_or_not same relates opening plan view (Err error) gathers memory = memory
 
@@ -336,10 +342,10 @@ pub session_threads_gathered_all : (relates : View → View → Type 0) (opening
     → plan.phi ≡ settings.phi → plan.rounds ≡ settings.rounds → plan.callers ≡ settings.callers
     → ((before now : View) → relates before now
     → WritesRounds before.opening settings.phi settings.rounds before now settings.store Kept old new)
-    → Gathers opening plan relates view gathered
-    → (CoreBasesRepresent opening → All (λ (called : Called). AreGatheredSound opening plan.phi called.reports) gathered.called.items)
+    → ThreadsBringBack opening plan relates view gathered
+    → (CoreBasesRepresent opening → All (λ (called : Called). AreSoundThreadReports opening plan.phi called.reports) gathered.called.items)
     → (rounds : List Reported) × AreSessionReportsOfCaller opening settings settings.rounds rounds
-    × Appends old new (session_parts_text settings.store rounds) × (length gathered.called.items ≡ settings.callers)
+    × Appends old new (session_parts settings.store rounds) × (length gathered.called.items ≡ settings.callers)
     × All (AreSessionReportsOfCaller opening settings settings.rounds) (dealt_feed_other_reports gathered.called.items)
     × Kept (session_saved_cuts settings.store opening rounds)
 session_threads_gathered_all relates opening settings plan view gathered Kept old new first alike phi rounds callers ends gathers
@@ -364,20 +370,20 @@ session_threads_gathered_all relates opening settings plan view gathered Kept ol
           (subst (λ n. Calls opening settings.phi n (newcomer_view view) (view_of called.pass) called.reports) rounds
           (subst (λ n. Calls opening n plan.rounds (newcomer_view view) (view_of called.pass) called.reports) phi
           (gathers.called k d lt)))
-          (λ bases. subst (λ n. AreGatheredSound opening n called.reports) phi (sound bases k d lt))),
+          (λ bases. subst (λ n. AreSoundThreadReports opening n called.reports) phi (sound bases k d lt))),
       whole.kept,
     )
 
 -- one report more of a caller, none of whose cuts is saved
 pub session_thread_adds_report : (reports : List Reported) (index : ℕ) (d : Reported) → index < length reports
-    → session_parts_text false (take (index + 1) reports)
-    ≡ session_parts_text false (take index reports) ++ report_text (get_or reports index d).report
-session_thread_adds_report reports index d session_thread_index_is_inside =
+    → session_parts false (take (index + 1) reports)
+    ≡ session_parts false (take index reports) ++ report_text (get_or reports index d).report
+session_thread_adds_report reports index d inside =
     let reported : Reported = get_or reports index d in
-    ap (session_parts_text false) (take_more reports index d session_thread_index_is_inside)
-    ∙ flat_map-append_rounds (session_part_text false) (take index reports) (reported ∷ [])
-    ∙ ap (λ rest. session_parts_text false (take index reports) ++ rest)
-    (append-nil (session_part_text false reported) ∙ append-nil (report_text reported.report))
+    ap (session_parts false) (take_more reports index d inside)
+    ∙ flat_map-append_rounds (session_part false) (take index reports) (reported ∷ [])
+    ∙ ap (λ rest. session_parts false (take index reports) ++ rest)
+    (append-nil (session_part false reported) ∙ append-nil (report_text reported.report))
 
 -- the reports of one of several callers
 pub session_thread_caller_at_index : (called : List Called) (index : ℕ) (d : Called)
@@ -388,15 +394,15 @@ session_thread_caller_at_index (first ∷ rest) (suc index) d = session_thread_c
 
 -- one caller's reports more
 pub session_thread_adds_caller : (called : List Called) (index : ℕ) (d : Called) → index < length called
-    → session_callers_text (take (index + 1) (dealt_feed_other_reports called))
-    ≡ session_callers_text (take index (dealt_feed_other_reports called)) ++ session_parts_text false (get_or called index d).reports
-session_thread_adds_caller called index d session_thread_index_is_inside =
+    → session_caller_parts (take (index + 1) (dealt_feed_other_reports called))
+    ≡ session_caller_parts (take index (dealt_feed_other_reports called)) ++ session_parts false (get_or called index d).reports
+session_thread_adds_caller called index d inside =
     let callers : List (List Reported) = dealt_feed_other_reports called in
-    let within : index < length callers = omega (arith, session_thread_index_is_inside, length-map called (λ (caller : Called). caller.reports)) in
-    ap session_callers_text (take_more callers index d.reports within)
-    ∙ flat_map-append_rounds (session_parts_text false) (take index callers) (get_or callers index d.reports ∷ [])
-    ∙ ap (λ rest. session_callers_text (take index callers) ++ rest)
-    (append-nil (session_parts_text false (get_or callers index d.reports)) ∙ ap (session_parts_text false) (session_thread_caller_at_index called index d))
+    let within : index < length callers = omega (arith, inside, length-map called (λ (caller : Called). caller.reports)) in
+    ap session_caller_parts (take_more callers index d.reports within)
+    ∙ flat_map-append_rounds (session_parts false) (take index callers) (get_or callers index d.reports ∷ [])
+    ∙ ap (λ rest. session_caller_parts (take index callers) ++ rest)
+    (append-nil (session_parts false (get_or callers index d.reports)) ∙ ap (session_parts false) (session_thread_caller_at_index called index d))
 
 session_thread_index_is_inside : {A : Type 0} (xs : List A) (index : ℕ) (x : A) → slice_get xs index ≡ Some x → index < length xs
 session_thread_index_is_inside [] index x is = cc is
@@ -424,7 +430,7 @@ session_thread_positions_at_ends (shard ∷ rest) (position ∷ positions) many 
 
 -- a report that was read after the ends of all lists were seen is that over all records
 pub session_thread_reports_at_ends : (opening : List ShardValue) (settings : Settings) (before now : View) (report : Report)
-    → core_capacity opening ≡ settings.capacity → HasFeedSeenEnds opening before
+    → core_capacity opening ≡ settings.capacity → FeedHasSeenEnds opening before
     → Calls opening settings.phi 1 before now (record { report = report; saved = None } ∷ [])
     → (CoreBasesRepresent opening → IsSound report (core_lists opening) (core_capacity opening) settings.phi)
     → IsShownInSession opening settings (record { report = report; saved = None }) × (report.positions ≡ session_ends opening)

@@ -15,8 +15,9 @@ use Rattle.report_text.specs.{report_mark_text, printed_session_text, report_tex
 use Rattle.report_text.specs.declared.mark.Mark.TheVariants.{Opened, Saved}
 use Rattle.report_text.specs.declared.session.Session.{Session}
 use Rattle.command_words.specs.declared.settings.Settings.{Settings}
-use Rattle.hhh_engine.specs.Session.{AreSessionReportsOfCaller, AreSessionReports, SessionReports, session_calling_reports, session_callers_text}
-use Rattle.hhh_engine.specs.Session.{session_part_text, session_parts_text, session_reports_in, session_text}
+use Rattle.hhh_engine.specs.Session.{AreSessionReportsOfCaller, AreSessionReports, SessionReports}
+use Rattle.hhh_engine.specs.Session.{session_reports_of_calling_thread, session_caller_parts}
+use Rattle.hhh_engine.specs.Session.{session_part, session_parts, session_reports_in, session_text}
 use Rattle.hhh_engine.proofs.LastReportLemmas.{last_report_is_among_all}
 
 -- a report of a session as its text shows it: with the positions of its cut, if that was saved
@@ -52,19 +53,19 @@ shown_session_saved_line (Some positions) = report_mark_text Saved positions
 abbrev shown_session_report_bytes : Reported → List ℕ
 shown_session_report_bytes reported = report_text reported.report ++ shown_session_saved_line reported.saved
 
-shown_session_prints_report : (store : Bool) (reported : Reported) → shown_session_report_bytes (shown_session_report store reported) ≡ session_part_text
+shown_session_prints_report : (store : Bool) (reported : Reported) → shown_session_report_bytes (shown_session_report store reported) ≡ session_part
     store reported
 shown_session_prints_report true reported = refl
 shown_session_prints_report false reported = refl
 
 shown_session_prints_each : (store : Bool) (reports : List Reported)
-    → flat_map shown_session_report_bytes (map (shown_session_report store) reports) ≡ session_parts_text store reports
+    → flat_map shown_session_report_bytes (map (shown_session_report store) reports) ≡ session_parts store reports
 shown_session_prints_each store [] = refl
 shown_session_prints_each store (reported ∷ reports) =
     ap₂ (λ front behind. front ++ behind) (shown_session_prints_report store reported) (shown_session_prints_each store reports)
 
 shown_session_prints_callers : (callers : List (List Reported))
-    → flat_map shown_session_report_bytes (map (shown_session_report false) (flat_map (λ made. made) callers)) ≡ session_callers_text callers
+    → flat_map shown_session_report_bytes (map (shown_session_report false) (flat_map (λ made. made) callers)) ≡ session_caller_parts callers
 shown_session_prints_callers [] = refl
 shown_session_prints_callers (reports ∷ callers) =
     ap (flat_map shown_session_report_bytes) (map-append (shown_session_report false) reports (flat_map (λ made. made) callers))
@@ -73,7 +74,7 @@ shown_session_prints_callers (reports ∷ callers) =
 
 shown_session_prints_all : (store : Bool) (reports : SessionReports)
     → flat_map shown_session_report_bytes (shown_session_reports store reports)
-    ≡ session_parts_text store reports.rounds ++ (session_callers_text reports.callers ++ session_part_text store reports.last)
+    ≡ session_parts store reports.rounds ++ (session_caller_parts reports.callers ++ session_part store reports.last)
 shown_session_prints_all store reports =
     let others = map (shown_session_report false) (flat_map (λ made. made) reports.callers) in
     flat_map-append shown_session_report_bytes (map (shown_session_report store) reports.rounds) (others ++ shown_session_report store reports.last ∷ [])
@@ -93,7 +94,7 @@ shown_session_prints_the_same store opened reports records =
     sym
     (ap (λ text. report_mark_text Opened opened ++ text)
     (ap (λ text. text ++ report_tail_text records) (shown_session_prints_all store reports)
-    ∙ shown_session_groups (session_parts_text store reports.rounds) (session_callers_text reports.callers) (session_part_text store reports.last)
+    ∙ shown_session_groups (session_parts store reports.rounds) (session_caller_parts reports.callers) (session_part store reports.last)
     (report_tail_text records)))
 
 -- what holds of two lists together holds of each
@@ -132,10 +133,10 @@ pub shown_session_keeps_property : (P : Reported → Type 0) (store : Bool) (rep
     → All P (session_reports_in reports) → All P (shown_session_reports store reports)
 shown_session_keeps_property P store reports keeps all =
     let others = flat_map (λ made. made) reports.callers in
-    let calling = shown_session_front_of_all P (session_calling_reports reports) others all in
+    let calling = shown_session_front_of_all P (session_reports_of_calling_thread reports) others all in
     let rounds = shown_session_front_of_all P reports.rounds (reports.last ∷ []) calling in
     let last = last_report_is_among_all P reports.rounds reports.last calling in
-    let called = shown_session_back_of_all P (session_calling_reports reports) others all in
+    let called = shown_session_back_of_all P (session_reports_of_calling_thread reports) others all in
     All-append P (map (shown_session_report store) reports.rounds)
     (map (shown_session_report false) others ++ shown_session_report store reports.last ∷ [])
     (All-map P (shown_session_report store) reports.rounds (λ k d lt. keeps store _ (rounds k d lt)))

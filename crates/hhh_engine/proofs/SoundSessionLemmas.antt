@@ -2,30 +2,32 @@
 use Rattle.std.proofs.Common.{◌≡◌, ◌⊎◌, ◌≤◌, ℕ, List, length, All, Option, Some, inl, inr, refl, subst}
 use Rattle.prefix_lattice.specs.{RecordValue}
 use Rattle.pcap_frames.specs.{FrameValue}
-use Rattle.frame_records.specs.{HasCaptureFrames, IsRefusedCapture}
-use Rattle.report_text.specs.{HasTextFault, IsSessionText, longest_session_text}
+use Rattle.frame_records.specs.{CaptureFileHasFrames, IsRefusedCaptureFile}
+use Rattle.report_text.specs.{HasSessionTextFault, IsSessionText, longest_session_text_length}
 use Rattle.report_text.specs.declared.session.Session.{Session}
 use Rattle.command_words.specs.declared.command.Command.{Command}
 use Rattle.command_words.specs.declared.command.Command.TheVariants.{Audit}
 use Rattle.command_words.specs.declared.settings.Settings.{Settings}
 use Rattle.hhh_engine.specs.Audit.{AreAudited, IsAuditedAsSound, IsUnsoundAudit}
-use Rattle.hhh_engine.specs.Ending.{OfDiskAtEnding, EndingSourceFaults}
+use Rattle.hhh_engine.specs.Ending.{HappenedToDiskAtEnding, EndingSourceFaults}
 use Rattle.hhh_engine.specs.Inputs.{InputBytes, InputsWereRead}
-use Rattle.hhh_engine.specs.Session.{SessionKeeping, Rules}
+use Rattle.hhh_engine.specs.Session.{SessionKeeping, SessionRules}
 use Rattle.hhh_engine.specs.declared.status.Status.{Status}
 use Rattle.hhh_engine.specs.declared.status.Status.TheVariants.{Done, BadWords, BadCapture, ReadFault, WriteFault}
 use Rattle.hhh_engine.specs.declared.status.Status.TheVariants.{DiskFault, NotFormatted, Damaged, OtherSettings}
 use Rattle.hhh_engine.specs.declared.status.Status.TheVariants.{OtherCapture, AuditNo, BadReport, OutOfMemory}
-use Rattle.hhh_engine.proofs.AuditFindingLemmas.{AuditFindingIsUnique, audit_finding_holds_at_index, audit_finding_is_not_sound, audit_finding_of_known_inputs}
-use Rattle.hhh_engine.proofs.StatusLemmas.{EndsWithStatus, CaptureStatusIsFaultless, SessionStatusIsFaultless, status_of_known_file}
+use Rattle.hhh_engine.proofs.AuditFindingLemmas.{AuditFindingIsUnique, audit_finding_holds_at_index}
+use Rattle.hhh_engine.proofs.AuditFindingLemmas.{audit_finding_is_not_sound, audit_finding_of_known_inputs}
+use Rattle.hhh_engine.proofs.StatusLemmas.{EndsWithStatus, CaptureStatusIsFaultless, SessionStatusIsFaultless}
+use Rattle.hhh_engine.proofs.StatusLemmas.{status_of_known_file}
 
 -- it is found so, however the records are dealt, unless a source or the sink fails or memory runs out
 sound_session_is_found : {K : Type 0} → CaptureStatusIsFaultless → SessionStatusIsFaultless → AuditFindingIsUnique
-    → (rules : Rules) (keeping : SessionKeeping) (settings : Settings) (given : InputBytes) (AsBefore : Type 0)
+    → (rules : SessionRules) (keeping : SessionKeeping) (settings : Settings) (given : InputBytes) (AsBefore : Type 0)
     (ReadToEnd DiskSame : Type 0) (read_before read_now : EndingSourceFaults) (sink written : K) (old new : Option (List ℕ))
     (write_before write_now : ℕ) (status : Status) (file bytes : List ℕ) (frames : List FrameValue) (known : Session)
-    → given.capture ≡ Some file → HasCaptureFrames file frames → given.text ≡ Some bytes → IsSessionText bytes known
-    → length bytes ≤ longest_session_text
+    → given.capture ≡ Some file → CaptureFileHasFrames file frames → given.text ≡ Some bytes → IsSessionText bytes known
+    → length bytes ≤ longest_session_text_length
     → ((lists : List (List RecordValue)) (session : Session) → AreAudited settings rules file bytes lists session
     → All (IsAuditedAsSound settings lists) session.reports)
     → EndsWithStatus rules keeping (Audit settings) given AsBefore ReadToEnd ⊥ DiskSame read_before read_now sink written old
@@ -43,7 +45,7 @@ sound_session_is_found never_both no_fault one rules keeping settings given AsBe
     sink written old new write_before write_now (BadCapture other) file bytes frames known is_file capture is_text
     is_session not_long sound ends =
     absurd
-    (never_both file frames other capture (status_of_known_file given.capture file (λ f. IsRefusedCapture f other) is_file ends.0))
+    (never_both file frames other capture (status_of_known_file given.capture file (λ f. IsRefusedCaptureFile f other) is_file ends.0))
 sound_session_is_found never_both no_fault one rules keeping settings given AsBefore ReadToEnd DiskSame read_before read_now
     sink written old new write_before write_now ReadFault file bytes frames known is_file capture is_text
     is_session not_long sound ends =
@@ -86,22 +88,22 @@ sound_session_is_found never_both no_fault one rules keeping settings given AsBe
     is_session not_long sound ends =
     absurd
     (no_fault bytes known wrong is_session not_long
-    (status_of_known_file given.text bytes (λ t. HasTextFault t wrong) is_text ends.0.first_fault))
+    (status_of_known_file given.text bytes (λ t. HasSessionTextFault t wrong) is_text ends.0.first_fault))
 sound_session_is_found never_both no_fault one rules keeping settings given AsBefore ReadToEnd DiskSame read_before read_now
     sink written old new write_before write_now OutOfMemory file bytes frames known is_file capture is_text
     is_session not_long sound ends =
     inr (inr (inr refl))
 
 pub asked_sound_session_is_found : {K : Type 0} → CaptureStatusIsFaultless → SessionStatusIsFaultless → AuditFindingIsUnique
-    → (rules : Rules) (keeping : SessionKeeping) (settings : Settings) (read : Command) (given : InputBytes)
+    → (rules : SessionRules) (keeping : SessionKeeping) (settings : Settings) (read : Command) (given : InputBytes)
     (AsBefore : Type 0) (DiskRose DiskSame : Type 0)
     (read_before read_now : EndingSourceFaults) (sink written : K) (old new : Option (List ℕ)) (write_before write_now : ℕ)
     (status : Status) (file bytes : List ℕ) (frames : List FrameValue) (known : Session)
-    → read ≡ Audit settings → given.capture ≡ Some file → HasCaptureFrames file frames → given.text ≡ Some bytes
-    → IsSessionText bytes known → length bytes ≤ longest_session_text
+    → read ≡ Audit settings → given.capture ≡ Some file → CaptureFileHasFrames file frames → given.text ≡ Some bytes
+    → IsSessionText bytes known → length bytes ≤ longest_session_text_length
     → ((lists : List (List RecordValue)) (session : Session) → AreAudited settings rules file bytes lists session
     → All (IsAuditedAsSound settings lists) session.reports)
-    → EndsWithStatus rules keeping read given AsBefore (InputsWereRead read given) (OfDiskAtEnding read DiskRose) DiskSame read_before read_now
+    → EndsWithStatus rules keeping read given AsBefore (InputsWereRead read given) (HappenedToDiskAtEnding read DiskRose) DiskSame read_before read_now
     sink written old new write_before write_now status
     → (status ≡ Done) ⊎ ((status ≡ ReadFault) ⊎ ((status ≡ WriteFault) ⊎ (status ≡ OutOfMemory)))
 asked_sound_session_is_found never_both no_fault one rules keeping settings read given AsBefore DiskRose DiskSame read_before read_now sink
@@ -110,5 +112,5 @@ asked_sound_session_is_found never_both no_fault one rules keeping settings read
     sound_session_is_found never_both no_fault one rules keeping settings given AsBefore (InputsWereRead (Audit settings) given)
     DiskSame read_before read_now sink written old new write_before write_now status file bytes frames known is_file
     capture is_text is_session not_long sound
-    (subst (λ c. EndsWithStatus rules keeping c given AsBefore (InputsWereRead c given) (OfDiskAtEnding c DiskRose) DiskSame read_before
+    (subst (λ c. EndsWithStatus rules keeping c given AsBefore (InputsWereRead c given) (HappenedToDiskAtEnding c DiskRose) DiskSame read_before
     read_now sink written old new write_before write_now status) same ends)

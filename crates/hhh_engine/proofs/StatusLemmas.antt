@@ -1,9 +1,10 @@
 -- How a command can end.
-use Rattle.std.proofs.Common.{◌≡◌, ◌⊎◌, ◌≤◌, ℕ, true, List, [], length, Option, Some, IfSome, inl, inr, ⊎_elim, refl, sym, ap, subst}
+use Rattle.std.proofs.Common.{◌≡◌, ◌⊎◌, ◌≤◌, ℕ, true, List, [], length, Option, Some, IfSome, inl, inr, ⊎_elim, refl}
+use Rattle.std.proofs.Common.{sym, ap, subst}
 use Rattle.outside_io.specs.{FaultCountRose}
 use Rattle.prefix_lattice.specs.{RecordValue}
 use Rattle.pcap_frames.specs.{FrameValue}
-use Rattle.frame_records.specs.{HasCaptureFrames, IsRefusedCapture}
+use Rattle.frame_records.specs.{CaptureFileHasFrames, IsRefusedCaptureFile}
 use Rattle.frame_records.specs.declared.records.Records.{Records}
 use Rattle.pcap_frames.specs.declared.fault.CaptureFault.{CaptureFault}
 use Rattle.recovery.specs.{BelongingStoresAreOpened, IsRefusedAtOpening, IsShownByOpening, OpeningsAreDecided}
@@ -12,23 +13,26 @@ use Rattle.recovery.specs.declared.fault.OpenFault.TheVariants as opening
 use Rattle.std.specs.declared.result.Result.{Result}
 use Rattle.std.proofs.Common.{Ok, Err}
 use Rattle.shard_state.specs.{CutValue}
-use Rattle.command_words.specs.{AreLimitedSettings, AskFor, AreLimitedWords}
+use Rattle.command_words.specs.{AreLimitedSettings, AskForCommand, IsLimitedCommand}
 use Rattle.command_words.specs.declared.command.Command.{Command}
 use Rattle.command_words.specs.declared.command.Command.TheVariants.{Weigh, Report, Format, Audit, Make, Demo}
 use Rattle.command_words.specs.declared.settings.Settings.{Settings}
 use Rattle.std.specs.Prelude.{⊤}
-use Rattle.report_text.specs.{HasTextFault, IsSessionText, longest_session_text}
+use Rattle.report_text.specs.{HasSessionTextFault, IsSessionText, longest_session_text_length}
 use Rattle.report_text.specs.declared.session.Session.{Session}
 use Rattle.report_text.specs.declared.session_fault.TextFault.{TextFault}
 use Rattle.exact_audit.specs.declared.verdict.Verdict.{Verdict}
 use Rattle.hhh_engine.specs.Audit.{IsAuditText, IsSoundAudit, IsUnsoundAudit}
 use Rattle.hhh_engine.specs.Answer.{IsAnswer, IsAnswerInPart, IsUnfinishedAnswer, IsWeighAnswerInPart}
-use Rattle.hhh_engine.specs.Ending.{Ends, FindsAtEnding, IsRefusedStoreAtEnding, OfDiskAtEnding, OneSourceRoseAtEnding, EndsRefusingStore, RefusesAtEnding}
+use Rattle.hhh_engine.specs.Ending.{Ends, AuditFindsAtEnding, IsRefusedStoreAtEnding, HappenedToDiskAtEnding}
+use Rattle.hhh_engine.specs.Ending.{SourceFaultsRoseAtEnding, EndsRefusingStore, RefusesAtEnding}
 use Rattle.hhh_engine.specs.Ending.{RefusesStoreAtEnding, EndingSourceFaults, EndsAsBeforeUnlessFormat, EndsAnswered}
-use Rattle.hhh_engine.specs.Inputs.{InputsCanBeAnswered, HasKnownInputCapture, HasKnownInputStore, IsInputCapture, UsesInputCapture}
+use Rattle.hhh_engine.specs.Inputs.{InputsCanBeAnswered, HasKnownInputCapture, HasKnownInputStore, IsInputCapture}
+use Rattle.hhh_engine.specs.Inputs.{UsesInputCapture}
 use Rattle.hhh_engine.specs.Inputs.{InputBytes, InputsWereAccepted, InputsWereRead}
-use Rattle.hhh_engine.specs.Saves.{store_settings}
-use Rattle.hhh_engine.specs.Session.{AreDealtInSession, SessionGoesOnFrom, IsSession, IsSessionInPart, SessionKeeping, Rules}
+use Rattle.hhh_engine.specs.Saves.{store_settings_for_saves}
+use Rattle.hhh_engine.specs.Session.{AreDealtInSession, SessionGoesOnFrom, IsSession, IsSessionInPart, SessionKeeping}
+use Rattle.hhh_engine.specs.Session.{SessionRules}
 use Rattle.command_words.specs.declared.words_kind.WordsRefusal.{WordsRefusal}
 use Rattle.command_words.specs.declared.words_kind.WordsRefusal.TheVariants as words
 use Rattle.hhh_engine.specs.Status.{status_of_opening, status_of_words}
@@ -42,20 +46,20 @@ use Rattle.hhh_engine.proofs.BaseLemmas.{base_settings_are_allowed}
 -- no file is both a capture and a file with a fault
 abbrev pub CaptureStatusIsFaultless : Type 0
 CaptureStatusIsFaultless =
-    (file : List ℕ) (frames : List FrameValue) (fault : CaptureFault) → HasCaptureFrames file frames
-    → IsRefusedCapture file fault → ⊥
+    (file : List ℕ) (frames : List FrameValue) (fault : CaptureFault) → CaptureFileHasFrames file frames
+    → IsRefusedCaptureFile file fault → ⊥
 
 -- a file has one fault at most
 abbrev pub FaultStatusIsUnique : Type 0
 FaultStatusIsUnique =
-    (file : List ℕ) (fault other : CaptureFault) → IsRefusedCapture file fault → IsRefusedCapture file other → other ≡ fault
+    (file : List ℕ) (fault other : CaptureFault) → IsRefusedCaptureFile file fault → IsRefusedCaptureFile file other → other ≡ fault
 
 -- what is known of a source with this file
 pub status_of_known_file : (left : Option (List ℕ)) (file : List ℕ) (P : List ℕ → Type 0) → left ≡ Some file → IfSome left P → P file
 status_of_known_file left file P known holds = subst (λ o. IfSome o P) known holds
 
 -- a command that reads a capture has a text over captures alone
-status_tells_capture : (rules : Rules) (keeping : SessionKeeping) (command : Command) (given : InputBytes)
+status_tells_capture : (rules : SessionRules) (keeping : SessionKeeping) (command : Command) (given : InputBytes)
     (file text : List ℕ) → UsesInputCapture command → given.capture ≡ Some file
     → IsAnswer rules keeping command given text → IsInputCapture file
 status_tells_capture rules keeping (Weigh prefix settings) given file text reads known answer =
@@ -72,7 +76,7 @@ status_tells_capture rules keeping (Make seed frames) given file text reads know
 status_tells_capture rules keeping (Demo seed frames settings) given file text reads known answer = absurd reads
 
 -- and a part of a text
-status_tells_capture_in_part : (rules : Rules) (keeping : SessionKeeping) (command : Command) (given : InputBytes) (file front : List ℕ)
+status_tells_capture_in_part : (rules : SessionRules) (keeping : SessionKeeping) (command : Command) (given : InputBytes) (file front : List ℕ)
     → UsesInputCapture command → given.capture ≡ Some file → IsAnswerInPart rules keeping command given front
     → IsInputCapture file
 status_tells_capture_in_part rules keeping (Weigh prefix settings) given file front reads known answer =
@@ -90,7 +94,7 @@ status_tells_capture_in_part rules keeping (Make seed frames) given file front r
 status_tells_capture_in_part rules keeping (Demo seed frames settings) given file front reads known answer = absurd reads
 
 -- and a store is refused over captures alone
-status_tells_capture_if_refused : (rules : Rules) (command : Command) (given : InputBytes) (AsBefore : Type 0) (file : List ℕ)
+status_tells_capture_if_refused : (rules : SessionRules) (command : Command) (given : InputBytes) (AsBefore : Type 0) (file : List ℕ)
     (fault : OpenFault) → given.capture ≡ Some file → RefusesAtEnding command rules given AsBefore fault
     → IsInputCapture file
 status_tells_capture_if_refused rules (Weigh prefix settings) given AsBefore file fault known refuses = absurd refuses
@@ -103,9 +107,9 @@ status_tells_capture_if_refused rules (Make seed frames) given AsBefore file fau
 status_tells_capture_if_refused rules (Demo seed frames settings) given AsBefore file fault known refuses = absurd refuses
 
 -- and an audit that ends by what it found read a capture
-status_tells_capture_if_audited : (rules : Rules) (command : Command) (given : InputBytes) (old new : Option (List ℕ)) (file : List ℕ)
+status_tells_capture_if_audited : (rules : SessionRules) (command : Command) (given : InputBytes) (old new : Option (List ℕ)) (file : List ℕ)
     (report : ℕ) (verdict : Verdict) → given.capture ≡ Some file
-    → FindsAtEnding command rules given old new (AuditNo report verdict) → IsInputCapture file
+    → AuditFindsAtEnding command rules given old new (AuditNo report verdict) → IsInputCapture file
 status_tells_capture_if_audited rules (Weigh prefix settings) given old new file report verdict known finds = absurd finds
 status_tells_capture_if_audited rules (Report settings) given old new file report verdict known finds = absurd finds
 status_tells_capture_if_audited rules (Format settings) given old new file report verdict known finds = absurd finds
@@ -116,8 +120,8 @@ status_tells_capture_if_audited rules (Audit settings) given old new file report
     (λ f. IsInputCapture f × IfSome given.text (λ text. IsUnsoundAudit settings rules f text report verdict))
     known finds.0).0
 
-status_tells_capture_if_faulty : (rules : Rules) (command : Command) (given : InputBytes) (old new : Option (List ℕ)) (file : List ℕ)
-    (fault : TextFault) → given.capture ≡ Some file → FindsAtEnding command rules given old new (BadReport fault)
+status_tells_capture_if_faulty : (rules : SessionRules) (command : Command) (given : InputBytes) (old new : Option (List ℕ)) (file : List ℕ)
+    (fault : TextFault) → given.capture ≡ Some file → AuditFindsAtEnding command rules given old new (BadReport fault)
     → IsInputCapture file
 status_tells_capture_if_faulty rules (Weigh prefix settings) given old new file fault known finds = absurd finds
 status_tells_capture_if_faulty rules (Report settings) given old new file fault known finds = absurd finds
@@ -138,22 +142,22 @@ status_tells_accepted_capture (Make seed frames) given file reads known was = ab
 status_tells_accepted_capture (Demo seed frames settings) given file reads known was = absurd reads
 
 -- how a command over these inputs ended
-abbrev pub EndsWithStatus : {K : Type 0} → Rules → SessionKeeping → Command → (given : InputBytes) (AsBefore : Type 0)
+abbrev pub EndsWithStatus : {K : Type 0} → SessionRules → SessionKeeping → Command → (given : InputBytes) (AsBefore : Type 0)
     → (ReadToEnd DiskRose DiskSame : Type 0) → (read_before read_now : EndingSourceFaults) → (sink written : K)
     → (old new : Option (List ℕ)) → (write_before write_now : ℕ) → Status → Type 0
 EndsWithStatus rules keeping command given AsBefore ReadToEnd DiskRose DiskSame read_before read_now sink written old
     new write_before write_now status =
     Ends (IsAnswer rules keeping command given) (IsAnswerInPart rules keeping command given)
     ReadToEnd (InputsWereAccepted command given) DiskRose DiskSame (EndsAsBeforeUnlessFormat command AsBefore)
-    (RefusesAtEnding command rules given AsBefore) (FindsAtEnding command rules given old new) given.capture read_before read_now
+    (RefusesAtEnding command rules given AsBefore) (AuditFindsAtEnding command rules given old new) given.capture read_before read_now
     sink written old new write_before write_now status
 
 -- a command that reads a capture over a file with a fault is refused for it, unless the source fails or memory runs out
 pub status_of_refused_capture : {K : Type 0} → CaptureStatusIsFaultless → FaultStatusIsUnique
-    → (rules : Rules) (keeping : SessionKeeping) (command : Command) (given : InputBytes) (AsBefore : Type 0)
+    → (rules : SessionRules) (keeping : SessionKeeping) (command : Command) (given : InputBytes) (AsBefore : Type 0)
     (ReadToEnd DiskRose DiskSame : Type 0) (read_before read_now : EndingSourceFaults)
     (sink written : K) (old new : Option (List ℕ)) (write_before write_now : ℕ) (status : Status) (file : List ℕ)
-    (fault : CaptureFault) → UsesInputCapture command → given.capture ≡ Some file → IsRefusedCapture file fault
+    (fault : CaptureFault) → UsesInputCapture command → given.capture ≡ Some file → IsRefusedCaptureFile file fault
     → EndsWithStatus rules keeping command given AsBefore ReadToEnd DiskRose DiskSame read_before read_now sink written
     old new write_before write_now status
     → (status ≡ BadCapture fault) ⊎ ((status ≡ ReadFault) ⊎ (status ≡ OutOfMemory))
@@ -166,7 +170,7 @@ status_of_refused_capture never_both one_fault rules keeping command given AsBef
     absurd ends
 status_of_refused_capture never_both one_fault rules keeping command given AsBefore ReadToEnd DiskRose DiskSame read_before
     read_now sink written old new write_before write_now (BadCapture other) file fault reads known has ends =
-    inl (ap BadCapture (one_fault file fault other has (status_of_known_file given.capture file (λ f. IsRefusedCapture f other) known ends.0)))
+    inl (ap BadCapture (one_fault file fault other has (status_of_known_file given.capture file (λ f. IsRefusedCaptureFile f other) known ends.0)))
 status_of_refused_capture never_both one_fault rules keeping command given AsBefore ReadToEnd DiskRose DiskSame read_before
     read_now sink written old new write_before write_now ReadFault file fault reads known has ends =
     inr (inl refl)
@@ -207,25 +211,25 @@ status_of_refused_capture never_both one_fault rules keeping command given AsBef
     inr (inr refl)
 
 -- what each command that reads a capture needs of it
-status_of_known_capture : (rules : Rules) (command : Command) (given : InputBytes) (file : List ℕ)
+status_of_known_capture : (rules : SessionRules) (command : Command) (given : InputBytes) (file : List ℕ)
     (fault : CaptureFault) → CaptureStatusIsFaultless → UsesInputCapture command → InputsCanBeAnswered rules command given
-    → IfSome given.capture (λ f. IsRefusedCapture f fault) → ⊥
+    → IfSome given.capture (λ f. IsRefusedCaptureFile f fault) → ⊥
 status_of_known_capture rules (Weigh prefix settings) given file fault never_both reads can has =
-    never_both can.file can.frames fault can.capture (status_of_known_file given.capture can.file (λ f. IsRefusedCapture f fault) can.told has)
+    never_both can.file can.frames fault can.capture (status_of_known_file given.capture can.file (λ f. IsRefusedCaptureFile f fault) can.told has)
 status_of_known_capture rules (Report settings) given file fault never_both reads can has =
     let capture = can.0 in
     never_both capture.file capture.frames fault capture.capture
-    (status_of_known_file given.capture capture.file (λ f. IsRefusedCapture f fault) capture.told has)
+    (status_of_known_file given.capture capture.file (λ f. IsRefusedCaptureFile f fault) capture.told has)
 status_of_known_capture rules (Format settings) given file fault never_both reads can has = absurd reads
 status_of_known_capture rules (Audit settings) given file fault never_both reads can has =
     let capture = can.0 in
     never_both capture.file capture.frames fault capture.capture
-    (status_of_known_file given.capture capture.file (λ f. IsRefusedCapture f fault) capture.told has)
+    (status_of_known_file given.capture capture.file (λ f. IsRefusedCaptureFile f fault) capture.told has)
 status_of_known_capture rules (Make seed frames) given file fault never_both reads can has = absurd reads
 status_of_known_capture rules (Demo seed frames settings) given file fault never_both reads can has = absurd reads
 
 -- a store of the records isn't refused
-status_is_never_refusal : OpeningsAreDecided → BelongingStoresAreOpened → (rules : Rules) (settings : Settings)
+status_is_never_refusal : OpeningsAreDecided → BelongingStoresAreOpened → (rules : SessionRules) (settings : Settings)
     (given : InputBytes) (AsBefore : Type 0) (fault : OpenFault) → AreLimitedSettings settings
     → HasKnownInputCapture given.capture → (settings.store ≡ true → HasKnownInputStore settings rules given)
     → IsShownByOpening fault → RefusesStoreAtEnding settings rules given.capture given.store AsBefore fault → ⊥
@@ -233,12 +237,12 @@ status_is_never_refusal decided opened rules settings given AsBefore fault limit
     let is_store = can refuses.0 in
     let is = status_of_known_file given.capture capture.file (λ f. IsRefusedStoreAtEnding settings rules given.store f fault) capture.told refuses.2 in
     let belongs = is_store.belongs capture.file is.records is.lists capture.told is.dealt in
-    (decided (store_settings settings) is.lists is_store.image (base_settings_are_allowed settings limited)).not_both _ fault
-    (opened (store_settings settings) is.lists is_store.image belongs.0 belongs.1 belongs.2 belongs.3) shown
+    (decided (store_settings_for_saves settings) is.lists is_store.image (base_settings_are_allowed settings limited)).not_both _ fault
+    (opened (store_settings_for_saves settings) is.lists is_store.image belongs.0 belongs.1 belongs.2 belongs.3) shown
     (is.refused is_store.image is_store.told)
 
-command_status_is_never_refusal : OpeningsAreDecided → BelongingStoresAreOpened → (rules : Rules) (command : Command)
-    (given : InputBytes) (AsBefore : Type 0) (fault : OpenFault) → AreLimitedWords command
+command_status_is_never_refusal : OpeningsAreDecided → BelongingStoresAreOpened → (rules : SessionRules) (command : Command)
+    (given : InputBytes) (AsBefore : Type 0) (fault : OpenFault) → IsLimitedCommand command
     → InputsCanBeAnswered rules command given → IsShownByOpening fault
     → RefusesAtEnding command rules given AsBefore fault → ⊥
 command_status_is_never_refusal decided opened rules (Weigh prefix settings) given AsBefore fault limited can shown refuses =
@@ -257,12 +261,12 @@ command_status_is_never_refusal decided opened rules (Demo seed frames settings)
 -- no text of a session that is not too long has a fault
 abbrev pub SessionStatusIsFaultless : Type 0
 SessionStatusIsFaultless =
-    (text : List ℕ) (session : Session) (fault : TextFault) → IsSessionText text session → length text ≤ longest_session_text
-    → ¬ HasTextFault text fault
+    (text : List ℕ) (session : Session) (fault : TextFault) → IsSessionText text session → length text ≤ longest_session_text_length
+    → ¬ HasSessionTextFault text fault
 
 -- the text of a session is not refused
-status_is_never_bad_report : SessionStatusIsFaultless → (rules : Rules) (command : Command) (given : InputBytes) (old new : Option (List ℕ))
-    (fault : TextFault) → InputsCanBeAnswered rules command given → FindsAtEnding command rules given old new (BadReport fault) → ⊥
+status_is_never_bad_report : SessionStatusIsFaultless → (rules : SessionRules) (command : Command) (given : InputBytes) (old new : Option (List ℕ))
+    (fault : TextFault) → InputsCanBeAnswered rules command given → AuditFindsAtEnding command rules given old new (BadReport fault) → ⊥
 status_is_never_bad_report no_fault rules (Weigh prefix settings) given old new fault can finds = finds
 status_is_never_bad_report no_fault rules (Report settings) given old new fault can finds = finds
 status_is_never_bad_report no_fault rules (Format settings) given old new fault can finds = finds
@@ -271,7 +275,7 @@ status_is_never_bad_report no_fault rules (Demo seed frames settings) given old 
 status_is_never_bad_report no_fault rules (Audit settings) given old new fault can finds =
     let known = can.1 in
     no_fault known.text known.session fault known.is_session known.not_long
-    (status_of_known_file given.text known.text (λ t. HasTextFault t fault) known.told finds.first_fault)
+    (status_of_known_file given.text known.text (λ t. HasSessionTextFault t fault) known.told finds.first_fault)
 
 -- a command whose text was written was answered
 status_done_answers : (command : Command) → EndsAnswered command Done
@@ -283,8 +287,8 @@ status_done_answers (Demo seed frames settings) = refl
 status_done_answers (Audit settings) = inl refl
 
 -- and so was one that found a report that is not sound
-status_found_answers : (rules : Rules) (command : Command) (given : InputBytes) (old new : Option (List ℕ)) (report : ℕ)
-    (verdict : Verdict) → FindsAtEnding command rules given old new (AuditNo report verdict)
+status_found_answers : (rules : SessionRules) (command : Command) (given : InputBytes) (old new : Option (List ℕ)) (report : ℕ)
+    (verdict : Verdict) → AuditFindsAtEnding command rules given old new (AuditNo report verdict)
     → EndsAnswered command (AuditNo report verdict)
 status_found_answers rules (Weigh prefix settings) given old new report verdict finds = absurd finds
 status_found_answers rules (Report settings) given old new report verdict finds = absurd finds
@@ -296,10 +300,10 @@ status_found_answers rules (Audit settings) given old new report verdict finds =
 -- over known inputs in their formats and with no fault of source, sink or disk, a command is answered unless memory runs
 -- out. BadCapture comes of commands alone that read a capture
 status_of_answered_command : {K : Type 0} → CaptureStatusIsFaultless → OpeningsAreDecided → BelongingStoresAreOpened → SessionStatusIsFaultless
-    → (rules : Rules) (keeping : SessionKeeping) (command : Command) (given : InputBytes) (AsBefore : Type 0)
+    → (rules : SessionRules) (keeping : SessionKeeping) (command : Command) (given : InputBytes) (AsBefore : Type 0)
     (ReadToEnd DiskRose DiskSame : Type 0) (read_before read_now : EndingSourceFaults)
     (sink written : K) (old new : Option (List ℕ)) (write_before write_now : ℕ) (status : Status)
-    → AreLimitedWords command → InputsCanBeAnswered rules command given → (OneSourceRoseAtEnding read_before read_now → ⊥)
+    → IsLimitedCommand command → InputsCanBeAnswered rules command given → (SourceFaultsRoseAtEnding read_before read_now → ⊥)
     → (FaultCountRose write_before write_now → ⊥) → (DiskRose → ⊥)
     → ((fault : CaptureFault) → status ≡ BadCapture fault → UsesInputCapture command)
     → EndsWithStatus rules keeping command given AsBefore ReadToEnd DiskRose DiskSame read_before read_now sink written
@@ -356,8 +360,8 @@ status_of_same_command result error command read (inl is) was = cc (is, was)
 status_of_same_command result error command read (inr is) was = cc (is, was)
 
 -- a report whose store is refused
-status_of_refused_opening : {K : Type 0} (rules : Rules) (words : List (List ℕ)) (command : Command)
-    (given : InputBytes) (AsBefore : Type 0) (fault : OpenFault) (sink written : K) → AskFor words command
+status_of_refused_opening : {K : Type 0} (rules : SessionRules) (words : List (List ℕ)) (command : Command)
+    (given : InputBytes) (AsBefore : Type 0) (fault : OpenFault) (sink written : K) → AskForCommand words command
     → InputsWereRead command given → RefusesAtEnding command rules given AsBefore fault
     → written ≡ sink → EndsRefusingStore rules words given fault sink written AsBefore
 status_of_refused_opening rules words (Weigh prefix settings) given AsBefore fault sink written asked read refuses same =
@@ -381,10 +385,10 @@ status_of_refused_opening rules words (Demo seed frames settings) given AsBefore
     absurd refuses
 
 -- what a status that names a fault of a store says
-pub status_names_refusal : {K : Type 0} (rules : Rules) (keeping : SessionKeeping) (words : List (List ℕ)) (command : Command)
+pub status_names_refusal : {K : Type 0} (rules : SessionRules) (keeping : SessionKeeping) (words : List (List ℕ)) (command : Command)
     (given : InputBytes) (AsBefore : Type 0) (DiskRose DiskSame : Type 0) (read_before read_now : EndingSourceFaults)
     (sink written : K) (old new : Option (List ℕ)) (write_before write_now : ℕ) (status : Status) (fault : OpenFault)
-    → AskFor words command → IsShownByOpening fault → status ≡ status_of_opening fault
+    → AskForCommand words command → IsShownByOpening fault → status ≡ status_of_opening fault
     → EndsWithStatus rules keeping command given AsBefore (InputsWereRead command given) DiskRose DiskSame
     read_before read_now sink written old new write_before write_now status
     → EndsRefusingStore rules words given fault sink written AsBefore
@@ -416,39 +420,39 @@ status_names_refusal rules keeping words command given AsBefore DiskRose DiskSam
     absurd (shown.not_of_memory refl)
 
 -- the session over a capture whose store is refused however its records are dealt
-status_never_of_begun_session : OpeningsAreDecided → (rules : Rules) (settings : Settings) (store : Option (List ℕ))
+status_never_of_begun_session : OpeningsAreDecided → (rules : SessionRules) (settings : Settings) (store : Option (List ℕ))
     (file image : List ℕ) (fault : OpenFault) (records : Records) (lists : List (List RecordValue))
     (base : Option CutValue) → AreLimitedSettings settings → settings.store ≡ true → store ≡ Some image → IsShownByOpening fault
     → ((records : Records) (lists : List (List RecordValue)) → AreDealtInSession settings rules file records lists
-    → IsRefusedAtOpening (store_settings settings) lists image fault)
+    → IsRefusedAtOpening (store_settings_for_saves settings) lists image fault)
     → AreDealtInSession settings rules file records lists → SessionGoesOnFrom settings lists store base → ⊥
 status_never_of_begun_session decided rules settings store file image fault records lists base limited used known shown refused dealt
     begins =
-    (decided (store_settings settings) lists image (base_settings_are_allowed settings limited)).not_both base fault
+    (decided (store_settings_for_saves settings) lists image (base_settings_are_allowed settings limited)).not_both base fault
     (begins.opens used image known) shown (refused records lists dealt)
 
 -- the fault for which such a store is refused
-status_names_same_refusal : OpeningsAreDecided → (rules : Rules) (settings : Settings) (given : InputBytes) (AsBefore : Type 0)
+status_names_same_refusal : OpeningsAreDecided → (rules : SessionRules) (settings : Settings) (given : InputBytes) (AsBefore : Type 0)
     (file image : List ℕ) (fault other : OpenFault) → AreLimitedSettings settings → given.capture ≡ Some file → given.store ≡ Some image
     → IsShownByOpening fault → IsShownByOpening other
     → ((records : Records) (lists : List (List RecordValue)) → AreDealtInSession settings rules file records lists
-    → IsRefusedAtOpening (store_settings settings) lists image fault)
+    → IsRefusedAtOpening (store_settings_for_saves settings) lists image fault)
     → RefusesStoreAtEnding settings rules given.capture given.store AsBefore other → other ≡ fault
 status_names_same_refusal decided rules settings given AsBefore file image fault other limited known is_store shown is_shown
     refused refuses =
     let is = status_of_known_file given.capture file (λ f. IsRefusedStoreAtEnding settings rules given.store f other) known refuses.2 in
-    (decided (store_settings settings) is.lists image (base_settings_are_allowed settings limited)).one_fault other fault is_shown
+    (decided (store_settings_for_saves settings) is.lists image (base_settings_are_allowed settings limited)).one_fault other fault is_shown
     shown (is.refused image is_store) (refused is.records is.lists is.dealt)
 
 -- a report whose store is refused, however the records are dealt, ends so, unless source or disk fail or memory runs out
 status_is_store_refusal : {K : Type 0} → CaptureStatusIsFaultless → OpeningsAreDecided
-    → (rules : Rules) (keeping : SessionKeeping) (settings : Settings) (given : InputBytes) (AsBefore : Type 0)
+    → (rules : SessionRules) (keeping : SessionKeeping) (settings : Settings) (given : InputBytes) (AsBefore : Type 0)
     (ReadToEnd DiskRose DiskSame : Type 0) (read_before read_now : EndingSourceFaults)
     (sink written : K) (old new : Option (List ℕ)) (write_before write_now : ℕ) (status : Status)
     (file image : List ℕ) (frames : List FrameValue) (fault : OpenFault) → AreLimitedSettings settings → settings.store ≡ true
-    → given.capture ≡ Some file → HasCaptureFrames file frames → given.store ≡ Some image → IsShownByOpening fault
+    → given.capture ≡ Some file → CaptureFileHasFrames file frames → given.store ≡ Some image → IsShownByOpening fault
     → ((records : Records) (lists : List (List RecordValue)) → AreDealtInSession settings rules file records lists
-    → IsRefusedAtOpening (store_settings settings) lists image fault)
+    → IsRefusedAtOpening (store_settings_for_saves settings) lists image fault)
     → EndsWithStatus rules keeping (Report settings) given AsBefore ReadToEnd DiskRose DiskSame read_before read_now sink
     written old new write_before write_now status
     → (status ≡ status_of_opening fault)
@@ -466,7 +470,7 @@ status_is_store_refusal never_both decided rules keeping settings given AsBefore
 status_is_store_refusal never_both decided rules keeping settings given AsBefore ReadToEnd DiskRose DiskSame
     read_before read_now sink written old new write_before write_now (BadCapture other) file image frames fault limited used known
     capture is_store shown refused ends =
-    absurd (never_both file frames other capture (status_of_known_file given.capture file (λ f. IsRefusedCapture f other) known ends.0))
+    absurd (never_both file frames other capture (status_of_known_file given.capture file (λ f. IsRefusedCaptureFile f other) known ends.0))
 status_is_store_refusal never_both decided rules keeping settings given AsBefore ReadToEnd DiskRose DiskSame
     read_before read_now sink written old new write_before write_now ReadFault file image frames fault limited used known
     capture is_store shown refused ends =
@@ -536,11 +540,11 @@ argument_status_is_no_refusal words.OutOfMemory status opening.OutOfMemory shown
 
 -- the same of the command that was asked for
 pub status_of_asked_command : {K : Type 0} → CaptureStatusIsFaultless → OpeningsAreDecided → BelongingStoresAreOpened → SessionStatusIsFaultless
-    → (rules : Rules) (keeping : SessionKeeping) (command read : Command) (given : InputBytes) (AsBefore : Type 0)
+    → (rules : SessionRules) (keeping : SessionKeeping) (command read : Command) (given : InputBytes) (AsBefore : Type 0)
     (ReadToEnd DiskRose DiskSame : Type 0) (read_before read_now : EndingSourceFaults)
     (sink written : K) (old new : Option (List ℕ)) (write_before write_now : ℕ) (status : Status)
-    → read ≡ command → AreLimitedWords read → InputsCanBeAnswered rules command given
-    → (OneSourceRoseAtEnding read_before read_now → ⊥) → (FaultCountRose write_before write_now → ⊥) → (DiskRose → ⊥)
+    → read ≡ command → IsLimitedCommand read → InputsCanBeAnswered rules command given
+    → (SourceFaultsRoseAtEnding read_before read_now → ⊥) → (FaultCountRose write_before write_now → ⊥) → (DiskRose → ⊥)
     → ((fault : CaptureFault) → status ≡ BadCapture fault → UsesInputCapture read)
     → EndsWithStatus rules keeping read given AsBefore ReadToEnd DiskRose DiskSame read_before read_now sink written
     old new write_before write_now status
@@ -554,15 +558,15 @@ status_of_asked_command never_both decided opened no_fault rules keeping command
     (subst (λ c. InputsCanBeAnswered rules c given) (sym same) can) no_read no_write no_disk reads ends)
 
 pub asked_status_is_store_refusal : {K : Type 0} → CaptureStatusIsFaultless → OpeningsAreDecided
-    → (rules : Rules) (keeping : SessionKeeping) (settings : Settings) (read : Command)
+    → (rules : SessionRules) (keeping : SessionKeeping) (settings : Settings) (read : Command)
     (given : InputBytes) (AsBefore : Type 0)
     (ReadToEnd DiskRose DiskSame : Type 0) (read_before read_now : EndingSourceFaults)
     (sink written : K) (old new : Option (List ℕ)) (write_before write_now : ℕ) (status : Status)
     (file image : List ℕ) (frames : List FrameValue) (fault : OpenFault)
-    → read ≡ Report settings → AreLimitedWords read → settings.store ≡ true
-    → given.capture ≡ Some file → HasCaptureFrames file frames → given.store ≡ Some image → IsShownByOpening fault
+    → read ≡ Report settings → IsLimitedCommand read → settings.store ≡ true
+    → given.capture ≡ Some file → CaptureFileHasFrames file frames → given.store ≡ Some image → IsShownByOpening fault
     → ((records : Records) (lists : List (List RecordValue)) → AreDealtInSession settings rules file records lists
-    → IsRefusedAtOpening (store_settings settings) lists image fault)
+    → IsRefusedAtOpening (store_settings_for_saves settings) lists image fault)
     → EndsWithStatus rules keeping read given AsBefore ReadToEnd DiskRose DiskSame read_before read_now sink
     written old new write_before write_now status
     → (status ≡ status_of_opening fault)
@@ -572,7 +576,7 @@ asked_status_is_store_refusal never_both decided rules keeping settings read giv
     known capture is_store shown refused ends =
     status_is_store_refusal never_both decided rules keeping settings given AsBefore ReadToEnd DiskRose DiskSame
     read_before read_now sink written old new write_before write_now status file image frames fault
-    (subst AreLimitedWords same limited).0 used known capture is_store shown refused
+    (subst IsLimitedCommand same limited).0 used known capture is_store shown refused
     (subst (λ c. EndsWithStatus rules keeping c given AsBefore ReadToEnd DiskRose DiskSame read_before read_now sink
     written old new write_before write_now status) same ends)
 
@@ -614,20 +618,20 @@ status_beside_disk IsText IsPart ReadToEnd Accepted DiskSame AsBefore Refused Au
     (⊎_elim (λ unwritten. inl (unwritten.0, before)) (λ part. inr part) ends.0, ends.1, ends.2)
 
 -- how the command ended that this one is
-pub status_as_named_command : {K : Type 0} (rules : Rules) (keeping : SessionKeeping) (command named : Command) (given : InputBytes)
+pub status_as_named_command : {K : Type 0} (rules : SessionRules) (keeping : SessionKeeping) (command named : Command) (given : InputBytes)
     (AsBefore : Type 0) (DiskRose DiskSame : Type 0) (read_before read_now : EndingSourceFaults)
     (sink written : K) (old new : Option (List ℕ)) (write_before write_now : ℕ) (status : Status) → command ≡ named
-    → EndsWithStatus rules keeping named given AsBefore (InputsWereRead named given) (OfDiskAtEnding named DiskRose) DiskSame read_before
+    → EndsWithStatus rules keeping named given AsBefore (InputsWereRead named given) (HappenedToDiskAtEnding named DiskRose) DiskSame read_before
     read_now sink written old new write_before write_now status
-    → EndsWithStatus rules keeping command given AsBefore (InputsWereRead command given) (OfDiskAtEnding command DiskRose) DiskSame read_before
+    → EndsWithStatus rules keeping command given AsBefore (InputsWereRead command given) (HappenedToDiskAtEnding command DiskRose) DiskSame read_before
     read_now sink written old new write_before write_now status
 status_as_named_command rules keeping command named given AsBefore DiskRose DiskSame read_before read_now sink written old new
     write_before write_now status is ends =
-    subst (λ c. EndsWithStatus rules keeping c given AsBefore (InputsWereRead c given) (OfDiskAtEnding c DiskRose) DiskSame read_before
+    subst (λ c. EndsWithStatus rules keeping c given AsBefore (InputsWereRead c given) (HappenedToDiskAtEnding c DiskRose) DiskSame read_before
     read_now sink written old new write_before write_now status) (sym is) ends
 
 -- what happened to the disk of a command happened
-pub status_tells_disk_happening : (command : Command) (Happened : Type 0) → OfDiskAtEnding command Happened → Happened
+pub status_tells_disk_happening : (command : Command) (Happened : Type 0) → HappenedToDiskAtEnding command Happened → Happened
 status_tells_disk_happening (Weigh prefix settings) Happened none = absurd none
 status_tells_disk_happening (Report settings) Happened happened = happened
 status_tells_disk_happening (Format settings) Happened happened = happened

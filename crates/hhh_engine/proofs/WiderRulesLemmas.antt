@@ -9,7 +9,7 @@ use Rattle.command_words.specs.declared.command.Command.{Command}
 use Rattle.command_words.specs.declared.command.Command.TheVariants.{Weigh, Report, Format, Audit, Make, Demo}
 use Rattle.hhh_engine.specs.Answer.{IsAnswer, IsAnswerInPart, IsUnfinishedAnswer, Answers, AnswersInPart}
 use Rattle.frame_records.specs.declared.records.Records.{Records}
-use Rattle.hhh_engine.specs.Session.{AreDealtInSession, IsSession, IsSessionInPart, SessionKeeping, Rules}
+use Rattle.hhh_engine.specs.Session.{AreDealtInSession, IsSession, IsSessionInPart, SessionKeeping, SessionRules}
 use Rattle.hhh_engine.specs.Audit.{AreAudited, IsAuditText, IsSoundAudit, IsUnsoundAudit}
 use Rattle.traffic_maker.specs.{made_capture}
 use Rattle.hhh_engine.specs.Demo.{IsDemoText}
@@ -37,7 +37,7 @@ wider_rules_allow_dealing narrow wide kind shards records lists widen dealing = 
       record { below = dealt.below; of_kind = dealt.of_kind; answered = widen place rec shards number dealt.answered };
 }
 
-pub wider_rules_allow_records : (narrow wide : Rules) (settings : Settings) (file : List ℕ) (records : Records)
+pub wider_rules_allow_records : (narrow wide : SessionRules) (settings : Settings) (file : List ℕ) (records : Records)
     (lists : List (List RecordValue))
     → ((kind : DealKind) (place : ℕ) (rec : RecordValue) (shards number : ℕ) → narrow kind place rec shards number
     → wide kind place rec shards number)
@@ -51,7 +51,7 @@ wider_rules_allow_records narrow wide settings file records lists widen dealt = 
       (widen settings.deal) dealt.dealt;
 }
 
-wider_rules_allow_session : (narrow wide : Rules) (keeping : SessionKeeping) (settings : Settings) (store : Option (List ℕ))
+wider_rules_allow_session : (narrow wide : SessionRules) (keeping : SessionKeeping) (settings : Settings) (store : Option (List ℕ))
     (file text : List ℕ)
     → ((kind : DealKind) (place : ℕ) (rec : RecordValue) (shards number : ℕ) → narrow kind place rec shards number
     → wide kind place rec shards number)
@@ -66,7 +66,7 @@ wider_rules_allow_session narrow wide keeping settings store file text widen ses
   spelled = session.spelled;
 }
 
-wider_rules_allow_partial_session : (narrow wide : Rules) (keeping : SessionKeeping) (settings : Settings) (store : Option (List ℕ))
+wider_rules_allow_partial_session : (narrow wide : SessionRules) (keeping : SessionKeeping) (settings : Settings) (store : Option (List ℕ))
     (file front : List ℕ)
     → ((kind : DealKind) (place : ℕ) (rec : RecordValue) (shards number : ℕ) → narrow kind place rec shards number
     → wide kind place rec shards number)
@@ -81,7 +81,7 @@ wider_rules_allow_partial_session narrow wide keeping settings store file front 
   begun = session.begun;
 }
 
-pub wider_rules_allow_audit : (narrow wide : Rules) (settings : Settings) (file text : List ℕ) (lists : List (List RecordValue))
+pub wider_rules_allow_audit : (narrow wide : SessionRules) (settings : Settings) (file text : List ℕ) (lists : List (List RecordValue))
     (session : Session)
     → ((kind : DealKind) (place : ℕ) (rec : RecordValue) (shards number : ℕ) → narrow kind place rec shards number
     → wide kind place rec shards number)
@@ -93,7 +93,7 @@ wider_rules_allow_audit narrow wide settings file text lists session widen audit
   not_long = audited.not_long;
 }
 
-wider_rules_allow_sound_session : (narrow wide : Rules) (settings : Settings) (file text answer : List ℕ)
+wider_rules_allow_sound_session : (narrow wide : SessionRules) (settings : Settings) (file text answer : List ℕ)
     → ((kind : DealKind) (place : ℕ) (rec : RecordValue) (shards number : ℕ) → narrow kind place rec shards number
     → wide kind place rec shards number)
     → IsSoundAudit settings narrow file text answer → IsSoundAudit settings wide file text answer
@@ -105,7 +105,7 @@ wider_rules_allow_sound_session narrow wide settings file text answer widen is =
   spelled = is.spelled;
 }
 
-wider_rules_allow_unsound_session : (narrow wide : Rules) (settings : Settings) (file text : List ℕ) (report : ℕ) (verdict : Verdict)
+wider_rules_allow_unsound_session : (narrow wide : SessionRules) (settings : Settings) (file text : List ℕ) (report : ℕ) (verdict : Verdict)
     → ((kind : DealKind) (place : ℕ) (rec : RecordValue) (shards number : ℕ) → narrow kind place rec shards number
     → wide kind place rec shards number)
     → IsUnsoundAudit settings narrow file text report verdict
@@ -117,7 +117,7 @@ wider_rules_allow_unsound_session narrow wide settings file text report verdict 
   first = is.first;
 }
 
-wider_rules_allow_audit_part : (narrow wide : Rules) (settings : Settings) (file text front : List ℕ)
+wider_rules_allow_audit_part : (narrow wide : SessionRules) (settings : Settings) (file text front : List ℕ)
     → ((kind : DealKind) (place : ℕ) (rec : RecordValue) (shards number : ℕ) → narrow kind place rec shards number
     → wide kind place rec shards number)
     → IsUnfinishedAnswer (IsAuditText settings narrow file text) front → IsUnfinishedAnswer (IsAuditText settings wide file text) front
@@ -130,7 +130,7 @@ wider_rules_allow_audit_part narrow wide settings file text front widen short = 
   cut = short.cut;
 }
 
-wider_rules_allow_demo : (narrow wide : Rules) (settings : Settings) (seed frames : ℕ) (text : List ℕ)
+wider_rules_allow_demo : (narrow wide : SessionRules) (settings : Settings) (seed frames : ℕ) (text : List ℕ)
     → ((kind : DealKind) (place : ℕ) (rec : RecordValue) (shards number : ℕ) → narrow kind place rec shards number
     → wide kind place rec shards number)
     → IsDemoText settings narrow seed frames text → IsDemoText settings wide seed frames text
@@ -143,7 +143,7 @@ wider_rules_allow_demo narrow wide settings seed frames text widen is = record {
   spelled = is.spelled;
 }
 
-wider_rules_allow_answer_text : (narrow wide : Rules) (keeping : SessionKeeping) (command : Command) (read : InputBytes) (text : List ℕ)
+wider_rules_allow_answer_text : (narrow wide : SessionRules) (keeping : SessionKeeping) (command : Command) (read : InputBytes) (text : List ℕ)
     → ((kind : DealKind) (place : ℕ) (rec : RecordValue) (shards number : ℕ) → narrow kind place rec shards number
     → wide kind place rec shards number)
     → IsAnswer narrow keeping command read text → IsAnswer wide keeping command read text
@@ -161,7 +161,7 @@ wider_rules_allow_answer_text narrow wide keeping (Make seed frames) read text w
 wider_rules_allow_answer_text narrow wide keeping (Demo seed frames settings) read text widen answer =
     wider_rules_allow_demo narrow wide settings seed frames text widen answer
 
-wider_rules_allow_answer_part : (narrow wide : Rules) (keeping : SessionKeeping) (command : Command) (read : InputBytes) (front : List ℕ)
+wider_rules_allow_answer_part : (narrow wide : SessionRules) (keeping : SessionKeeping) (command : Command) (read : InputBytes) (front : List ℕ)
     → ((kind : DealKind) (place : ℕ) (rec : RecordValue) (shards number : ℕ) → narrow kind place rec shards number
     → wide kind place rec shards number)
     → IsAnswerInPart narrow keeping command read front → IsAnswerInPart wide keeping command read front
@@ -183,7 +183,7 @@ wider_rules_allow_answer_part narrow wide keeping (Demo seed frames settings) re
   cut = answer.cut;
 }
 
-pub wider_rules_allow_answers : (narrow wide : Rules) (keeping : SessionKeeping) (words : List (List ℕ)) (read : InputBytes)
+pub wider_rules_allow_answers : (narrow wide : SessionRules) (keeping : SessionKeeping) (words : List (List ℕ)) (read : InputBytes)
     (old new : Option (List ℕ))
     → ((kind : DealKind) (place : ℕ) (rec : RecordValue) (shards number : ℕ) → narrow kind place rec shards number
     → wide kind place rec shards number)
@@ -199,7 +199,7 @@ wider_rules_allow_answers narrow wide keeping words read old new widen answers =
   };
 }
 
-pub wider_rules_allow_partial_answers : (narrow wide : Rules) (keeping : SessionKeeping) (words : List (List ℕ)) (read : InputBytes)
+pub wider_rules_allow_partial_answers : (narrow wide : SessionRules) (keeping : SessionKeeping) (words : List (List ℕ)) (read : InputBytes)
     (old new : Option (List ℕ))
     → ((kind : DealKind) (place : ℕ) (rec : RecordValue) (shards number : ℕ) → narrow kind place rec shards number
     → wide kind place rec shards number)
@@ -215,7 +215,7 @@ wider_rules_allow_partial_answers narrow wide keeping words read old new widen a
   };
 }
 
-pub wider_rules_allow_finding : (narrow wide : Rules) (words : List (List ℕ)) (read : InputBytes) (report : ℕ) (verdict : Verdict)
+pub wider_rules_allow_finding : (narrow wide : SessionRules) (words : List (List ℕ)) (read : InputBytes) (report : ℕ) (verdict : Verdict)
     (old new : Option (List ℕ))
     → ((kind : DealKind) (place : ℕ) (rec : RecordValue) (shards number : ℕ) → narrow kind place rec shards number
     → wide kind place rec shards number)
@@ -230,7 +230,7 @@ wider_rules_allow_finding narrow wide words read report verdict old new widen fo
   written = found.written;
 }
 
-wider_rules_allow_refusal : (narrow wide : Rules) (settings : Settings) (store : Option (List ℕ)) (file : List ℕ) (fault : OpenFault)
+wider_rules_allow_refusal : (narrow wide : SessionRules) (settings : Settings) (store : Option (List ℕ)) (file : List ℕ) (fault : OpenFault)
     → ((kind : DealKind) (place : ℕ) (rec : RecordValue) (shards number : ℕ) → narrow kind place rec shards number
     → wide kind place rec shards number)
     → IsRefusedStoreAtEnding settings narrow store file fault → IsRefusedStoreAtEnding settings wide store file fault
@@ -241,7 +241,7 @@ wider_rules_allow_refusal narrow wide settings store file fault widen is = recor
   refused = is.refused;
 }
 
-pub wider_rules_allow_refused_store : {K : Type 0} → (narrow wide : Rules) (words : List (List ℕ)) (read : InputBytes)
+pub wider_rules_allow_refused_store : {K : Type 0} → (narrow wide : SessionRules) (words : List (List ℕ)) (read : InputBytes)
     (fault : OpenFault) (sink written : K) (AsBefore : Type 0)
     → ((kind : DealKind) (place : ℕ) (rec : RecordValue) (shards number : ℕ) → narrow kind place rec shards number
     → wide kind place rec shards number)
@@ -259,7 +259,7 @@ wider_rules_allow_refused_store narrow wide words read fault sink written AsBefo
   as_before = refused.as_before;
 }
 
-wider_rules_imply_known_store : (narrow wide : Rules) (settings : Settings) (read : InputBytes)
+wider_rules_imply_known_store : (narrow wide : SessionRules) (settings : Settings) (read : InputBytes)
     → ((kind : DealKind) (place : ℕ) (rec : RecordValue) (shards number : ℕ) → narrow kind place rec shards number
     → wide kind place rec shards number)
     → HasKnownInputStore settings wide read → HasKnownInputStore settings narrow read
@@ -271,7 +271,7 @@ wider_rules_imply_known_store narrow wide settings read widen store = record {
 }
 
 -- inputs in their formats stay so under rules that allow less, which deal the records in fewer ways
-pub wider_rules_imply_answerable : (narrow wide : Rules) (command : Command) (read : InputBytes)
+pub wider_rules_imply_answerable : (narrow wide : SessionRules) (command : Command) (read : InputBytes)
     → ((kind : DealKind) (place : ℕ) (rec : RecordValue) (shards number : ℕ) → narrow kind place rec shards number
     → wide kind place rec shards number)
     → InputsCanBeAnswered wide command read → InputsCanBeAnswered narrow command read

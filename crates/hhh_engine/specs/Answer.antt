@@ -1,6 +1,6 @@
 -- What commands write.
 use Rattle.std.specs.Prelude.{ℕ, ◌≡◌, ◌<◌, List, length, Option, IfSome, codes}
-use Rattle.command_words.specs.{AskFor}
+use Rattle.command_words.specs.{AskForCommand}
 use Rattle.command_words.specs.declared.command.Command.{Command}
 use Rattle.std.specs.Io.KnownBytes.{Appends}
 use Rattle.outside_io.specs.{IsBeginning}
@@ -10,23 +10,23 @@ use Rattle.prefix_lattice.specs.{PrefixValue}
 use Rattle.hhh_engine.specs.Audit.{IsAuditText, IsSoundAudit}
 use Rattle.traffic_maker.specs.{made_capture}
 use Rattle.hhh_engine.specs.Demo.{IsDemoText}
-use Rattle.hhh_engine.specs.Inputs.{InputBytes, OfAuditInputs, InputsWereRead}
+use Rattle.hhh_engine.specs.Inputs.{InputBytes, HoldsOfAuditInputs, InputsWereRead}
 use Rattle.hhh_engine.specs.WeightText.{IsWeightText}
-use Rattle.hhh_engine.specs.Session.{SessionKeeping, Rules, IsSession, IsSessionInPart}
+use Rattle.hhh_engine.specs.Session.{SessionKeeping, SessionRules, IsSession, IsSessionInPart}
 
 -- the text of `format`: one line, which says that the store is formatted
 abbrev pub formatted_answer : List ℕ
 formatted_answer = codes "formatted\n"
 
 -- the text that a command writes for its inputs, where they are known
-abbrev pub IsAnswer : Rules → SessionKeeping → Command → InputBytes → List ℕ → Type 0
+abbrev pub IsAnswer : SessionRules → SessionKeeping → Command → InputBytes → List ℕ → Type 0
 IsAnswer rules keeping (Weigh prefix settings) read text =
     IfSome read.capture (λ file. IsWeightText prefix settings.weigh file text)
 IsAnswer rules keeping (Report settings) read text =
     IfSome read.capture (λ file. IsSession settings rules keeping read.store file text)
 IsAnswer rules keeping (Format settings) read text = text ≡ formatted_answer
 IsAnswer rules keeping (Audit settings) read text =
-    OfAuditInputs read (λ file session. IsSoundAudit settings rules file session text)
+    HoldsOfAuditInputs read (λ file session. IsSoundAudit settings rules file session text)
 IsAnswer rules keeping (Make seed frames) read text = text ≡ made_capture seed frames
 IsAnswer rules keeping (Demo seed frames settings) read text = IsDemoText settings rules seed frames text
 
@@ -42,35 +42,35 @@ abbrev pub IsWeighAnswerInPart : PrefixValue → Weighing → List ℕ → List 
 IsWeighAnswerInPart prefix weigh file front = IsUnfinishedAnswer (IsWeightText prefix weigh file) front
 
 -- bytes with which the text of a command begins, not all of it
-abbrev pub IsAnswerInPart : Rules → SessionKeeping → Command → InputBytes → List ℕ → Type 0
+abbrev pub IsAnswerInPart : SessionRules → SessionKeeping → Command → InputBytes → List ℕ → Type 0
 IsAnswerInPart rules keeping (Weigh prefix settings) read front =
     IfSome read.capture (λ file. IsWeighAnswerInPart prefix settings.weigh file front)
 IsAnswerInPart rules keeping (Report settings) read front =
     IfSome read.capture (λ file. IsSessionInPart settings rules keeping read.store file front)
 IsAnswerInPart rules keeping (Format settings) read front = IsUnfinishedAnswer (λ text. text ≡ formatted_answer) front
 IsAnswerInPart rules keeping (Audit settings) read front =
-    OfAuditInputs read (λ file session. IsUnfinishedAnswer (IsAuditText settings rules file session) front)
+    HoldsOfAuditInputs read (λ file session. IsUnfinishedAnswer (IsAuditText settings rules file session) front)
 IsAnswerInPart rules keeping (Make seed frames) read front = IsUnfinishedAnswer (λ text. text ≡ made_capture seed frames) front
 IsAnswerInPart rules keeping (Demo seed frames settings) read front = IsUnfinishedAnswer (IsDemoText settings rules seed frames) front
 
 -- bytes of this kind were appended to what the sink held
-pub record Writes (IsText : List ℕ → Type 0) (old new : Option (List ℕ)) : Type 0 where
+pub record WritesAnswer (IsText : List ℕ → Type 0) (old new : Option (List ℕ)) : Type 0 where
   pub text : List ℕ
   pub is_text : IsText text
   pub written : Appends old new text
 
 -- the text of the command that the arguments ask for was written, for its inputs, which were read to their ends
-pub record Answers (rules : Rules) (keeping : SessionKeeping) (words : List (List ℕ)) (read : InputBytes)
+pub record Answers (rules : SessionRules) (keeping : SessionKeeping) (words : List (List ℕ)) (read : InputBytes)
     (old new : Option (List ℕ)) : Type 0 where
   pub command : Command
-  pub asked : AskFor words command
+  pub asked : AskForCommand words command
   pub read_to_end : InputsWereRead command read
-  pub answer : Writes (IsAnswer rules keeping command read) old new
+  pub answer : WritesAnswer (IsAnswer rules keeping command read) old new
 
 -- bytes with which such a text begins, but not all of it, were written, after the inputs were read to their ends
-pub record AnswersInPart (rules : Rules) (keeping : SessionKeeping) (words : List (List ℕ)) (read : InputBytes)
+pub record AnswersInPart (rules : SessionRules) (keeping : SessionKeeping) (words : List (List ℕ)) (read : InputBytes)
     (old new : Option (List ℕ)) : Type 0 where
   pub command : Command
-  pub asked : AskFor words command
+  pub asked : AskForCommand words command
   pub read_to_end : InputsWereRead command read
-  pub answer : Writes (IsAnswerInPart rules keeping command read) old new
+  pub answer : WritesAnswer (IsAnswerInPart rules keeping command read) old new

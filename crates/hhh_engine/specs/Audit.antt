@@ -6,7 +6,7 @@ use Rattle.prefix_lattice.specs.{RecordValue, prefix_text}
 use Rattle.hhh_output.specs.{IsSound}
 use Rattle.hhh_output.specs.declared.reports.Reported.{Reported}
 use Rattle.frame_records.specs.declared.records.Records.{Records}
-use Rattle.report_text.specs.{IsSessionText, longest_session_text}
+use Rattle.report_text.specs.{IsSessionText, longest_session_text_length}
 use Rattle.report_text.specs.declared.session.Session.{Session}
 use Rattle.report_text.specs.declared.session_fault.TextFault.{TextFault}
 use Rattle.report_text.specs.declared.session_fault.TextFault.TheVariants.{TooLong}
@@ -15,7 +15,7 @@ use Rattle.exact_audit.specs.declared.verdict.Verdict.{Verdict}
 use Rattle.exact_audit.specs.declared.verdict.Verdict.TheVariants.{Good, BadPositions, BadTotal, BadThreshold}
 use Rattle.exact_audit.specs.declared.verdict.Verdict.TheVariants.{BadInterval, TooWide, LowLine, NotJustified, LeftOut}
 use Rattle.command_words.specs.declared.settings.Settings.{Settings}
-use Rattle.hhh_engine.specs.Session.{AreDealtInSession, Rules}
+use Rattle.hhh_engine.specs.Session.{AreDealtInSession, SessionRules}
 
 -- a verdict, in a few words
 abbrev pub audit_verdict_text : Verdict → List ℕ
@@ -54,15 +54,15 @@ pub record IsAuditedAsFirstUnsound (settings : Settings) (lists : List (List Rec
 
 -- a capture and the text of a session, as an audit sees them: the records of the capture, dealt as the settings ask, and
 -- what the text says
-pub record AreAudited (settings : Settings) (rules : Rules) (file text : List ℕ) (lists : List (List RecordValue))
+pub record AreAudited (settings : Settings) (rules : SessionRules) (file text : List ℕ) (lists : List (List RecordValue))
     (session : Session) : Type 0 where
   pub records : Records
   pub dealt : AreDealtInSession settings rules file records lists
   pub is_session : IsSessionText text session
-  pub not_long : length text ≤ longest_session_text
+  pub not_long : length text ≤ longest_session_text_length
 
 -- all reports of a session are sound over the records of a capture, and the answer is their number
-pub record IsSoundAudit (settings : Settings) (rules : Rules) (file text answer : List ℕ) : Type 0 where
+pub record IsSoundAudit (settings : Settings) (rules : SessionRules) (file text answer : List ℕ) : Type 0 where
   pub lists : List (List RecordValue)
   pub session : Session
   pub audited : AreAudited settings rules file text lists session
@@ -70,7 +70,7 @@ pub record IsSoundAudit (settings : Settings) (rules : Rules) (file text answer 
   pub spelled : answer ≡ sound_audit_text (length session.reports)
 
 -- a report of a session is the first that is not sound over the records of a capture
-pub record IsUnsoundAudit (settings : Settings) (rules : Rules) (file text : List ℕ) (number : ℕ) (verdict : Verdict)
+pub record IsUnsoundAudit (settings : Settings) (rules : SessionRules) (file text : List ℕ) (number : ℕ) (verdict : Verdict)
     : Type 0 where
   pub lists : List (List RecordValue)
   pub session : Session
@@ -78,19 +78,19 @@ pub record IsUnsoundAudit (settings : Settings) (rules : Rules) (file text : Lis
   pub first : IsAuditedAsFirstUnsound settings lists session.reports number verdict
 
 -- the text that an audit of a session writes
-abbrev pub IsAuditText : Settings → Rules → List ℕ → List ℕ → List ℕ → Type 0
+abbrev pub IsAuditText : Settings → SessionRules → List ℕ → List ℕ → List ℕ → Type 0
 IsAuditText settings rules file text answer =
     IsSoundAudit settings rules file text answer
     ⊎ ((number : ℕ) × (verdict : Verdict) × IsUnsoundAudit settings rules file text number verdict
     × (answer ≡ unsound_audit_text number verdict))
 
 -- of a text one byte was read past the longest one that is audited
-pub record WasReadToAuditLimit (old new : Option (List ℕ)) : Type 0 where
+pub record AuditReadPastLimit (old new : Option (List ℕ)) : Type 0 where
   pub front : List ℕ
   pub consumed : Consumes old new front
-  pub limit : length front ≡ longest_session_text + 1
+  pub limit : length front ≡ longest_session_text_length + 1
 
 -- how far a text was read that was refused for this fault: no further than shows that it is too long, else to its end
-abbrev pub WasReadForAuditFault : TextFault → (old new : Option (List ℕ)) → Type 0
-WasReadForAuditFault TooLong old new = WasReadToAuditLimit old new
-WasReadForAuditFault _ old new = IsAtEnd new
+abbrev pub AuditReadOnFault : TextFault → (old new : Option (List ℕ)) → Type 0
+AuditReadOnFault TooLong old new = AuditReadPastLimit old new
+AuditReadOnFault _ old new = IsAtEnd new

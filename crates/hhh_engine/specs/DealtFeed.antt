@@ -7,23 +7,25 @@ use Rattle.shard_state.specs.{AreCutPositionsNotPast, CutValue, HasCoreShape, Sh
 use Rattle.hhh_output.specs.declared.reports.Reported.{Reported}
 use Rattle.gate_workers.specs.declared.gathered.Called.{Called}
 use Rattle.gate_workers.specs.declared.gathered.Gathered.{Gathered}
-use Rattle.gate_workers.specs.{HasFeedSeenEnds, cut_at_call}
-use Rattle.pass_tokens.specs.{IsPassOfBoard, WordsValue, first_view, view}
+use Rattle.gate_workers.specs.{FeedHasSeenEnds, cut_at_call}
+use Rattle.pass_tokens.specs.{IsPassOfBoard, PositionWordsValue, first_view, view}
 use Rattle.frame_records.specs.declared.records.Records.{Records}
 use Rattle.report_text.specs.{report_text, report_tail_text}
-use Rattle.checkpoint.specs.{AreHeaderSettings, SaverState, StandsForSaver, digest_of_lists, last_body_sequence}
+use Rattle.checkpoint.specs.{AreHeaderSettings, SaverState, DiskMatchesSaver, digest_of_lists, greatest_body_sequence}
 use Rattle.outside_io.specs.{FaultCountRose}
 use Rattle.slot_disk.specs.{IfImageKnown}
-use Rattle.recovery.specs.{OpeningContinuesLists, IsRefusedAtOpening, last_opened_sequence}
+use Rattle.recovery.specs.{OpeningContinuesLists, IsRefusedAtOpening, greatest_opened_sequence}
 use Rattle.recovery.specs.declared.fault.OpenFault.{OpenFault}
 use Rattle.recovery.specs.declared.fault.OpenFault.TheVariants as opening
 use Rattle.command_words.specs.declared.settings.Settings.{Settings}
 use Rattle.hhh_engine.specs.Rounds.{DiskFailedInRound, RoundFaults, SinkFailedInRound}
-use Rattle.hhh_engine.specs.Saves.{store_settings}
-use Rattle.hhh_engine.specs.Session.{AreDealtInSession, AreSessionReportsOfCaller, BeginsSession, SessionBreaksOffInRounds, SessionGoesOnFrom, IsShownInSession, SessionKeeping}
-use Rattle.hhh_engine.specs.Session.{SessionBaseRepresents, Rules, SessionSaving, SpellsSession, session_callers_text, session_ends, session_opening}
-use Rattle.hhh_engine.specs.Session.{session_parts_text, session_saved_cuts, session_save_text, session_start}
-use Rattle.hhh_engine.specs.Answer.{Writes}
+use Rattle.hhh_engine.specs.Saves.{store_settings_for_saves}
+use Rattle.hhh_engine.specs.Session.{AreDealtInSession, AreSessionReportsOfCaller, BeginsSession}
+use Rattle.hhh_engine.specs.Session.{SessionBreaksOffInRounds, SessionGoesOnFrom, IsShownInSession, SessionKeeping}
+use Rattle.hhh_engine.specs.Session.{SessionBaseRepresents, SessionRules, SessionSaving, IsSessionOverShards}
+use Rattle.hhh_engine.specs.Session.{session_caller_parts, session_ends, session_opening}
+use Rattle.hhh_engine.specs.Session.{session_parts, session_saved_cuts, session_save_line, session_start}
+use Rattle.hhh_engine.specs.Answer.{WritesAnswer}
 use Rattle.hhh_engine.specs.Status.{status_of_opening}
 use Rattle.hhh_engine.specs.declared.commands.base.Base.{Base}
 use Rattle.hhh_engine.specs.declared.commands.session.Opened.{Opened}
@@ -34,7 +36,7 @@ use Rattle.hhh_engine.specs.declared.status.Status.TheVariants.{Done, WriteFault
 use Rattle.hhh_engine.specs.declared.status.Status.TheVariants.{OtherSettings, OtherCapture, OutOfMemory}
 
 -- the dealt lists of a capture, and the last lines of the session over them
-pub record IsDealtFeedCapture (settings : Settings) (rules : Rules) (file : List ℕ) (lists : List (List RecordValue))
+pub record IsDealtFeedCapture (settings : Settings) (rules : SessionRules) (file : List ℕ) (lists : List (List RecordValue))
     (tail : List ℕ) : Type 0 where
   pub records : Records
   pub dealt : AreDealtInSession settings rules file records lists
@@ -43,9 +45,9 @@ pub record IsDealtFeedCapture (settings : Settings) (rules : Rules) (file : List
 -- a saver of the store that the settings ask for, over dealt lists, from these positions on
 pub record IsDealtFeedSaver (settings : Settings) (lists : List (List RecordValue)) (positions : List ℕ) (saver : SaverState)
     : Type 0 where
-  pub settings_are : saver.settings ≡ store_settings settings
-  pub digest_is : saver.digest ≡ digest_of_lists (store_settings settings) lists
-  pub early : saver.sequence ≤ last_opened_sequence
+  pub settings_are : saver.settings ≡ store_settings_for_saves settings
+  pub digest_is : saver.digest ≡ digest_of_lists (store_settings_for_saves settings) lists
+  pub early : saver.sequence ≤ greatest_opened_sequence
   pub positions_are : saver.positions ≡ positions
 
 -- what a run over dealt lists goes on from: the bytes of its store as it began are these, where they are known
@@ -62,7 +64,7 @@ pub record HasNoDealtFeedBase (settings : Settings) (lists : List (List RecordVa
   pub fault : OpenFault
   pub status_is : status ≡ status_of_opening fault
   pub used : (settings.store ≡ true) ⊎ (fault ≡ opening.OutOfMemory)
-  pub refused : IfImageKnown store (λ image. IsRefusedAtOpening (store_settings settings) lists image fault)
+  pub refused : IfImageKnown store (λ image. IsRefusedAtOpening (store_settings_for_saves settings) lists image fault)
   pub rose : fault ≡ opening.DiskFault → FaultCountRose before now
   pub kept : (fault ≡ opening.DiskFault → ⊥) → now ≡ before
 
@@ -83,8 +85,8 @@ pub record DealtFeedWrites (settings : Settings) (lists : List (List RecordValue
   pub base : Option CutValue
   pub begins : SessionGoesOnFrom settings lists store base
   pub represents : SessionBaseRepresents lists base (session_opening settings.capacity lists base)
-  pub writes : Writes (SpellsSession (session_opening settings.capacity lists base) settings
-      (λ cuts. settings.store ≡ true → keeping (store_settings settings) lists cuts []) tail) old new
+  pub writes : WritesAnswer (IsSessionOverShards (session_opening settings.capacity lists base) settings
+      (λ cuts. settings.store ≡ true → keeping (store_settings_for_saves settings) lists cuts []) tail) old new
 
 -- bytes of it were written, before it broke off
 pub record DealtFeedWritesInPart (settings : Settings) (lists : List (List RecordValue)) (tail : List ℕ)
@@ -92,15 +94,15 @@ pub record DealtFeedWritesInPart (settings : Settings) (lists : List (List Recor
   pub base : Option CutValue
   pub begins : SessionGoesOnFrom settings lists store base
   pub represents : SessionBaseRepresents lists base (session_opening settings.capacity lists base)
-  pub writes : Writes (BeginsSession (session_opening settings.capacity lists base) settings
-      (λ saved unfinished. settings.store ≡ true → keeping (store_settings settings) lists saved unfinished) tail) old new
+  pub writes : WritesAnswer (BeginsSession (session_opening settings.capacity lists base) settings
+      (λ saved unfinished. settings.store ≡ true → keeping (store_settings_for_saves settings) lists saved unfinished) tail) old new
 
 -- a store is refused for this fault over dealt lists, and its disk is as before
-pub record DealtFeedRefusesLists (settings : Settings) (lists : List (List RecordValue)) (store : Option (List ℕ))
+pub record DealtFeedRefusesStore (settings : Settings) (lists : List (List RecordValue)) (store : Option (List ℕ))
     (AsBefore : Type 0) (fault : OpenFault) : Type 0 where
   pub used : settings.store ≡ true
   pub as_before : AsBefore
-  pub refused : IfImageKnown store (λ image. IsRefusedAtOpening (store_settings settings) lists image fault)
+  pub refused : IfImageKnown store (λ image. IsRefusedAtOpening (store_settings_for_saves settings) lists image fault)
 
 -- how a report over dealt lists ended. AsBefore says that the disk is as before
 abbrev pub DealtFeedEnds : {K : Type 0} → Settings → List (List RecordValue) → List ℕ → SessionKeeping
@@ -114,14 +116,14 @@ DealtFeedEnds settings lists tail keeping store AsBefore sink written old new be
     (((written ≡ sink) × AsBefore) ⊎ DealtFeedWritesInPart settings lists tail keeping store old new)
     × DiskFailedInRound before now
 DealtFeedEnds settings lists tail keeping store AsBefore sink written old new before now NotFormatted =
-    DealtFeedRefusesLists settings lists store AsBefore opening.NotFormatted × (written ≡ sink) × (now ≡ before)
+    DealtFeedRefusesStore settings lists store AsBefore opening.NotFormatted × (written ≡ sink) × (now ≡ before)
 DealtFeedEnds settings lists tail keeping store AsBefore sink written old new before now (Damaged slot) =
-    DealtFeedRefusesLists settings lists store AsBefore (opening.Damaged slot) × (written ≡ sink) × (now ≡ before)
+    DealtFeedRefusesStore settings lists store AsBefore (opening.Damaged slot) × (written ≡ sink) × (now ≡ before)
 DealtFeedEnds settings lists tail keeping store AsBefore sink written old new before now (OtherSettings stored asked) =
-    DealtFeedRefusesLists settings lists store AsBefore (opening.OtherSettings stored asked) × (written ≡ sink)
+    DealtFeedRefusesStore settings lists store AsBefore (opening.OtherSettings stored asked) × (written ≡ sink)
     × (now ≡ before)
 DealtFeedEnds settings lists tail keeping store AsBefore sink written old new before now (OtherCapture stored asked) =
-    DealtFeedRefusesLists settings lists store AsBefore (opening.OtherCapture stored asked) × (written ≡ sink) × (now ≡ before)
+    DealtFeedRefusesStore settings lists store AsBefore (opening.OtherCapture stored asked) × (written ≡ sink) × (now ≡ before)
 DealtFeedEnds settings lists tail keeping store AsBefore sink written old new before now OutOfMemory =
     (((written ≡ sink) × AsBefore) ⊎ DealtFeedWritesInPart settings lists tail keeping store old new) × (now ≡ before)
 DealtFeedEnds settings lists tail keeping store AsBefore sink written old new before now _ = ⊥
@@ -143,40 +145,40 @@ dealt_feed_other_reports called = map (λ caller. caller.reports) called
 
 -- what threads bring back that fed a board to the ends: the calling thread's rounds were written, and the other callers
 -- made theirs
-pub record IsDealtFeedGathered (board : WordsValue) (settings : Settings) (Kept : List CutValue → Type 0)
+pub record IsDealtFeedGathered (board : PositionWordsValue) (settings : Settings) (Kept : List CutValue → Type 0)
     (old new : Option (List ℕ)) (gathered : Gathered) : Type 0 where
   pub pass : IsPassOfBoard board gathered.pass
-  pub ends : HasFeedSeenEnds board.opening (view gathered.pass)
+  pub ends : FeedHasSeenEnds board.opening (view gathered.pass)
   pub rounds : List Reported
   pub are_rounds : AreSessionReportsOfCaller board.opening settings settings.rounds rounds
-  pub written : Appends old new (session_parts_text settings.store rounds)
+  pub written : Appends old new (session_parts settings.store rounds)
   pub kept : Kept (session_saved_cuts settings.store board.opening rounds)
   pub as_many : length gathered.called.items ≡ settings.callers
   pub callers : All (AreSessionReportsOfCaller board.opening settings settings.rounds) (dealt_feed_other_reports gathered.called.items)
 
 -- and the cut into which the calling thread read
-pub record IsDealtFeedResult (board : WordsValue) (settings : Settings) (Kept : List CutValue → Type 0)
+pub record IsDealtFeedResult (board : PositionWordsValue) (settings : Settings) (Kept : List CutValue → Type 0)
     (old new : Option (List ℕ)) (fed : Fed) : Type 0 where
   pub gathered : IsDealtFeedGathered board settings Kept old new fed.gathered
   pub shape : HasCoreShape (length board.opening) (core_capacity board.opening) fed.cut
 
 -- the rest of a session over a board, which ends with the lines `tail`: the last report, which counts all records, the cut
 -- that it is of, the text up to it, and the text after it
-pub record IsDealtFeedRest (board : WordsValue) (settings : Settings) (called : List Called) (tail : List ℕ) (rest : Rest)
+pub record IsDealtFeedRest (board : PositionWordsValue) (settings : Settings) (called : List Called) (tail : List ℕ) (rest : Rest)
     : Type 0 where
   pub last : Reported
   pub shown : IsShownInSession board.opening settings last
   pub at_ends : last.report.positions ≡ session_ends board.opening
   pub cut_is : rest.cut ≡ cut_at_call board.opening last.report.positions
-  pub front_is : rest.front.items ≡ session_callers_text (dealt_feed_other_reports called) ++ report_text last.report
-  pub back_is : rest.back.items ≡ session_save_text settings.store last.report.positions ++ tail
+  pub front_is : rest.front.items ≡ session_caller_parts (dealt_feed_other_reports called) ++ report_text last.report
+  pub back_is : rest.back.items ≡ session_save_line settings.store last.report.positions ++ tail
 
 -- a saver that may save this cut, into the disk as it stands
 pub record DealtFeedCanSaveCut (reads : Option (List ℕ)) (possible : List ℕ → Type 0) (cut : CutValue) (saver : SaverState)
     : Type 0 where
   pub settings : AreHeaderSettings saver.settings
-  pub stands : StandsForSaver reads possible saver
-  pub early : saver.sequence + 1 ≤ last_body_sequence
+  pub stands : DiskMatchesSaver reads possible saver
+  pub early : saver.sequence + 1 ≤ greatest_body_sequence
   pub shape : HasCoreShape saver.settings.shards saver.settings.capacity cut
   pub no_earlier : AreCutPositionsNotPast saver.positions (cut_positions cut)
 

@@ -7,7 +7,7 @@ use Rattle.hhh_output.specs.{IsSound}
 use Rattle.hhh_output.specs.declared.report.Report.{Report}
 use Rattle.traffic_maker.specs.{made_capture}
 use Rattle.command_words.specs.declared.settings.Settings.{Settings}
-use Rattle.hhh_engine.specs.Session.{AreDealtInSession, Rules, session_ends, new_session_shards}
+use Rattle.hhh_engine.specs.Session.{AreDealtInSession, SessionRules, session_ends, new_session_shards}
 
 -- the lines of a demonstration: what was made, how many records it has, the total and the threshold of the report, how many
 -- lines the report has, and that its audit found it sound
@@ -24,7 +24,7 @@ pub record IsDemoReport (settings : Settings) (lists : List (List RecordValue)) 
   pub is_sound : IsSound report lists settings.capacity settings.phi
 
 -- the summary of a demonstration: of the report over all records of the capture that the seed makes
-pub record IsDemoText (settings : Settings) (rules : Rules) (seed frames : ℕ) (text : List ℕ) : Type 0 where
+pub record IsDemoText (settings : Settings) (rules : SessionRules) (seed frames : ℕ) (text : List ℕ) : Type 0 where
   pub records : Records
   pub lists : List (List RecordValue)
   pub dealt : AreDealtInSession settings rules (made_capture seed frames) records lists

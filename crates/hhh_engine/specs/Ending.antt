@@ -3,7 +3,7 @@ use Rattle.std.specs.Prelude.{⊤, ℕ, ◌≡◌, ◌⊎◌, true, List, Option
 use Rattle.std.specs.Io.KnownBytes.{Appends, IsAtEnd}
 use Rattle.outside_io.specs.{FaultCountRose}
 use Rattle.prefix_lattice.specs.{RecordValue}
-use Rattle.frame_records.specs.{IsRefusedCapture}
+use Rattle.frame_records.specs.{IsRefusedCaptureFile}
 use Rattle.frame_records.specs.declared.records.Records.{Records}
 use Rattle.pcap_frames.specs.declared.fault.CaptureFault.{CaptureFault}
 use Rattle.slot_disk.specs.{IfImageKnown}
@@ -12,19 +12,20 @@ use Rattle.checkpoint.specs.declared.settings.StoreSettings.{StoreSettings}
 use Rattle.recovery.specs.{IsRefusedAtOpening}
 use Rattle.recovery.specs.declared.fault.OpenFault.{OpenFault}
 use Rattle.recovery.specs.declared.fault.OpenFault.TheVariants as opening
-use Rattle.report_text.specs.{HasTextFault}
+use Rattle.report_text.specs.{HasSessionTextFault}
 use Rattle.report_text.specs.declared.session_fault.TextFault.{TextFault}
 use Rattle.exact_audit.specs.declared.verdict.Verdict.{Verdict}
-use Rattle.command_words.specs.{AskFor, HasWordsFault}
+use Rattle.command_words.specs.{AskForCommand, HasWordsFault}
 use Rattle.command_words.specs.declared.command.Command.{Command}
 use Rattle.command_words.specs.declared.command.Command.TheVariants as command
 use Rattle.command_words.specs.declared.settings.Settings.{Settings}
 use Rattle.command_words.specs.declared.words_kind.WordsKind.{WordsKind}
-use Rattle.hhh_engine.specs.Answer.{AnswersInPart, Writes}
-use Rattle.hhh_engine.specs.Audit.{IsUnsoundAudit, WasReadForAuditFault, unsound_audit_text}
-use Rattle.hhh_engine.specs.Inputs.{AskToUseInput, InputBytes, IsInputCapture, MayUseInputStore, OfAuditInputs, UsesInputCapture, UsesInputSession, InputsWereRead}
-use Rattle.hhh_engine.specs.Saves.{store_settings}
-use Rattle.hhh_engine.specs.Session.{AreDealtInSession, SessionKeeping, Rules}
+use Rattle.hhh_engine.specs.Answer.{AnswersInPart, WritesAnswer}
+use Rattle.hhh_engine.specs.Audit.{IsUnsoundAudit, AuditReadOnFault, unsound_audit_text}
+use Rattle.hhh_engine.specs.Inputs.{AskedCommandUsesInput, InputBytes, IsInputCapture, MayUseInputStore}
+use Rattle.hhh_engine.specs.Inputs.{HoldsOfAuditInputs, UsesInputCapture, UsesInputSession, InputsWereRead}
+use Rattle.hhh_engine.specs.Saves.{store_settings_for_saves}
+use Rattle.hhh_engine.specs.Session.{AreDealtInSession, SessionKeeping, SessionRules}
 use Rattle.hhh_engine.specs.declared.status.Status.{Status}
 use Rattle.hhh_engine.specs.declared.status.Status.TheVariants.{Done, BadWords, BadCapture, ReadFault, WriteFault}
 use Rattle.hhh_engine.specs.declared.status.Status.TheVariants.{DiskFault, NotFormatted, Damaged, OtherSettings}
@@ -48,8 +49,8 @@ pub record EndsRefusingWords {S T K D : Type 0} (words : List (List ℕ)) (kind 
 -- session was read before, and nothing was written
 pub record EndsRefusingCapture {T K D : Type 0} (words : List (List ℕ)) (left : Option (List ℕ)) (fault : CaptureFault)
     (text text_read : T) (sink written : K) (disk stands : D) : Type 0 where
-  pub asked : AskToUseInput UsesInputCapture words
-  pub first_fault : IfSome left (λ file. IsRefusedCapture file fault)
+  pub asked : AskedCommandUsesInput UsesInputCapture words
+  pub first_fault : IfSome left (λ file. IsRefusedCaptureFile file fault)
   pub text_unread : text_read ≡ text
   pub unwritten : written ≡ sink
   pub untouched : stands ≡ disk
@@ -64,8 +65,8 @@ abbrev pub ending_source_faults : ℕ → ℕ → EndingSourceFaults
 ending_source_faults capture text = record { capture = capture; text = text }
 
 -- the count of faults of one of the sources rose
-abbrev pub OneSourceRoseAtEnding : EndingSourceFaults → EndingSourceFaults → Type 0
-OneSourceRoseAtEnding before now = FaultCountRose before.capture now.capture ⊎ FaultCountRose before.text now.text
+abbrev pub SourceFaultsRoseAtEnding : EndingSourceFaults → EndingSourceFaults → Type 0
+SourceFaultsRoseAtEnding before now = FaultCountRose before.capture now.capture ⊎ FaultCountRose before.text now.text
 
 -- the source of a capture, which the command reads, failed before any text of a session was read
 pub record EndsAtFailedCapture {T : Type 0} (Reads : Type 0) (before now : EndingSourceFaults) (text text_read : T) : Type 0 where
@@ -91,18 +92,18 @@ EndsAtFailedSource Reads ReadsText read before now text text_read =
 -- ReadFault: the count of faults of a source rose, and nothing was written
 pub record EndsFailingToRead {T K D : Type 0} (words : List (List ℕ)) (read : InputBytes) (before now : EndingSourceFaults)
     (text text_read : T) (sink written : K) (disk stands : D) : Type 0 where
-  pub failed : EndsAtFailedSource (AskToUseInput UsesInputCapture words) (AskToUseInput UsesInputSession words) read before now text text_read
+  pub failed : EndsAtFailedSource (AskedCommandUsesInput UsesInputCapture words) (AskedCommandUsesInput UsesInputSession words) read before now text text_read
   pub unwritten : written ≡ sink
   pub untouched : stands ≡ disk
 
 -- WriteFault: the sink's count of faults rose, and bytes with which the text of the command begins were written
-pub record EndsFailingToWrite (rules : Rules) (keeping : SessionKeeping) (words : List (List ℕ)) (read : InputBytes)
+pub record EndsFailingToWrite (rules : SessionRules) (keeping : SessionKeeping) (words : List (List ℕ)) (read : InputBytes)
     (old new : Option (List ℕ)) (before now : ℕ) : Type 0 where
   pub rose : FaultCountRose before now
   pub in_part : AnswersInPart rules keeping words read old new
 
 -- bytes with which the text of the command begins were written; or none were, and the disk is as before
-abbrev pub EndsWritingInPart : {K : Type 0} → Rules → SessionKeeping → List (List ℕ) → InputBytes → (AsBefore : Type 0)
+abbrev pub EndsWritingInPart : {K : Type 0} → SessionRules → SessionKeeping → List (List ℕ) → InputBytes → (AsBefore : Type 0)
     → (sink written : K) → (old new : Option (List ℕ)) → Type 0
 EndsWritingInPart rules keeping words read AsBefore sink written old new =
     ((written ≡ sink) × AsBefore) ⊎ AnswersInPart rules keeping words read old new
@@ -118,28 +119,28 @@ EndsAsBeforeUnlessFormat (command.Demo seed frames settings) AsBefore = AsBefore
 
 -- DiskFault: the command may use a store; the disk's count of faults rose, and bytes with which the text begins were
 -- written; or none were, and a store that was to be opened is as before
-pub record EndsWithFailedDisk {K : Type 0} (rules : Rules) (keeping : SessionKeeping) (words : List (List ℕ)) (read : InputBytes)
+pub record EndsWithFailedDisk {K : Type 0} (rules : SessionRules) (keeping : SessionKeeping) (words : List (List ℕ)) (read : InputBytes)
     (AsBefore : Type 0) (sink written : K) (old new : Option (List ℕ)) (before now : ℕ) : Type 0 where
   pub command : Command
-  pub asked : AskFor words command
+  pub asked : AskForCommand words command
   pub may_use : MayUseInputStore command
   pub rose : FaultCountRose before now
   pub in_part : EndsWritingInPart rules keeping words read (EndsAsBeforeUnlessFormat command AsBefore) sink written old new
 
 -- over a capture, whose records are dealt, the store is refused for this fault, where the bytes of the disk are known
-pub record IsRefusedStoreAtEnding (settings : Settings) (rules : Rules) (store : Option (List ℕ)) (file : List ℕ)
+pub record IsRefusedStoreAtEnding (settings : Settings) (rules : SessionRules) (store : Option (List ℕ)) (file : List ℕ)
     (fault : OpenFault) : Type 0 where
   pub records : Records
   pub lists : List (List RecordValue)
   pub dealt : AreDealtInSession settings rules file records lists
-  pub refused : IfImageKnown store (λ image. IsRefusedAtOpening (store_settings settings) lists image fault)
+  pub refused : IfImageKnown store (λ image. IsRefusedAtOpening (store_settings_for_saves settings) lists image fault)
 
 -- NotFormatted, Damaged, OtherSettings, OtherCapture: a report with a store was asked for; the capture was read to its
 -- end, the store was refused for this fault, nothing was written, and the disk is as before
-pub record EndsRefusingStore {K : Type 0} (rules : Rules) (words : List (List ℕ)) (read : InputBytes) (fault : OpenFault)
+pub record EndsRefusingStore {K : Type 0} (rules : SessionRules) (words : List (List ℕ)) (read : InputBytes) (fault : OpenFault)
     (sink written : K) (AsBefore : Type 0) : Type 0 where
   pub settings : Settings
-  pub asked : AskFor words (command.Report settings)
+  pub asked : AskForCommand words (command.Report settings)
   pub used : settings.store ≡ true
   pub read_to_end : IsAtEnd read.capture_left
   pub refused : IfSome read.capture (λ file. IsRefusedStoreAtEnding settings rules read.store file fault)
@@ -148,12 +149,12 @@ pub record EndsRefusingStore {K : Type 0} (rules : Rules) (words : List (List �
 
 -- AuditNo: an audit was asked for, and the inputs were read to their ends; this report is the first of the session that
 -- is not sound, by this verdict, and the line that says so was written in full
-pub record EndsFindingUnsound (rules : Rules) (words : List (List ℕ)) (read : InputBytes) (report : ℕ) (verdict : Verdict)
+pub record EndsFindingUnsound (rules : SessionRules) (words : List (List ℕ)) (read : InputBytes) (report : ℕ) (verdict : Verdict)
     (old new : Option (List ℕ)) : Type 0 where
   pub settings : Settings
-  pub asked : AskFor words (command.Audit settings)
+  pub asked : AskForCommand words (command.Audit settings)
   pub read_to_end : InputsWereRead (command.Audit settings) read
-  pub found : OfAuditInputs read (λ file text. IsUnsoundAudit settings rules file text report verdict)
+  pub found : HoldsOfAuditInputs read (λ file text. IsUnsoundAudit settings rules file text report verdict)
   pub written : Appends old new (unsound_audit_text report verdict)
 
 -- the text of a session was refused: the capture is one and was read to its end; this is the first fault of the text, where
@@ -161,14 +162,14 @@ pub record EndsFindingUnsound (rules : Rules) (words : List (List ℕ)) (read : 
 pub record TextRefusedAtEnding (read : InputBytes) (fault : TextFault) : Type 0 where
   pub read_to_end : IsAtEnd read.capture_left
   pub accepted : IfSome read.capture IsInputCapture
-  pub first_fault : IfSome read.text (λ text. HasTextFault text fault)
-  pub read_to_limit : WasReadForAuditFault fault read.text read.text_left
+  pub first_fault : IfSome read.text (λ text. HasSessionTextFault text fault)
+  pub read_to_limit : AuditReadOnFault fault read.text read.text_left
 
 -- BadReport: an audit was asked for, and the text was refused for this fault; nothing was written
 pub record EndsRefusingText {K D : Type 0} (words : List (List ℕ)) (read : InputBytes) (fault : TextFault)
     (sink written : K) (disk stands : D) : Type 0 where
   pub settings : Settings
-  pub asked : AskFor words (command.Audit settings)
+  pub asked : AskForCommand words (command.Audit settings)
   pub refusal : TextRefusedAtEnding read fault
   pub unwritten : written ≡ sink
   pub untouched : stands ≡ disk
@@ -199,12 +200,12 @@ FormatEnds settings reads possible sink written disk stands OutOfMemory = (writt
 FormatEnds settings reads possible sink written disk stands _ = ⊥
 
 -- within the crate: a report with a store was asked for, the store is refused for this fault, and the disk is as before
-abbrev pub RefusesStoreAtEnding : Settings → Rules → (capture store : Option (List ℕ)) → (AsBefore : Type 0) → OpenFault → Type 0
+abbrev pub RefusesStoreAtEnding : Settings → SessionRules → (capture store : Option (List ℕ)) → (AsBefore : Type 0) → OpenFault → Type 0
 RefusesStoreAtEnding settings rules capture store AsBefore fault =
     (settings.store ≡ true) × AsBefore × IfSome capture (λ file. IsRefusedStoreAtEnding settings rules store file fault)
 
 -- within the crate: the same of any command: only a report opens a store
-abbrev pub RefusesAtEnding : Command → Rules → InputBytes → (AsBefore : Type 0) → OpenFault → Type 0
+abbrev pub RefusesAtEnding : Command → SessionRules → InputBytes → (AsBefore : Type 0) → OpenFault → Type 0
 RefusesAtEnding (command.Weigh prefix settings) rules read AsBefore fault = ⊥
 RefusesAtEnding (command.Report settings) rules read AsBefore fault =
     RefusesStoreAtEnding settings rules read.capture read.store AsBefore fault
@@ -214,13 +215,13 @@ RefusesAtEnding (command.Make seed frames) rules read AsBefore fault = ⊥
 RefusesAtEnding (command.Demo seed frames settings) rules read AsBefore fault = ⊥
 
 -- within the crate: this happened to the disk, which the command may use
-abbrev pub OfDiskAtEnding : Command → Type 0 → Type 0
-OfDiskAtEnding (command.Weigh prefix settings) happened = ⊥
-OfDiskAtEnding (command.Report settings) happened = happened
-OfDiskAtEnding (command.Format settings) happened = happened
-OfDiskAtEnding (command.Audit settings) happened = ⊥
-OfDiskAtEnding (command.Make seed frames) happened = ⊥
-OfDiskAtEnding (command.Demo seed frames settings) happened = ⊥
+abbrev pub HappenedToDiskAtEnding : Command → Type 0 → Type 0
+HappenedToDiskAtEnding (command.Weigh prefix settings) happened = ⊥
+HappenedToDiskAtEnding (command.Report settings) happened = happened
+HappenedToDiskAtEnding (command.Format settings) happened = happened
+HappenedToDiskAtEnding (command.Audit settings) happened = ⊥
+HappenedToDiskAtEnding (command.Make seed frames) happened = ⊥
+HappenedToDiskAtEnding (command.Demo seed frames settings) happened = ⊥
 
 -- within the crate: how far a command read its inputs that ended at a fault of the capture, or of a source
 abbrev pub EndsInOrder : {T : Type 0} → (Reads ReadsText : Type 0) → InputBytes → (before now : EndingSourceFaults)
@@ -231,21 +232,21 @@ EndsInOrder Reads ReadsText read before now text text_read ReadFault =
 EndsInOrder Reads ReadsText read before now text text_read _ = ⊤
 
 -- within the crate: what an audit found that ended so, and what it wrote of it
-abbrev pub AuditEndsUnsound : Settings → Rules → InputBytes → (old new : Option (List ℕ)) → Status → Type 0
-AuditEndsUnsound settings rules read old new (AuditNo report verdict) =
-    OfAuditInputs read (λ file text. IsUnsoundAudit settings rules file text report verdict)
+abbrev pub EndsByAuditFinding : Settings → SessionRules → InputBytes → (old new : Option (List ℕ)) → Status → Type 0
+EndsByAuditFinding settings rules read old new (AuditNo report verdict) =
+    HoldsOfAuditInputs read (λ file text. IsUnsoundAudit settings rules file text report verdict)
     × Appends old new (unsound_audit_text report verdict)
-AuditEndsUnsound settings rules read old new (BadReport fault) = TextRefusedAtEnding read fault
-AuditEndsUnsound settings rules read old new _ = ⊥
+EndsByAuditFinding settings rules read old new (BadReport fault) = TextRefusedAtEnding read fault
+EndsByAuditFinding settings rules read old new _ = ⊥
 
 -- within the crate: the same of any command: only `audit` audits
-abbrev pub FindsAtEnding : Command → Rules → InputBytes → (old new : Option (List ℕ)) → Status → Type 0
-FindsAtEnding (command.Weigh prefix settings) rules read old new status = ⊥
-FindsAtEnding (command.Report settings) rules read old new status = ⊥
-FindsAtEnding (command.Format settings) rules read old new status = ⊥
-FindsAtEnding (command.Make seed frames) rules read old new status = ⊥
-FindsAtEnding (command.Demo seed frames settings) rules read old new status = ⊥
-FindsAtEnding (command.Audit settings) rules read old new status = AuditEndsUnsound settings rules read old new status
+abbrev pub AuditFindsAtEnding : Command → SessionRules → InputBytes → (old new : Option (List ℕ)) → Status → Type 0
+AuditFindsAtEnding (command.Weigh prefix settings) rules read old new status = ⊥
+AuditFindsAtEnding (command.Report settings) rules read old new status = ⊥
+AuditFindsAtEnding (command.Format settings) rules read old new status = ⊥
+AuditFindsAtEnding (command.Make seed frames) rules read old new status = ⊥
+AuditFindsAtEnding (command.Demo seed frames settings) rules read old new status = ⊥
+AuditFindsAtEnding (command.Audit settings) rules read old new status = EndsByAuditFinding settings rules read old new status
 
 -- within the crate: how a command ended. IsText says what is its text, IsPart which bytes begin it, ReadToEnd that its
 -- inputs were read to their ends, Accepted that they are in their formats, DiskRose that the disk's count of faults rose,
@@ -257,22 +258,22 @@ abbrev pub Ends : {K : Type 0} → (IsText IsPart : List ℕ → Type 0)
     → (write_before write_now : ℕ) → Status → Type 0
 Ends IsText IsPart ReadToEnd Accepted DiskRose DiskSame AsBefore Refused Audited capture read_before read_now sink written old new write_before write_now
     Done =
-    ReadToEnd × Writes IsText old new × (read_now ≡ read_before) × (write_now ≡ write_before)
+    ReadToEnd × WritesAnswer IsText old new × (read_now ≡ read_before) × (write_now ≡ write_before)
 Ends IsText IsPart ReadToEnd Accepted DiskRose DiskSame AsBefore Refused Audited capture read_before read_now sink written old new write_before write_now
     (BadWords kind) = ⊥
 Ends IsText IsPart ReadToEnd Accepted DiskRose DiskSame AsBefore Refused Audited capture read_before read_now sink written old new write_before write_now
     (BadCapture fault) =
-    IfSome capture (λ file. IsRefusedCapture file fault) × (written ≡ sink) × DiskSame × (read_now ≡ read_before)
+    IfSome capture (λ file. IsRefusedCaptureFile file fault) × (written ≡ sink) × DiskSame × (read_now ≡ read_before)
     × (write_now ≡ write_before)
 Ends IsText IsPart ReadToEnd Accepted DiskRose DiskSame AsBefore Refused Audited capture read_before read_now sink written old new write_before write_now
     ReadFault =
-    OneSourceRoseAtEnding read_before read_now × (written ≡ sink) × DiskSame × (write_now ≡ write_before)
+    SourceFaultsRoseAtEnding read_before read_now × (written ≡ sink) × DiskSame × (write_now ≡ write_before)
 Ends IsText IsPart ReadToEnd Accepted DiskRose DiskSame AsBefore Refused Audited capture read_before read_now sink written old new write_before write_now
     WriteFault =
-    ReadToEnd × Writes IsPart old new × FaultCountRose write_before write_now × (read_now ≡ read_before)
+    ReadToEnd × WritesAnswer IsPart old new × FaultCountRose write_before write_now × (read_now ≡ read_before)
 Ends IsText IsPart ReadToEnd Accepted DiskRose DiskSame AsBefore Refused Audited capture read_before read_now sink written old new write_before write_now
     DiskFault =
-    ReadToEnd × Accepted × (((written ≡ sink) × AsBefore) ⊎ Writes IsPart old new) × DiskRose × (read_now ≡ read_before)
+    ReadToEnd × Accepted × (((written ≡ sink) × AsBefore) ⊎ WritesAnswer IsPart old new) × DiskRose × (read_now ≡ read_before)
     × (write_now ≡ write_before)
 Ends IsText IsPart ReadToEnd Accepted DiskRose DiskSame AsBefore Refused Audited capture read_before read_now sink written old new write_before write_now
     NotFormatted =
@@ -297,5 +298,5 @@ Ends IsText IsPart ReadToEnd Accepted DiskRose DiskSame AsBefore Refused Audited
     Audited (BadReport fault) × (written ≡ sink) × DiskSame × (read_now ≡ read_before) × (write_now ≡ write_before)
 Ends IsText IsPart ReadToEnd Accepted DiskRose DiskSame AsBefore Refused Audited capture read_before read_now sink written old new write_before write_now
     OutOfMemory =
-    (((written ≡ sink) × AsBefore) ⊎ (ReadToEnd × Writes IsPart old new)) × (read_now ≡ read_before)
+    (((written ≡ sink) × AsBefore) ⊎ (ReadToEnd × WritesAnswer IsPart old new)) × (read_now ≡ read_before)
     × (write_now ≡ write_before)

@@ -3,19 +3,19 @@ use Rattle.std.specs.Prelude.{⊤, ℕ, ◌≡◌, ◌≤◌, true, List, length
 use Rattle.std.specs.Io.KnownBytes.{IsAtEnd}
 use Rattle.prefix_lattice.specs.{RecordValue}
 use Rattle.pcap_frames.specs.{FrameValue}
-use Rattle.frame_records.specs.{HasCaptureFrames}
+use Rattle.frame_records.specs.{CaptureFileHasFrames}
 use Rattle.frame_records.specs.declared.records.Records.{Records}
-use Rattle.checkpoint.specs.{IsStoreOfLists, StoreOpensTo, SavedValue, opened_store_sequence}
+use Rattle.checkpoint.specs.{IsStoreOfLists, StoreOpensTo, SavedValue, store_sequence}
 use Rattle.checkpoint.specs.declared.settings.StoreSettings.{StoreSettings}
-use Rattle.recovery.specs.{last_opened_sequence}
-use Rattle.report_text.specs.{IsSessionText, longest_session_text}
+use Rattle.recovery.specs.{greatest_opened_sequence}
+use Rattle.report_text.specs.{IsSessionText, longest_session_text_length}
 use Rattle.report_text.specs.declared.session.Session.{Session}
-use Rattle.command_words.specs.{AskFor}
+use Rattle.command_words.specs.{AskForCommand}
 use Rattle.command_words.specs.declared.command.Command.{Command}
 use Rattle.command_words.specs.declared.command.Command.TheVariants.{Weigh, Report, Format, Audit, Make, Demo}
 use Rattle.command_words.specs.declared.settings.Settings.{Settings}
-use Rattle.hhh_engine.specs.Saves.{store_settings}
-use Rattle.hhh_engine.specs.Session.{AreDealtInSession, Rules}
+use Rattle.hhh_engine.specs.Saves.{store_settings_for_saves}
+use Rattle.hhh_engine.specs.Session.{AreDealtInSession, SessionRules}
 
 -- the bytes of the inputs as a command began, and what is left of them, where they are known: the capture, the text of
 -- a session, and the disk of the store
@@ -84,11 +84,11 @@ InputsWereRead (Demo seed frames settings) read = ⊤
 
 -- the file is a capture of some frames
 abbrev pub IsInputCapture : List ℕ → Type 0
-IsInputCapture file = (frames : List FrameValue) × HasCaptureFrames file frames
+IsInputCapture file = (frames : List FrameValue) × CaptureFileHasFrames file frames
 
 -- what holds of the capture and the text of an audit, where their bytes are known; the capture is one in any case
-abbrev pub OfAuditInputs : InputBytes → (List ℕ → List ℕ → Type 0) → Type 0
-OfAuditInputs read Holds = IfSome read.capture (λ file. IsInputCapture file × IfSome read.text (Holds file))
+abbrev pub HoldsOfAuditInputs : InputBytes → (List ℕ → List ℕ → Type 0) → Type 0
+HoldsOfAuditInputs read Holds = IfSome read.capture (λ file. IsInputCapture file × IfSome read.text (Holds file))
 
 -- what a command reads was accepted: its capture is one, where its bytes are known
 abbrev pub InputsWereAccepted : Command → InputBytes → Type 0
@@ -104,7 +104,7 @@ pub record HasKnownInputCapture (bytes : Option (List ℕ)) : Type 0 where
   pub file : List ℕ
   pub told : bytes ≡ Some file
   pub frames : List FrameValue
-  pub capture : HasCaptureFrames file frames
+  pub capture : CaptureFileHasFrames file frames
 
 -- the bytes of a text are known, and they are those of a session, and not too many
 pub record HasKnownInputSession (bytes : Option (List ℕ)) : Type 0 where
@@ -112,23 +112,23 @@ pub record HasKnownInputSession (bytes : Option (List ℕ)) : Type 0 where
   pub told : bytes ≡ Some text
   pub session : Session
   pub is_session : IsSessionText text session
-  pub not_long : length text ≤ longest_session_text
+  pub not_long : length text ≤ longest_session_text_length
 
 -- the bytes are a sound store that belongs to these dealt lists, and its sequence leaves room for the saves of a run
 abbrev pub IsInputStore : StoreSettings → List (List RecordValue) → List ℕ → Type 0
 IsInputStore settings lists image =
     (opened : Option SavedValue) × StoreOpensTo settings image opened × IsStoreOfLists settings lists opened
-    × (opened_store_sequence opened ≤ last_opened_sequence)
+    × (store_sequence opened ≤ greatest_opened_sequence)
 
 -- the bytes of the disk are known, and they are a store of the records of the capture, however these may be dealt
-pub record HasKnownInputStore (settings : Settings) (rules : Rules) (read : InputBytes) : Type 0 where
+pub record HasKnownInputStore (settings : Settings) (rules : SessionRules) (read : InputBytes) : Type 0 where
   pub image : List ℕ
   pub told : read.store ≡ Some image
   pub belongs : (file : List ℕ) (records : Records) (lists : List (List RecordValue)) → read.capture ≡ Some file
-      → AreDealtInSession settings rules file records lists → IsInputStore (store_settings settings) lists image
+      → AreDealtInSession settings rules file records lists → IsInputStore (store_settings_for_saves settings) lists image
 
 -- what a command reads is known, and each input is in its format
-abbrev pub InputsCanBeAnswered : Rules → Command → InputBytes → Type 0
+abbrev pub InputsCanBeAnswered : SessionRules → Command → InputBytes → Type 0
 InputsCanBeAnswered rules (Weigh prefix settings) read = HasKnownInputCapture read.capture
 InputsCanBeAnswered rules (Report settings) read =
     HasKnownInputCapture read.capture × (settings.store ≡ true → HasKnownInputStore settings rules read)
@@ -138,13 +138,13 @@ InputsCanBeAnswered rules (Make seed frames) read = ⊤
 InputsCanBeAnswered rules (Demo seed frames settings) read = ⊤
 
 -- the arguments ask for a command that uses something
-pub record AskToUseInput (Uses : Command → Type 0) (words : List (List ℕ)) : Type 0 where
+pub record AskedCommandUsesInput (Uses : Command → Type 0) (words : List (List ℕ)) : Type 0 where
   pub command : Command
-  pub asked : AskFor words command
+  pub asked : AskForCommand words command
   pub uses : Uses command
 
 -- the arguments ask for a command that doesn't use something
-pub record AskNotToUseInput (Uses : Command → Type 0) (words : List (List ℕ)) : Type 0 where
+pub record AskedCommandAvoidsInput (Uses : Command → Type 0) (words : List (List ℕ)) : Type 0 where
   pub command : Command
-  pub asked : AskFor words command
+  pub asked : AskForCommand words command
   pub unused : Uses command → ⊥

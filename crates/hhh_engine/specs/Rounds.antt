@@ -6,9 +6,10 @@ use Rattle.shard_state.specs.{CoreBasesRepresent, CutValue, ShardValue, core_cap
 use Rattle.hhh_output.specs.{IsSound}
 use Rattle.hhh_output.specs.declared.report.Report.{Report}
 use Rattle.hhh_output.specs.declared.reports.Reported.{Reported}
-use Rattle.gate_workers.specs.{AreGatheredSound, Calls, CallReadsOnce, View}
+use Rattle.gate_workers.specs.{AreSoundThreadReports, Calls, CallReadsOnce, View}
 use Rattle.report_text.specs.{report_text}
-use Rattle.hhh_engine.specs.Session.{SessionSaving, session_after_saves, session_parts_text, session_saved_cuts, session_save_text}
+use Rattle.hhh_engine.specs.Session.{SessionSaving, session_after_saves, session_parts, session_saved_cuts}
+use Rattle.hhh_engine.specs.Session.{session_save_line}
 use Rattle.hhh_engine.specs.declared.status.Status.{Status}
 use Rattle.hhh_engine.specs.declared.status.Status.TheVariants.{WriteFault, DiskFault, OutOfMemory}
 
@@ -18,8 +19,8 @@ pub record WritesRounds (opening : List ShardValue) (phi rounds : ℕ) (before n
     (Kept : List CutValue → Type 0) (old new : Option (List ℕ)) : Type 0 where
   pub reports : List Reported
   pub calls : Calls opening phi rounds before now reports
-  pub sound : CoreBasesRepresent opening → AreGatheredSound opening phi reports
-  pub written : Appends old new (session_parts_text store reports)
+  pub sound : CoreBasesRepresent opening → AreSoundThreadReports opening phi reports
+  pub written : Appends old new (session_parts store reports)
   pub kept : Kept (session_saved_cuts store opening reports)
 
 -- a round that read each shard once, and whose report began to be written
@@ -52,7 +53,7 @@ pub record RoundBreaksInLine (opening : List ShardValue) (phi : ℕ) (before now
   pub reports : RoundReportsOnce opening phi before now report
   pub between : Option (List ℕ)
   pub whole : Appends old between (report_text report)
-  pub written : AppendsBeginning between new (session_save_text store report.positions)
+  pub written : AppendsBeginning between new (session_save_line store report.positions)
   pub kept : Kept (session_saved_cuts store opening (record { report = report; saved = None } ∷ [])) []
 
 -- a round in which memory ran out: each shard was read once, and nothing was written or saved

@@ -4,16 +4,17 @@ use Rattle.std.specs.Prelude.{Option, None, Some, IfSome, option_map, is_some, r
 use Rattle.std.proofs.Common.{arith}
 use Rattle.shard_state.specs.{AreCutPositionsNotPast, CutRepresents, CutValue, ShardValue, core_capacity}
 use Rattle.gate_workers.specs.{IsLaterView, View}
-use Rattle.slot_disk.specs.{IfImageKnown, Leaves}
-use Rattle.checkpoint.specs.{AreHeaderSettings, StoreBelongs, StoreOpensTo, SavedValue, SaverState, StandsForSaver, saver_after_save, digest_of_lists}
-use Rattle.checkpoint.specs.{last_body_sequence, opened_store_positions, opened_store_sequence}
+use Rattle.slot_disk.specs.{IfImageKnown, CrashLeavesAtAnyMoment}
+use Rattle.checkpoint.specs.{AreHeaderSettings, StoreBelongs, StoreOpensTo, SavedValue, SaverState, DiskMatchesSaver}
+use Rattle.checkpoint.specs.{saver_after_save, digest_of_lists}
+use Rattle.checkpoint.specs.{greatest_body_sequence, store_positions, store_sequence}
 use Rattle.prefix_lattice.specs.{RecordValue}
 use Rattle.checkpoint.specs.declared.settings.StoreSettings.{StoreSettings}
 use Rattle.command_words.specs.declared.settings.Settings.{Settings}
 
 -- the settings of the store that a command uses
-abbrev pub store_settings : Settings → StoreSettings
-store_settings settings = record {
+abbrev pub store_settings_for_saves : Settings → StoreSettings
+store_settings_for_saves settings = record {
   shards = settings.shards;
   capacity = settings.capacity;
   weigh = settings.weigh;
@@ -21,21 +22,21 @@ store_settings settings = record {
 }
 
 -- what these cuts are saved as, one after the other: under the sequences after this one, and with this digest
-abbrev pub saved_after : ℕ → List ℕ → List CutValue → List SavedValue
-saved_after sequence digest [] = []
-saved_after sequence digest (cut ∷ later) =
-    record { sequence = sequence + 1; digest = digest; cut = cut } ∷ saved_after (sequence + 1) digest later
+abbrev pub saves_after : ℕ → List ℕ → List CutValue → List SavedValue
+saves_after sequence digest [] = []
+saves_after sequence digest (cut ∷ later) =
+    record { sequence = sequence + 1; digest = digest; cut = cut } ∷ saves_after (sequence + 1) digest later
 
 -- what a store opens to after these saves, if it opened to `opened` before
-abbrev pub last_saved : Option SavedValue → List SavedValue → Option SavedValue
-last_saved opened [] = opened
-last_saved opened (saved ∷ later) = last_saved (Some saved) later
+abbrev pub last_of_saves : Option SavedValue → List SavedValue → Option SavedValue
+last_of_saves opened [] = opened
+last_of_saves opened (saved ∷ later) = last_of_saves (Some saved) later
 
 -- the image is a sound store that opens to what the store opened to before these saves, or to one of them
-abbrev pub OpensAmongSaves : StoreSettings → Option SavedValue → List SavedValue → List ℕ → Type 0
-OpensAmongSaves settings opened [] image = StoreOpensTo settings image opened
-OpensAmongSaves settings opened (saved ∷ later) image =
-    StoreOpensTo settings image opened ⊎ OpensAmongSaves settings (Some saved) later image
+abbrev pub OpensAsBeforeOrToSaves : StoreSettings → Option SavedValue → List SavedValue → List ℕ → Type 0
+OpensAsBeforeOrToSaves settings opened [] image = StoreOpensTo settings image opened
+OpensAsBeforeOrToSaves settings opened (saved ∷ later) image =
+    StoreOpensTo settings image opened ⊎ OpensAsBeforeOrToSaves settings (Some saved) later image
 
 -- saves of the cuts `saved`, and an unfinished one, if any: a crash at any moment leaves what was possible before (Earlier),
 -- or a sound store that opens as before or to one of them; afterwards, to the last saved one, as before without any, or to
@@ -45,29 +46,29 @@ pub record KeepsSaves {D : Type 0} (image_now : D → List ℕ → Type 0) (mome
     (saved unfinished : List CutValue) (old new : D) (store : List ℕ) : Type 0 where
   pub opened : Option SavedValue
   pub opens : StoreOpensTo settings store opened
-  pub any_moment : Leaves moment image_since old new (λ image. Earlier image
-      ⊎ OpensAmongSaves settings opened (saved_after (opened_store_sequence opened) digest (saved ++ unfinished)) image)
+  pub any_moment : CrashLeavesAtAnyMoment moment image_since old new (λ image. Earlier image
+      ⊎ OpensAsBeforeOrToSaves settings opened (saves_after (store_sequence opened) digest (saved ++ unfinished)) image)
   pub afterwards : (image : List ℕ) → image_now new image
-      → OpensAmongSaves settings (last_saved opened (saved_after (opened_store_sequence opened) digest saved))
-      (saved_after (opened_store_sequence opened + length saved) digest unfinished) image
+      → OpensAsBeforeOrToSaves settings (last_of_saves opened (saves_after (store_sequence opened) digest saved))
+      (saves_after (store_sequence opened + length saved) digest unfinished) image
 
 -- what a run keeps of the store on its disk, where its bytes are known, for the store's settings, the dealt lists, the cuts
 -- that were saved of them, and one whose save is unfinished, if any
-abbrev pub saves_kept_in : {D : Type 0} → (D → Option (List ℕ)) → (D → List ℕ → Type 0) → (D → ℕ)
+abbrev pub SavesAreKeptOnDisk : {D : Type 0} → (D → Option (List ℕ)) → (D → List ℕ → Type 0) → (D → ℕ)
     → (D → ℕ → List ℕ → Type 0) → (old new : D) → StoreSettings → List (List RecordValue)
     → (saved unfinished : List CutValue) → Type 0
-saves_kept_in reads image_now moment image_since old new settings lists saved unfinished =
+SavesAreKeptOnDisk reads image_now moment image_since old new settings lists saved unfinished =
     IfImageKnown (reads old)
     (KeepsSaves image_now moment image_since settings (digest_of_lists settings lists) (image_now old) saved unfinished old new)
 
 -- of what a store opens to, `found` is no earlier than `opened`: neither its sequence nor the position of any shard is
 -- smaller
 pub record IsNoEarlierSave (settings : StoreSettings) (opened found : Option SavedValue) : Type 0 where
-  pub sequence : opened_store_sequence opened ≤ opened_store_sequence found
-  pub positions : AreCutPositionsNotPast (opened_store_positions settings opened) (opened_store_positions settings found)
+  pub sequence : store_sequence opened ≤ store_sequence found
+  pub positions : AreCutPositionsNotPast (store_positions settings opened) (store_positions settings found)
 
 -- the image is a sound store that opens to nothing earlier than `last`, and to just that where no save is unfinished
-pub record ReopensSave (settings : StoreSettings) (last : Option SavedValue) (unfinished : List CutValue) (image : List ℕ)
+pub record SavesReopen (settings : StoreSettings) (last : Option SavedValue) (unfinished : List CutValue) (image : List ℕ)
     : Type 0 where
   pub found : Option SavedValue
   pub opens : StoreOpensTo settings image found
@@ -76,19 +77,19 @@ pub record ReopensSave (settings : StoreSettings) (last : Option SavedValue) (un
 
 -- a store that had the bytes `store` before the cuts `saved` were saved, and before an unfinished save, if any: whatever a
 -- crash now leaves of it (Possible) opens to nothing earlier than the last saved cut, or as before where none was saved
-pub record SavedStoreReopens (Possible : List ℕ → Type 0) (settings : StoreSettings) (digest : List ℕ)
+pub record SavesReopenFromStore (Possible : List ℕ → Type 0) (settings : StoreSettings) (digest : List ℕ)
     (saved unfinished : List CutValue) (store : List ℕ) : Type 0 where
   pub opened : Option SavedValue
   pub opens : StoreOpensTo settings store opened
   pub again : (image : List ℕ) → Possible image
-      → ReopensSave settings (last_saved opened (saved_after (opened_store_sequence opened) digest saved)) unfinished image
+      → SavesReopen settings (last_of_saves opened (saves_after (store_sequence opened) digest saved)) unfinished image
 
 -- the store on a disk opens again after a run, where its bytes were known as the run began, for the store's settings, the
 -- dealt lists, the cuts that were saved of them, and one whose save is unfinished, if any
-abbrev pub saves_reopened_in : {D : Type 0} → (D → Option (List ℕ)) → (D → List ℕ → Type 0) → (old new : D)
+abbrev pub SavesAreReopenedFromDisk : {D : Type 0} → (D → Option (List ℕ)) → (D → List ℕ → Type 0) → (old new : D)
     → StoreSettings → List (List RecordValue) → (saved unfinished : List CutValue) → Type 0
-saves_reopened_in reads image_now old new settings lists saved unfinished =
-    IfImageKnown (reads old) (SavedStoreReopens (image_now new) settings (digest_of_lists settings lists) saved unfinished)
+SavesAreReopenedFromDisk reads image_now old new settings lists saved unfinished =
+    IfImageKnown (reads old) (SavesReopenFromStore (image_now new) settings (digest_of_lists settings lists) saved unfinished)
 
 -- the saved cut that a session went on from, if any, represents these lists, and whatever a crash leaves of the store at any
 -- moment of the session, and after it, is a sound store that belongs to them
@@ -96,14 +97,14 @@ pub record SavesBelongThroughout {D : Type 0} (image_now : D → List ℕ → Ty
     (image_since : D → ℕ → List ℕ → Type 0) (settings : StoreSettings) (lists : List (List RecordValue))
     (base : Option CutValue) (old new : D) : Type 0 where
   pub base_represents : IfSome base (λ cut. CutRepresents cut lists)
-  pub any_moment : Leaves moment image_since old new (StoreBelongs settings lists)
+  pub any_moment : CrashLeavesAtAnyMoment moment image_since old new (StoreBelongs settings lists)
   pub afterwards : (image : List ℕ) → image_now new image → StoreBelongs settings lists image
 
 -- the disk reads as before, and a crash at any moment leaves what it could have left before
 pub record IsAsBeforeSaves {D : Type 0} (reads : D → Option (List ℕ)) (image_now : D → List ℕ → Type 0) (moment : D → ℕ)
     (image_since : D → ℕ → List ℕ → Type 0) (old new : D) : Type 0 where
   pub same_reads : reads new ≡ reads old
-  pub any_moment : Leaves moment image_since old new (image_now old)
+  pub any_moment : CrashLeavesAtAnyMoment moment image_since old new (image_now old)
 
 -- a saver after saves of these cuts
 abbrev pub after_saves : SaverState → List CutValue → SaverState
@@ -113,7 +114,7 @@ after_saves saver cuts = fold saver_after_save saver cuts
 pub record SavesCuts {D : Type 0} (reads : D → Option (List ℕ)) (image_now : D → List ℕ → Type 0) (moment : D → ℕ)
     (image_since : D → ℕ → List ℕ → Type 0) (saver : SaverState) (cuts : List CutValue) (old new : D) : Type 0 where
   pub known : is_some (reads new) ≡ is_some (reads old)
-  pub stands : StandsForSaver (reads new) (image_now new) (after_saves saver cuts)
+  pub stands : DiskMatchesSaver (reads new) (image_now new) (after_saves saver cuts)
   pub kept : IfImageKnown (reads old)
       (KeepsSaves image_now moment image_since saver.settings saver.digest (λ image. ⊥) cuts [] old new)
 
@@ -149,11 +150,11 @@ pub record SavesFitBoard (opening : List ShardValue) (view : View) (saver : Save
   pub seen : AreCutPositionsNotPast saver.positions (map (λ trail. trail.seen) view.trails)
 
 -- a saver that may make this many saves of such reads, into the disk as it stands
-pub record CanSave (reads : Option (List ℕ)) (possible : List ℕ → Type 0) (opening : List ShardValue) (view : View)
+pub record CanMakeSaves (reads : Option (List ℕ)) (possible : List ℕ → Type 0) (opening : List ShardValue) (view : View)
     (count : ℕ) (saver : SaverState) : Type 0 where
   pub fits : SavesFitBoard opening view saver
-  pub stands : StandsForSaver reads possible saver
-  pub early : saver.sequence + count ≤ last_body_sequence
+  pub stands : DiskMatchesSaver reads possible saver
+  pub early : saver.sequence + count ≤ greatest_body_sequence
 
 -- positions that aren't past what some trails have seen aren't past what later ones have
 not_past_later : {T : Type 0} (seen : T → ℕ) (positions : List ℕ) (before now : List T) → length now ≡ length before
@@ -174,11 +175,11 @@ not_past_later seen (position ∷ positions) (trail ∷ rest) (next ∷ others) 
     )
 
 -- a saver that may save still may with a later view of the same steps
-pub CanSave-later : (reads : Option (List ℕ)) (possible : List ℕ → Type 0) (opening : List ShardValue)
+pub CanMakeSaves-later : (reads : Option (List ℕ)) (possible : List ℕ → Type 0) (opening : List ShardValue)
     (before now : View) (count : ℕ) (saver : Option SaverState) → IsLaterView before now
-    → IfSome saver (CanSave reads possible opening before count) → IfSome saver (CanSave reads possible opening now count)
-CanSave-later reads possible opening before now count None later can = can
-CanSave-later reads possible opening before now count (Some saver) later can = record {
+    → IfSome saver (CanMakeSaves reads possible opening before count) → IfSome saver (CanMakeSaves reads possible opening now count)
+CanMakeSaves-later reads possible opening before now count None later can = can
+CanMakeSaves-later reads possible opening before now count (Some saver) later can = record {
   fits = record {
     settings = can.fits.settings;
     shards = can.fits.shards;

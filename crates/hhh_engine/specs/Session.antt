@@ -7,35 +7,36 @@ use Rattle.outside_io.specs.{IsBeginning}
 use Rattle.prefix_lattice.specs.{RecordValue}
 use Rattle.deal_rules.specs.{IsDealing}
 use Rattle.deal_rules.specs.declared.deal_kind.DealKind.{DealKind}
-use Rattle.shard_state.specs.{CoreBasesRepresent, CutRepresents, CutValue, ShardValue, SnapshotValue, empty_snapshot, core_lists}
+use Rattle.shard_state.specs.{CoreBasesRepresent, CutRepresents, CutValue, ShardValue, SnapshotValue, empty_snapshot}
+use Rattle.shard_state.specs.{core_lists}
 use Rattle.hhh_output.specs.{IsSound}
 use Rattle.hhh_output.specs.declared.reports.Reported.{Reported}
 use Rattle.gate_workers.specs.{IsReportAtCall, cut_at_call}
+use Rattle.pcap_frames.specs.{FrameValue}
+use Rattle.frame_records.specs.{CaptureFileHasFrames, AreRecordsOf}
+use Rattle.frame_records.specs.declared.records.Records.{Records}
 use Rattle.slot_disk.specs.{IfImageKnown}
 use Rattle.checkpoint.specs.declared.settings.StoreSettings.{StoreSettings}
+use Rattle.checkpoint.specs.{SavedValue, digest_of_lists, store_sequence}
 use Rattle.recovery.specs.{IsOpeningBase, OpensToBase}
-use Rattle.pcap_frames.specs.{FrameValue}
-use Rattle.frame_records.specs.{HasCaptureFrames, AreRecordsOf}
-use Rattle.frame_records.specs.declared.records.Records.{Records}
+use Rattle.command_words.specs.declared.settings.Settings.{Settings}
 use Rattle.report_text.specs.{report_mark_text, report_text, report_tail_text}
 use Rattle.report_text.specs.declared.mark.Mark.TheVariants.{Opened, Saved}
-use Rattle.command_words.specs.declared.settings.Settings.{Settings}
-use Rattle.checkpoint.specs.{SavedValue, digest_of_lists, opened_store_sequence}
-use Rattle.hhh_engine.specs.Saves.{saved_after, store_settings}
+use Rattle.hhh_engine.specs.Saves.{saves_after, store_settings_for_saves}
 
 -- what the function of each kind of dealing may answer for the index of a record, the record and the number of shards
-abbrev pub Rules : Type 1
-Rules = DealKind → ℕ → RecordValue → ℕ → ℕ → Type 0
+abbrev pub SessionRules : Type 1
+SessionRules = DealKind → ℕ → RecordValue → ℕ → ℕ → Type 0
 
 -- the rules that follow a formula for each kind of dealing, which gives each record one shard number
-abbrev pub by_formula : (DealKind → ℕ → RecordValue → ℕ → ℕ) → Rules
-by_formula formula kind place rec shards number = number ≡ formula kind place rec shards
+abbrev pub session_rules_by_formula : (DealKind → ℕ → RecordValue → ℕ → ℕ) → SessionRules
+session_rules_by_formula formula kind place rec shards number = number ≡ formula kind place rec shards
 
 -- the records of a capture, weighed and dealt to the shards as the settings ask
-pub record AreDealtInSession (settings : Settings) (rules : Rules) (file : List ℕ) (records : Records)
+pub record AreDealtInSession (settings : Settings) (rules : SessionRules) (file : List ℕ) (records : Records)
     (lists : List (List RecordValue)) : Type 0 where
   pub frames : List FrameValue
-  pub capture : HasCaptureFrames file frames
+  pub capture : CaptureFileHasFrames file frames
   pub are_records : AreRecordsOf settings.weigh frames records
   pub dealt : IsDealing settings.deal (rules settings.deal) settings.shards records.list lists
 
@@ -68,8 +69,8 @@ session_ends opening = map (λ shard. length shard.list) opening
 pub record SessionGoesOnFrom (settings : Settings) (lists : List (List RecordValue)) (store : Option (List ℕ))
     (base : Option CutValue) : Type 0 where
   pub unused : settings.store ≡ false → base ≡ None
-  pub fits : IfSome base (IsOpeningBase (store_settings settings) lists)
-  pub opens : settings.store ≡ true → IfImageKnown store (λ image. OpensToBase (store_settings settings) lists image base)
+  pub fits : IfSome base (IsOpeningBase (store_settings_for_saves settings) lists)
+  pub opens : settings.store ≡ true → IfImageKnown store (λ image. OpensToBase (store_settings_for_saves settings) lists image base)
 
 -- a report that a session shows: that of the tables at its own positions, and sound over the records themselves, where
 -- the tables with which the shards began are those of their records
@@ -97,18 +98,18 @@ pub record SessionReports : Type 0 where
   pub last : Reported
 
 -- those of the calling thread: its rounds, and the last one
-abbrev pub session_calling_reports : SessionReports → List Reported
-session_calling_reports reports = reports.rounds ++ reports.last ∷ []
+abbrev pub session_reports_of_calling_thread : SessionReports → List Reported
+session_reports_of_calling_thread reports = reports.rounds ++ reports.last ∷ []
 
 -- all reports of a session: those of the calling thread, and those of the other callers
 abbrev pub session_reports_in : SessionReports → List Reported
-session_reports_in reports = session_calling_reports reports ++ flat_map (λ made. made) reports.callers
+session_reports_in reports = session_reports_of_calling_thread reports ++ flat_map (λ made. made) reports.callers
 
 -- the reports that the settings ask for: the calling thread makes its rounds and the last report, which counts all
 -- records, and each other caller makes as many rounds
 pub record AreSessionReports (opening : List ShardValue) (settings : Settings) (reports : SessionReports)
     : Type 0 where
-  pub calling : AreSessionReportsOfCaller opening settings (settings.rounds + 1) (session_calling_reports reports)
+  pub calling : AreSessionReportsOfCaller opening settings (settings.rounds + 1) (session_reports_of_calling_thread reports)
   pub at_ends : reports.last.report.positions ≡ session_ends opening
   pub as_many : length reports.callers ≡ settings.callers
   pub callers : All (AreSessionReportsOfCaller opening settings settings.rounds) reports.callers
@@ -121,7 +122,7 @@ session_saved_cuts store opening reports =
 -- what the cuts of these reports are saved as, in a store that opened to this before
 abbrev pub session_saves : Settings → List ShardValue → Option SavedValue → List Reported → List SavedValue
 session_saves settings opening opened reports =
-    saved_after (opened_store_sequence opened) (digest_of_lists (store_settings settings) (core_lists opening))
+    saves_after (store_sequence opened) (digest_of_lists (store_settings_for_saves settings) (core_lists opening))
     (session_saved_cuts true opening reports)
 
 -- the positions of the last of these reports, or those at the start where there is none
@@ -130,39 +131,39 @@ last_session_positions start [] = start
 last_session_positions start (reported ∷ later) = last_session_positions reported.report.positions later
 
 -- the line that follows a report of the calling thread: with a store, the positions of the cut that was saved
-abbrev pub session_save_text : Bool → List ℕ → List ℕ
-session_save_text store positions = if store then report_mark_text Saved positions else []
+abbrev pub session_save_line : Bool → List ℕ → List ℕ
+session_save_line store positions = if store then report_mark_text Saved positions else []
 
 -- a report, and that line
-abbrev pub session_part_text : Bool → Reported → List ℕ
-session_part_text store reported = report_text reported.report ++ session_save_text store reported.report.positions
+abbrev pub session_part : Bool → Reported → List ℕ
+session_part store reported = report_text reported.report ++ session_save_line store reported.report.positions
 
 -- one report after the other
-abbrev pub session_parts_text : Bool → List Reported → List ℕ
-session_parts_text store reports = flat_map (session_part_text store) reports
+abbrev pub session_parts : Bool → List Reported → List ℕ
+session_parts store reports = flat_map (session_part store) reports
 
 -- the reports of the other callers, one caller after the other: none of their cuts is saved
-abbrev pub session_callers_text : List (List Reported) → List ℕ
-session_callers_text callers = flat_map (session_parts_text false) callers
+abbrev pub session_caller_parts : List (List Reported) → List ℕ
+session_caller_parts callers = flat_map (session_parts false) callers
 
 -- the text of a session after its first line and its rounds: the reports of the other callers, the last report, and the
 -- last lines
-abbrev pub session_rest_text : Bool → List (List Reported) → Reported → List ℕ → List ℕ
-session_rest_text store callers last tail = session_callers_text callers ++ (session_part_text store last ++ tail)
+abbrev pub session_rest : Bool → List (List Reported) → Reported → List ℕ → List ℕ
+session_rest store callers last tail = session_caller_parts callers ++ (session_part store last ++ tail)
 
 -- the text of a session: the positions at the start, the reports of the calling thread's rounds, and the rest
 abbrev pub session_text : Bool → List ℕ → SessionReports → List ℕ → List ℕ
 session_text store opened reports tail =
     report_mark_text Opened opened
-    ++ (session_parts_text store reports.rounds ++ session_rest_text store reports.callers reports.last tail)
+    ++ (session_parts store reports.rounds ++ session_rest store reports.callers reports.last tail)
 
 -- the session over shards, which ends with the lines `tail`. Kept says what became of the cuts that were saved
-pub record SpellsSession (opening : List ShardValue) (settings : Settings) (Kept : List CutValue → Type 0)
+pub record IsSessionOverShards (opening : List ShardValue) (settings : Settings) (Kept : List CutValue → Type 0)
     (tail text : List ℕ) : Type 0 where
   pub reports : SessionReports
   pub are_reports : AreSessionReports opening settings reports
   pub spelled : text ≡ session_text settings.store (session_start opening) reports tail
-  pub kept : Kept (session_saved_cuts settings.store opening (session_calling_reports reports))
+  pub kept : Kept (session_saved_cuts settings.store opening (session_reports_of_calling_thread reports))
 
 -- bytes with which a text begins, but not all of it
 abbrev pub IsStrictSessionBeginning : List ℕ → List ℕ → Type 0
@@ -190,7 +191,7 @@ pub record SessionBreaksOffBetween (opening : List ShardValue) (settings : Setti
   pub rounds : List Reported
   pub few : length rounds ≤ settings.rounds
   pub are_reports : AreSessionReportsOfCaller opening settings (length rounds) rounds
-  pub written : front ≡ session_parts_text settings.store rounds
+  pub written : front ≡ session_parts settings.store rounds
   pub kept : Kept (session_saved_cuts settings.store opening rounds) []
 
 -- bytes of rounds that broke off within one: those before it were whole
@@ -201,9 +202,9 @@ pub record SessionBreaksOffWithin (opening : List ShardValue) (settings : Settin
   pub few : length rounds < settings.rounds
   pub are_reports : AreSessionReportsOfCaller opening settings (length rounds + 1) (rounds ++ next ∷ [])
   pub more : List ℕ
-  pub breaks_off : SessionBreaksOffAround (report_text next.report) (session_save_text settings.store next.report.positions)
+  pub breaks_off : SessionBreaksOffAround (report_text next.report) (session_save_line settings.store next.report.positions)
       (session_saved_cuts settings.store opening (next ∷ [])) (session_after_saves settings.store opening rounds Kept) more
-  pub written : front ≡ session_parts_text settings.store rounds ++ more
+  pub written : front ≡ session_parts settings.store rounds ++ more
 
 -- bytes of rounds that broke off
 abbrev pub SessionBreaksOffInRounds : List ShardValue → Settings → SessionSaving → List ℕ → Type 0
@@ -216,11 +217,11 @@ pub record SessionBreaksOffLater (opening : List ShardValue) (settings : Setting
   pub reports : SessionReports
   pub are_reports : AreSessionReports opening settings reports
   pub more : List ℕ
-  pub breaks_off : SessionBreaksOffAround (session_callers_text reports.callers ++ report_text reports.last.report)
-      (session_save_text settings.store reports.last.report.positions ++ tail)
+  pub breaks_off : SessionBreaksOffAround (session_caller_parts reports.callers ++ report_text reports.last.report)
+      (session_save_line settings.store reports.last.report.positions ++ tail)
       (session_saved_cuts settings.store opening (reports.last ∷ []))
       (session_after_saves settings.store opening reports.rounds Kept) more
-  pub written : front ≡ report_mark_text Opened (session_start opening) ++ (session_parts_text settings.store reports.rounds ++ more)
+  pub written : front ≡ report_mark_text Opened (session_start opening) ++ (session_parts settings.store reports.rounds ++ more)
 
 -- bytes with which a session begins that broke off: in its first line, when nothing was saved yet; in its rounds; or later.
 -- Kept says what became of the cuts that it saves
@@ -243,7 +244,7 @@ SessionBaseRepresents lists base opening = IfSome base (λ cut. CutRepresents cu
 
 -- the session over a capture: its records are dealt to the shards, counted from the base on and reported. With a store,
 -- each cut of the calling thread is saved
-pub record IsSession (settings : Settings) (rules : Rules) (keeping : SessionKeeping) (store : Option (List ℕ))
+pub record IsSession (settings : Settings) (rules : SessionRules) (keeping : SessionKeeping) (store : Option (List ℕ))
     (file text : List ℕ) : Type 0 where
   pub records : Records
   pub lists : List (List RecordValue)
@@ -251,12 +252,12 @@ pub record IsSession (settings : Settings) (rules : Rules) (keeping : SessionKee
   pub base : Option CutValue
   pub begins : SessionGoesOnFrom settings lists store base
   pub represents : SessionBaseRepresents lists base (session_opening settings.capacity lists base)
-  pub spelled : SpellsSession (session_opening settings.capacity lists base) settings
-      (λ cuts. settings.store ≡ true → keeping (store_settings settings) lists cuts []) (report_tail_text records) text
+  pub spelled : IsSessionOverShards (session_opening settings.capacity lists base) settings
+      (λ cuts. settings.store ≡ true → keeping (store_settings_for_saves settings) lists cuts []) (report_tail_text records) text
 
 -- the bytes that were written of a session over a capture that broke off. With a store, they say which cuts were saved, and
 -- which save is unfinished
-pub record IsSessionInPart (settings : Settings) (rules : Rules) (keeping : SessionKeeping) (store : Option (List ℕ))
+pub record IsSessionInPart (settings : Settings) (rules : SessionRules) (keeping : SessionKeeping) (store : Option (List ℕ))
     (file front : List ℕ) : Type 0 where
   pub records : Records
   pub lists : List (List RecordValue)
@@ -265,4 +266,4 @@ pub record IsSessionInPart (settings : Settings) (rules : Rules) (keeping : Sess
   pub begins : SessionGoesOnFrom settings lists store base
   pub represents : SessionBaseRepresents lists base (session_opening settings.capacity lists base)
   pub begun : BeginsSession (session_opening settings.capacity lists base) settings
-      (λ saved unfinished. settings.store ≡ true → keeping (store_settings settings) lists saved unfinished) (report_tail_text records) front
+      (λ saved unfinished. settings.store ≡ true → keeping (store_settings_for_saves settings) lists saved unfinished) (report_tail_text records) front

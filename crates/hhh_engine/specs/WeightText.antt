@@ -1,9 +1,9 @@
 -- The weight of a prefix as the program reports it.
 use Rattle.std.specs.Prelude.{ℕ, ◌≡◌, List, ◌++◌, codes, decimal}
 use Rattle.prefix_lattice.specs.{RecordValue, PrefixValue, total_weight}
-use Rattle.shard_state.specs.{HoldsWeightOver, weight_interval_over}
+use Rattle.shard_state.specs.{NarrowIntervalHoldsWeightOver, weight_interval_over}
 use Rattle.pcap_frames.specs.{FrameValue}
-use Rattle.frame_records.specs.{HasCaptureFrames, frame_records_of}
+use Rattle.frame_records.specs.{CaptureFileHasFrames, frame_records_of}
 use Rattle.frame_records.specs.declared.weigh.Weigh.{Weigh}
 
 -- the capacity of the table that weighs a prefix
@@ -25,6 +25,6 @@ weight_text_for prefix records =
 -- the text that reports the weight of a prefix over the records of a capture; the interval holds the exact weight
 pub record IsWeightText (prefix : PrefixValue) (weigh : Weigh) (file text : List ℕ) : Type 0 where
   pub frames : List FrameValue
-  pub capture : HasCaptureFrames file frames
+  pub capture : CaptureFileHasFrames file frames
   pub spelled : text ≡ weight_text_for prefix (frame_records_of weigh frames)
-  pub holds : HoldsWeightOver weight_text_capacity prefix (frame_records_of weigh frames)
+  pub holds : NarrowIntervalHoldsWeightOver weight_text_capacity prefix (frame_records_of weigh frames)

@@ -1,16 +1,18 @@
 //! Laws of what commands write, each the contract of a function that does nothing.
 
-ghost use Rattle.std.specs.Prelude.{◌≡◌, ℕ, ◌+◌, ◌*◌, ◌++◌, ◌≤◌, true, List, length, All, Option, Some, None, IfSome, IsSomeAnd};
+ghost use Rattle.std.specs.Prelude.{◌≡◌, ℕ, ◌+◌, ◌*◌, ◌++◌, ◌≤◌, true, List, length, All, Option, Some, None, IfSome};
+ghost use Rattle.std.specs.Prelude.{IsSomeAnd};
 ghost use Rattle.prefix_lattice.specs.{RecordValue};
 ghost use Rattle.deal_rules.specs.{dealer_of};
 ghost use Rattle.deal_rules.specs.declared.deal_kind.DealKind.{DealKind};
 ghost use Rattle.hhh_engine.specs.Answer.{Answers, AnswersInPart};
-ghost use Rattle.hhh_engine.specs.Audit.{AreAudited, IsAuditedAsFirstUnsound, IsAuditedAsSound, IsSoundAudit, IsUnsoundAudit, sound_audit_text};
+ghost use Rattle.hhh_engine.specs.Audit.{AreAudited, IsAuditedAsFirstUnsound, IsAuditedAsSound, IsSoundAudit};
+ghost use Rattle.hhh_engine.specs.Audit.{IsUnsoundAudit, sound_audit_text};
 ghost use Rattle.hhh_engine.specs.Demo.{IsDemoText};
 ghost use Rattle.hhh_engine.specs.Ending.{EndsFindingUnsound, EndsRefusingStore};
 ghost use Rattle.hhh_engine.specs.Inputs.{InputsCanBeAnswered, InputBytes};
 ghost use Rattle.pcap_frames.specs.{FrameValue};
-ghost use Rattle.frame_records.specs.{HasCaptureFrames};
+ghost use Rattle.frame_records.specs.{CaptureFileHasFrames};
 ghost use Rattle.frame_records.specs.declared.records.Records.{Records};
 ghost use Rattle.recovery.specs.declared.fault.OpenFault.{OpenFault};
 ghost use Rattle.traffic_maker.specs.{made_capture, most_made_capture_frames};
@@ -20,15 +22,23 @@ ghost use Rattle.exact_audit.specs.declared.verdict.Verdict.TheVariants.{Good};
 ghost use Rattle.command_words.specs.{AreLimitedSettings};
 ghost use Rattle.command_words.specs.declared.command.Command.{Command};
 ghost use Rattle.command_words.specs.declared.settings.Settings.{Settings};
-ghost use Rattle.report_text.specs.{IsSessionText, longest_session_text, report_mark_text, report_text};
+ghost use Rattle.report_text.specs.{IsSessionText, longest_session_text_length, report_mark_text, report_text};
 ghost use Rattle.report_text.specs.declared.mark.Mark.TheVariants.{Opened};
 ghost use Rattle.report_text.specs.declared.session.Session.{Session};
 ghost use Rattle.hhh_output.specs.declared.reports.Reported.{Reported};
-ghost use Rattle.shard_state.specs.{AreCutPositionsNotPast, AreCoreShards, CoreBasesRepresent, CutRepresents, ShardValue, core_capacity, core_lists, cut_positions};
+ghost use Rattle.shard_state.specs.{AreCutPositionsNotPast, AreCoreShards, CoreBasesRepresent, CutRepresents};
+ghost use Rattle.shard_state.specs.{ShardValue, core_capacity, core_lists, cut_positions};
 ghost use Rattle.checkpoint.specs.declared.settings.StoreSettings.{StoreSettings};
-ghost use Rattle.checkpoint.specs.{StoreBelongs, IsStoreOfLists, StoreOpensTo, SavedValue, digest_of_lists, opened_store_positions, opened_store_sequence};
-ghost use Rattle.hhh_engine.specs.Session.{AreDealtInSession, AreSessionReportsOfCaller, AreSessionReports, IsSession, IsSessionInPart, IsShownInSession, SessionReports, by_formula, session_calling_reports, session_ends, last_session_positions, new_session_shards, session_part_text, session_reports_in, session_saved_cuts, session_saves, session_text, session_start};
-ghost use Rattle.hhh_engine.specs.Saves.{SavesBelongThroughout, IsAsBeforeSaves, OpensAmongSaves, saves_kept_in, last_saved, saves_reopened_in, store_settings};
+ghost use Rattle.checkpoint.specs.{StoreBelongs, IsStoreOfLists, StoreOpensTo, SavedValue, digest_of_lists};
+ghost use Rattle.checkpoint.specs.{store_positions, store_sequence};
+ghost use Rattle.hhh_engine.specs.Session.{AreDealtInSession, AreSessionReportsOfCaller, AreSessionReports, IsSession};
+ghost use Rattle.hhh_engine.specs.Session.{IsSessionInPart, IsShownInSession, SessionReports, session_rules_by_formula};
+ghost use Rattle.hhh_engine.specs.Session.{session_reports_of_calling_thread, session_ends, last_session_positions};
+ghost use Rattle.hhh_engine.specs.Session.{new_session_shards, session_part, session_reports_in, session_saved_cuts};
+ghost use Rattle.hhh_engine.specs.Session.{session_saves, session_text, session_start};
+ghost use Rattle.hhh_engine.specs.Saves.{SavesBelongThroughout, IsAsBeforeSaves, OpensAsBeforeOrToSaves};
+ghost use Rattle.hhh_engine.specs.Saves.{SavesAreKeptOnDisk, last_of_saves, SavesAreReopenedFromDisk};
+ghost use Rattle.hhh_engine.specs.Saves.{store_settings_for_saves};
 
 use checkpoint::stores_open_to_one;
 use deal_rules::{Dealer, Dealers, Deals, a_formula_deals_in_one_way};
@@ -50,43 +60,44 @@ pub fn answers_follow_formulas<K: Sink, D: Disk>(dealers: &Dealers)
         → ((kind : DealKind) (place : ℕ) (rec : RecordValue) (shards number : ℕ)
         → ⟦<Dealer as Deals>⟧.may_answer (dealer_of kind dealers.now) place rec shards number → number ≡ formula kind place rec shards)
         → Answers (λ kind. ⟦<Dealer as Deals>⟧.may_answer (dealer_of kind dealers.now))
-        (saves_kept_in D.reads D.image_now D.moment D.image_since before now) words read old new
-        → Answers (by_formula formula) (saves_kept_in D.reads D.image_now D.moment D.image_since before now) words read old new }
+        (SavesAreKeptOnDisk D.reads D.image_now D.moment D.image_since before now) words read old new
+        → Answers (session_rules_by_formula formula) (SavesAreKeptOnDisk D.reads D.image_now D.moment D.image_since before now) words read old new }
     ensures part { (formula : DealKind → ℕ → RecordValue → ℕ → ℕ) (before now : D) (words : List (List ℕ)) (read : InputBytes) (old new : Option (List ℕ))
         → ((kind : DealKind) (place : ℕ) (rec : RecordValue) (shards number : ℕ)
         → ⟦<Dealer as Deals>⟧.may_answer (dealer_of kind dealers.now) place rec shards number → number ≡ formula kind place rec shards)
         → AnswersInPart (λ kind. ⟦<Dealer as Deals>⟧.may_answer (dealer_of kind dealers.now))
-        (saves_kept_in D.reads D.image_now D.moment D.image_since before now) words read old new
-        → AnswersInPart (by_formula formula) (saves_kept_in D.reads D.image_now D.moment D.image_since before now) words read old new }
+        (SavesAreKeptOnDisk D.reads D.image_now D.moment D.image_since before now) words read old new
+        → AnswersInPart (session_rules_by_formula formula) (SavesAreKeptOnDisk D.reads D.image_now D.moment D.image_since before now) words read old new }
     ensures found { (formula : DealKind → ℕ → RecordValue → ℕ → ℕ) (words : List (List ℕ)) (read : InputBytes) (report : ℕ) (verdict : Verdict)
         (old new : Option (List ℕ))
         → ((kind : DealKind) (place : ℕ) (rec : RecordValue) (shards number : ℕ)
         → ⟦<Dealer as Deals>⟧.may_answer (dealer_of kind dealers.now) place rec shards number → number ≡ formula kind place rec shards)
         → EndsFindingUnsound (λ kind. ⟦<Dealer as Deals>⟧.may_answer (dealer_of kind dealers.now)) words read report verdict old new
-        → EndsFindingUnsound (by_formula formula) words read report verdict old new }
+        → EndsFindingUnsound (session_rules_by_formula formula) words read report verdict old new }
     ensures refused { (formula : DealKind → ℕ → RecordValue → ℕ → ℕ) (words : List (List ℕ)) (read : InputBytes) (fault : OpenFault)
         (sink written : K) (before now : D)
         → ((kind : DealKind) (place : ℕ) (rec : RecordValue) (shards number : ℕ)
         → ⟦<Dealer as Deals>⟧.may_answer (dealer_of kind dealers.now) place rec shards number → number ≡ formula kind place rec shards)
         → EndsRefusingStore (λ kind. ⟦<Dealer as Deals>⟧.may_answer (dealer_of kind dealers.now)) words read fault sink written
         (IsAsBeforeSaves D.reads D.image_now D.moment D.image_since before now)
-        → EndsRefusingStore (by_formula formula) words read fault sink written (IsAsBeforeSaves D.reads D.image_now D.moment D.image_since before now) }
+        → EndsRefusingStore (session_rules_by_formula formula) words read fault sink written
+        (IsAsBeforeSaves D.reads D.image_now D.moment D.image_since before now) }
     ensures dealt { (formula : DealKind → ℕ → RecordValue → ℕ → ℕ) (settings : Settings) (file : List ℕ) (records : Records)
         (lists : List (List RecordValue))
         → ((kind : DealKind) (place : ℕ) (rec : RecordValue) (shards number : ℕ)
         → ⟦<Dealer as Deals>⟧.may_answer (dealer_of kind dealers.now) place rec shards number → number ≡ formula kind place rec shards)
         → AreDealtInSession settings (λ kind. ⟦<Dealer as Deals>⟧.may_answer (dealer_of kind dealers.now)) file records lists
-        → AreDealtInSession settings (by_formula formula) file records lists }
+        → AreDealtInSession settings (session_rules_by_formula formula) file records lists }
     ensures audited { (formula : DealKind → ℕ → RecordValue → ℕ → ℕ) (settings : Settings) (file text : List ℕ) (lists : List (List RecordValue))
         (session : Session)
         → ((kind : DealKind) (place : ℕ) (rec : RecordValue) (shards number : ℕ)
         → ⟦<Dealer as Deals>⟧.may_answer (dealer_of kind dealers.now) place rec shards number → number ≡ formula kind place rec shards)
         → AreAudited settings (λ kind. ⟦<Dealer as Deals>⟧.may_answer (dealer_of kind dealers.now)) file text lists session
-        → AreAudited settings (by_formula formula) file text lists session }
+        → AreAudited settings (session_rules_by_formula formula) file text lists session }
     ensures can { (formula : DealKind → ℕ → RecordValue → ℕ → ℕ) (command : Command) (read : InputBytes)
         → ((kind : DealKind) (place : ℕ) (rec : RecordValue) (shards number : ℕ)
         → ⟦<Dealer as Deals>⟧.may_answer (dealer_of kind dealers.now) place rec shards number → number ≡ formula kind place rec shards)
-        → InputsCanBeAnswered (by_formula formula) command read
+        → InputsCanBeAnswered (session_rules_by_formula formula) command read
         → InputsCanBeAnswered (λ kind. ⟦<Dealer as Deals>⟧.may_answer (dealer_of kind dealers.now)) command read }
 {}
 
@@ -107,7 +118,7 @@ pub fn sessions_without_rounds_have_one_report()
     ensures { (opening : List ShardValue) (settings : Settings) (reports : SessionReports) (tail : List ℕ) → settings.rounds ≡ 0
         → AreSessionReports opening settings reports
         → session_text settings.store (session_start opening) reports tail
-        ≡ report_mark_text Opened (session_start opening) ++ (session_part_text settings.store reports.last ++ tail) }
+        ≡ report_mark_text Opened (session_start opening) ++ (session_part settings.store reports.last ++ tail) }
 {}
 
 /// The last reports of two sessions over the same dealt lists have one text, also where their shards went on from saved
@@ -129,9 +140,9 @@ pub fn resumed_sessions_end_alike()
 pub fn saves_belong()
     ensures { (opening : List ShardValue) (settings : Settings) (reports : List Reported) (opened : Option SavedValue) (image : List ℕ)
         → AreCoreShards opening → CoreBasesRepresent opening → All (IsShownInSession opening settings) reports
-        → IsStoreOfLists (store_settings settings) (core_lists opening) opened
-        → OpensAmongSaves (store_settings settings) opened (session_saves settings opening opened reports) image
-        → StoreBelongs (store_settings settings) (core_lists opening) image }
+        → IsStoreOfLists (store_settings_for_saves settings) (core_lists opening) opened
+        → OpensAsBeforeOrToSaves (store_settings_for_saves settings) opened (session_saves settings opening opened reports) image
+        → StoreBelongs (store_settings_for_saves settings) (core_lists opening) image }
 {
     reported_cuts_represent();
 }
@@ -141,8 +152,8 @@ pub fn saves_belong()
 pub fn last_saves_are_at_the_ends()
     ensures { (opening : List ShardValue) (settings : Settings) (reports : SessionReports) (opened : Option SavedValue)
         → AreSessionReports opening settings reports
-        → IsSomeAnd (last_saved opened (session_saves settings opening opened (session_calling_reports reports))) (λ saved.
-        (cut_positions saved.cut ≡ session_ends opening) × (saved.sequence ≡ opened_store_sequence opened + (settings.rounds + 1))) }
+        → IsSomeAnd (last_of_saves opened (session_saves settings opening opened (session_reports_of_calling_thread reports))) (λ saved.
+        (cut_positions saved.cut ≡ session_ends opening) × (saved.sequence ≡ store_sequence opened + (settings.rounds + 1))) }
 {}
 
 /// Where each kind of dealing is a formula and the bytes of the disk were known as `report` began: what a crash leaves of
@@ -152,12 +163,14 @@ pub fn last_saves_are_at_the_ends()
 /// of a session that broke off have to be within their limits.
 pub fn sessions_lose_no_save<D: Disk>()
     ensures whole { (formula : DealKind → ℕ → RecordValue → ℕ → ℕ) (before now : D) (settings : Settings) (file text : List ℕ)
-        → IsSession settings (by_formula formula) (saves_kept_in D.reads D.image_now D.moment D.image_since before now) (D.reads before) file text
-        → IsSession settings (by_formula formula) (saves_reopened_in D.reads D.image_now before now) (D.reads before) file text }
+        → IsSession settings (session_rules_by_formula formula) (SavesAreKeptOnDisk D.reads D.image_now D.moment D.image_since before now)
+        (D.reads before) file text
+        → IsSession settings (session_rules_by_formula formula) (SavesAreReopenedFromDisk D.reads D.image_now before now) (D.reads before) file text }
     ensures in_part { (formula : DealKind → ℕ → RecordValue → ℕ → ℕ) (before now : D) (settings : Settings) (file front : List ℕ)
         → AreLimitedSettings settings
-        → IsSessionInPart settings (by_formula formula) (saves_kept_in D.reads D.image_now D.moment D.image_since before now) (D.reads before) file front
-        → IsSessionInPart settings (by_formula formula) (saves_reopened_in D.reads D.image_now before now) (D.reads before) file front }
+        → IsSessionInPart settings (session_rules_by_formula formula)
+        (SavesAreKeptOnDisk D.reads D.image_now D.moment D.image_since before now) (D.reads before) file front
+        → IsSessionInPart settings (session_rules_by_formula formula) (SavesAreReopenedFromDisk D.reads D.image_now before now) (D.reads before) file front }
 {
     stores_open_to_one();
 }
@@ -171,15 +184,17 @@ pub fn stores_belong_throughout<D: Disk>()
     ensures formatted { (settings : StoreSettings) (lists : List (List RecordValue)) (image : List ℕ) → StoreOpensTo settings image None
         → StoreBelongs settings lists image }
     ensures whole { (formula : DealKind → ℕ → RecordValue → ℕ → ℕ) (before now : D) (settings : Settings) (store file text : List ℕ)
-        (is : IsSession settings (by_formula formula) (saves_kept_in D.reads D.image_now D.moment D.image_since before now) (D.reads before) file text)
+        (is : IsSession settings (session_rules_by_formula formula)
+        (SavesAreKeptOnDisk D.reads D.image_now D.moment D.image_since before now) (D.reads before) file text)
         → AreLimitedSettings settings → settings.store ≡ true → D.reads before ≡ Some store
-        → ((image : List ℕ) → D.image_now before image → StoreBelongs (store_settings settings) is.lists image)
-        → SavesBelongThroughout D.image_now D.moment D.image_since (store_settings settings) is.lists is.base before now }
+        → ((image : List ℕ) → D.image_now before image → StoreBelongs (store_settings_for_saves settings) is.lists image)
+        → SavesBelongThroughout D.image_now D.moment D.image_since (store_settings_for_saves settings) is.lists is.base before now }
     ensures in_part { (formula : DealKind → ℕ → RecordValue → ℕ → ℕ) (before now : D) (settings : Settings) (store file front : List ℕ)
-        (is : IsSessionInPart settings (by_formula formula) (saves_kept_in D.reads D.image_now D.moment D.image_since before now) (D.reads before) file front)
+        (is : IsSessionInPart settings (session_rules_by_formula formula)
+        (SavesAreKeptOnDisk D.reads D.image_now D.moment D.image_since before now) (D.reads before) file front)
         → AreLimitedSettings settings → settings.store ≡ true → D.reads before ≡ Some store
-        → ((image : List ℕ) → D.image_now before image → StoreBelongs (store_settings settings) is.lists image)
-        → SavesBelongThroughout D.image_now D.moment D.image_since (store_settings settings) is.lists is.base before now }
+        → ((image : List ℕ) → D.image_now before image → StoreBelongs (store_settings_for_saves settings) is.lists image)
+        → SavesBelongThroughout D.image_now D.moment D.image_since (store_settings_for_saves settings) is.lists is.base before now }
 {
     stores_open_to_one();
     reported_cuts_represent();
@@ -189,7 +204,7 @@ pub fn stores_belong_throughout<D: Disk>()
 /// session, also where the session went on from a saved cut, if the tables of this were those of its records.
 pub fn own_reports_are_good<D: Disk>()
     ensures { (formula : DealKind → ℕ → RecordValue → ℕ → ℕ) (before now : D) (settings : Settings) (store : Option (List ℕ)) (file text : List ℕ)
-        (is : IsSession settings (by_formula formula) (saves_kept_in D.reads D.image_now D.moment D.image_since before now) store file text)
+        (is : IsSession settings (session_rules_by_formula formula) (SavesAreKeptOnDisk D.reads D.image_now D.moment D.image_since before now) store file text)
         (verdict : Verdict) → IfSome is.base (λ cut. CutRepresents cut is.lists)
         → All (λ reported. IsVerdict is.lists settings.capacity settings.phi reported.report verdict → verdict ≡ Good) (session_reports_in is.spelled.reports) }
 {
@@ -203,14 +218,14 @@ pub fn own_reports_are_good<D: Disk>()
 /// to be those of its records.
 pub fn own_sessions_are_audited_good<D: Disk>()
     ensures is_text { (formula : DealKind → ℕ → RecordValue → ℕ → ℕ) (before now : D) (settings : Settings) (store : Option (List ℕ)) (file text : List ℕ)
-        (is : IsSession settings (by_formula formula) (saves_kept_in D.reads D.image_now D.moment D.image_since before now) store file text)
+        (is : IsSession settings (session_rules_by_formula formula) (SavesAreKeptOnDisk D.reads D.image_now D.moment D.image_since before now) store file text)
         → AreLimitedSettings settings → IfSome is.base (λ cut. CutRepresents cut is.lists) → (known : Session) × IsSessionText text known }
     ensures good { (formula : DealKind → ℕ → RecordValue → ℕ → ℕ) (before now : D) (settings other : Settings) (store : Option (List ℕ)) (file text : List ℕ)
-        (is : IsSession settings (by_formula formula) (saves_kept_in D.reads D.image_now D.moment D.image_since before now) store file text)
+        (is : IsSession settings (session_rules_by_formula formula) (SavesAreKeptOnDisk D.reads D.image_now D.moment D.image_since before now) store file text)
         → AreLimitedSettings settings → settings.shards ≡ other.shards → settings.capacity ≡ other.capacity → settings.phi ≡ other.phi
-        → settings.deal ≡ other.deal → settings.weigh ≡ other.weigh → length text ≤ longest_session_text
+        → settings.deal ≡ other.deal → settings.weigh ≡ other.weigh → length text ≤ longest_session_text_length
         → IfSome is.base (λ cut. CutRepresents cut is.lists)
-        → IsSoundAudit other (by_formula formula) file text (sound_audit_text ((settings.callers + 1) * settings.rounds + 1)) }
+        → IsSoundAudit other (session_rules_by_formula formula) file text (sound_audit_text ((settings.callers + 1) * settings.rounds + 1)) }
 {
     printed_sessions_read_back();
 }
@@ -218,16 +233,21 @@ pub fn own_sessions_are_audited_good<D: Disk>()
 /// An audit of a text over a capture has one answer, where each kind of dealing is a formula: however the records are dealt
 /// and the text is read, all reports are sound, and as many, or one report is the first that isn't, with one verdict.
 pub fn audits_have_one_answer()
-    ensures sound { (formula : DealKind → ℕ → RecordValue → ℕ → ℕ) (settings : Settings) (file text answer : List ℕ) (lists : List (List RecordValue)) (session : Session)
-        → IsSoundAudit settings (by_formula formula) file text answer → AreAudited settings (by_formula formula) file text lists session
+    ensures sound { (formula : DealKind → ℕ → RecordValue → ℕ → ℕ) (settings : Settings) (file text answer : List ℕ)
+        (lists : List (List RecordValue)) (session : Session)
+        → IsSoundAudit settings (session_rules_by_formula formula) file text answer
+        → AreAudited settings (session_rules_by_formula formula) file text lists session
         → All (IsAuditedAsSound settings lists) session.reports × (answer ≡ sound_audit_text (length session.reports)) }
     ensures unsound { (formula : DealKind → ℕ → RecordValue → ℕ → ℕ) (settings : Settings) (file text : List ℕ) (report : ℕ) (verdict : Verdict)
-        (lists : List (List RecordValue)) (session : Session) → IsUnsoundAudit settings (by_formula formula) file text report verdict
-        → AreAudited settings (by_formula formula) file text lists session → IsAuditedAsFirstUnsound settings lists session.reports report verdict }
+        (lists : List (List RecordValue)) (session : Session) → IsUnsoundAudit settings (session_rules_by_formula formula) file text report verdict
+        → AreAudited settings (session_rules_by_formula formula) file text lists session
+        → IsAuditedAsFirstUnsound settings lists session.reports report verdict }
     ensures never_both { (formula : DealKind → ℕ → RecordValue → ℕ → ℕ) (settings : Settings) (file text answer : List ℕ) (report : ℕ) (verdict : Verdict)
-        → IsSoundAudit settings (by_formula formula) file text answer → IsUnsoundAudit settings (by_formula formula) file text report verdict → ⊥ }
+        → IsSoundAudit settings (session_rules_by_formula formula) file text answer
+        → IsUnsoundAudit settings (session_rules_by_formula formula) file text report verdict → ⊥ }
     ensures one_first { (formula : DealKind → ℕ → RecordValue → ℕ → ℕ) (settings : Settings) (file text : List ℕ) (report number : ℕ) (verdict other : Verdict)
-        → IsUnsoundAudit settings (by_formula formula) file text report verdict → IsUnsoundAudit settings (by_formula formula) file text number other
+        → IsUnsoundAudit settings (session_rules_by_formula formula) file text report verdict
+        → IsUnsoundAudit settings (session_rules_by_formula formula) file text number other
         → (number ≡ report) × (other ≡ verdict) }
 {
     files_are_read_or_refused();
@@ -238,7 +258,8 @@ pub fn audits_have_one_answer()
 
 /// A made capture is a capture of its frames.
 pub fn made_captures_are_captures()
-    ensures { (seed count : ℕ) → count ≤ most_made_capture_frames → (frames : List FrameValue) × HasCaptureFrames (made_capture seed count) frames × (length frames ≡ count) }
+    ensures { (seed count : ℕ) → count ≤ most_made_capture_frames
+        → (frames : List FrameValue) × CaptureFileHasFrames (made_capture seed count) frames × (length frames ≡ count) }
 {}
 
 /// The text of a demonstration depends on the seed, the number of frames, the shards, the capacity, the share, the dealing
@@ -248,7 +269,7 @@ pub fn demos_have_one_text()
     ensures { (formula : DealKind → ℕ → RecordValue → ℕ → ℕ) (settings other : Settings) (seed frames : ℕ) (text other_text : List ℕ)
         → settings.shards ≡ other.shards → settings.capacity ≡ other.capacity → settings.phi ≡ other.phi
         → settings.deal ≡ other.deal → settings.weigh ≡ other.weigh
-        → IsDemoText settings (by_formula formula) seed frames text → IsDemoText other (by_formula formula) seed frames other_text
+        → IsDemoText settings (session_rules_by_formula formula) seed frames text → IsDemoText other (session_rules_by_formula formula) seed frames other_text
         → text ≡ other_text }
 {
     files_are_read_or_refused();

@@ -3,7 +3,8 @@
 mod line;
 
 ghost use Rattle.std.specs.Prelude.{◌≡◌};
-ghost use Rattle.hhh_engine.specs.Status.{status_of, status_of_opening, status_of_session, status_of_words, status_number};
+ghost use Rattle.hhh_engine.specs.Status.{status_of, status_of_opening, status_of_session, status_of_words};
+ghost use Rattle.hhh_engine.specs.Status.{status_number};
 
 use checkpoint::StoreSettings;
 use command_words::{WordsKind, WordsRefusal};

@@ -4,29 +4,38 @@ ghost use Rattle.std.specs.Prelude.{◌≡◌, ◌⊎◌, ◌≤◌, ℕ, List, 
 ghost use Rattle.outside_io.specs.{FaultCountRose};
 ghost use Rattle.prefix_lattice.specs.{RecordValue};
 ghost use Rattle.pcap_frames.specs.{FrameValue};
-ghost use Rattle.frame_records.specs.{HasCaptureFrames, IsRefusedCapture};
+ghost use Rattle.frame_records.specs.{CaptureFileHasFrames, IsRefusedCaptureFile};
 ghost use Rattle.frame_records.specs.declared.records.Records.{Records};
 ghost use Rattle.pcap_frames.specs.declared.fault.CaptureFault.{CaptureFault};
 ghost use Rattle.deal_rules.specs.{dealer_of};
 ghost use Rattle.recovery.specs.{IsRefusedAtOpening, IsShownByOpening};
 ghost use Rattle.recovery.specs.declared.fault.OpenFault.{OpenFault};
-ghost use Rattle.report_text.specs.{HasTextFault, IsSessionText, longest_session_text};
+ghost use Rattle.report_text.specs.{HasSessionTextFault, IsSessionText, longest_session_text_length};
 ghost use Rattle.report_text.specs.declared.session.Session.{Session};
 ghost use Rattle.report_text.specs.declared.session_fault.TextFault.{TextFault};
 ghost use Rattle.exact_audit.specs.declared.verdict.Verdict.{Verdict};
-ghost use Rattle.command_words.specs.{texts, AskFor, HasWordsFault, AreLimitedWords};
+ghost use Rattle.command_words.specs.{argument_texts, AskForCommand, HasWordsFault, IsLimitedCommand};
 ghost use Rattle.command_words.specs.declared.command.Command.{Command};
 ghost use Rattle.command_words.specs.declared.command.Command.TheVariants.{Report, Format, Audit};
 ghost use Rattle.command_words.specs.declared.settings.Settings.{Settings};
 ghost use Rattle.command_words.specs.declared.words_kind.WordsKind.{WordsKind};
 ghost use Rattle.hhh_engine.specs.Answer.{Answers, AnswersInPart, IsAnswer, IsAnswerInPart};
-ghost use Rattle.hhh_engine.specs.Ending.{Ends, EndsWithFailedDisk, EndsFailingToRead, EndsFailingToWrite, FindsAtEnding, FormatEnds, EndsFindingUnsound, EndsUntouched, OfDiskAtEnding, OneSourceRoseAtEnding, EndsRefusingCapture, EndsRefusingStore, EndsRefusingText, EndsRefusingWords, RefusesAtEnding, EndsInOrder, EndsAsBeforeUnlessFormat, EndsAnswered, EndsWritingInPart, ending_source_faults};
+ghost use Rattle.hhh_engine.specs.Ending.{Ends, EndsWithFailedDisk, EndsFailingToRead, EndsFailingToWrite};
+ghost use Rattle.hhh_engine.specs.Ending.{AuditFindsAtEnding, FormatEnds, EndsFindingUnsound, EndsUntouched};
+ghost use Rattle.hhh_engine.specs.Ending.{HappenedToDiskAtEnding, SourceFaultsRoseAtEnding, EndsRefusingCapture};
+ghost use Rattle.hhh_engine.specs.Ending.{EndsRefusingStore, EndsRefusingText, EndsRefusingWords, RefusesAtEnding};
+ghost use Rattle.hhh_engine.specs.Ending.{EndsInOrder, EndsAsBeforeUnlessFormat, EndsAnswered, EndsWritingInPart};
+ghost use Rattle.hhh_engine.specs.Ending.{ending_source_faults};
 ghost use Rattle.hhh_engine.specs.Audit.{AreAudited, IsAuditedAsFirstUnsound, IsAuditedAsSound};
-ghost use Rattle.hhh_engine.specs.Inputs.{AskNotToUseInput, AskToUseInput, InputsCanBeAnswered, UsesInputCapture, UsesInputSession, UsesInputStore, InputsWereAccepted, InputsWereRead, inputs};
-ghost use Rattle.hhh_engine.specs.Saves.{IsAsBeforeSaves, saves_kept_in, store_settings};
+ghost use Rattle.hhh_engine.specs.Inputs.{AskedCommandAvoidsInput, AskedCommandUsesInput, InputsCanBeAnswered};
+ghost use Rattle.hhh_engine.specs.Inputs.{UsesInputCapture, UsesInputSession, UsesInputStore, InputsWereAccepted};
+ghost use Rattle.hhh_engine.specs.Inputs.{InputsWereRead, inputs};
+ghost use Rattle.hhh_engine.specs.Saves.{IsAsBeforeSaves, SavesAreKeptOnDisk, store_settings_for_saves};
 ghost use Rattle.hhh_engine.specs.Session.{AreDealtInSession};
 ghost use Rattle.hhh_engine.specs.Status.{status_of_opening};
-ghost use Rattle.hhh_engine.specs.declared.status.Status.TheVariants.{Done, BadWords, BadCapture, ReadFault, WriteFault, DiskFault, AuditNo, BadReport, OutOfMemory};
+ghost use Rattle.hhh_engine.specs.declared.status.Status.TheVariants.{Done, BadWords, BadCapture, ReadFault};
+ghost use Rattle.hhh_engine.specs.declared.status.Status.TheVariants.{WriteFault, DiskFault, AuditNo, BadReport};
+ghost use Rattle.hhh_engine.specs.declared.status.Status.TheVariants.{OutOfMemory};
 
 use crate::Status;
 use crate::commands::audit::audit;
@@ -86,50 +95,56 @@ pub fn run<R: Threads + Wait + Sync, S: Source, T: Source, K: Sink, D: Disk, G: 
     // The text of the command was written for its inputs, which were read to their ends. What the text says of weights
     // holds for the records themselves. Whatever a crash leaves of its store opens to the last cut that a report saved.
     ensures done { result ≡ Done → Answers (λ kind. ⟦<Dealer as Deals>⟧.may_answer (dealer_of kind dealers.now))
-        (saves_kept_in D.reads D.image_now D.moment D.image_since disk.old disk.new) (texts words.now)
+        (SavesAreKeptOnDisk D.reads D.image_now D.moment D.image_since disk.old disk.new) (argument_texts words.now)
         (inputs (S.left capture.old) (S.left capture.new) (T.left text.old) (T.left text.new) (D.reads disk.old)) (K.taken sink.old) (K.taken sink.new) }
 
     // The arguments are checked first, before anything is read.
-    ensures bad_words { (kind : WordsKind) → result ≡ BadWords kind → EndsRefusingWords (texts words.now) kind capture.old capture.new text.old text.new sink.old sink.new
+    ensures bad_words { (kind : WordsKind) → result ≡ BadWords kind
+        → EndsRefusingWords (argument_texts words.now) kind capture.old capture.new text.old text.new sink.old sink.new
         disk.old disk.new }
-    ensures refuses_words { (kind : WordsKind) → HasWordsFault (texts words.now) kind → (result ≡ BadWords kind) ⊎ ((result ≡ OutOfMemory)
+    ensures refuses_words { (kind : WordsKind) → HasWordsFault (argument_texts words.now) kind → (result ≡ BadWords kind) ⊎ ((result ≡ OutOfMemory)
         × EndsUntouched capture.old capture.new text.old text.new sink.old sink.new disk.old disk.new) }
 
     // A capture with a fault is refused for it, unless the source fails or memory runs out first.
-    ensures bad_capture { (fault : CaptureFault) → result ≡ BadCapture fault → EndsRefusingCapture (texts words.now) (S.left capture.old) fault
+    ensures bad_capture { (fault : CaptureFault) → result ≡ BadCapture fault → EndsRefusingCapture (argument_texts words.now) (S.left capture.old) fault
         text.old text.new sink.old sink.new disk.old disk.new }
-    ensures refuses { (file : List ℕ) (fault : CaptureFault) → AskToUseInput UsesInputCapture (texts words.now) → S.left capture.old ≡ Some file → IsRefusedCapture file fault
+    ensures refuses { (file : List ℕ) (fault : CaptureFault) → AskedCommandUsesInput UsesInputCapture (argument_texts words.now)
+        → S.left capture.old ≡ Some file → IsRefusedCaptureFile file fault
         → (result ≡ BadCapture fault) ⊎ ((result ≡ ReadFault) ⊎ (result ≡ OutOfMemory)) }
 
     // A store that is refused over the dealt records is refused for its first fault, unless the source or the disk fails or
     // memory runs out first.
     ensures refused_store { (fault : OpenFault) → IsShownByOpening fault → result ≡ status_of_opening fault
-        → EndsRefusingStore (λ kind. ⟦<Dealer as Deals>⟧.may_answer (dealer_of kind dealers.now)) (texts words.now) (inputs (S.left capture.old) (S.left capture.new) (T.left text.old) (T.left text.new) (D.reads disk.old))
+        → EndsRefusingStore (λ kind. ⟦<Dealer as Deals>⟧.may_answer (dealer_of kind dealers.now)) (argument_texts words.now)
+        (inputs (S.left capture.old) (S.left capture.new) (T.left text.old) (T.left text.new) (D.reads disk.old))
         fault sink.old sink.new (IsAsBeforeSaves D.reads D.image_now D.moment D.image_since disk.old disk.new) }
     ensures refuses_store { (settings : Settings) (file image : List ℕ) (frames : List FrameValue) (fault : OpenFault)
-        → AskFor (texts words.now) (Report settings) → settings.store ≡ true → S.left capture.old ≡ Some file → HasCaptureFrames file frames
+        → AskForCommand (argument_texts words.now) (Report settings) → settings.store ≡ true → S.left capture.old ≡ Some file → CaptureFileHasFrames file frames
         → D.reads disk.old ≡ Some image → IsShownByOpening fault
         → ((records : Records) (lists : List (List RecordValue))
         → AreDealtInSession settings (λ kind. ⟦<Dealer as Deals>⟧.may_answer (dealer_of kind dealers.now)) file records lists
-        → IsRefusedAtOpening (store_settings settings) lists image fault)
+        → IsRefusedAtOpening (store_settings_for_saves settings) lists image fault)
         → (result ≡ status_of_opening fault) ⊎ ((result ≡ ReadFault) ⊎ ((result ≡ DiskFault) ⊎ (result ≡ OutOfMemory))) }
 
     // A text that is not that of a session is refused for its first fault, after the capture was read, and before anything is
     // audited, unless a source fails or memory runs out first.
-    ensures bad_report { (fault : TextFault) → result ≡ BadReport fault → EndsRefusingText (texts words.now)
+    ensures bad_report { (fault : TextFault) → result ≡ BadReport fault → EndsRefusingText (argument_texts words.now)
         (inputs (S.left capture.old) (S.left capture.new) (T.left text.old) (T.left text.new) (D.reads disk.old)) fault sink.old sink.new disk.old disk.new }
     ensures refuses_report { (settings : Settings) (file bytes : List ℕ) (frames : List FrameValue) (fault : TextFault)
-        → AskFor (texts words.now) (Audit settings) → S.left capture.old ≡ Some file → HasCaptureFrames file frames → T.left text.old ≡ Some bytes
-        → HasTextFault bytes fault → (result ≡ BadReport fault) ⊎ ((result ≡ ReadFault) ⊎ (result ≡ OutOfMemory)) }
+        → AskForCommand (argument_texts words.now) (Audit settings) → S.left capture.old ≡ Some file → CaptureFileHasFrames file frames
+        → T.left text.old ≡ Some bytes
+        → HasSessionTextFault bytes fault → (result ≡ BadReport fault) ⊎ ((result ≡ ReadFault) ⊎ (result ≡ OutOfMemory)) }
 
     // A session with a report that is not sound is found so at the first one, unless a source or the sink fails or memory
     // runs out first.
     ensures audit_no { (report : ℕ) (verdict : Verdict) → result ≡ AuditNo report verdict
-        → EndsFindingUnsound (λ kind. ⟦<Dealer as Deals>⟧.may_answer (dealer_of kind dealers.now)) (texts words.now)
-        (inputs (S.left capture.old) (S.left capture.new) (T.left text.old) (T.left text.new) (D.reads disk.old)) report verdict (K.taken sink.old) (K.taken sink.new) }
+        → EndsFindingUnsound (λ kind. ⟦<Dealer as Deals>⟧.may_answer (dealer_of kind dealers.now)) (argument_texts words.now)
+        (inputs (S.left capture.old) (S.left capture.new) (T.left text.old) (T.left text.new) (D.reads disk.old)) report verdict
+        (K.taken sink.old) (K.taken sink.new) }
     ensures finds_unsound { (settings : Settings) (file bytes : List ℕ) (frames : List FrameValue) (known : Session) (report : ℕ) (verdict : Verdict)
-        → AskFor (texts words.now) (Audit settings) → S.left capture.old ≡ Some file → HasCaptureFrames file frames → T.left text.old ≡ Some bytes
-        → IsSessionText bytes known → length bytes ≤ longest_session_text
+        → AskForCommand (argument_texts words.now) (Audit settings) → S.left capture.old ≡ Some file → CaptureFileHasFrames file frames
+        → T.left text.old ≡ Some bytes
+        → IsSessionText bytes known → length bytes ≤ longest_session_text_length
         → ((lists : List (List RecordValue)) (session : Session)
         → AreAudited settings (λ kind. ⟦<Dealer as Deals>⟧.may_answer (dealer_of kind dealers.now)) file bytes lists session
         → IsAuditedAsFirstUnsound settings lists session.reports report verdict)
@@ -137,8 +152,9 @@ pub fn run<R: Threads + Wait + Sync, S: Source, T: Source, K: Sink, D: Disk, G: 
 
     // A session whose reports are all sound is found so, unless a source or the sink fails or memory runs out.
     ensures finds_sound { (settings : Settings) (file bytes : List ℕ) (frames : List FrameValue) (known : Session)
-        → AskFor (texts words.now) (Audit settings) → S.left capture.old ≡ Some file → HasCaptureFrames file frames → T.left text.old ≡ Some bytes
-        → IsSessionText bytes known → length bytes ≤ longest_session_text
+        → AskForCommand (argument_texts words.now) (Audit settings) → S.left capture.old ≡ Some file → CaptureFileHasFrames file frames
+        → T.left text.old ≡ Some bytes
+        → IsSessionText bytes known → length bytes ≤ longest_session_text_length
         → ((lists : List (List RecordValue)) (session : Session)
         → AreAudited settings (λ kind. ⟦<Dealer as Deals>⟧.may_answer (dealer_of kind dealers.now)) file bytes lists session
         → All (IsAuditedAsSound settings lists) session.reports)
@@ -148,16 +164,19 @@ pub fn run<R: Threads + Wait + Sync, S: Source, T: Source, K: Sink, D: Disk, G: 
     // reported as anything else. Where the capture's source failed, the text of a session is untouched; where the text's
     // did, the capture was read to its end and accepted. What was written of a session says which of its cuts a crash may
     // leave in the store.
-    ensures read_fault { result ≡ ReadFault → EndsFailingToRead (texts words.now)
-        (inputs (S.left capture.old) (S.left capture.new) (T.left text.old) (T.left text.new) (D.reads disk.old)) (ending_source_faults (S.faults capture.old) (T.faults text.old))
+    ensures read_fault { result ≡ ReadFault → EndsFailingToRead (argument_texts words.now)
+        (inputs (S.left capture.old) (S.left capture.new) (T.left text.old) (T.left text.new) (D.reads disk.old))
+        (ending_source_faults (S.faults capture.old) (T.faults text.old))
         (ending_source_faults (S.faults capture.new) (T.faults text.new)) text.old text.new sink.old sink.new disk.old disk.new }
-    ensures read_fault_told { (result ≡ ReadFault → ⊥) → ending_source_faults (S.faults capture.new) (T.faults text.new) ≡ ending_source_faults (S.faults capture.old) (T.faults text.old) }
+    ensures read_fault_told { (result ≡ ReadFault → ⊥)
+        → ending_source_faults (S.faults capture.new) (T.faults text.new) ≡ ending_source_faults (S.faults capture.old) (T.faults text.old) }
     ensures write_fault { result ≡ WriteFault → EndsFailingToWrite (λ kind. ⟦<Dealer as Deals>⟧.may_answer (dealer_of kind dealers.now))
-        (saves_kept_in D.reads D.image_now D.moment D.image_since disk.old disk.new) (texts words.now)
-        (inputs (S.left capture.old) (S.left capture.new) (T.left text.old) (T.left text.new) (D.reads disk.old)) (K.taken sink.old) (K.taken sink.new) (K.faults sink.old) (K.faults sink.new) }
+        (SavesAreKeptOnDisk D.reads D.image_now D.moment D.image_since disk.old disk.new) (argument_texts words.now)
+        (inputs (S.left capture.old) (S.left capture.new) (T.left text.old) (T.left text.new) (D.reads disk.old)) (K.taken sink.old)
+        (K.taken sink.new) (K.faults sink.old) (K.faults sink.new) }
     ensures write_fault_told { (result ≡ WriteFault → ⊥) → K.faults sink.new ≡ K.faults sink.old }
     ensures disk_fault { result ≡ DiskFault → EndsWithFailedDisk (λ kind. ⟦<Dealer as Deals>⟧.may_answer (dealer_of kind dealers.now))
-        (saves_kept_in D.reads D.image_now D.moment D.image_since disk.old disk.new) (texts words.now)
+        (SavesAreKeptOnDisk D.reads D.image_now D.moment D.image_since disk.old disk.new) (argument_texts words.now)
         (inputs (S.left capture.old) (S.left capture.new) (T.left text.old) (T.left text.new) (D.reads disk.old))
         (IsAsBeforeSaves D.reads D.image_now D.moment D.image_since disk.old disk.new) sink.old sink.new (K.taken sink.old) (K.taken sink.new)
         (D.faults disk.old) (D.faults disk.new) }
@@ -165,24 +184,26 @@ pub fn run<R: Threads + Wait + Sync, S: Source, T: Source, K: Sink, D: Disk, G: 
 
     // A store is formatted where its line was written, or began to be. A source or disk that the command doesn't use is
     // untouched.
-    ensures formats { (settings : Settings) → AskFor (texts words.now) (Format settings) → FormatEnds (store_settings settings)
+    ensures formats { (settings : Settings) → AskForCommand (argument_texts words.now) (Format settings) → FormatEnds (store_settings_for_saves settings)
         (D.reads disk.new) (D.image_now disk.new) sink.old sink.new disk.old disk.new result }
-    ensures unused_disk { AskNotToUseInput UsesInputStore (texts words.now) → disk.new ≡ disk.old }
-    ensures unused_capture { AskNotToUseInput UsesInputCapture (texts words.now) → capture.new ≡ capture.old }
-    ensures unused_text { AskNotToUseInput UsesInputSession (texts words.now) → text.new ≡ text.old }
+    ensures unused_disk { AskedCommandAvoidsInput UsesInputStore (argument_texts words.now) → disk.new ≡ disk.old }
+    ensures unused_capture { AskedCommandAvoidsInput UsesInputCapture (argument_texts words.now) → capture.new ≡ capture.old }
+    ensures unused_text { AskedCommandAvoidsInput UsesInputSession (argument_texts words.now) → text.new ≡ text.old }
 
     // Memory may run out at any time. Then a part of the text was written, which may be empty; or nothing was, and the disk is
     // as before.
     ensures out_of_memory { result ≡ OutOfMemory → EndsWritingInPart (λ kind. ⟦<Dealer as Deals>⟧.may_answer (dealer_of kind dealers.now))
-        (saves_kept_in D.reads D.image_now D.moment D.image_since disk.old disk.new) (texts words.now)
+        (SavesAreKeptOnDisk D.reads D.image_now D.moment D.image_since disk.old disk.new) (argument_texts words.now)
         (inputs (S.left capture.old) (S.left capture.new) (T.left text.old) (T.left text.new) (D.reads disk.old))
         (IsAsBeforeSaves D.reads D.image_now D.moment D.image_since disk.old disk.new) sink.old sink.new (K.taken sink.old) (K.taken sink.new) }
 
     // With arguments that ask for a command, inputs in their formats and no fault of source, sink or disk, the command is
     // answered unless memory runs out.
-    ensures complete { (command : Command) → AskFor (texts words.now) command
-        → InputsCanBeAnswered (λ kind. ⟦<Dealer as Deals>⟧.may_answer (dealer_of kind dealers.now)) command (inputs (S.left capture.old) (S.left capture.new) (T.left text.old) (T.left text.new) (D.reads disk.old))
-        → (OneSourceRoseAtEnding (ending_source_faults (S.faults capture.old) (T.faults text.old)) (ending_source_faults (S.faults capture.new) (T.faults text.new)) → ⊥)
+    ensures complete { (command : Command) → AskForCommand (argument_texts words.now) command
+        → InputsCanBeAnswered (λ kind. ⟦<Dealer as Deals>⟧.may_answer (dealer_of kind dealers.now)) command
+        (inputs (S.left capture.old) (S.left capture.new) (T.left text.old) (T.left text.new) (D.reads disk.old))
+        → (SourceFaultsRoseAtEnding (ending_source_faults (S.faults capture.old) (T.faults text.old))
+        (ending_source_faults (S.faults capture.new) (T.faults text.new)) → ⊥)
         → (FaultCountRose (K.faults sink.old) (K.faults sink.new) → ⊥) → (FaultCountRose (D.faults disk.old) (D.faults disk.new) → ⊥)
         → EndsAnswered command result ⊎ (result ≡ OutOfMemory) }
 {
@@ -212,30 +233,34 @@ fn answer<R: Threads + Wait + Sync, S: Source, T: Source, K: Sink, D: Disk, G: G
     gate: &G,
     dealers: &Dealers,
 ) -> Status
-    requires { AreLimitedWords command.now }
-    ensures ends { Ends (IsAnswer (λ kind. ⟦<Dealer as Deals>⟧.may_answer (dealer_of kind dealers.now)) (saves_kept_in D.reads D.image_now D.moment D.image_since disk.old disk.new)
+    requires { IsLimitedCommand command.now }
+    ensures ends { Ends (IsAnswer (λ kind. ⟦<Dealer as Deals>⟧.may_answer (dealer_of kind dealers.now))
+        (SavesAreKeptOnDisk D.reads D.image_now D.moment D.image_since disk.old disk.new)
         command.now (inputs (S.left capture.old) (S.left capture.new) (T.left text.old) (T.left text.new) (D.reads disk.old)))
-        (IsAnswerInPart (λ kind. ⟦<Dealer as Deals>⟧.may_answer (dealer_of kind dealers.now)) (saves_kept_in D.reads D.image_now D.moment D.image_since disk.old disk.new)
+        (IsAnswerInPart (λ kind. ⟦<Dealer as Deals>⟧.may_answer (dealer_of kind dealers.now))
+        (SavesAreKeptOnDisk D.reads D.image_now D.moment D.image_since disk.old disk.new)
         command.now (inputs (S.left capture.old) (S.left capture.new) (T.left text.old) (T.left text.new) (D.reads disk.old)))
         (InputsWereRead command.now (inputs (S.left capture.old) (S.left capture.new) (T.left text.old) (T.left text.new) (D.reads disk.old)))
         (InputsWereAccepted command.now (inputs (S.left capture.old) (S.left capture.new) (T.left text.old) (T.left text.new) (D.reads disk.old)))
-        (OfDiskAtEnding command.now (FaultCountRose (D.faults disk.old) (D.faults disk.new))) (disk.new ≡ disk.old)
+        (HappenedToDiskAtEnding command.now (FaultCountRose (D.faults disk.old) (D.faults disk.new))) (disk.new ≡ disk.old)
         (EndsAsBeforeUnlessFormat command.now (IsAsBeforeSaves D.reads D.image_now D.moment D.image_since disk.old disk.new))
-        (RefusesAtEnding command.now (λ kind. ⟦<Dealer as Deals>⟧.may_answer (dealer_of kind dealers.now)) (inputs (S.left capture.old) (S.left capture.new) (T.left text.old) (T.left text.new) (D.reads disk.old))
+        (RefusesAtEnding command.now (λ kind. ⟦<Dealer as Deals>⟧.may_answer (dealer_of kind dealers.now))
+        (inputs (S.left capture.old) (S.left capture.new) (T.left text.old) (T.left text.new) (D.reads disk.old))
         (IsAsBeforeSaves D.reads D.image_now D.moment D.image_since disk.old disk.new))
-        (FindsAtEnding command.now (λ kind. ⟦<Dealer as Deals>⟧.may_answer (dealer_of kind dealers.now))
+        (AuditFindsAtEnding command.now (λ kind. ⟦<Dealer as Deals>⟧.may_answer (dealer_of kind dealers.now))
         (inputs (S.left capture.old) (S.left capture.new) (T.left text.old) (T.left text.new) (D.reads disk.old)) (K.taken sink.old) (K.taken sink.new))
         (S.left capture.old) (ending_source_faults (S.faults capture.old) (T.faults text.old)) (ending_source_faults (S.faults capture.new) (T.faults text.new))
         sink.old sink.new (K.taken sink.old) (K.taken sink.new) (K.faults sink.old) (K.faults sink.new) result }
     ensures order { EndsInOrder (UsesInputCapture command.now) (UsesInputSession command.now)
         (inputs (S.left capture.old) (S.left capture.new) (T.left text.old) (T.left text.new) (D.reads disk.old))
-        (ending_source_faults (S.faults capture.old) (T.faults text.old)) (ending_source_faults (S.faults capture.new) (T.faults text.new)) text.old text.new result }
+        (ending_source_faults (S.faults capture.old) (T.faults text.old))
+        (ending_source_faults (S.faults capture.new) (T.faults text.new)) text.old text.new result }
     ensures told { (result ≡ DiskFault → ⊥) → D.faults disk.new ≡ D.faults disk.old }
     ensures unused { (UsesInputStore command.now → ⊥) → disk.new ≡ disk.old }
     ensures reads { (fault : CaptureFault) → result ≡ BadCapture fault → UsesInputCapture command.now }
     ensures unread { (UsesInputCapture command.now → ⊥) → capture.new ≡ capture.old }
     ensures text_unread { (UsesInputSession command.now → ⊥) → text.new ≡ text.old }
-    ensures formats { (settings : Settings) → command.now ≡ Format settings → FormatEnds (store_settings settings)
+    ensures formats { (settings : Settings) → command.now ≡ Format settings → FormatEnds (store_settings_for_saves settings)
         (D.reads disk.new) (D.image_now disk.new) sink.old sink.new disk.old disk.new result }
 {
     match command {

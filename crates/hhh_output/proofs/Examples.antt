@@ -9,13 +9,16 @@ use Rattle.std.proofs.lemmas.List.Kept.{AllPairs-cons}
 use Rattle.std.specs.Prelude.{slice_index_or, slice_index}
 use Rattle.std.specs.declared.cmp.Ordering.{Ordering}
 use Rattle.std.specs.declared.cmp.Ordering.TheVariants.{Less, Equal, Greater}
-use Rattle.prefix_lattice.specs.{RecordValue, node_index, begins_with, PrefixValue, IsPrefix, covers, prefix_weight}
+use Rattle.prefix_lattice.specs.{RecordValue, node_index, kept_bytes_begin_with, PrefixValue, IsPrefix, covers}
+use Rattle.prefix_lattice.specs.{prefix_weight}
 use Rattle.prefix_lattice.specs.{node_of_prefix, prefix_key, under, report_order, conditioned_weight}
 use Rattle.shard_state.specs.{fold_snapshot_from, no_snapshot_entries, empty_snapshot, CutValue}
-use Rattle.cut_merge.specs.{monitored_keys}
+use Rattle.cut_merge.specs.{keys_monitored_in_tables}
 use Rattle.hhh_output.specs.ReportLines.{prefixes_of_lines, AreReportLines}
-use Rattle.hhh_output.specs.Report.{IsMonitoredInReport, report_low_in, report_high_in, IsUnexplainedInReport, IsLineOfReport, IsReportOf, IsSameReport}
-use Rattle.hhh_output.specs.SoundReport.{HoldsWeightInSoundReport, IsNarrowInSoundReport, IsJustifiedInSoundReport, IsSound}
+use Rattle.hhh_output.specs.Report.{IsMonitoredInReport, report_low_in, report_high_in, IsUnexplainedInReport}
+use Rattle.hhh_output.specs.Report.{IsLineOfReport, IsReportOf, IsSameReport}
+use Rattle.hhh_output.specs.SoundReport.{HoldsWeightInSoundReport, IsNarrowInSoundReport, IsJustifiedInSoundReport}
+use Rattle.hhh_output.specs.SoundReport.{IsSound}
 use Rattle.hhh_output.specs.Threshold.{IsHeavy, IsThreshold, threshold_million, IsWideShare}
 use Rattle.hhh_output.specs.declared.line.Line.{Line}
 use Rattle.hhh_output.specs.declared.report.Report.{Report}
@@ -259,20 +262,20 @@ nothing_is_told_of_nothing = record {
     (λ inside. absurd (omega (arith, inside.1))),
     (λ asked.
         let none = subst (λ keys. Contains keys (prefix_key line.prefix))
-        (ap (λ entries. monitored_keys (record { capacity = 4; entries = entries } ∷ []))
+        (ap (λ entries. keys_monitored_in_tables (record { capacity = 4; entries = entries } ∷ []))
         (alike [] 25 (node_index (node_of_prefix line.prefix)))) asked.monitored in
         absurd (omega (arith, none.1))),
   );
 }
 
 -- two lists that begin one another are one
-both_begin : (bytes other : List ℕ) → begins_with bytes other ≡ true → begins_with other bytes ≡ true → bytes ≡ other
+both_begin : (bytes other : List ℕ) → kept_bytes_begin_with bytes other ≡ true → kept_bytes_begin_with other bytes ≡ true → bytes ≡ other
 both_begin [] [] begins begun = refl
 both_begin [] (first ∷ rest) begins begun = absurd (false≢true begins)
 both_begin (byte ∷ bytes) [] begins begun = absurd (false≢true begun)
 both_begin (byte ∷ bytes) (first ∷ rest) begins begun =
-    let parts = and_parts (eqb byte first) (begins_with bytes rest) begins in
-    let other = and_parts (eqb first byte) (begins_with rest bytes) begun in
+    let parts = and_parts (eqb byte first) (kept_bytes_begin_with bytes rest) begins in
+    let other = and_parts (eqb first byte) (kept_bytes_begin_with rest bytes) begun in
     ap (λ head. head ∷ bytes) (eqb-true byte first parts.0)
     ∙ ap (λ tail. first ∷ tail) (both_begin bytes rest parts.1 other.1)
 
@@ -286,8 +289,8 @@ explained prefix missing = by_cover (covers prefix packet) refl (under prefix wh
     by_cover false covered below is = rw covered (omega arith)
     by_cover true covered false is = rw (covered, is) (omega arith)
     by_cover true covered true is =
-        let above = and_parts (begins_with whole.source prefix.source) (begins_with whole.dest prefix.dest) covered in
-        let below = and_parts (begins_with prefix.source whole.source) (begins_with prefix.dest whole.dest) is in
+        let above = and_parts (kept_bytes_begin_with whole.source prefix.source) (kept_bytes_begin_with whole.dest prefix.dest) covered in
+        let below = and_parts (kept_bytes_begin_with prefix.source whole.source) (kept_bytes_begin_with prefix.dest whole.dest) is in
         let same : whole ≡ prefix =
         ap (λ source. record { source = source; dest = whole.dest })
         (both_begin whole.source prefix.source above.0 below.0)

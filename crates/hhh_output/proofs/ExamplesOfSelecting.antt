@@ -5,11 +5,14 @@ use Rattle.std.proofs.Math.ListN.{replicate}
 use Rattle.std.proofs.lemmas.Int.{ints}
 use Rattle.std.proofs.lemmas.List.Elements.{All-nil, All-cons}
 use Rattle.std.proofs.lemmas.List.Kept.{AllPairs-cons}
-use Rattle.prefix_lattice.specs.{NodeValue, node_index, PrefixValue, node_of_prefix, prefix_key, IsPrefixKey, node_count}
+use Rattle.prefix_lattice.specs.{NodeValue, node_index, PrefixValue, node_of_prefix, prefix_key, IsPrefixKey}
+use Rattle.prefix_lattice.specs.{node_count}
 use Rattle.cut_merge.specs.{NodeMergeValue, MergedValue, nothing_merged, merged_candidates_at}
 use Rattle.hhh_output.specs.declared.line.Line.{Line}
-use Rattle.hhh_output.specs.Selecting.{selecting_low, selecting_high, CanSelectLine, IsSelected, most_candidates_to_select}
-use Rattle.hhh_output.specs.Selecting.{AreCandidatesToSelect, selecting_nodes_before, selecting_nodes_down, SelectedAreDistinct, AreSelectedOfLevel, AreSelectedDownTo}
+use Rattle.hhh_output.specs.Selecting.{selecting_low, selecting_high, CanSelectLine, IsSelected}
+use Rattle.hhh_output.specs.Selecting.{most_candidates_to_select}
+use Rattle.hhh_output.specs.Selecting.{AreCandidatesToSelect, selecting_nodes_before, selecting_nodes_down}
+use Rattle.hhh_output.specs.Selecting.{SelectedAreDistinct, AreSelectedOfLevel, AreSelectedDownTo}
 use Rattle.hhh_output.proofs.Examples.{root, whole, whole_is_prefix, own, of_all, alike}
 use Rattle.conditioned_bounds.specs.{member_limit}
 

@@ -12,7 +12,8 @@ use Rattle.prefix_lattice.specs.{address_of, PrefixValue, closest, kept_pairs}
 use Rattle.cut_merge.specs.{MergedValue}
 use Rattle.hhh_output.specs.declared.line.Line.{Line}
 use Rattle.hhh_output.specs.ReportLines.{prefixes_of_lines}
-use Rattle.hhh_output.specs.Selecting.{selecting_low, selecting_high, IsSelected, AreSelectedOfLevel, AreSelectedDownTo, selecting_nodes_before}
+use Rattle.hhh_output.specs.Selecting.{selecting_low, selecting_high, IsSelected, AreSelectedOfLevel, AreSelectedDownTo}
+use Rattle.hhh_output.specs.Selecting.{selecting_nodes_before}
 use Rattle.hhh_output.specs.Selecting.{selecting_nodes_down}
 use Rattle.hhh_output.proofs.OneReportLemmas.{BeforeInOneReport}
 use Rattle.hhh_output.proofs.NearLineLemmas.{near_line_level, NearLineLevelsFall, near_lines-append}

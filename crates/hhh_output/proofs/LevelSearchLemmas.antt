@@ -14,12 +14,14 @@ use Rattle.std.proofs.lemmas.List.Elements.{All-weaker, All-contains_itself, Con
 use Rattle.std.proofs.lemmas.List.Sorted.{sorted_far, ranks_by, Contains-permutation, IsPermutation-sym}
 use Rattle.std.proofs.lemmas.List.Sorted.{length_permutation}
 use Rattle.std.proofs.lemmas.Map.Keys.{IsDistinct-IsPermutation, IsDistinct-from_apart, apart_from_distinct}
-use Rattle.prefix_lattice.specs.{NodeValue, node_index, node_at, node_level, PrefixValue, IsPrefix, node_of_prefix, under}
-use Rattle.prefix_lattice.specs.{same_prefix, report_order}
+use Rattle.prefix_lattice.specs.{NodeValue, node_index, node_at, node_level, PrefixValue, IsPrefix, node_of_prefix}
+use Rattle.prefix_lattice.specs.{under}
+use Rattle.prefix_lattice.specs.{same_in_lattice, report_order}
 use Rattle.prefix_lattice.proofs.NodePlaceLemmas.{node_at_own_place}
 use Rattle.cut_merge.specs.{MergedValue}
 use Rattle.hhh_output.specs.declared.line.Line.{Line}
-use Rattle.hhh_output.specs.Selecting.{IsSelected, SelectedAreDistinct, AreSelectedOfLevel, selecting_nodes_before, most_candidates_to_select}
+use Rattle.hhh_output.specs.Selecting.{IsSelected, SelectedAreDistinct, AreSelectedOfLevel, selecting_nodes_before}
+use Rattle.hhh_output.specs.Selecting.{most_candidates_to_select}
 use Rattle.hhh_output.proofs.OneReportLemmas.{BeforeInOneReport}
 
 -- the nodes before a place are looked through
@@ -151,7 +153,7 @@ pub record LevelSearchIsOrdered : Type 0 where
 
 -- whether two lines have one prefix
 abbrev level_search_same_line : Line → Line → Bool
-level_search_same_line line other = same_prefix line.prefix other.prefix
+level_search_same_line line other = same_in_lattice line.prefix other.prefix
 
 -- lines that are apart stay so in another order
 level_search_stays_distinct : LevelSearchIsOrdered → (lines moved : List Line) → IsPermutation lines moved → SelectedAreDistinct lines
@@ -167,7 +169,7 @@ level_search_stays_distinct order lines moved moves distinct =
     (λ line other. and_comm (under line.prefix other.prefix) (under other.prefix line.prefix)) lines moved moves
     apart in
     λ i j d before below same. false≢true (sym (apart_from_distinct level_search_same_line moved i j d still before below)
-    ∙ subst (λ p. same_prefix (get_or moved i d).prefix p ≡ true) same
+    ∙ subst (λ p. same_in_lattice (get_or moved i d).prefix p ≡ true) same
     (ap (λ b. b && b) (order.reflexive (get_or moved i d).prefix)))
   where
     by : (line other : Line) → line.prefix ≢ other.prefix → (b : Bool) → level_search_same_line line other ≡ b

@@ -4,7 +4,8 @@ use Rattle.std.proofs.Common.{All, pos, ◌-ℤ◌, ◌≤ℤ◌, ◌+◌, refl,
 use Rattle.std.proofs.lemmas.Bool.{lt-ltb, false≢true}
 use Rattle.std.proofs.lemmas.List.{append-nil}
 use Rattle.std.proofs.lemmas.List.Elements.{filter-append, All-head, All-tail}
-use Rattle.prefix_lattice.specs.{node_level, PrefixValue, node_of_prefix, strictly_under, lines_under, greatest_lines, closest}
+use Rattle.prefix_lattice.specs.{node_level, PrefixValue, node_of_prefix, strictly_under, lines_under, greatest_lines}
+use Rattle.prefix_lattice.specs.{closest}
 use Rattle.prefix_lattice.specs.{kept_pairs}
 use Rattle.shard_state.specs.{CutValue}
 use Rattle.hhh_output.specs.declared.line.Line.{Line}

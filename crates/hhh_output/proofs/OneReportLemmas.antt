@@ -12,9 +12,11 @@ use Rattle.hhh_output.specs.declared.line.Line.{Line}
 use Rattle.hhh_output.specs.Threshold.{IsThreshold}
 use Rattle.hhh_output.specs.ReportLines.{prefixes_of_lines, AreReportLines}
 use Rattle.hhh_output.specs.Report.{IsLineOfReport}
-use Rattle.prefix_lattice.proofs.ListLemmas.{Contains-list_cons, Contains-list_head, Contains-list_tail, Contains-empty_list}
+use Rattle.prefix_lattice.proofs.ListLemmas.{Contains-list_cons, Contains-list_head, Contains-list_tail}
+use Rattle.prefix_lattice.proofs.ListLemmas.{Contains-empty_list}
 use Rattle.hhh_output.proofs.StrictOrderLemmas.{same_in_strict_order}
-use Rattle.hhh_output.proofs.NearLineLemmas.{near_line_level, near_lines_above, NearLineLevelsFall, near_lines_above_suffice, near_lines_decide_line}
+use Rattle.hhh_output.proofs.NearLineLemmas.{near_line_level, near_lines_above, NearLineLevelsFall}
+use Rattle.hhh_output.proofs.NearLineLemmas.{near_lines_above_suffice, near_lines_decide_line}
 
 -- a line that stands before another in a report
 abbrev pub BeforeInOneReport : Line → Line → Type 0

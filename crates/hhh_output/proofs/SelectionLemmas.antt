@@ -5,24 +5,27 @@ use Rattle.std.proofs.lemmas.List.{get_or_append_left, get_or-append-add}
 use Rattle.std.proofs.lemmas.List.Sums.{sum_by-cons}
 use Rattle.std.proofs.lemmas.List.Elements.{All-head, All-tail, All-weaker, All-contains_itself, All-map}
 use Rattle.std.proofs.Math.Nat.{mul-le-mul_left}
-use Rattle.prefix_lattice.specs.{NodeValue, IsNode, PrefixValue, IsPrefix, node_of_prefix, prefix_key, IsPrefixKey, closest}
+use Rattle.prefix_lattice.specs.{NodeValue, IsNode, PrefixValue, IsPrefix, node_of_prefix, prefix_key, IsPrefixKey}
+use Rattle.prefix_lattice.specs.{closest}
 use Rattle.prefix_lattice.specs.{kept_pairs}
 use Rattle.shard_state.specs.{CutValue, IsCut, total_of_cut}
-use Rattle.cut_merge.specs.{MergedValue, RepresentsCut, merged_interval_in, monitored_at, IsWithinTotal, TableInterval}
-use Rattle.conditioned_bounds.specs.{bound_of, asked_for_bound}
+use Rattle.cut_merge.specs.{MergedValue, MergedRepresentsCut, interval_in_cut, keys_monitored_in_cut}
+use Rattle.cut_merge.specs.{IsTableIntervalWithinTotal, TableInterval}
+use Rattle.conditioned_bounds.specs.{bound_of, prefixes_asked_for_bound}
 use Rattle.hhh_output.specs.declared.line.Line.{Line}
 use Rattle.hhh_output.specs.ReportLines.{prefixes_of_lines, AreReportLines}
 use Rattle.hhh_output.specs.Report.{report_low_in, report_high_in, IsLineOfReport}
-use Rattle.hhh_output.specs.Selecting.{selecting_low, selecting_high, IsSelected, AreCandidatesToSelect, AreSelectedDownTo}
+use Rattle.hhh_output.specs.Selecting.{selecting_low, selecting_high, IsSelected, AreCandidatesToSelect}
+use Rattle.hhh_output.specs.Selecting.{AreSelectedDownTo}
 
 -- the laws of monitored keys
 pub record SelectionHasFewCandidates (cut : CutValue) : Type 0 where
-  pub keyed : (node : NodeValue) → IsNode node → All (IsPrefixKey node) (monitored_at cut node)
-  pub distinct : (node : NodeValue) → AllPairs (λ key other. key ≢ other) (monitored_at cut node)
-  pub few : (node : NodeValue) → IsNode node → length (monitored_at cut node) ≤ length cut.shards * cut.capacity
+  pub keyed : (node : NodeValue) → IsNode node → All (IsPrefixKey node) (keys_monitored_in_cut cut node)
+  pub distinct : (node : NodeValue) → AllPairs (λ key other. key ≢ other) (keys_monitored_in_cut cut node)
+  pub few : (node : NodeValue) → IsNode node → length (keys_monitored_in_cut cut node) ≤ length cut.shards * cut.capacity
 
 -- so are the candidates of merged tables that stand for a cut
-pub selection_has_candidates : (merged : MergedValue) (cut : CutValue) → IsCut cut → RepresentsCut merged cut
+pub selection_has_candidates : (merged : MergedValue) (cut : CutValue) → IsCut cut → MergedRepresentsCut merged cut
     → SelectionHasFewCandidates cut → AreCandidatesToSelect merged
 selection_has_candidates merged cut kept stands law = record {
   keyed = λ node is_node. subst (All (IsPrefixKey node)) (sym (stands.candidates node is_node)) (law.keyed node is_node);
@@ -49,9 +52,9 @@ selection_all_of_right : {X : Type 0} (P : X → Type 0) (xs ys : List X) → Al
 selection_all_of_right P xs ys all = λ k d below.
     subst P (get_or-append-add xs ys k d) (all (length xs + k) d (omega (arith, length-append xs ys)))
 
-module _ (merged : MergedValue) (cut : CutValue) (stands : RepresentsCut merged cut)
+module _ (merged : MergedValue) (cut : CutValue) (stands : MergedRepresentsCut merged cut)
     (asked : (prefix : PrefixValue) (lines : List PrefixValue) → IsPrefix prefix → All IsPrefix lines
-    → All IsPrefix (asked_for_bound prefix lines)) where
+    → All IsPrefix (prefixes_asked_for_bound prefix lines)) where
   selection_low_is_same : (prefix : PrefixValue) → IsPrefix prefix → selecting_low merged prefix ≡ report_low_in cut prefix
   selection_low_is_same prefix is_prefix = ap (λ (i : TableInterval). i.low) (stands.intervals prefix is_prefix)
 
@@ -131,7 +134,7 @@ module _ (merged : MergedValue) (cut : CutValue) (stands : RepresentsCut merged 
 
     -- and they are lines of a report
     pub selection_lines_are_kept : ((prefix : PrefixValue) → IsPrefix prefix
-        → IsWithinTotal (total_of_cut cut) (merged_interval_in cut prefix))
+        → IsTableIntervalWithinTotal (total_of_cut cut) (interval_in_cut cut prefix))
         → AreReportLines lines
     selection_lines_are_kept within = record {
       few = omega (arith, down.few);

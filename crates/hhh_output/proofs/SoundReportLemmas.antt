@@ -15,16 +15,18 @@ use Rattle.prefix_lattice.specs.{RecordValue, PrefixValue, IsPrefix, covers, nod
 use Rattle.prefix_lattice.specs.{total_weight, report_order, lines_under, one_line_covers, conditioned_weight, closest}
 use Rattle.prefix_lattice.specs.{kept_pairs, IntervalHoldsWeight, IsNarrowInterval}
 use Rattle.shard_state.specs.{SnapshotValue, SnapshotRepresents, CutValue, cut_positions, total_of_cut, CutRepresents}
-use Rattle.shard_state.specs.{records_before_cut, HoldsWeightNarrowly}
-use Rattle.cut_merge.specs.{merged_interval_in, monitored_at}
-use Rattle.conditioned_bounds.specs.{bound_of, asked_for_bound, BoundsHoldWeights, BoundsAreNarrow}
+use Rattle.shard_state.specs.{records_before_cut, NarrowIntervalHoldsWeight}
+use Rattle.cut_merge.specs.{interval_in_cut, keys_monitored_in_cut}
+use Rattle.conditioned_bounds.specs.{bound_of, prefixes_asked_for_bound, BoundsHoldWeights, BoundsAreNarrow}
 use Rattle.hhh_output.specs.declared.line.Line.{Line}
 use Rattle.hhh_output.specs.declared.report.Report.{Report}
 use Rattle.hhh_output.specs.Threshold.{IsThreshold}
 use Rattle.hhh_output.specs.ReportLines.{prefixes_of_lines, AreReportLines}
 use Rattle.hhh_output.specs.Report.{IsMonitoredInReport, report_low_in, report_high_in, IsLineOfReport, IsReportOf}
-use Rattle.hhh_output.specs.SoundReport.{HoldsWeightInSoundReport, IsNarrowInSoundReport, IsJustifiedInSoundReport, IsSound}
-use Rattle.prefix_lattice.proofs.ListLemmas.{AllPairs-list_head, AllPairs-list_tail, Contains-list_head, Contains-list_tail}
+use Rattle.hhh_output.specs.SoundReport.{HoldsWeightInSoundReport, IsNarrowInSoundReport, IsJustifiedInSoundReport}
+use Rattle.hhh_output.specs.SoundReport.{IsSound}
+use Rattle.prefix_lattice.proofs.ListLemmas.{AllPairs-list_head, AllPairs-list_tail, Contains-list_head}
+use Rattle.prefix_lattice.proofs.ListLemmas.{Contains-list_tail}
 use Rattle.prefix_lattice.proofs.ListLemmas.{Contains-list_cons, Contains-empty_list}
 use Rattle.hhh_output.proofs.OneReportLemmas.{BeforeInOneReport, BeforeInOneReport-strict}
 
@@ -33,22 +35,22 @@ pub record SoundReportLawsHold (cut : CutValue) (lists : List (List RecordValue)
   pub order : IsTotalOrder report_order
   pub stands : CutRepresents cut lists
   pub intervals : (prefix : PrefixValue) → IsPrefix prefix
-      → HoldsWeightNarrowly (merged_interval_in cut prefix) cut.capacity
+      → NarrowIntervalHoldsWeight (interval_in_cut cut prefix) cut.capacity
       (prefix_weight prefix (records_before_cut lists (cut_positions cut)))
       (total_of_cut cut)
   pub light : (prefix : PrefixValue) → IsPrefix prefix → ¬ IsMonitoredInReport cut prefix
-      → (merged_interval_in cut prefix).high * cut.capacity ≤ total_of_cut cut
+      → (interval_in_cut cut prefix).high * cut.capacity ≤ total_of_cut cut
   pub total : total_of_cut cut ≡ total_weight (records_before_cut lists (cut_positions cut))
   pub asked : (prefix : PrefixValue) (lines : List PrefixValue) → IsPrefix prefix → All IsPrefix lines
-      → All IsPrefix (asked_for_bound prefix lines)
+      → All IsPrefix (prefixes_asked_for_bound prefix lines)
   pub at_least : (low high : PrefixValue → ℕ) (prefix : PrefixValue) (lines : List PrefixValue)
       (records : List RecordValue)
-      → AllPairs (λ line other. line ≢ other) lines → BoundsHoldWeights low high records (asked_for_bound prefix lines)
+      → AllPairs (λ line other. line ≢ other) lines → BoundsHoldWeights low high records (prefixes_asked_for_bound prefix lines)
       → pos (conditioned_weight prefix lines records) ≤ℤ bound_of low high prefix lines
   pub reached : (low high : PrefixValue → ℕ) (prefix : PrefixValue) (lines : List PrefixValue)
       (records : List RecordValue) (times whole least : ℕ)
-      → AllPairs (λ line other. line ≢ other) lines → BoundsHoldWeights low high records (asked_for_bound prefix lines)
-      → BoundsAreNarrow low high times whole (asked_for_bound prefix lines) → pos least ≤ℤ bound_of low high prefix lines
+      → AllPairs (λ line other. line ≢ other) lines → BoundsHoldWeights low high records (prefixes_asked_for_bound prefix lines)
+      → BoundsAreNarrow low high times whole (prefixes_asked_for_bound prefix lines) → pos least ≤ℤ bound_of low high prefix lines
       → times * least
       ≤ times * conditioned_weight prefix lines records
       + (1 + length (closest prefix lines) + length (kept_pairs (closest prefix lines))) * whole
@@ -141,22 +143,22 @@ sound_report_key_or_not key (first ∷ keys) = by (eqb first key) refl (sound_re
 -- the intervals that a bound asks hold the weights, and are narrow
 sound_report_intervals_hold : (cut : CutValue) (lists : List (List RecordValue)) → SoundReportLawsHold cut lists
     → (prefix : PrefixValue) (lines : List PrefixValue) → IsPrefix prefix → All IsPrefix lines
-    → BoundsHoldWeights (report_low_in cut) (report_high_in cut) (records_before_cut lists (cut_positions cut)) (asked_for_bound prefix lines)
+    → BoundsHoldWeights (report_low_in cut) (report_high_in cut) (records_before_cut lists (cut_positions cut)) (prefixes_asked_for_bound prefix lines)
 sound_report_intervals_hold cut lists holds prefix lines is_prefix are_prefixes =
     let records = records_before_cut lists (cut_positions cut) in
     All-weaker IsPrefix (λ p. IntervalHoldsWeight (report_low_in cut p) (report_high_in cut p) (prefix_weight p records))
-    (λ p is. (holds.intervals p is).holds) (asked_for_bound prefix lines)
+    (λ p is. (holds.intervals p is).holds) (prefixes_asked_for_bound prefix lines)
     (holds.asked prefix lines is_prefix are_prefixes)
 
 sound_report_intervals_are_narrow : (cut : CutValue) (lists : List (List RecordValue)) → SoundReportLawsHold cut lists
     → (prefix : PrefixValue) (lines : List PrefixValue) → IsPrefix prefix → All IsPrefix lines
     → BoundsAreNarrow (report_low_in cut) (report_high_in cut) cut.capacity (total_weight (records_before_cut lists (cut_positions cut)))
-    (asked_for_bound prefix lines)
+    (prefixes_asked_for_bound prefix lines)
 sound_report_intervals_are_narrow cut lists holds prefix lines is_prefix are_prefixes =
     All-weaker IsPrefix
     (λ p. IsNarrowInterval (report_low_in cut p) (report_high_in cut p) cut.capacity (total_weight (records_before_cut lists (cut_positions cut))))
     (λ p is. subst (IsNarrowInterval (report_low_in cut p) (report_high_in cut p) cut.capacity) holds.total (holds.intervals p is).narrow)
-    (asked_for_bound prefix lines) (holds.asked prefix lines is_prefix are_prefixes)
+    (prefixes_asked_for_bound prefix lines) (holds.asked prefix lines is_prefix are_prefixes)
 
 -- the report of a cut, the lists that it stands for, and what holds of both
 pub record CanBeSoundReport (cut : CutValue) (lists : List (List RecordValue)) (phi : ℕ) (report : Report) : Type 0 where
@@ -179,7 +181,7 @@ sound_report_leaves_out_light : (cut : CutValue) (lists : List (List RecordValue
     → conditioned_weight prefix (prefixes_of_lines report.lines) (records_before_cut lists (cut_positions cut))
     < report.threshold
 sound_report_leaves_out_light cut lists phi report reports prefix is_prefix missing =
-    elim (sound_report_key_or_not (prefix_key prefix) (monitored_at cut (node_of_prefix prefix))) [
+    elim (sound_report_key_or_not (prefix_key prefix) (keys_monitored_in_cut cut (node_of_prefix prefix))) [
       | inr unknown ↦
           let light : report_high_in cut prefix < report.threshold =
           sound_report_light_below phi cut.capacity report.total report.threshold (report_high_in cut prefix) reports.wide
@@ -220,7 +222,7 @@ sound_report_leaves_out_light cut lists phi report reports prefix is_prefix miss
     holds : SoundReportLawsHold cut lists
     holds = reports.holds
 
-    interval_holds : HoldsWeightNarrowly (merged_interval_in cut prefix) cut.capacity (prefix_weight prefix records)
+    interval_holds : NarrowIntervalHoldsWeight (interval_in_cut cut prefix) cut.capacity (prefix_weight prefix records)
         (total_of_cut cut)
     interval_holds = holds.intervals prefix is_prefix
 

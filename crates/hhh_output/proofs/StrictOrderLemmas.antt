@@ -1,7 +1,8 @@
 -- Lists in a strict order.
 use Rattle.std.proofs.Common.{◌≡◌, List, [], ◌∷◌, Contains, All, AllPairs, ◌⊎◌, inl, inr, refl, sym, ap, ◌∙◌, subst}
 use Rattle.std.proofs.lemmas.List.Elements.{All-contains}
-use Rattle.prefix_lattice.proofs.ListLemmas.{Contains-list_head, Contains-list_tail, Contains-list_cons, Contains-empty_list}
+use Rattle.prefix_lattice.proofs.ListLemmas.{Contains-list_head, Contains-list_tail, Contains-list_cons}
+use Rattle.prefix_lattice.proofs.ListLemmas.{Contains-empty_list}
 use Rattle.prefix_lattice.proofs.ListLemmas.{AllPairs-list_head, AllPairs-list_tail}
 
 -- where nothing is before itself, nor before what is before it, two lists in order with the same elements are one

@@ -7,5 +7,7 @@ pub mod Selecting
 -- the face: what contracts of other crates cite
 pub use Rattle.hhh_output.specs.ReportLines.{AreReportLines, prefixes_of_lines}
 pub use Rattle.hhh_output.specs.Report.{IsSameReport, IsLineOfReport, IsReportOf}
-pub use Rattle.hhh_output.specs.SoundReport.{AreCompleteInSoundReport, AreSoundPositions, HoldsWeightInSoundReport, IsHeavyInSoundReport, IsJustifiedInSoundReport, IsNarrowInSoundReport, IsSound}
+pub use Rattle.hhh_output.specs.SoundReport.{AreCompleteInSoundReport, AreWithinListsInSoundReport}
+pub use Rattle.hhh_output.specs.SoundReport.{HoldsWeightInSoundReport, IsHeavyInSoundReport, IsJustifiedInSoundReport}
+pub use Rattle.hhh_output.specs.SoundReport.{IsNarrowInSoundReport, IsSound}
 pub use Rattle.hhh_output.specs.Threshold.{IsThreshold, IsWideShare, threshold_million}

@@ -2,7 +2,7 @@
 use Rattle.std.specs.Prelude.{ℕ, ◌≡◌, ◌≤◌, ◌↔◌, List, Contains, pos, ◌≤ℤ◌}
 use Rattle.prefix_lattice.specs.{PrefixValue, IsPrefix, node_of_prefix, prefix_key}
 use Rattle.shard_state.specs.{CutValue, cut_positions, total_of_cut}
-use Rattle.cut_merge.specs.{merged_interval_in, monitored_at}
+use Rattle.cut_merge.specs.{interval_in_cut, keys_monitored_in_cut}
 use Rattle.conditioned_bounds.specs.{bound_of}
 use Rattle.hhh_output.specs.declared.line.Line.{Line}
 use Rattle.hhh_output.specs.declared.report.Report.{Report}
@@ -11,15 +11,15 @@ use Rattle.hhh_output.specs.Threshold.{IsThreshold}
 
 -- some shard of the cut monitors the prefix at its node
 abbrev pub IsMonitoredInReport : CutValue → PrefixValue → Type 0
-IsMonitoredInReport cut prefix = Contains (monitored_at cut (node_of_prefix prefix)) (prefix_key prefix)
+IsMonitoredInReport cut prefix = Contains (keys_monitored_in_cut cut (node_of_prefix prefix)) (prefix_key prefix)
 
 -- the low of a prefix in a cut
 abbrev pub report_low_in : CutValue → PrefixValue → ℕ
-report_low_in cut prefix = (merged_interval_in cut prefix).low
+report_low_in cut prefix = (interval_in_cut cut prefix).low
 
 -- the high of a prefix in a cut
 abbrev pub report_high_in : CutValue → PrefixValue → ℕ
-report_high_in cut prefix = (merged_interval_in cut prefix).high
+report_high_in cut prefix = (interval_in_cut cut prefix).high
 
 -- the bound of a prefix over some lines is at least the threshold
 abbrev pub IsUnexplainedInReport : CutValue → ℕ → List PrefixValue → PrefixValue → Type 0

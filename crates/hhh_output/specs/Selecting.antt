@@ -2,7 +2,8 @@
 use Rattle.std.specs.Prelude.{ℕ, ◌≡◌, ◌≢◌, ◌+◌, ◌-◌, ◌*◌, ◌<◌, ◌≤◌, ◌==◌, ◌↔◌, zero, suc, List, length}
 use Rattle.std.specs.Prelude.{if◌then◌else◌, All, AllPairs, Contains, pos, ◌≤ℤ◌}
 use Rattle.std.specs.declared.cmp.Ordering.TheVariants.{Less}
-use Rattle.prefix_lattice.specs.{NodeValue, IsNode, node_at, node_level, PrefixValue, IsPrefix, node_of_prefix, prefix_key}
+use Rattle.prefix_lattice.specs.{NodeValue, IsNode, node_at, node_level, PrefixValue, IsPrefix, node_of_prefix}
+use Rattle.prefix_lattice.specs.{prefix_key}
 use Rattle.prefix_lattice.specs.{IsPrefixKey, report_order, deepest_node_level, node_count}
 use Rattle.shard_state.specs.{most_cut_snapshots, most_table_capacity}
 use Rattle.cut_merge.specs.{MergedValue, merged_interval_for, merged_candidates_at}

@@ -10,8 +10,8 @@ use Rattle.hhh_output.specs.ReportLines.{prefixes_of_lines}
 use Rattle.hhh_output.specs.Threshold.{IsThreshold}
 
 -- there are as many positions as lists, and none is past the end of its list
-abbrev pub AreSoundPositions : List ℕ → List (List RecordValue) → Type 0
-AreSoundPositions positions lists = AllZip (λ position list. position ≤ length list) positions lists
+abbrev pub AreWithinListsInSoundReport : List ℕ → List (List RecordValue) → Type 0
+AreWithinListsInSoundReport positions lists = AllZip (λ position list. position ≤ length list) positions lists
 
 -- the interval of a line holds the exact weight of its prefix over some records
 abbrev pub HoldsWeightInSoundReport : List RecordValue → Line → Type 0
@@ -39,7 +39,7 @@ AreCompleteInSoundReport threshold lines records = (prefix : PrefixValue) → Is
 
 -- a report is sound over lists of records, for tables of this capacity: eight tests hold
 pub record IsSound (report : Report) (lists : List (List RecordValue)) (capacity phi : ℕ) : Type 0 where
-  pub positions : AreSoundPositions report.positions lists
+  pub positions : AreWithinListsInSoundReport report.positions lists
   pub total : report.total ≡ total_weight (records_before_cut lists report.positions)
   pub threshold : IsThreshold phi report.total report.threshold
   pub interval : All (HoldsWeightInSoundReport (records_before_cut lists report.positions)) report.lines

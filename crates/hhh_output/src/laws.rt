@@ -2,8 +2,10 @@
 
 ghost use Rattle.std.specs.Prelude.{◌≡◌, ℕ, ◌≤◌, List, All, Some, length, slice_get};
 ghost use Rattle.prefix_lattice.specs.{RecordValue, prefix_weight};
-ghost use Rattle.shard_state.specs.{CutValue, IsCut, cut_positions, CutRepresents, CoreValue, HasCoreShape, records_before_cut};
-ghost use Rattle.shard_state.specs.{AreCutPositionsNotPast, IsCore, core_capacity, run, CoreBasesRepresent, ReadsEachCoreShard, core_lists};
+ghost use Rattle.shard_state.specs.{CutValue, IsCut, cut_positions, CutRepresents, CoreValue, HasCoreShape};
+ghost use Rattle.shard_state.specs.{records_before_cut};
+ghost use Rattle.shard_state.specs.{AreCutPositionsNotPast, IsCore, core_capacity, core_after_run, CoreBasesRepresent};
+ghost use Rattle.shard_state.specs.{ReadsEachCoreShard, core_lists};
 ghost use Rattle.shard_state.specs.declared.event.Event.{Event};
 ghost use Rattle.hhh_output.specs.declared.report.Report.{Report};
 ghost use Rattle.hhh_output.specs.ReportLines.{AreReportLines};
@@ -29,7 +31,8 @@ pub fn a_cut_has_one_report()
 /// these positions is the same, however the records were folded.
 pub fn standing_cuts_have_one_report()
     ensures { (cut other_cut : CutValue) (lists : List (List RecordValue)) (phi : ℕ) (report other : Report) → cut.capacity ≡ other_cut.capacity
-        → cut_positions cut ≡ cut_positions other_cut → CutRepresents cut lists → CutRepresents other_cut lists → AreReportLines report.lines → AreReportLines other.lines
+        → cut_positions cut ≡ cut_positions other_cut → CutRepresents cut lists → CutRepresents other_cut lists
+        → AreReportLines report.lines → AreReportLines other.lines
         → IsReportOf cut phi report → IsReportOf other_cut phi other → IsSameReport report other }
 {
     standing_cuts_are_equal();
@@ -56,9 +59,11 @@ pub fn reports_are_sound()
 /// limit for what the earlier one counted.
 pub fn lines_bound_other_positions()
     ensures earlier { (report : Report) (lists : List (List RecordValue)) (capacity phi : ℕ) (positions : List ℕ) → IsSound report lists capacity phi
-        → AreCutPositionsNotPast positions report.positions → All (λ line. prefix_weight line.prefix (records_before_cut lists positions) ≤ line.hi) report.lines }
+        → AreCutPositionsNotPast positions report.positions
+        → All (λ line. prefix_weight line.prefix (records_before_cut lists positions) ≤ line.hi) report.lines }
     ensures later { (report : Report) (lists : List (List RecordValue)) (capacity phi : ℕ) (positions : List ℕ) → IsSound report lists capacity phi
-        → AreCutPositionsNotPast report.positions positions → All (λ line. line.lo ≤ prefix_weight line.prefix (records_before_cut lists positions)) report.lines }
+        → AreCutPositionsNotPast report.positions positions
+        → All (λ line. line.lo ≤ prefix_weight line.prefix (records_before_cut lists positions)) report.lines }
 {}
 
 /// After any events on the core, the report of each cut in which a caller read every shard is sound over the
@@ -67,7 +72,7 @@ pub fn reports_of_the_core_are_sound()
     ensures { (core : CoreValue) (events : List Event) (caller : ℕ) (cut : CutValue) (phi : ℕ) (report : Report) → IsCore core.shards
         → All (HasCoreShape (length core.shards) (core_capacity core.shards)) core.cuts → CoreBasesRepresent core.shards
         → All (λ list. All (λ rec. 1 ≤ rec.weight) list) (core_lists core.shards)
-        → slice_get (run core events).cuts caller ≡ Some cut → ReadsEachCoreShard caller core events → IsCut cut
+        → slice_get (core_after_run core events).cuts caller ≡ Some cut → ReadsEachCoreShard caller core events → IsCut cut
         → IsWideShare phi cut.capacity → AreReportLines report.lines → IsReportOf cut phi report
         → IsSound report (core_lists core.shards) cut.capacity phi }
 {

@@ -1,14 +1,16 @@
 //! Selects the lines of a report: level by level, from the most specific prefixes up. Each candidate is judged
 //! over the lines of greater level.
 
-ghost use Rattle.std.specs.Prelude.{◌≡◌, ◌≢◌, ◌+◌, ◌≤◌, ◌<◌, ◌^◌, ◌↔◌, ◌⊎◌, [], ◌++◌, length, All, AllPairs, Contains, IfOk, OnOk, Some};
+ghost use Rattle.std.specs.Prelude.{◌≡◌, ◌≢◌, ◌+◌, ◌≤◌, ◌<◌, ◌^◌, ◌↔◌, ◌⊎◌, [], ◌++◌, length, All, AllPairs, Contains};
+ghost use Rattle.std.specs.Prelude.{IfOk, OnOk, Some};
 ghost use Rattle.std.specs.Option.{option_to_list};
 ghost use Rattle.prefix_lattice.specs.{IsNode, node_level, node_of_prefix};
 ghost use Rattle.cut_merge.specs.{merged_candidates_at};
 ghost use Rattle.conditioned_bounds.specs.{member_limit};
 ghost use Rattle.hhh_output.specs.declared.line.Line.{Line as LineValue};
 ghost use Rattle.hhh_output.specs.ReportLines.{prefixes_of_lines};
-ghost use Rattle.hhh_output.specs.Selecting.{CanSelectLine, IsSelected, AreCandidatesToSelect, SelectedAreDistinct, AreSelectedOfLevel, AreSelectedDownTo};
+ghost use Rattle.hhh_output.specs.Selecting.{CanSelectLine, IsSelected, AreCandidatesToSelect, SelectedAreDistinct};
+ghost use Rattle.hhh_output.specs.Selecting.{AreSelectedOfLevel, AreSelectedDownTo};
 
 use crate::merged_intervals::MergedIntervals;
 use crate::{Line, Lines};

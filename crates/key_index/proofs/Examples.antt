@@ -1,9 +1,10 @@
 -- Worked examples of the definitions, most by computing.
 use Rattle.std.proofs.Common.{◌+◌, ◌*◌, length, ◌≡◌, ◌≤◌, ℕ, List, [], ◌∷◌, true, false, zero, suc, get_or, refl, arith}
 use Rattle.std.proofs.lemmas.List.Elements.{All-from_recursion, All-head}
-use Rattle.key_index.specs.KeyIndex.{IndexedKeys, IsKeyIndexFilled, IsKeyIndexFilledBut, IsKeyIndex}
+use Rattle.key_index.specs.KeyIndex.{IndexedKeys, KeyIndexHoldsKeys, KeyIndexHoldsKeysButOne, IsKeyIndex}
 use Rattle.std.proofs.lemmas.Bool.{false≢true}
-use Rattle.key_index.specs.CellPaths.{cell_path_home, cell_path_window, cell_path_from, cell_path, cell_path_leads_to, CellPathFinds}
+use Rattle.key_index.specs.CellPaths.{cell_path_home, cell_path_window, cell_path_from, cell_path, cell_path_leads_to}
+use Rattle.key_index.specs.CellPaths.{CellPathFinds}
 use Rattle.key_index.specs.Cells.{Cells, AreCellsBelow, AreCells}
 use Rattle.key_index.specs.CellSearch.{SearchPassesCell, SearchPassesCells, SearchEndsAt}
 use Rattle.key_index.specs.declared.searching.End.TheVariants.{At, Free, Past}
@@ -114,14 +115,14 @@ place_1_is_not_found found = false≢true found
 abbrev no_cells : Cells
 no_cells = record { room = 1; fills = 0; marks = [] }
 
-pub no_keys_are_found : IsKeyIndexFilled 1 [] no_cells
+pub no_keys_are_found : KeyIndexHoldsKeys 1 [] no_cells
 no_keys_are_found = record { roomy = refl; places = λ k d below. absurd (omega arith); found = λ place below. absurd (omega arith) }
 
-pub cells_of_another_room : IsKeyIndexFilled 2 [] no_cells → ⊥
+pub cells_of_another_room : KeyIndexHoldsKeys 2 [] no_cells → ⊥
 cells_of_another_room filled = omega (arith, filled.roomy)
 
 -- the one key is still to enter
-pub all_but_the_new_key : IsKeyIndexFilledBut 0 1 (40 ∷ []) no_cells
+pub all_but_the_new_key : KeyIndexHoldsKeysButOne 0 1 (40 ∷ []) no_cells
 all_but_the_new_key = record {
   few = omega arith;
   fits = omega arith;

@@ -9,13 +9,13 @@ pub record IndexedKeys : Type 0 where
   pub keys : List ℕ
 
 -- cells of this room, filled with places of these keys, in which a search for each key comes to its place
-pub record IsKeyIndexFilled (room : ℕ) (keys : List ℕ) (cells : Cells) : Type 0 where
+pub record KeyIndexHoldsKeys (room : ℕ) (keys : List ℕ) (cells : Cells) : Type 0 where
   pub roomy : cells.room ≡ room
   pub places : AreCellsBelow (length keys) cells.marks
   pub found : (place : ℕ) → place < length keys → CellPathFinds room cells.marks (slice_index keys place) place
 
--- the same but for one place, whose key is new
-pub record IsKeyIndexFilledBut (but room : ℕ) (keys : List ℕ) (cells : Cells) : Type 0 where
+-- the same but for the key at one place, of which nothing is said
+pub record KeyIndexHoldsKeysButOne (but room : ℕ) (keys : List ℕ) (cells : Cells) : Type 0 where
   pub few : length keys ≤ room
   pub fits : room < 2 ^ 16
   pub roomy : cells.room ≡ room
@@ -28,4 +28,4 @@ pub record IsKeyIndex (room reserved : ℕ) (keys : List ℕ) (cells : Cells) : 
   pub few : length keys ≤ room
   pub fits : room < 2 ^ 16
   pub has_room : room ≤ reserved
-  pub filled : IsKeyIndexFilled room keys cells
+  pub filled : KeyIndexHoldsKeys room keys cells

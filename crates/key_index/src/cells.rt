@@ -1,6 +1,7 @@
 //! The cells of an index, which are only ever filled, until all are emptied at once.
 
-ghost use Rattle.std.specs.Prelude.{◌≡◌, ◌+◌, ◌*◌, ◌^◌, ◌<◌, ◌≤◌, ◌↔◌, ℕ, IfOk, IfSome, IfNone, IsTrue, false, length, replicate, slice_index};
+ghost use Rattle.std.specs.Prelude.{◌≡◌, ◌+◌, ◌*◌, ◌^◌, ◌<◌, ◌≤◌, ◌↔◌, ℕ, IfOk, IfSome, IfNone, IsTrue, false, length};
+ghost use Rattle.std.specs.Prelude.{replicate, slice_index};
 ghost use Rattle.key_index.specs.Cells.{AreCellsBelow};
 ghost use Rattle.key_index.specs.CellPaths.{CellPathFinds, cell_path_leads_to, cell_path};
 

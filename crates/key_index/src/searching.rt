@@ -1,6 +1,7 @@
 //! Walks over the cells of an index. A free cell holds 0, another a place among the keys and 1 more.
 
-ghost use Rattle.std.specs.Prelude.{◌≡◌, ◌≢◌, ◌+◌, ◌*◌, ◌^◌, ◌<◌, ◌≤◌, ℕ, IfSome, IfNone, false, true, length, slice_index, slice_set};
+ghost use Rattle.std.specs.Prelude.{◌≡◌, ◌≢◌, ◌+◌, ◌*◌, ◌^◌, ◌<◌, ◌≤◌, ℕ, IfSome, IfNone, false, true, length};
+ghost use Rattle.std.specs.Prelude.{slice_index, slice_set};
 ghost use Rattle.key_index.specs.Cells.{AreCellsBelow};
 ghost use Rattle.key_index.specs.CellPaths.{cell_path_leads_to, cell_path};
 ghost use Rattle.key_index.specs.CellSearch.{SearchEndsAt};

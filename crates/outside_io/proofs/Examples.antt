@@ -2,10 +2,12 @@
 use Rattle.std.proofs.Common.{ℕ, ◌≡◌, ◌-◌, ◌^◌, [], ◌∷◌, length, length-append, ap, None, Some, Ok, Err, true}
 use Rattle.std.proofs.Common.{false, refl, arith}
 use Rattle.outside_io.specs.FaultCounts.{next_fault_count, FaultCountRose, FailsByFaultCount}
-use Rattle.outside_io.specs.Pieces.{IsBeginning, AppendsBeginning}
-use Rattle.outside_io.specs.MemorySink.{MemorySinkState, memory_sink_room_left, memory_sink_write_fails, accepted_by_memory_sink, memory_sink_after_fault}
+use Rattle.outside_io.specs.Beginning.{IsBeginning, AppendsBeginning}
+use Rattle.outside_io.specs.MemorySink.{MemorySinkState, memory_sink_room_left, memory_sink_write_fails}
+use Rattle.outside_io.specs.MemorySink.{accepted_by_memory_sink, memory_sink_after_fault}
 use Rattle.outside_io.specs.MemorySink.{memory_sink_after_bytes}
-use Rattle.outside_io.specs.MemorySource.{MemorySourceState, memory_source_call_fails, given_by_memory_source, memory_source_after_fault, memory_source_after_bytes}
+use Rattle.outside_io.specs.MemorySource.{MemorySourceState, memory_source_call_fails, given_by_memory_source}
+use Rattle.outside_io.specs.MemorySource.{memory_source_after_fault, memory_source_after_bytes}
 
 pub first_fault_is_counted : next_fault_count 0 ≡ 1
 first_fault_is_counted = refl

@@ -3,7 +3,7 @@ use Rattle.std.proofs.Common.{◌≡◌, ℕ, ◌<◌, List, [], ◌++◌, Optio
 use Rattle.std.proofs.Common.{append-nil, take, drop, subst, take-append-drop, length, length-append, arith}
 use Rattle.std.specs.Io.KnownBytes.{Appends, Keeps}
 use Rattle.std.proofs.KnownBytes.{Appends-nil, Appends-trans}
-use Rattle.outside_io.specs.Pieces.{AppendsBeginning}
+use Rattle.outside_io.specs.Beginning.{AppendsBeginning}
 
 -- of the text a front was taken, and this rest is still to be written
 pub record IsSentText (old new : Option (List ℕ)) (text rest : List ℕ) : Type 0 where

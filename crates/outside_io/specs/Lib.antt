@@ -1,7 +1,7 @@
 pub mod FaultCounts
 pub mod MemorySink
 pub mod MemorySource
-pub mod Pieces
+pub mod Beginning
 -- the face: what contracts of other crates cite
 pub use Rattle.outside_io.specs.FaultCounts.{FailsByFaultCount, FaultCountRose, next_fault_count}
-pub use Rattle.outside_io.specs.Pieces.{AppendsBeginning, IsBeginning}
+pub use Rattle.outside_io.specs.Beginning.{AppendsBeginning, IsBeginning}

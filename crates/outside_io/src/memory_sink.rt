@@ -3,7 +3,8 @@
 ghost use Rattle.std.specs.Prelude.{◌≡◌, ◌≤◌, ◌<◌, [], length, is_err, IfOk, OnErr, Some};
 ghost use Rattle.std.specs.Io.KnownBytes.{WriteAppends};
 ghost use Rattle.outside_io.specs.FaultCounts.{FailsByFaultCount};
-ghost use Rattle.outside_io.specs.MemorySink.{memory_sink_write_fails, accepted_by_memory_sink, memory_sink_after_fault, memory_sink_after_bytes};
+ghost use Rattle.outside_io.specs.MemorySink.{memory_sink_write_fails, accepted_by_memory_sink};
+ghost use Rattle.outside_io.specs.MemorySink.{memory_sink_after_fault, memory_sink_after_bytes};
 
 use crate::{Failed, Sink};
 use std::alloc::{AllocError, Global};

@@ -3,7 +3,8 @@
 ghost use Rattle.std.specs.Prelude.{◌≡◌, ◌≤◌, ◌++◌, [], length, take, drop, is_err, IfOk, OnErr, None, Some};
 ghost use Rattle.std.specs.Io.KnownBytes.{ReadConsumes};
 ghost use Rattle.outside_io.specs.FaultCounts.{FailsByFaultCount};
-ghost use Rattle.outside_io.specs.MemorySource.{memory_source_call_fails, given_by_memory_source, memory_source_after_fault, memory_source_after_bytes};
+ghost use Rattle.outside_io.specs.MemorySource.{memory_source_call_fails, given_by_memory_source};
+ghost use Rattle.outside_io.specs.MemorySource.{memory_source_after_fault, memory_source_after_bytes};
 
 use crate::{Failed, Source};
 use std::marker::Model;

@@ -3,7 +3,7 @@
 ghost use Rattle.std.specs.Prelude.{OnOk, OnErr};
 ghost use Rattle.std.specs.Io.KnownBytes.{Appends};
 ghost use Rattle.outside_io.specs.FaultCounts.{FailsByFaultCount};
-ghost use Rattle.outside_io.specs.Pieces.{AppendsBeginning};
+ghost use Rattle.outside_io.specs.Beginning.{AppendsBeginning};
 
 use crate::{Failed, Sink};
 

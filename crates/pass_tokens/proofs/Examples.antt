@@ -7,13 +7,15 @@ use Rattle.std.proofs.lemmas.Option.{same_Some}
 use Rattle.prefix_lattice.specs.{RecordValue}
 use Rattle.shard_state.specs.{ShardValue, empty_snapshot, folded_shard, shard_state_at}
 use Rattle.shard_state.specs.declared.shard_state.Folded.{Folded}
-use Rattle.position_words.specs.{IsOdd, SeatValue, WordsValue, first_view, view_after_look, view_after_loss, seen_in_view, view_after_win}
+use Rattle.position_words.specs.{IsOddWord, SeatValue, PositionWordsValue, first_view, view_after_look, view_after_loss}
+use Rattle.position_words.specs.{seen_in_view, view_after_win}
 use Rattle.position_words.specs.declared.view.Aim.TheVariants.{Fold}
 use Rattle.position_words.specs.declared.view.Trail.{Trail}
 use Rattle.position_words.specs.declared.view.View.{View}
 use Rattle.pass_tokens.specs.declared.board.TryFold.TheVariants.{Done, Busy}
 use Rattle.pass_tokens.specs.Board.{IsPassOfBoard}
-use Rattle.pass_tokens.specs.Fold.{folded_once, IsFoldOf, Folds, TriesToFold, lost_all_folds, FoldsAtLast, WaitsToFold}
+use Rattle.pass_tokens.specs.Fold.{folded_once, IsFoldOf, Folds, TriesToFold, trail_after_fold_losses, FoldsAtLast}
+use Rattle.pass_tokens.specs.Fold.{WaitsToFold}
 
 -- a packet from 1.0.0.1 to 101.0.0.1
 abbrev pub x : RecordValue
@@ -37,7 +39,7 @@ abbrev pub trail : ℕ → Trail
 trail position = record { seen = position; looks = []; reads = []; folds = []; losses = [] }
 
 -- a board of these shards
-abbrev board_of : SeatValue → WordsValue
+abbrev board_of : SeatValue → PositionWordsValue
 board_of seat = record { id = seat.table_id; opening = shards }
 
 pub free_seat_is_a_pass : (seat : SeatValue) → IsPassOfBoard (board_of seat) (record seat { me = (first, []) })
@@ -112,7 +114,7 @@ losses_of view = slice_index (map (λ trail. length trail.losses) view.trails) 0
 pub busy_without_a_loss : TriesToFold shards 0 1 first first Busy → ⊥
 busy_without_a_loss loses = let count : 0 ≡ 1 = ap losses_of loses.view in omega (arith, count)
 
-pub losses_are_kept : lost_all_folds (3 ∷ 5 ∷ []) (trail 0) ≡ record (trail 2) { losses = 3 ∷ 5 ∷ [] }
+pub losses_are_kept : trail_after_fold_losses (3 ∷ 5 ∷ []) (trail 0) ≡ record (trail 2) { losses = 3 ∷ 5 ∷ [] }
 losses_are_kept = refl
 
 -- a take met the word 3, and the next one won at position 1
@@ -120,7 +122,7 @@ pub folds_after_a_loss : FoldsAtLast shards 0 1 first
     (record first { trails = record (trail 2) { folds = block 1 2 ∷ []; losses = 3 ∷ [] } ∷ trail 0 ∷ [] }) (block 1 2)
 folds_after_a_loss = record {
   losses = 3 ∷ [];
-  odd = All-from_recursion IsOdd (3 ∷ []) (refl, tt);
+  odd = All-from_recursion IsOddWord (3 ∷ []) (refl, tt);
   core = record { state = pair; is = refl; core = refl; forward = omega arith };
   later = omega arith;
   view = refl;
@@ -132,7 +134,7 @@ fold_at_last_that_the_view_lacks folds = let seen : 0 ≡ 1 = ap (seen_in_view 0
 pub waits_for_two_losses : WaitsToFold 0 first (view_after_loss 0 5 (view_after_loss 0 3 first))
 waits_for_two_losses = record {
   losses = 3 ∷ 5 ∷ [];
-  odd = All-from_recursion IsOdd (3 ∷ 5 ∷ []) (refl, (refl, tt));
+  odd = All-from_recursion IsOddWord (3 ∷ 5 ∷ []) (refl, (refl, tt));
   later = omega arith;
   view = refl;
 }
@@ -141,7 +143,7 @@ waits_for_two_losses = record {
 abbrev looks_of : View → ℕ
 looks_of view = slice_index (map (λ trail. length trail.looks) view.trails) 0
 
-looks_stay : (words : List ℕ) (trail : Trail) → (lost_all_folds words trail).looks ≡ trail.looks
+looks_stay : (words : List ℕ) (trail : Trail) → (trail_after_fold_losses words trail).looks ≡ trail.looks
 looks_stay [] trail = refl
 looks_stay (word ∷ words) trail =
     looks_stay words (record trail { seen = word / 2; losses = trail.losses ++ word ∷ [] })

@@ -4,12 +4,13 @@ use Rattle.std.proofs.Common.{refl, ap, ◌∙◌, arith}
 use Rattle.std.specs.Prelude.{slice_index}
 use Rattle.std.proofs.lemmas.List.Elements.{All-from_recursion}
 use Rattle.shard_state.specs.{CutValue, IsShard, empty_snapshot, cut_positions, snapshot_of_shard, shard_state_at}
-use Rattle.position_words.specs.{IsOdd, view_after_loss, seen_in_view}
+use Rattle.position_words.specs.{IsOddWord, view_after_loss, seen_in_view}
 use Rattle.position_words.specs.declared.view.Trail.{Trail}
 use Rattle.position_words.specs.declared.view.View.{View}
 use Rattle.pass_tokens.specs.declared.board.TryRead.TheVariants.{Done, Busy}
-use Rattle.pass_tokens.specs.Fold.{lost_all_folds}
-use Rattle.pass_tokens.specs.Read.{read_once, ReadsShard, TriesToRead, ShardRead, after_read, after_reads, states_of_read}
+use Rattle.pass_tokens.specs.Fold.{trail_after_fold_losses}
+use Rattle.pass_tokens.specs.Read.{read_once, ReadsShard, TriesToReadShard, ShardRead, after_read, after_reads}
+use Rattle.pass_tokens.specs.Read.{states_of_read}
 use Rattle.pass_tokens.specs.Read.{ReadsCut, ReadsAtLast, ReadsSoFar}
 use Rattle.pass_tokens.proofs.Examples.{pair, single, shards, first, trail, try_that_loses}
 
@@ -45,13 +46,13 @@ read_that_leaves_the_cut reads =
     let in_the_cut : 0 ≡ reads.position = ap (λ c. slice_index (cut_positions c) 0) reads.core in
     omega (arith, met, in_the_cut)
 
-pub try_that_reads : IsShard (shard_state_at 1 pair) → TriesToRead shards 0 first cut after_one with_first Done
+pub try_that_reads : IsShard (shard_state_at 1 pair) → TriesToReadShard shards 0 first cut after_one with_first Done
 try_that_reads kept = reads_the_first kept
 
-pub try_that_loses_leaves_the_cut : TriesToRead shards 0 first cut (view_after_loss 0 3 first) cut Busy
+pub try_that_loses_leaves_the_cut : TriesToReadShard shards 0 first cut (view_after_loss 0 3 first) cut Busy
 try_that_loses_leaves_the_cut = (try_that_loses, refl)
 
-pub try_that_loses_and_reads : TriesToRead shards 0 first cut (view_after_loss 0 3 first) with_first Busy → ⊥
+pub try_that_loses_and_reads : TriesToReadShard shards 0 first cut (view_after_loss 0 3 first) with_first Busy → ⊥
 try_that_loses_and_reads tries =
     let position : 1 ≡ 0 = ap (λ c. slice_index (cut_positions c) 0) tries.1 in
     omega (arith, position)
@@ -82,10 +83,10 @@ pub states_of_the_first : states_of_read shards (one ∷ []) ≡ shard_state_at 
 states_of_the_first = refl
 
 abbrev losses_are_odd : ShardRead → Type 0
-losses_are_odd read = All IsOdd read.losses
+losses_are_odd read = All IsOddWord read.losses
 
-one_is_odd : All IsOdd one.losses
-one_is_odd = All-from_recursion IsOdd (3 ∷ []) (refl, tt)
+one_is_odd : All IsOddWord one.losses
+one_is_odd = All-from_recursion IsOddWord (3 ∷ []) (refl, tt)
 
 abbrev with_both : CutValue
 with_both = record { capacity = 4; shards = snapshot_of_shard (shard_state_at 1 pair) ∷ snapshot_of_shard (shard_state_at 0 single) ∷ [] }
@@ -95,7 +96,7 @@ pub reads_both : All IsShard (shard_state_at 1 pair ∷ shard_state_at 0 single 
 reads_both kept = record {
   reads = one ∷ two ∷ [];
   as_many = refl;
-  odd = All-from_recursion losses_are_odd (one ∷ two ∷ []) (one_is_odd, (All-from_recursion IsOdd [] tt, tt));
+  odd = All-from_recursion losses_are_odd (one ∷ two ∷ []) (one_is_odd, (All-from_recursion IsOddWord [] tt, tt));
   kept = kept;
   later = seen_before;
   view = refl;
@@ -112,7 +113,7 @@ reads_both kept = record {
 abbrev reads_of : View → ℕ
 reads_of view = slice_index (map (λ trail. length trail.reads) view.trails) 1
 
-reads_stay : (words : List ℕ) (trail : Trail) → (lost_all_folds words trail).reads ≡ trail.reads
+reads_stay : (words : List ℕ) (trail : Trail) → (trail_after_fold_losses words trail).reads ≡ trail.reads
 reads_stay [] trail = refl
 reads_stay (word ∷ words) trail =
     reads_stay words (record trail { seen = word / 2; losses = trail.losses ++ word ∷ [] })

@@ -7,11 +7,13 @@ use Rattle.std.proofs.Math.Seq.{drop-length}
 use Rattle.std.proofs.lemmas.List.{length-map}
 use Rattle.std.proofs.lemmas.List.Elements.{All-nil, All-cons, All-append}
 use Rattle.std.proofs.lemmas.Option.{same_Some}
-use Rattle.shard_state.specs.{CutValue, HasCoreShape, IsShard, ShardValue, changed_in_core, snapshot_of_shard, shard_state_at, core_cut_with_shard}
-use Rattle.position_words.specs.{IsOdd, seen_in_view, view_with_trail}
+use Rattle.shard_state.specs.{CutValue, HasCoreShape, IsShard, ShardValue, changed_in_core, snapshot_of_shard}
+use Rattle.shard_state.specs.{shard_state_at, core_cut_with_shard}
+use Rattle.position_words.specs.{IsOddWord, seen_in_view, view_with_trail}
 use Rattle.position_words.specs.declared.view.Trail.{Trail}
 use Rattle.position_words.specs.declared.view.View.{View}
-use Rattle.pass_tokens.specs.Read.{ReadsAtLast, ReadsCut, ReadsSoFar, ShardRead, after_read, after_reads, states_of_read}
+use Rattle.pass_tokens.specs.Read.{ReadsAtLast, ReadsCut, ReadsSoFar, ShardRead, after_read, after_reads}
+use Rattle.pass_tokens.specs.Read.{states_of_read}
 
 pass_cut_without_reads : (trails : List Trail) → after_reads trails [] ≡ trails
 pass_cut_without_reads [] = refl
@@ -80,7 +82,7 @@ pub pass_cut_begins_unread : (opening : List ShardValue) (view : View) (cut : Cu
 pass_cut_begins_unread opening view cut = record {
   reads = [];
   as_many = refl;
-  odd = All-nil (λ read. All IsOdd read.losses);
+  odd = All-nil (λ read. All IsOddWord read.losses);
   kept = subst (All IsShard) (sym (pass_cut_without_states opening)) (All-nil IsShard);
   later = λ shard read is. cc is;
   view = ap (λ trails. record view { trails = trails }) (sym (pass_cut_without_reads view.trails));
@@ -89,9 +91,9 @@ pass_cut_begins_unread opening view cut = record {
 
 -- one shard more
 pub pass_cut_reads_next : (opening : List ShardValue) (capacity count : ℕ) (before now after : View)
-    (cut mid changed_in_core : CutValue) → count < length opening → HasCoreShape (length opening) capacity cut
-    → ReadsSoFar opening count before cut now mid → ReadsAtLast opening count now mid after changed_in_core
-    → ReadsSoFar opening (count + 1) before cut after changed_in_core
+    (cut mid changed : CutValue) → count < length opening → HasCoreShape (length opening) capacity cut
+    → ReadsSoFar opening count before cut now mid → ReadsAtLast opening count now mid after changed
+    → ReadsSoFar opening (count + 1) before cut after changed
 pass_cut_reads_next opening capacity count before now after cut mid changed_cut inside shape far one =
     let reads : List ShardRead = far.reads in
     let at : slice_get opening (length reads) ≡ Some one.state = ap (slice_get opening) far.as_many ∙ one.is in
@@ -105,9 +107,9 @@ pass_cut_reads_next opening capacity count before now after cut mid changed_cut 
       reads = reads ++ one.read ∷ [];
       as_many = omega (arith, length-pass_cut_append reads one.read, far.as_many);
       odd =
-          All-append (λ read. All IsOdd read.losses) reads (one.read ∷ []) far.odd
-          (All-cons (λ read. All IsOdd read.losses) one.read [] one.odd
-          (All-nil (λ read. All IsOdd read.losses)));
+          All-append (λ read. All IsOddWord read.losses) reads (one.read ∷ []) far.odd
+          (All-cons (λ read. All IsOddWord read.losses) one.read [] one.odd
+          (All-nil (λ read. All IsOddWord read.losses)));
       kept =
           subst (All IsShard) (sym states)
           (All-append IsShard (states_of_read opening reads) (state ∷ []) far.kept
@@ -143,9 +145,9 @@ pass_cut_reads_next opening capacity count before now after cut mid changed_cut 
     map-snoc (first ∷ rest) state = ap (λ ss. snapshot_of_shard first ∷ ss) (map-snoc rest state)
 
 -- all of them
-pub pass_cut_reads_all : (opening : List ShardValue) (capacity count : ℕ) (before now : View) (cut changed_in_core : CutValue)
+pub pass_cut_reads_all : (opening : List ShardValue) (capacity count : ℕ) (before now : View) (cut changed : CutValue)
     → HasCoreShape (length opening) capacity cut → count ≡ length opening
-    → ReadsSoFar opening count before cut now changed_in_core → ReadsCut opening before cut now changed_in_core
+    → ReadsSoFar opening count before cut now changed → ReadsCut opening before cut now changed
 pass_cut_reads_all opening capacity count before now cut changed_cut shape all far =
     let past : drop count cut.shards ≡ [] =
     ap (λ n. drop n cut.shards) (all ∙ sym shape.as_many) ∙ drop-length cut.shards in

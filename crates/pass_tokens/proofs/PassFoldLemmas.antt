@@ -2,7 +2,8 @@
 use Rattle.std.proofs.Common.{◌≡◌, ℕ, ◌+◌, ◌≤◌, min, List, length, None, slice_get, arith, sym, ap, ◌∙◌, subst}
 use Rattle.shard_state.specs.{ShardValue, folded_shard, shard_state_at}
 use Rattle.shard_state.specs.declared.shard_state.Folded.{Folded}
-use Rattle.position_words.specs.{IsWordOfShard, StepMeets, view_after_giving, seen_in_view, view_after_win, view_with_trail}
+use Rattle.position_words.specs.{IsShardAtSomePosition, WordStepMeets, view_after_giving, seen_in_view, view_after_win}
+use Rattle.position_words.specs.{view_with_trail}
 use Rattle.position_words.specs.declared.view.Aim.TheVariants.{Fold}
 use Rattle.position_words.specs.declared.view.View.{View}
 use Rattle.pass_tokens.specs.Fold.{Folds, folded_once}
@@ -18,8 +19,8 @@ pass_fold_is_one_step shard before done free =
 pub is_pass_fold : (opening : List ShardValue) (shard block : ℕ) (before taken now : View) (state left : ShardValue)
     (done : Folded) → now ≡ view_after_giving left.position taken
     → taken ≡ view_after_win Fold shard state.position before → left ≡ folded_shard block state → done.from ≡ state.position
-    → done.to ≡ left.position → IsWordOfShard opening shard state
-    → StepMeets shard state.position before → before.held ≡ None → before.opening ≡ opening
+    → done.to ≡ left.position → IsShardAtSomePosition opening shard state
+    → WordStepMeets shard state.position before → before.held ≡ None → before.opening ≡ opening
     → Folds opening shard block before now done
 is_pass_fold opening shard block before taken now state left done now_is taken_is left_is from to of meets free
     opening_is = record {

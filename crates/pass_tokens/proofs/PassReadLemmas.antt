@@ -1,7 +1,8 @@
 -- A take and a give make one read.
 use Rattle.std.proofs.Common.{◌≡◌, ℕ, List, None, slice_set, sym, ap, ◌∙◌}
 use Rattle.shard_state.specs.{CutValue, IsShard, ShardValue, snapshot_of_shard, shard_state_at}
-use Rattle.position_words.specs.{IsWordOfShard, StepMeets, view_after_giving, view_after_win, view_with_trail}
+use Rattle.position_words.specs.{IsShardAtSomePosition, WordStepMeets, view_after_giving, view_after_win}
+use Rattle.position_words.specs.{view_with_trail}
 use Rattle.position_words.specs.declared.view.Aim.TheVariants.{Read}
 use Rattle.position_words.specs.declared.view.View.{View}
 use Rattle.pass_tokens.specs.Read.{ReadsShard, read_once}
@@ -15,8 +16,8 @@ pass_read_is_one_step shard position before free =
     ∙ ap (λ held. record (view_with_trail (read_once position) shard before) { held = held }) (sym free)
 
 pub is_pass_read : (opening : List ShardValue) (shard : ℕ) (before taken now : View) (cut later : CutValue)
-    (state : ShardValue) → before.held ≡ None → IsWordOfShard opening shard state
-    → StepMeets shard state.position before → taken ≡ view_after_win Read shard state.position before
+    (state : ShardValue) → before.held ≡ None → IsShardAtSomePosition opening shard state
+    → WordStepMeets shard state.position before → taken ≡ view_after_win Read shard state.position before
     → now ≡ view_after_giving state.position taken
     → later ≡ record cut { shards = slice_set cut.shards shard (snapshot_of_shard state) } → IsShard state
     → ReadsShard opening shard before cut now later

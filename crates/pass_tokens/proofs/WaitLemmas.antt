@@ -4,10 +4,10 @@ use Rattle.std.specs.Prelude.{slice_index}
 use Rattle.std.proofs.lemmas.List.Elements.{All-nil, All-cons, All-append}
 use Rattle.shard_state.specs.{CutValue, ShardValue, changed_in_core}
 use Rattle.shard_state.specs.declared.shard_state.Folded.{Folded}
-use Rattle.position_words.specs.{IsOdd, StepLoses, view_trail_after_loss, seen_in_view, view_with_trail}
+use Rattle.position_words.specs.{IsOddWord, WordStepLoses, view_trail_after_loss, seen_in_view, view_with_trail}
 use Rattle.position_words.specs.declared.view.Trail.{Trail}
 use Rattle.position_words.specs.declared.view.View.{View}
-use Rattle.pass_tokens.specs.Fold.{Folds, FoldsAtLast, WaitsToFold, folded_once, lost_all_folds}
+use Rattle.pass_tokens.specs.Fold.{Folds, FoldsAtLast, WaitsToFold, folded_once, trail_after_fold_losses}
 use Rattle.pass_tokens.specs.Read.{ReadsShard, ReadsAtLast, read_once}
 use Rattle.pass_tokens.proofs.ChangedPlaceLemmas.{changed_place_twice, changed_place_alike, changed_place_same}
 
@@ -24,15 +24,15 @@ wait_seen_after_step change position (suc place) (trail ∷ rest) sees inside =
 pub wait_without_losses : (shard : ℕ) (view : View) → WaitsToFold shard view view
 wait_without_losses shard view = record {
   losses = [];
-  odd = All-nil IsOdd;
+  odd = All-nil IsOddWord;
   later = omega arith;
   view = ap (λ trails. record view { trails = trails }) (sym (changed_place_same shard view.trails));
 }
 
-lost_all_folds-one_wait_more : (words : List ℕ) (word : ℕ) (trail : Trail)
-    → lost_all_folds (words ++ word ∷ []) trail ≡ view_trail_after_loss word (lost_all_folds words trail)
-lost_all_folds-one_wait_more [] word trail = refl
-lost_all_folds-one_wait_more (first ∷ rest) word trail = lost_all_folds-one_wait_more rest word (view_trail_after_loss first trail)
+trail_after_fold_losses-one_wait_more : (words : List ℕ) (word : ℕ) (trail : Trail)
+    → trail_after_fold_losses (words ++ word ∷ []) trail ≡ view_trail_after_loss word (trail_after_fold_losses words trail)
+trail_after_fold_losses-one_wait_more [] word trail = refl
+trail_after_fold_losses-one_wait_more (first ∷ rest) word trail = trail_after_fold_losses-one_wait_more rest word (view_trail_after_loss first trail)
 
 -- one step more at the shard
 step_after_wait : (shard : ℕ) (before now after : View) (earlier later : Trail → Trail) → now ≡ view_with_trail earlier shard before
@@ -44,22 +44,22 @@ step_after_wait shard before now after earlier later now_is after_is =
 
 -- one take more that lost
 pub wait_loses_again : (shard : ℕ) (before now after : View) → shard < length now.trails → WaitsToFold shard before now
-    → StepLoses shard now after → WaitsToFold shard before after
+    → WordStepLoses shard now after → WaitsToFold shard before after
 wait_loses_again shard before now after inside waits loses = record {
   losses = waits.losses ++ loses.word ∷ [];
   odd =
-      All-append IsOdd waits.losses (loses.word ∷ []) waits.odd
-      (All-cons IsOdd loses.word [] loses.odd (All-nil IsOdd));
+      All-append IsOddWord waits.losses (loses.word ∷ []) waits.odd
+      (All-cons IsOddWord loses.word [] loses.odd (All-nil IsOddWord));
   later =
       let seen : seen_in_view shard after ≡ loses.word / 2 =
       ap (seen_in_view shard) loses.view
       ∙ wait_seen_after_step (view_trail_after_loss loses.word) (loses.word / 2) shard now.trails (λ trail. refl) inside in
       omega (arith, waits.later, loses.meets.later, seen);
-  view = step_after_wait shard before now after (lost_all_folds waits.losses) (view_trail_after_loss loses.word) waits.view loses.view
+  view = step_after_wait shard before now after (trail_after_fold_losses waits.losses) (view_trail_after_loss loses.word) waits.view loses.view
       ∙ ap (λ trails. record before { trails = trails })
-      (changed_place_alike (λ trail. view_trail_after_loss loses.word (lost_all_folds waits.losses trail))
-      (lost_all_folds (waits.losses ++ loses.word ∷ [])) shard before.trails
-      (λ trail. sym (lost_all_folds-one_wait_more waits.losses loses.word trail)));
+      (changed_place_alike (λ trail. view_trail_after_loss loses.word (trail_after_fold_losses waits.losses trail))
+      (trail_after_fold_losses (waits.losses ++ loses.word ∷ [])) shard before.trails
+      (λ trail. sym (trail_after_fold_losses-one_wait_more waits.losses loses.word trail)));
 }
 
 -- the take that won, to fold
@@ -71,7 +71,7 @@ wait_ends_with_fold opening shard block before now after done waits folds = reco
   odd = waits.odd;
   core = folds.core;
   later = omega (arith, waits.later, folds.later);
-  view = step_after_wait shard before now after (lost_all_folds waits.losses) (folded_once done) waits.view folds.view;
+  view = step_after_wait shard before now after (trail_after_fold_losses waits.losses) (folded_once done) waits.view folds.view;
 }
 
 -- and to read
@@ -85,6 +85,6 @@ wait_ends_with_read opening shard before now after cut changed_in_core waits rea
   is = reads.is;
   kept = reads.kept;
   later = omega (arith, waits.later, reads.later);
-  view = step_after_wait shard before now after (lost_all_folds waits.losses) (read_once reads.position) waits.view reads.view;
+  view = step_after_wait shard before now after (trail_after_fold_losses waits.losses) (read_once reads.position) waits.view reads.view;
   core = reads.core;
 }

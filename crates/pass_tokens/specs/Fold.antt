@@ -2,7 +2,7 @@
 use Rattle.std.specs.Prelude.{ℕ, ◌≡◌, ◌≤◌, List, [], ◌∷◌, ◌++◌, fold, All, Some, slice_get}
 use Rattle.shard_state.specs.{ShardValue, folded_shard, shard_state_at}
 use Rattle.shard_state.specs.declared.shard_state.Folded.{Folded}
-use Rattle.position_words.specs.{IsOdd, StepLoses, view_trail_after_loss, seen_in_view, view_with_trail}
+use Rattle.position_words.specs.{IsOddWord, WordStepLoses, view_trail_after_loss, seen_in_view, view_with_trail}
 use Rattle.position_words.specs.declared.view.Trail.{Trail}
 use Rattle.position_words.specs.declared.view.View.{View}
 use Rattle.pass_tokens.specs.declared.board.TryFold.{TryFold}
@@ -29,23 +29,23 @@ pub record Folds (opening : List ShardValue) (shard block : ℕ) (before now : V
 -- what a try to fold returns: the fold, or that the take lost
 abbrev pub TriesToFold : List ShardValue → ℕ → ℕ → View → View → TryFold → Type 0
 TriesToFold opening shard block before now (Done done) = Folds opening shard block before now done
-TriesToFold opening shard block before now Busy = StepLoses shard before now
+TriesToFold opening shard block before now Busy = WordStepLoses shard before now
 
--- a trail after takes that met these odd words
-abbrev pub lost_all_folds : List ℕ → Trail → Trail
-lost_all_folds words trail = fold (λ trail word. view_trail_after_loss word trail) trail words
+-- a trail after takes that lost, which met these odd words
+abbrev pub trail_after_fold_losses : List ℕ → Trail → Trail
+trail_after_fold_losses words trail = fold (λ trail word. view_trail_after_loss word trail) trail words
 
 -- a fold after any number of takes that lost
 pub record FoldsAtLast (opening : List ShardValue) (shard block : ℕ) (before now : View) (done : Folded) : Type 0 where
   pub losses : List ℕ
-  pub odd : All IsOdd losses
+  pub odd : All IsOddWord losses
   pub core : IsFoldOf opening shard block done
   pub later : seen_in_view shard before ≤ done.from
-  pub view : now ≡ view_with_trail (λ trail. folded_once done (lost_all_folds losses trail)) shard before
+  pub view : now ≡ view_with_trail (λ trail. folded_once done (trail_after_fold_losses losses trail)) shard before
 
 -- within the crate: takes of a shard, all of which lost
 pub record WaitsToFold (shard : ℕ) (before now : View) : Type 0 where
   pub losses : List ℕ
-  pub odd : All IsOdd losses
+  pub odd : All IsOddWord losses
   pub later : seen_in_view shard before ≤ seen_in_view shard now
-  pub view : now ≡ view_with_trail (lost_all_folds losses) shard before
+  pub view : now ≡ view_with_trail (trail_after_fold_losses losses) shard before

@@ -1,10 +1,10 @@
 -- What a read does: one read of the pure core for each shard.
 use Rattle.std.specs.Prelude.{ℕ, ◌≡◌, ◌≤◌, List, [], ◌∷◌, ◌++◌, map, drop, length, All, Some, slice_get}
 use Rattle.shard_state.specs.{CutValue, IsShard, ShardValue, snapshot_of_shard, shard_state_at, core_cut_with_shard}
-use Rattle.position_words.specs.{IsOdd, StepLoses, seen_in_view, view_with_trail}
+use Rattle.position_words.specs.{IsOddWord, WordStepLoses, seen_in_view, view_with_trail}
 use Rattle.position_words.specs.declared.view.Trail.{Trail}
 use Rattle.position_words.specs.declared.view.View.{View}
-use Rattle.pass_tokens.specs.Fold.{lost_all_folds}
+use Rattle.pass_tokens.specs.Fold.{trail_after_fold_losses}
 use Rattle.pass_tokens.specs.declared.board.TryRead.{TryRead}
 use Rattle.pass_tokens.specs.declared.board.TryRead.TheVariants.{Done, Busy}
 
@@ -25,9 +25,9 @@ pub record ReadsShard (opening : List ShardValue) (shard : ℕ) (before : View) 
   pub core : changed ≡ core_cut_with_shard shard (Some (shard_state_at position state)) cut
 
 -- what a try to read returns: that the cut has the snapshot, or that the take lost and the cut is unchanged
-abbrev pub TriesToRead : List ShardValue → ℕ → View → CutValue → View → CutValue → TryRead → Type 0
-TriesToRead opening shard before cut now changed Done = ReadsShard opening shard before cut now changed
-TriesToRead opening shard before cut now changed Busy = StepLoses shard before now × (changed ≡ cut)
+abbrev pub TriesToReadShard : List ShardValue → ℕ → View → CutValue → View → CutValue → TryRead → Type 0
+TriesToReadShard opening shard before cut now changed Done = ReadsShard opening shard before cut now changed
+TriesToReadShard opening shard before cut now changed Busy = WordStepLoses shard before now × (changed ≡ cut)
 
 -- one read of a shard: the odd words that takes met before, and the position at which it was taken
 pub record ShardRead : Type 0 where
@@ -36,7 +36,7 @@ pub record ShardRead : Type 0 where
 
 -- a trail after such a read
 abbrev pub after_read : ShardRead → Trail → Trail
-after_read read trail = read_once read.position (lost_all_folds read.losses trail)
+after_read read trail = read_once read.position (trail_after_fold_losses read.losses trail)
 
 -- trails after one such read of each of the first shards
 abbrev pub after_reads : List Trail → List ShardRead → List Trail
@@ -56,7 +56,7 @@ pub record ReadsCut (opening : List ShardValue) (before : View) (cut : CutValue)
     : Type 0 where
   pub reads : List ShardRead
   pub as_many : length reads ≡ length opening
-  pub odd : All (λ read. All IsOdd read.losses) reads
+  pub odd : All (λ read. All IsOddWord read.losses) reads
   pub kept : All IsShard (states_of_read opening reads)
   pub later : (shard : ℕ) (read : ShardRead) → slice_get reads shard ≡ Some read → seen_in_view shard before ≤ read.position
   pub view : now ≡ record before { trails = after_reads before.trails reads }
@@ -66,7 +66,7 @@ pub record ReadsCut (opening : List ShardValue) (before : View) (cut : CutValue)
 pub record ReadsAtLast (opening : List ShardValue) (shard : ℕ) (before : View) (cut : CutValue) (now : View)
     (changed : CutValue) : Type 0 where
   pub read : ShardRead
-  pub odd : All IsOdd read.losses
+  pub odd : All IsOddWord read.losses
   pub state : ShardValue
   pub is : slice_get opening shard ≡ Some state
   pub kept : IsShard (shard_state_at read.position state)
@@ -79,7 +79,7 @@ pub record ReadsSoFar (opening : List ShardValue) (count : ℕ) (before : View) 
     (changed : CutValue) : Type 0 where
   pub reads : List ShardRead
   pub as_many : length reads ≡ count
-  pub odd : All (λ read. All IsOdd read.losses) reads
+  pub odd : All (λ read. All IsOddWord read.losses) reads
   pub kept : All IsShard (states_of_read opening reads)
   pub later : (shard : ℕ) (read : ShardRead) → slice_get reads shard ≡ Some read → seen_in_view shard before ≤ read.position
   pub view : now ≡ record before { trails = after_reads before.trails reads }

@@ -2,10 +2,11 @@
 
 ghost use Rattle.std.specs.Prelude.{◌≡◌, ◌≤◌, ◌<◌, length, IfOk};
 ghost use Rattle.shard_state.specs.{AreCoreShards, HasCoreShape, core_capacity};
-ghost use Rattle.position_words.specs.{StepMeets, first_view, view_after_join, view_after_look, newcomer_view, view_after_split, view};
+ghost use Rattle.position_words.specs.{WordStepMeets, first_view, view_after_join, view_after_look, newcomer_view};
+ghost use Rattle.position_words.specs.{view_after_split, view};
 ghost use Rattle.pass_tokens.specs.Board.{IsPassOfBoard};
 ghost use Rattle.pass_tokens.specs.Fold.{FoldsAtLast, TriesToFold};
-ghost use Rattle.pass_tokens.specs.Read.{ReadsAtLast, ReadsCut, TriesToRead};
+ghost use Rattle.pass_tokens.specs.Read.{ReadsAtLast, ReadsCut, TriesToReadShard};
 
 use position_words::{Aim, Seat, Take, Words};
 use shard_state::{Cut, Folded, ShardState};
@@ -43,9 +44,9 @@ pub struct Board {
 }
 
 impl Model for Board {
-    ghost use Rattle.position_words.specs.{WordsValue};
+    ghost use Rattle.position_words.specs.{PositionWordsValue};
 
-    ghost Value = { WordsValue };
+    ghost Value = { PositionWordsValue };
 
     ghost view = { λ b. b.words };
 
@@ -99,7 +100,7 @@ impl Board {
         requires within { shard < length self.now.opening }
         requires pass { IsPassOfBoard self.now pass.old }
         ensures look { view pass.new ≡ view_after_look shard result (view pass.old) }
-        ensures meets { StepMeets shard result (view pass.old) }
+        ensures meets { WordStepMeets shard result (view pass.old) }
         ensures pass { IsPassOfBoard self.now pass.new }
     {
         self.words.look(shard, pass)
@@ -131,7 +132,7 @@ impl Board {
         requires within { shard < length self.now.opening }
         requires pass { IsPassOfBoard self.now pass.old }
         requires shape { HasCoreShape (length self.now.opening) (core_capacity self.now.opening) cut.old }
-        ensures read { TriesToRead self.now.opening shard (view pass.old) cut.old (view pass.new) cut.new result }
+        ensures read { TriesToReadShard self.now.opening shard (view pass.old) cut.old (view pass.new) cut.new result }
         ensures shape { HasCoreShape (length self.now.opening) (core_capacity self.now.opening) cut.new }
         ensures pass { IsPassOfBoard self.now pass.new }
     {

@@ -7,7 +7,7 @@ use Rattle.pcap_frames.specs.declared.file_order.FileOrder.{FileOrder}
 use Rattle.pcap_frames.specs.declared.fault.CaptureFault.{CaptureFault}
 use Rattle.pcap_frames.specs.FileOrder.{number_in_file_order}
 use Rattle.pcap_frames.specs.Frame.{FrameValue}
-use Rattle.pcap_frames.specs.Frames.{frame_at, BeginsFrame, BeginsFrames, frame_bytes_needed, frame_fault}
+use Rattle.pcap_frames.specs.Frame.{frame_at, BeginsWithFrame, BeginsWithFrames, frame_bytes_needed, frame_fault}
 use Rattle.pcap_frames.proofs.FileNumberLemmas.{number_in_file_order-in_longer_file}
 
 -- what a frame says stays under more bytes
@@ -22,9 +22,9 @@ longer_bytes_begin_same_frame order bytes more header room =
     ) refl
 
 -- a frame stays under more bytes
-pub BeginsFrame-append : (order : FileOrder) (bytes more : List ℕ) (frame : FrameValue)
-    → BeginsFrame order bytes frame → BeginsFrame order (bytes ++ more) frame
-BeginsFrame-append order bytes more frame begins =
+pub BeginsWithFrame-append : (order : FileOrder) (bytes more : List ℕ) (frame : FrameValue)
+    → BeginsWithFrame order bytes frame → BeginsWithFrame order (bytes ++ more) frame
+BeginsWithFrame-append order bytes more frame begins =
     let captured : frame.captured ≡ number_in_file_order order 4 8 bytes = ap (λ f. f.captured) begins.is_frame in
     let room : 16 + number_in_file_order order 4 8 bytes ≤ length bytes = omega (arith, begins.room) in record {
       header = omega (arith, begins.header, length-append bytes more);
@@ -34,42 +34,42 @@ BeginsFrame-append order bytes more frame begins =
     }
 
 -- frames stay under more bytes
-pub BeginsFrames-append : (order : FileOrder) (bytes : List ℕ) (frames : List FrameValue) (rest more : List ℕ)
-    → BeginsFrames order bytes frames rest → BeginsFrames order (bytes ++ more) frames (rest ++ more)
-BeginsFrames-append order bytes [] rest more begins = ap (λ l. l ++ more) begins
-BeginsFrames-append order bytes (frame ∷ frames) rest more begins =
+pub BeginsWithFrames-append : (order : FileOrder) (bytes : List ℕ) (frames : List FrameValue) (rest more : List ℕ)
+    → BeginsWithFrames order bytes frames rest → BeginsWithFrames order (bytes ++ more) frames (rest ++ more)
+BeginsWithFrames-append order bytes [] rest more begins = ap (λ l. l ++ more) begins
+BeginsWithFrames-append order bytes (frame ∷ frames) rest more begins =
     let behind = drop-append-le (16 + frame.captured) bytes more begins.0.room in (
-      BeginsFrame-append order bytes more frame begins.0,
-      rw behind (BeginsFrames-append order (drop (16 + frame.captured) bytes) frames rest more begins.1),
+      BeginsWithFrame-append order bytes more frame begins.0,
+      rw behind (BeginsWithFrames-append order (drop (16 + frame.captured) bytes) frames rest more begins.1),
     )
 
 -- one frame more
-pub BeginsFrames-more : (order : FileOrder) (bytes : List ℕ) (frames : List FrameValue) (rest : List ℕ)
-    (frame : FrameValue) → BeginsFrames order bytes frames rest → BeginsFrame order rest frame
-    → BeginsFrames order bytes (frames ++ frame ∷ []) (drop (16 + frame.captured) rest)
-BeginsFrames-more order bytes [] rest frame begins next =
-    (subst (λ l. BeginsFrame order l frame) begins next, ap (drop (16 + frame.captured)) begins)
-BeginsFrames-more order bytes (first ∷ frames) rest frame begins next =
-    (begins.0, BeginsFrames-more order (drop (16 + first.captured) bytes) frames rest frame begins.1 next)
+pub BeginsWithFrames-more : (order : FileOrder) (bytes : List ℕ) (frames : List FrameValue) (rest : List ℕ)
+    (frame : FrameValue) → BeginsWithFrames order bytes frames rest → BeginsWithFrame order rest frame
+    → BeginsWithFrames order bytes (frames ++ frame ∷ []) (drop (16 + frame.captured) rest)
+BeginsWithFrames-more order bytes [] rest frame begins next =
+    (subst (λ l. BeginsWithFrame order l frame) begins next, ap (drop (16 + frame.captured)) begins)
+BeginsWithFrames-more order bytes (first ∷ frames) rest frame begins next =
+    (begins.0, BeginsWithFrames-more order (drop (16 + first.captured) bytes) frames rest frame begins.1 next)
 
 -- the rest is no longer than the bytes, by the limit on frames
-pub BeginsFrames-length : (order : FileOrder) (bytes : List ℕ) (frames : List FrameValue) (rest : List ℕ)
-    → BeginsFrames order bytes frames rest → length bytes ≤ 262160 * length frames + length rest
-BeginsFrames-length order bytes [] rest begins = omega (arith, ap length begins)
-BeginsFrames-length order bytes (frame ∷ frames) rest begins =
-    let behind = BeginsFrames-length order (drop (16 + frame.captured) bytes) frames rest begins.1 in
+pub BeginsWithFrames-length : (order : FileOrder) (bytes : List ℕ) (frames : List FrameValue) (rest : List ℕ)
+    → BeginsWithFrames order bytes frames rest → length bytes ≤ 262160 * length frames + length rest
+BeginsWithFrames-length order bytes [] rest begins = omega (arith, ap length begins)
+BeginsWithFrames-length order bytes (frame ∷ frames) rest begins =
+    let behind = BeginsWithFrames-length order (drop (16 + frame.captured) bytes) frames rest begins.1 in
     omega (arith, begins.0.limit, length-drop (16 + frame.captured) bytes)
 
 -- the rest is no longer than the bytes
-pub BeginsFrames-shorter : (order : FileOrder) (bytes : List ℕ) (frames : List FrameValue) (rest : List ℕ)
-    → BeginsFrames order bytes frames rest → length rest ≤ length bytes
-BeginsFrames-shorter order bytes [] rest begins = omega (arith, ap length begins)
-BeginsFrames-shorter order bytes (frame ∷ frames) rest begins =
-    let behind = BeginsFrames-shorter order (drop (16 + frame.captured) bytes) frames rest begins.1 in
+pub BeginsWithFrames-shorter : (order : FileOrder) (bytes : List ℕ) (frames : List FrameValue) (rest : List ℕ)
+    → BeginsWithFrames order bytes frames rest → length rest ≤ length bytes
+BeginsWithFrames-shorter order bytes [] rest begins = omega (arith, ap length begins)
+BeginsWithFrames-shorter order bytes (frame ∷ frames) rest begins =
+    let behind = BeginsWithFrames-shorter order (drop (16 + frame.captured) bytes) frames rest begins.1 in
     omega (arith, length-drop (16 + frame.captured) bytes)
 
 -- a frame that is whole leaves nothing needed
-pub frame_bytes_needed-where_frame_begins : (order : FileOrder) (bytes : List ℕ) (frame : FrameValue) → BeginsFrame order bytes frame
+pub frame_bytes_needed-where_frame_begins : (order : FileOrder) (bytes : List ℕ) (frame : FrameValue) → BeginsWithFrame order bytes frame
     → frame_bytes_needed order bytes ≤ length bytes
 unfolding frame_bytes_needed
 frame_bytes_needed-where_frame_begins order bytes frame begins =

@@ -8,12 +8,15 @@ use Rattle.pcap_frames.specs.declared.file_order.FileOrder.{FileOrder}
 use Rattle.pcap_frames.specs.declared.file_order.FileOrder.TheVariants.{Big, Little}
 use Rattle.pcap_frames.specs.FileOrder.{number_in_file_order}
 use Rattle.pcap_frames.specs.Frame.{FrameValue}
-use Rattle.pcap_frames.specs.Frames.{BeginsFrame, BeginsFrames, IsFrame, AreFrames}
+use Rattle.pcap_frames.specs.Frame.{BeginsWithFrame, BeginsWithFrames, IsFrame, AreFrames}
 use Rattle.pcap_frames.specs.Capture.{IsCapture}
 use Rattle.pcap_frames.specs.Decided.{FilesAreDecided, FrontsAreDecided}
 use Rattle.pcap_frames.proofs.FileSplitLemmas.{ShowsCaptureFault-longer_split_file}
-use Rattle.pcap_frames.proofs.FirstFaultLemmas.{reader_reaches_first_fault, capture_reaches_first_fault, frames_reach_first_fault, frames_before_first_fault_agree, frames_before_first_fault_begin}
-use Rattle.pcap_frames.proofs.FirstFaultLemmas.{fronts_complete_to_first_fault, capture_or_first_fault, capture_has_no_first_fault, file_has_one_first_fault}
+use Rattle.pcap_frames.proofs.FirstFaultLemmas.{reader_reaches_first_fault, capture_reaches_first_fault}
+use Rattle.pcap_frames.proofs.FirstFaultLemmas.{frames_reach_first_fault, frames_before_first_fault_agree}
+use Rattle.pcap_frames.proofs.FirstFaultLemmas.{frames_before_first_fault_begin}
+use Rattle.pcap_frames.proofs.FirstFaultLemmas.{fronts_complete_to_first_fault, capture_or_first_fault}
+use Rattle.pcap_frames.proofs.FirstFaultLemmas.{capture_has_no_first_fault, file_has_one_first_fault}
 
 -- ---- the frames of a file of bytes
 
@@ -38,7 +41,7 @@ AreCaptureFileBytes-bound Little count place bytes are = little_from-lt place co
 
 -- a frame that stands in a file of bytes is one
 IsFrame-in_capture_file : (order : FileOrder) (bytes : List ℕ) (frame : FrameValue) → AreCaptureFileBytes bytes
-    → BeginsFrame order bytes frame → IsFrame frame
+    → BeginsWithFrame order bytes frame → IsFrame frame
 IsFrame-in_capture_file order bytes frame are begins =
     let captured : frame.captured ≡ number_in_file_order order 4 8 bytes = ap (λ f. f.captured) begins.is_frame in
     let original : frame.original ≡ number_in_file_order order 4 12 bytes = ap (λ f. f.original) begins.is_frame in
@@ -63,7 +66,7 @@ IsFrame-in_capture_file order bytes frame are begins =
     }
 
 AreFrames-in_capture_file : (order : FileOrder) (bytes : List ℕ) (frames : List FrameValue) (rest : List ℕ) → AreCaptureFileBytes bytes
-    → BeginsFrames order bytes frames rest → AreFrames frames
+    → BeginsWithFrames order bytes frames rest → AreFrames frames
 AreFrames-in_capture_file order bytes [] rest are begins = tt
 AreFrames-in_capture_file order bytes (frame ∷ frames) rest are begins = (
   IsFrame-in_capture_file order bytes frame are begins.0,

@@ -7,8 +7,8 @@ use Rattle.pcap_frames.specs.Frame.{FrameValue}
 use Rattle.pcap_frames.specs.Header.{header_magic_order, header_fields_fault, header_fault, header_fault_at}
 use Rattle.pcap_frames.specs.FileOrder.{number_in_file_order}
 use Rattle.pcap_frames.specs.declared.fault.FaultKind.TheVariants.{Version, Link, LongFrame, TooManyFrames}
-use Rattle.pcap_frames.specs.Frames.{frame_fault}
-use Rattle.pcap_frames.specs.Capture.{IsCaptureEndFault, ShowsCaptureFault}
+use Rattle.pcap_frames.specs.Frame.{frame_fault}
+use Rattle.pcap_frames.specs.CaptureFault.{IsCaptureEndFault, ShowsCaptureFault}
 
 abbrev HasEndFault : Option CaptureFault → Type 0
 HasEndFault None = ⊥

@@ -8,13 +8,18 @@ use Rattle.pcap_frames.specs.declared.fault.FaultKind.TheVariants.{LongFrame, Cu
 use Rattle.pcap_frames.specs.declared.frame.Frame.{Frame}
 use Rattle.pcap_frames.specs.FileOrder.{number_in_file_order}
 use Rattle.pcap_frames.specs.Frame.{FrameValue, frame_content}
-use Rattle.pcap_frames.specs.Header.{IsHeader, is_header_magic, header_magic_order, header_fields_fault, header_fault, header_fault_at}
-use Rattle.pcap_frames.specs.Frames.{frame_at, BeginsFrame, BeginsFrames, frame_bytes_needed, frame_fault, IsFrame, AreFrames}
-use Rattle.pcap_frames.specs.Capture.{SplitsCapture, IsCapture, ShowsCaptureFaultInHeader, ShowsCaptureFaultInFrames, ShowsCaptureFault, CaptureEndsInHeader}
-use Rattle.pcap_frames.specs.Capture.{CaptureEndsInFrame, CaptureEndsInside, HasCaptureFaultAfter, HasCaptureFault}
+use Rattle.pcap_frames.specs.Header.{IsHeader, is_header_magic, header_magic_order, header_fields_fault, header_fault}
+use Rattle.pcap_frames.specs.Header.{header_fault_at}
+use Rattle.pcap_frames.specs.Frame.{frame_at, BeginsWithFrame, BeginsWithFrames, frame_bytes_needed, frame_fault}
+use Rattle.pcap_frames.specs.Frame.{IsFrame, AreFrames}
+use Rattle.pcap_frames.specs.Capture.{SplitsCapture, IsCapture, CaptureEndsInHeader}
+use Rattle.pcap_frames.specs.CaptureFault.{ShowsCaptureFaultInHeader, ShowsCaptureFaultInFrames, ShowsCaptureFault}
+use Rattle.pcap_frames.specs.Capture.{CaptureEndsInFrame, CaptureEndsInside}
+use Rattle.pcap_frames.specs.CaptureFault.{HasCaptureFaultAfter, HasCaptureFault}
 use Rattle.pcap_frames.proofs.CaptureFileLemmas.{capture_files_are_decided}
-use Rattle.pcap_frames.specs.FileFormat.{file_header_length, frame_header_length, head_length, kept_length}
-use Rattle.pcap_frames.specs.FileFormat.{most_captured_length, most_frames_in_file}
+use Rattle.pcap_frames.specs.Lengths.{file_header_length, frame_header_length, frame_head_length, kept_frame_length}
+use Rattle.pcap_frames.specs.Lengths.{most_captured_length}
+use Rattle.pcap_frames.specs.Frame.{frame_count_limit}
 
 -- the header of a little-endian capture
 abbrev pub header : List ℕ
@@ -44,16 +49,16 @@ pub length_of_a_frame_header : length frame_bytes ≡ frame_header_length + 3
 length_of_a_frame_header = refl
 
 -- two hardware addresses, two tags, the type and an IPv4 header
-pub length_of_a_head : 6 + 6 + 4 + 4 + 2 + 20 ≡ head_length
+pub length_of_a_head : 6 + 6 + 4 + 4 + 2 + 20 ≡ frame_head_length
 length_of_a_head = refl
 
-pub length_of_what_is_kept : kept_length ≡ 58
+pub length_of_what_is_kept : kept_frame_length ≡ 58
 length_of_what_is_kept = refl
 
 pub most_bytes_of_a_frame : most_captured_length ≡ 2 ^ 18
 most_bytes_of_a_frame = refl
 
-pub most_frames_of_a_capture : most_frames_in_file ≡ 2 ^ 24
+pub most_frames_of_a_capture : frame_count_limit ≡ 2 ^ 24
 most_frames_of_a_capture = refl
 
 -- ---- the file header
@@ -124,14 +129,14 @@ pub head_of_a_greater_frame : frame_at Little
 unfolding number_in_file_order
 head_of_a_greater_frame = refl
 
-pub whole_frame : BeginsFrame Little frame_bytes frame
+pub whole_frame : BeginsWithFrame Little frame_bytes frame
 unfolding number_in_file_order
 whole_frame = record { header = omega arith; is_frame = refl; limit = omega arith; room = omega arith }
 
-pub cut_frame_is_none : BeginsFrame Little (take 18 frame_bytes) frame → ⊥
+pub cut_frame_is_none : BeginsWithFrame Little (take 18 frame_bytes) frame → ⊥
 cut_frame_is_none begins = omega (arith, begins.room)
 
-pub two_frames_and_a_rest : BeginsFrames Little (frame_bytes ++ frame_bytes ++ 1 ∷ []) (frame ∷ frame ∷ []) (1 ∷ [])
+pub two_frames_and_a_rest : BeginsWithFrames Little (frame_bytes ++ frame_bytes ++ 1 ∷ []) (frame ∷ frame ∷ []) (1 ∷ [])
 unfolding number_in_file_order
 two_frames_and_a_rest = (
   record { header = omega arith; is_frame = refl; limit = omega arith; room = omega arith },

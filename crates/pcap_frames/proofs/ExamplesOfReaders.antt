@@ -10,14 +10,18 @@ use Rattle.pcap_frames.specs.declared.reader.part.Stage.TheVariants as stage
 use Rattle.pcap_frames.specs.FileOrder.{number_in_file_order}
 use Rattle.pcap_frames.specs.Frame.{FrameValue}
 use Rattle.pcap_frames.specs.Header.{header_magic_order, header_fault, header_fault_at}
-use Rattle.pcap_frames.specs.Frames.{frame_at, frame_bytes_needed, frame_fault}
+use Rattle.pcap_frames.specs.Frame.{frame_at, frame_bytes_needed, frame_fault}
 use Rattle.pcap_frames.specs.ReaderState.{ReaderFramePlace, ReaderState, InHeader, InFrames, AtFault, LacksMemory}
-use Rattle.pcap_frames.specs.ReaderState.{IsReaderInHeader, IsReaderBehind, ReaderRepresents, ReaderCompletes, ReaderHasStopped, ReaderAdvances}
+use Rattle.pcap_frames.specs.ReaderState.{IsReaderInHeader, IsReaderBehind, ReaderRepresents, ReaderCompletes}
+use Rattle.pcap_frames.specs.ReaderState.{ReaderHasStopped, ReaderAdvances}
 use Rattle.pcap_frames.specs.FrontValue.{FrontValue}
-use Rattle.pcap_frames.specs.Part.{place_of_part, state_of_part, IsPartWithin, IsPartInStage}
-use Rattle.pcap_frames.specs.ReaderSteps.{frames_held_in_step, StepSplitsFrame, ReaderStepTakes, ReaderStepShowsFront, ReaderStepLacksRoom}
-use Rattle.pcap_frames.specs.Visitor.{VisitorSees, IsVisitorAlike}
-use Rattle.pcap_frames.specs.Feeding.{IsFeedingResultOf, IfFeedingHadMemory, Feeds, FeedingShowsBeginning, IsFeedingResultFor, IsFinalFeedingResult}
+use Rattle.pcap_frames.specs.ReaderPart.{reader_place_of_part, reader_state_of_part, IsReaderPartWithin}
+use Rattle.pcap_frames.specs.ReaderPart.{IsReaderPartInStage}
+use Rattle.pcap_frames.specs.ReaderSteps.{frames_held_in_step, StepSplitsFrame, ReaderStepTakes, ReaderStepShowsFront}
+use Rattle.pcap_frames.specs.ReaderSteps.{ReaderStepLacksMemory}
+use Rattle.pcap_frames.specs.Visitor.{VisitorSees, VisitorsRepresentSame}
+use Rattle.pcap_frames.specs.Feeding.{IsFeedingResultInState, IfFeedingHadMemory, Feeds, FeedingShowsBeginning}
+use Rattle.pcap_frames.specs.Feeding.{IsFeedingResultOfBytes, IsFinalFeedingResult}
 use Rattle.pcap_frames.proofs.CaptureFileLemmas.{capture_files_are_decided, capture_file_fronts_are_decided}
 use Rattle.pcap_frames.proofs.Examples.{header, frame_bytes, frame, capture, cut_file, header_and_more}
 use Rattle.pcap_frames.proofs.Examples.{header_a_frame_and_a_rest, whole_frame, frame_of_three_bytes}
@@ -39,10 +43,10 @@ album_sees_a_frame before held = ap (λ frames. frames ++ frame ∷ []) held
 pub album_sees_no_frame : VisitorSees album [] [] (frame ∷ []) → ⊥
 album_sees_no_frame sees = absurd (let grown : [] ≡ frame ∷ [] = sees [] refl in cc)
 
-pub counts_are_alike : IsVisitorAlike counter (1, 7) (1, 9)
+pub counts_are_alike : VisitorsRepresentSame counter (1, 7) (1, 9)
 counts_are_alike = record { forth = λ frames is. is; back = λ frames is. is }
 
-pub albums_are_not_alike : IsVisitorAlike album [] (frame ∷ []) → ⊥
+pub albums_are_not_alike : VisitorsRepresentSame album [] (frame ∷ []) → ⊥
 albums_are_not_alike alike = absurd (let same : frame ∷ [] ≡ [] = alike.forth [] refl in cc)
 
 -- ---- a reader that was fed a file header and a frame but for its last byte
@@ -58,24 +62,24 @@ part = record { order = Little; count = 0; place = 24; kept = kept }
 abbrev at : ReaderFramePlace
 at = record { order = Little; count = 0; place = 24; kept = take 18 frame_bytes; came = 18 }
 
-pub place_of_the_part : place_of_part part ≡ at
+pub place_of_the_part : reader_place_of_part part ≡ at
 place_of_the_part = refl
 
-pub state_in_a_frame : state_of_part stage.Frames part ≡ InFrames at
+pub state_in_a_frame : reader_state_of_part stage.Frames part ≡ InFrames at
 state_in_a_frame = refl
 
-pub state_in_the_header : state_of_part stage.Header part ≡ InHeader (take 18 frame_bytes)
+pub state_in_the_header : reader_state_of_part stage.Header part ≡ InHeader (take 18 frame_bytes)
 state_in_the_header = refl
 
-pub part_of_a_frame : IsPartWithin part
+pub part_of_a_frame : IsReaderPartWithin part
 unfolding number_in_file_order frame_bytes_needed
 part_of_a_frame = record { count = omega arith; place = omega arith; cut = omega arith; bound = omega arith }
 
-pub part_is_in_its_stage : IsPartInStage stage.Frames part
+pub part_is_in_its_stage : IsReaderPartInStage stage.Frames part
 part_is_in_its_stage = part_of_a_frame
 
 -- a whole frame is never kept
-pub whole_frame_is_in_no_stage : IsPartInStage stage.Frames
+pub whole_frame_is_in_no_stage : IsReaderPartInStage stage.Frames
     (record part { kept = record { first = frame_bytes; came = 19 } }) → ⊥
 unfolding number_in_file_order frame_bytes_needed
 whole_frame_is_in_no_stage within = omega (arith, within.cut)
@@ -107,11 +111,11 @@ cut_file_completes_not_its_frame completes =
 pub reader_in_a_frame_goes_on : ReaderHasStopped (InFrames at) → ⊥
 reader_in_a_frame_goes_on stopped = stopped
 
-pub reader_in_a_frame_answers_ok : IsFeedingResultOf {T = ℕ} (InFrames at) (Ok 1)
+pub reader_in_a_frame_answers_ok : IsFeedingResultInState {T = ℕ} (InFrames at) (Ok 1)
 reader_in_a_frame_answers_ok = refl
 
 -- a cut file shows no fault, since it goes on to a capture
-pub cut_file_is_not_refused : IsFeedingResultFor {T = ℕ} cut_file (Ok 1)
+pub cut_file_is_not_refused : IsFeedingResultOfBytes {T = ℕ} cut_file (Ok 1)
 cut_file_is_not_refused frames fault shows =
     capture_files_are_decided.never_both capture (frame ∷ []) fault header_and_frame
     (frames, capture_file_fronts_are_decided.shown cut_file (9 ∷ []) frames fault shows)
@@ -234,7 +238,7 @@ header_shows_no_frame = record {
   sees = λ before held. held ∙ sym (append-nil before);
 }
 
-pub album_without_room : ReaderStepLacksRoom album [] [] (InHeader (take 23 header)) piece
+pub album_without_room : ReaderStepLacksMemory album [] [] (InHeader (take 23 header)) piece
 album_without_room = record {
   after = InFrames behind_frame;
   rest = [];
@@ -255,7 +259,7 @@ no_frame_was_held = refl
 
 -- ---- a reader that was fed a compressed file
 
-pub compressed_file_is_refused : IsFeedingResultFor {T = ℕ} (0x1f ∷ 0x8b ∷ 8 ∷ 0 ∷ []) (Err (Refused (header_fault_at NotCapture 0)))
+pub compressed_file_is_refused : IsFeedingResultOfBytes {T = ℕ} (0x1f ∷ 0x8b ∷ 8 ∷ 0 ∷ []) (Err (Refused (header_fault_at NotCapture 0)))
 compressed_file_is_refused = ([], inl compressed_header)
 
 pub reader_of_a_compressed_file : ReaderRepresents (AtFault (header_fault_at NotCapture 0)) (0x1f ∷ 0x8b ∷ 8 ∷ 0 ∷ []) []
@@ -264,11 +268,11 @@ reader_of_a_compressed_file = inl compressed_header
 pub reader_at_a_fault_has_stopped : ReaderHasStopped (AtFault (header_fault_at NotCapture 0))
 reader_at_a_fault_has_stopped = tt
 
-pub reader_at_a_fault_answers_it : IsFeedingResultOf {T = ℕ} (AtFault (header_fault_at NotCapture 0))
+pub reader_at_a_fault_answers_it : IsFeedingResultInState {T = ℕ} (AtFault (header_fault_at NotCapture 0))
     (Err (Refused (header_fault_at NotCapture 0)))
 reader_at_a_fault_answers_it = refl
 
-pub reader_at_a_fault_answers_nothing_else : IsFeedingResultOf {T = ℕ} (AtFault (header_fault_at NotCapture 0)) (Ok 1) → ⊥
+pub reader_at_a_fault_answers_nothing_else : IsFeedingResultInState {T = ℕ} (AtFault (header_fault_at NotCapture 0)) (Ok 1) → ⊥
 reader_at_a_fault_answers_nothing_else answer = cc
 
 -- ---- want of memory

@@ -6,9 +6,11 @@ use Rattle.pcap_frames.specs.declared.fault.FaultKind.TheVariants.{CutFrame, Lon
 use Rattle.pcap_frames.specs.declared.fault.FeedFault.TheVariants as feed
 use Rattle.pcap_frames.specs.declared.fault.ReadRefusal.TheVariants.{Capture, ReadFault, OutOfMemory}
 use Rattle.pcap_frames.specs.Header.{header_fault_at}
-use Rattle.pcap_frames.specs.Capture.{IsCaptureEndFault}
+use Rattle.pcap_frames.specs.CaptureFault.{IsCaptureEndFault}
 use Rattle.pcap_frames.specs.Visitor.{VisitorSees}
-use Rattle.pcap_frames.specs.SourceReading.{source_reading_refusal, SourceReadingShowsCapture, SourceReadingShowsBeforeFault, SourceReadingShowsFront, SourceReadingShowsPart, IsSeenInSourceReading, IsSourceReadingOf}
+use Rattle.pcap_frames.specs.SourceReading.{source_reading_refusal, SourceReadingShowsCapture}
+use Rattle.pcap_frames.specs.SourceReading.{SourceReadingShowsBeforeFault, SourceReadingShowsFront}
+use Rattle.pcap_frames.specs.SourceReading.{SourceReadingShowsPart, IsSeenInSourceReading, IsSourceReadingOf}
 use Rattle.pcap_frames.proofs.CaptureFileLemmas.{capture_files_are_decided}
 use Rattle.pcap_frames.proofs.Examples.{frame, capture, cut_file, frame_of_three_bytes, header_and_frame}
 use Rattle.pcap_frames.proofs.Examples.{fault_of_a_cut_file, cut_file_is_no_capture, capture_has_no_fault}

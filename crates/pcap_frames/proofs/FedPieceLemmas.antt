@@ -6,16 +6,19 @@ use Rattle.pcap_frames.specs.declared.fault.CaptureFault.{CaptureFault}
 use Rattle.pcap_frames.specs.declared.fault.FeedFault.{FeedFault}
 use Rattle.pcap_frames.specs.declared.reader.part.FramePart.{FramePart}
 use Rattle.pcap_frames.specs.declared.reader.part.Stage.{Stage}
-use Rattle.pcap_frames.specs.Part.{state_of_part}
+use Rattle.pcap_frames.specs.ReaderPart.{reader_state_of_part}
 use Rattle.pcap_frames.specs.Frame.{FrameValue}
-use Rattle.pcap_frames.specs.Frames.{AreFrames}
+use Rattle.pcap_frames.specs.Frame.{AreFrames}
 use Rattle.pcap_frames.specs.ReaderState.{ReaderState, InHeader, InFrames, AtFault, LacksMemory, ReaderHasStopped}
 use Rattle.pcap_frames.specs.ReaderState.{ReaderRepresents}
-use Rattle.pcap_frames.specs.ReaderSteps.{ReaderStepTakes, ReaderStepShowsFront, ReaderStepLacksRoom}
-use Rattle.pcap_frames.specs.Visitor.{VisitorSees, IsVisitorAlike}
-use Rattle.pcap_frames.specs.Feeding.{Feeds, FeedingShowsBeginning, IfFeedingHadMemory, IsFeedingResultOf, IsFeedingResultFor}
-use Rattle.pcap_frames.proofs.ReaderStepLemmas.{ReaderAdvances-no_step, ReaderAdvances-two_steps, reader_step_at_fault, reader_step_without_memory}
-use Rattle.pcap_frames.proofs.FirstFaultLemmas.{reader_reaches_first_fault, frames_before_first_fault_begin, answer_tells_first_fault}
+use Rattle.pcap_frames.specs.ReaderSteps.{ReaderStepTakes, ReaderStepShowsFront, ReaderStepLacksMemory}
+use Rattle.pcap_frames.specs.Visitor.{VisitorSees, VisitorsRepresentSame}
+use Rattle.pcap_frames.specs.Feeding.{Feeds, FeedingShowsBeginning, IfFeedingHadMemory, IsFeedingResultInState}
+use Rattle.pcap_frames.specs.Feeding.{IsFeedingResultOfBytes}
+use Rattle.pcap_frames.proofs.ReaderStepLemmas.{ReaderAdvances-no_step, ReaderAdvances-two_steps, reader_step_at_fault}
+use Rattle.pcap_frames.proofs.ReaderStepLemmas.{reader_step_without_memory}
+use Rattle.pcap_frames.proofs.FirstFaultLemmas.{reader_reaches_first_fault, frames_before_first_fault_begin}
+use Rattle.pcap_frames.proofs.FirstFaultLemmas.{answer_tells_first_fault}
 use Rattle.pcap_frames.specs.declared.reader.part.Stage.TheVariants as stage
 
 -- frames and more frames
@@ -33,7 +36,7 @@ module _ {V : Type 0} (represents : V → List FrameValue → Type 0) where
       subst (represents saw) (append_assoc before frames more) (second (before ++ frames) (first before stands))
 
   pub VisitorSees-alike_fed_piece : (seen mid saw : V) (frames : List FrameValue) → VisitorSees represents seen mid frames
-      → IsVisitorAlike represents mid saw → VisitorSees represents seen saw frames
+      → VisitorsRepresentSame represents mid saw → VisitorSees represents seen saw frames
   VisitorSees-alike_fed_piece seen mid saw frames first alike = λ before stands. alike.forth (before ++ frames) (first before stands)
 
   -- a front of the piece is fed, and this rest is left
@@ -79,7 +82,7 @@ module _ {V : Type 0} (represents : V → List FrameValue → Type 0) where
       (sym (fed.joined ∙ ap (λ l. fed.done ++ l) none ∙ append-nil fed.done)) fed.feeds
 
   pub fed_piece_lacks_room : (seen mid saw : V) (old now : ReaderState) (piece rest : List ℕ) → IsFedPiece seen mid old now piece rest
-      → ReaderStepLacksRoom represents mid saw now rest → FeedingShowsBeginning represents seen saw old piece
+      → ReaderStepLacksMemory represents mid saw now rest → FeedingShowsBeginning represents seen saw old piece
   fed_piece_lacks_room seen mid saw old now piece rest fed lacks =
       let before = fed.feeds in
       let takes = lacks.takes in
@@ -106,7 +109,7 @@ module _ {V : Type 0} (represents : V → List FrameValue → Type 0) where
 
   -- a reader that has stopped is fed nothing
   pub piece_fed_to_stopped_reader : {T : Type 0} (state : ReaderState) (visitor : V) (piece : List ℕ) (result : Result T FeedFault)
-      → ReaderHasStopped state → IsFeedingResultOf state result
+      → ReaderHasStopped state → IsFeedingResultInState state result
       → IfFeedingHadMemory result (Feeds represents visitor visitor state state piece)
       (FeedingShowsBeginning represents visitor visitor state piece)
   piece_fed_to_stopped_reader (InHeader kept) visitor piece result stopped answer = absurd stopped
@@ -129,17 +132,17 @@ module _ {V : Type 0} (represents : V → List FrameValue → Type 0) where
 
   -- what is fed is answered exactly
   pub fed_piece_is_answered_exactly : {T : Type 0} (seen saw : V) (old new : ReaderState) (piece : List ℕ) (result : Result T FeedFault)
-      → Feeds represents seen saw old new piece → IsFeedingResultOf new result
+      → Feeds represents seen saw old new piece → IsFeedingResultInState new result
       → (before : List ℕ) (frames : List FrameValue) → ReaderRepresents old before frames
-      → IsFeedingResultFor (before ++ piece) result
+      → IsFeedingResultOfBytes (before ++ piece) result
   fed_piece_is_answered_exactly seen saw old new piece result feeds answer before frames stands =
       let fed = feeds.advances in answer_tells_first_fault new (before ++ piece) _ result (fed.reads before frames stands) answer
 
 -- a reader that has stopped answers exactly
 pub stopped_reader_answers_fed_piece : {T : Type 0} (state : ReaderState) (piece : List ℕ) (result : Result T FeedFault)
-    → ReaderHasStopped state → IsFeedingResultOf state result
+    → ReaderHasStopped state → IsFeedingResultInState state result
     → (before : List ℕ) (frames : List FrameValue) → ReaderRepresents state before frames
-    → IsFeedingResultFor (before ++ piece) result
+    → IsFeedingResultOfBytes (before ++ piece) result
 stopped_reader_answers_fed_piece (InHeader kept) piece result stopped answer before frames stands = absurd stopped
 stopped_reader_answers_fed_piece (InFrames at) piece result stopped answer before frames stands = absurd stopped
 stopped_reader_answers_fed_piece (AtFault fault) piece result stopped answer before frames stands =
@@ -170,6 +173,6 @@ stopped_reader_takes_fed_piece LacksMemory piece rest stopped some none =
 -- a stage at a fault or without memory is that of a reader that has stopped
 pub fed_piece_stage_has_stopped : (now : Stage) (part : FramePart)
     → ((fault : CaptureFault) × (now ≡ stage.AtFault fault)) ⊎ (now ≡ stage.LacksMemory)
-    → ReaderHasStopped (state_of_part now part)
-fed_piece_stage_has_stopped now part (inl (fault, is)) = subst (λ s. ReaderHasStopped (state_of_part s part)) (sym is) tt
-fed_piece_stage_has_stopped now part (inr is) = subst (λ s. ReaderHasStopped (state_of_part s part)) (sym is) tt
+    → ReaderHasStopped (reader_state_of_part now part)
+fed_piece_stage_has_stopped now part (inl (fault, is)) = subst (λ s. ReaderHasStopped (reader_state_of_part s part)) (sym is) tt
+fed_piece_stage_has_stopped now part (inr is) = subst (λ s. ReaderHasStopped (reader_state_of_part s part)) (sym is) tt

@@ -10,17 +10,23 @@ use Rattle.pcap_frames.specs.declared.fault.FaultKind.TheVariants.{ShortHeader, 
 use Rattle.pcap_frames.specs.FileOrder.{number_in_file_order}
 use Rattle.pcap_frames.specs.Frame.{FrameValue}
 use Rattle.pcap_frames.specs.Header.{IsHeader, header_fault, header_fault_at}
-use Rattle.pcap_frames.specs.Frames.{frame_at, BeginsFrame, BeginsFrames, frame_bytes_needed, frame_fault}
-use Rattle.pcap_frames.specs.Capture.{SplitsCapture, IsCapture, ShowsCaptureFault, HasCaptureFaultAfter, HasCaptureFault}
+use Rattle.pcap_frames.specs.Frame.{frame_at, BeginsWithFrame, BeginsWithFrames, frame_bytes_needed, frame_fault}
+use Rattle.pcap_frames.specs.Capture.{SplitsCapture, IsCapture}
+use Rattle.pcap_frames.specs.CaptureFault.{ShowsCaptureFault, HasCaptureFaultAfter, HasCaptureFault}
 use Rattle.pcap_frames.specs.declared.fault.FeedFault.{FeedFault}
 use Rattle.pcap_frames.specs.ReaderState.{ReaderFramePlace, ReaderState, InHeader, InFrames, AtFault, LacksMemory}
 use Rattle.pcap_frames.specs.ReaderState.{IsReaderInHeader, IsReaderBehind, ReaderRepresents, ReaderCompletes}
-use Rattle.pcap_frames.specs.Feeding.{IsFeedingResultOf, IsFeedingResultFor}
-use Rattle.pcap_frames.proofs.FileHeaderLemmas.{file_header_shows_no_fault, file_header_is_whole, IsHeader-in_longer_file}
-use Rattle.pcap_frames.proofs.BeginsFrameLemmas.{frame_bytes_needed-where_frame_begins, frame_bytes_needed-begins_part_of_frame, frame_bytes_needed-begins_frame_header, frame_that_begins_needs_header}
-use Rattle.pcap_frames.proofs.BeginsFrameLemmas.{BeginsFrames-shorter}
-use Rattle.pcap_frames.proofs.FileSplitLemmas.{SplitsCapture-longer_file, IsLastFileSplit, last_file_split_begins, last_file_split_is_one}
-use Rattle.pcap_frames.proofs.ReaderStepLemmas.{frame_fault-empty_reader_step, reader_step_at_right_frame, reader_step_past_limit}
+use Rattle.pcap_frames.specs.Feeding.{IsFeedingResultInState, IsFeedingResultOfBytes}
+use Rattle.pcap_frames.proofs.FileHeaderLemmas.{file_header_shows_no_fault, file_header_is_whole}
+use Rattle.pcap_frames.proofs.FileHeaderLemmas.{IsHeader-in_longer_file}
+use Rattle.pcap_frames.proofs.BeginsFrameLemmas.{frame_bytes_needed-where_frame_begins}
+use Rattle.pcap_frames.proofs.BeginsFrameLemmas.{frame_bytes_needed-begins_part_of_frame}
+use Rattle.pcap_frames.proofs.BeginsFrameLemmas.{frame_bytes_needed-begins_frame_header, frame_that_begins_needs_header}
+use Rattle.pcap_frames.proofs.BeginsFrameLemmas.{BeginsWithFrames-shorter}
+use Rattle.pcap_frames.proofs.FileSplitLemmas.{SplitsCapture-longer_file, IsLastFileSplit, last_file_split_begins}
+use Rattle.pcap_frames.proofs.FileSplitLemmas.{last_file_split_is_one}
+use Rattle.pcap_frames.proofs.ReaderStepLemmas.{frame_fault-empty_reader_step, reader_step_at_right_frame}
+use Rattle.pcap_frames.proofs.ReaderStepLemmas.{reader_step_past_limit}
 
 -- ---- where bytes end
 
@@ -42,7 +48,7 @@ ReachesFirstFault bytes frames = NoHeaderAtFirstFault bytes frames ⊎ FramesToF
 -- behind a fault that is shown no frame begins, or there are as many as the limit allows
 no_frame_behind_first_fault : (order : FileOrder) (count place : ℕ) (rest : List ℕ) (fault : CaptureFault)
     → frame_fault order count place rest ≡ Some fault
-    → ((frame : FrameValue) → BeginsFrame order rest frame → ⊥) ⊎ (16777216 ≤ count)
+    → ((frame : FrameValue) → BeginsWithFrame order rest frame → ⊥) ⊎ (16777216 ≤ count)
 unfolding frame_fault
 no_frame_behind_first_fault order count place rest fault shown = elim (cases_Bool (ltb 0 (length rest))) [
   | inr none ↦ absurd (let wrong = rw none at shown in cc)
@@ -62,7 +68,7 @@ no_frame_behind_first_fault order count place rest fault shown = elim (cases_Boo
 
 -- no frame begins a rest that needs more bytes
 cut_frame_is_first_fault : (order : FileOrder) (rest : List ℕ) → length rest < frame_bytes_needed order rest → (frame : FrameValue)
-    → BeginsFrame order rest frame → ⊥
+    → BeginsWithFrame order rest frame → ⊥
 cut_frame_is_first_fault order rest cut frame begins = omega (arith, frame_bytes_needed-where_frame_begins order rest frame begins)
 
 -- a header whose fault is shown isn't right
@@ -112,7 +118,7 @@ frames_before_first_fault_begin front more frames others (inr here) (inr there) 
     one_order_to_first_fault (front ++ more) here.order there.order longer.header there.splits.header in
     let begins = last_file_split_begins here.order (drop 24 (front ++ more)) 16777216 frames others (here.rest ++ more)
     there.rest longer.begins
-    (subst (λ order. BeginsFrames order (drop 24 (front ++ more)) others there.rest) same there.splits.begins)
+    (subst (λ order. BeginsWithFrames order (drop 24 (front ++ more)) others there.rest) same there.splits.begins)
     longer.limit
     (subst (λ order. IsLastFileSplit order 16777216 others there.rest) same there.is_last) in
     (begins.0, begins.1)
@@ -198,7 +204,7 @@ one_rest_at_first_fault file frames others here there same =
     let order : there.order ≡ here.order =
     one_order_to_first_fault file here.order there.order here.splits.header there.splits.header in
     let one = last_file_split_is_one here.order (drop 24 file) 16777216 frames others here.rest there.rest here.splits.begins
-    (subst (λ o. BeginsFrames o (drop 24 file) others there.rest) order there.splits.begins) here.splits.limit
+    (subst (λ o. BeginsWithFrames o (drop 24 file) others there.rest) order there.splits.begins) here.splits.limit
     there.splits.limit here.is_last
     (subst (λ o. IsLastFileSplit o 16777216 others there.rest) order there.is_last) in
     (order, one.1)
@@ -256,15 +262,15 @@ behind_shows_no_first_fault at bytes frames others fault stands (inr shows) =
 
 -- a reader that goes on stands for bytes that show no fault, and one at a fault for bytes that show it
 pub answer_tells_first_fault : {T : Type 0} (state : ReaderState) (bytes : List ℕ) (frames : List FrameValue)
-    (result : Result T FeedFault) → ReaderRepresents state bytes frames → IsFeedingResultOf state result
-    → IsFeedingResultFor bytes result
+    (result : Result T FeedFault) → ReaderRepresents state bytes frames → IsFeedingResultInState state result
+    → IsFeedingResultOfBytes bytes result
 answer_tells_first_fault (InHeader kept) bytes frames (Ok x) stands answer = λ others fault.
     part_shows_no_first_fault kept bytes frames others fault stands
 answer_tells_first_fault (InHeader kept) bytes frames (Err x) stands answer = absurd cc
 answer_tells_first_fault (InFrames at) bytes frames (Ok x) stands answer = λ others fault.
     behind_shows_no_first_fault at bytes frames others fault stands
 answer_tells_first_fault (InFrames at) bytes frames (Err x) stands answer = absurd cc
-answer_tells_first_fault (AtFault fault) bytes frames result stands answer = subst (IsFeedingResultFor bytes) (sym answer) (frames, stands)
+answer_tells_first_fault (AtFault fault) bytes frames result stands answer = subst (IsFeedingResultOfBytes bytes) (sym answer) (frames, stands)
 answer_tells_first_fault LacksMemory bytes frames result stands answer = absurd stands
 
 -- ---- there is an answer
@@ -273,12 +279,12 @@ answer_tells_first_fault LacksMemory bytes frames result stands answer = absurd 
 pub record FrontToFirstFault (order : FileOrder) (limit : ℕ) (bytes : List ℕ) : Type 0 where
   pub frames : List FrameValue
   pub rest : List ℕ
-  pub begins : BeginsFrames order bytes frames rest
+  pub begins : BeginsWithFrames order bytes frames rest
   pub within : length frames ≤ limit
   pub stuck : (length rest < frame_bytes_needed order rest)
       ⊎ (((16 ≤ length rest) × (262144 < number_in_file_order order 4 8 rest)) ⊎ (length frames ≡ limit))
 
-front_to_first_fault_grows : (order : FileOrder) (limit : ℕ) (bytes : List ℕ) → BeginsFrame order bytes (frame_at order bytes)
+front_to_first_fault_grows : (order : FileOrder) (limit : ℕ) (bytes : List ℕ) → BeginsWithFrame order bytes (frame_at order bytes)
     → FrontToFirstFault order limit (drop (16 + number_in_file_order order 4 8 bytes) bytes) → FrontToFirstFault order (suc limit) bytes
 front_to_first_fault_grows order limit bytes begins behind = record {
   frames = frame_at order bytes ∷ behind.frames;
@@ -357,7 +363,7 @@ fronts_complete_to_first_fault bytes = by_header (header_fault bytes) refl where
     ),
   )
   behind order header front None is =
-      let shorter = BeginsFrames-shorter order (drop 24 bytes) front.frames front.rest front.begins in (
+      let shorter = BeginsWithFrames-shorter order (drop 24 bytes) front.frames front.rest front.begins in (
         front.frames,
         (
           InFrames (record {

@@ -9,14 +9,16 @@ use Rattle.pcap_frames.specs.declared.fault.CaptureFault.{CaptureFault}
 use Rattle.pcap_frames.specs.FileOrder.{number_in_file_order}
 use Rattle.pcap_frames.specs.Frame.{FrameValue}
 use Rattle.pcap_frames.specs.Header.{IsHeader, header_magic_order, header_fault}
-use Rattle.pcap_frames.specs.Frames.{frame_at, BeginsFrame, BeginsFrames, frame_bytes_needed, frame_fault}
-use Rattle.pcap_frames.specs.Capture.{ShowsCaptureFault}
+use Rattle.pcap_frames.specs.Frame.{frame_at, BeginsWithFrame, BeginsWithFrames, frame_bytes_needed, frame_fault}
+use Rattle.pcap_frames.specs.CaptureFault.{ShowsCaptureFault}
 use Rattle.pcap_frames.specs.ReaderState.{ReaderFramePlace, ReaderState, InHeader, InFrames, AtFault, LacksMemory}
 use Rattle.pcap_frames.specs.ReaderState.{IsReaderBehind, ReaderRepresents, ReaderAdvances}
 use Rattle.pcap_frames.specs.ReaderSteps.{StepSplitsFrame, ReaderStepTakes}
 use Rattle.pcap_frames.proofs.FileNumberLemmas.{number_in_file_order-in_file_front, number_in_file_order-in_longer_file}
 use Rattle.pcap_frames.proofs.FileHeaderLemmas.{file_header_of_magic_order}
-use Rattle.pcap_frames.proofs.BeginsFrameLemmas.{BeginsFrames-more, frame_that_begins_needs_header, frame_bytes_needed-begins_frame_header, frame_bytes_needed-begins_part_of_frame}
+use Rattle.pcap_frames.proofs.BeginsFrameLemmas.{BeginsWithFrames-more, frame_that_begins_needs_header}
+use Rattle.pcap_frames.proofs.BeginsFrameLemmas.{frame_bytes_needed-begins_frame_header}
+use Rattle.pcap_frames.proofs.BeginsFrameLemmas.{frame_bytes_needed-begins_part_of_frame}
 use Rattle.pcap_frames.proofs.FileSplitLemmas.{SplitsCapture-longer_file, ShowsCaptureFault-longer_split_file}
 
 -- ---- the first bytes of a run are enough
@@ -299,7 +301,7 @@ reader_step_next_place at size = record { order = at.order; count = at.count + 1
 -- the rest is one frame
 reader_step_one_frame : (at : ReaderFramePlace) (before front : List ℕ) (frames : List FrameValue)
     (stands : IsReaderBehind at before frames)
-    → BeginsFrame at.order (stands.rest ++ front) (frame_at at.order (stands.rest ++ front))
+    → BeginsWithFrame at.order (stands.rest ++ front) (frame_at at.order (stands.rest ++ front))
     → length (stands.rest ++ front) ≡ 16 + number_in_file_order at.order 4 8 (stands.rest ++ front) → (at.count ≡ 16777216 → ⊥)
     → IsReaderBehind (reader_step_next_place at (length (stands.rest ++ front))) (before ++ front)
     (frames ++ frame_at at.order (stands.rest ++ front) ∷ [])
@@ -312,9 +314,9 @@ reader_step_one_frame at before front frames stands begins size room =
       splits = record {
         header = splits.header;
         begins =
-            subst (BeginsFrames at.order (drop 24 (before ++ front))
+            subst (BeginsWithFrames at.order (drop 24 (before ++ front))
             (frames ++ frame_at at.order (stands.rest ++ front) ∷ [])) none
-            (BeginsFrames-more at.order (drop 24 (before ++ front)) frames (stands.rest ++ front) _ splits.begins
+            (BeginsWithFrames-more at.order (drop 24 (before ++ front)) frames (stands.rest ++ front) _ splits.begins
             begins);
         limit =
             omega (
@@ -350,7 +352,7 @@ reader_step_whole_so_far at front now is none header size = record {
       let whole : length (stands.rest ++ front) ≡ 16 + number_in_file_order at.order 4 8 (stands.rest ++ front) =
       sym came ∙ size ∙ ap (frame_bytes_needed at.order) same ∙ frame_bytes_needed-reader_step_front at.order (stands.rest ++ front)
       ∙ frame_bytes_needed-begins_frame_header at.order (stands.rest ++ front) past in
-      let begins : BeginsFrame at.order (stands.rest ++ front) (frame_at at.order (stands.rest ++ front)) = record {
+      let begins : BeginsWithFrame at.order (stands.rest ++ front) (frame_at at.order (stands.rest ++ front)) = record {
         header = past;
         is_frame = refl;
         limit = right.1;
@@ -382,7 +384,7 @@ reader_step_frame_in_piece at front none empty room past fits whole = record {
   reads = λ before frames stands.
       let nothing : stands.rest ≡ [] = nil_from_length stands.rest (sym stands.came_is ∙ none) in
       let same : stands.rest ++ front ≡ front = ap (λ l. l ++ front) nothing in
-      let begins : BeginsFrame at.order front (frame_at at.order front) = record {
+      let begins : BeginsWithFrame at.order front (frame_at at.order front) = record {
         header = past;
         is_frame = refl;
         limit = fits;
@@ -390,7 +392,7 @@ reader_step_frame_in_piece at front none empty room past fits whole = record {
       } in
       subst (λ l. IsReaderBehind (reader_step_next_place at (length l)) (before ++ front) (frames ++ frame_at at.order l ∷ [])) same
       (reader_step_one_frame at before front frames stands
-      (subst (λ l. BeginsFrame at.order l (frame_at at.order l)) (sym same) begins)
+      (subst (λ l. BeginsWithFrame at.order l (frame_at at.order l)) (sym same) begins)
       (subst (λ l. length l ≡ 16 + number_in_file_order at.order 4 8 l) (sym same) whole) (λ full. omega arith));
 }
 

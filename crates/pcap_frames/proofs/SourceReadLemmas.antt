@@ -8,19 +8,24 @@ use Rattle.pcap_frames.specs.declared.fault.CaptureFault.{CaptureFault}
 use Rattle.pcap_frames.specs.declared.fault.FeedFault.{FeedFault}
 use Rattle.pcap_frames.specs.declared.fault.ReadRefusal.TheVariants.{Capture}
 use Rattle.pcap_frames.specs.Frame.{FrameValue}
-use Rattle.pcap_frames.specs.Frames.{AreFrames}
-use Rattle.pcap_frames.specs.Capture.{ShowsCaptureFault, HasCaptureFaultAfter}
+use Rattle.pcap_frames.specs.Frame.{AreFrames}
+use Rattle.pcap_frames.specs.CaptureFault.{ShowsCaptureFault, HasCaptureFaultAfter}
 use Rattle.pcap_frames.specs.ReaderState.{ReaderState, InHeader, InFrames, AtFault, LacksMemory, ReaderHasStopped}
 use Rattle.pcap_frames.specs.ReaderState.{ReaderRepresents, ReaderCompletes}
 use Rattle.pcap_frames.specs.Visitor.{VisitorSees}
-use Rattle.pcap_frames.specs.Feeding.{IsFeedingResultOf, IfFeedingHadMemory, Feeds, FeedingShowsBeginning, IsFinalFeedingResult}
-use Rattle.pcap_frames.specs.SourceReading.{source_reading_refusal, SourceReadingShowsCapture, SourceReadingShowsBeforeFault, SourceReadingShowsFront, SourceReadingShowsPart, IsSeenInSourceReading, IsSourceReadingOf}
-use Rattle.pcap_frames.proofs.BeginsFrameLemmas.{BeginsFrames-length}
+use Rattle.pcap_frames.specs.Feeding.{IsFeedingResultInState, IfFeedingHadMemory, Feeds, FeedingShowsBeginning}
+use Rattle.pcap_frames.specs.Feeding.{IsFinalFeedingResult}
+use Rattle.pcap_frames.specs.SourceReading.{source_reading_refusal, SourceReadingShowsCapture}
+use Rattle.pcap_frames.specs.SourceReading.{SourceReadingShowsBeforeFault, SourceReadingShowsFront}
+use Rattle.pcap_frames.specs.SourceReading.{SourceReadingShowsPart, IsSeenInSourceReading, IsSourceReadingOf}
+use Rattle.pcap_frames.proofs.BeginsFrameLemmas.{BeginsWithFrames-length}
 use Rattle.pcap_frames.proofs.FileSplitLemmas.{ShowsCaptureFault-longer_split_file}
 use Rattle.pcap_frames.proofs.EndFaultLemmas.{bytes_show_no_end_fault}
 use Rattle.pcap_frames.proofs.ReaderStepLemmas.{frame_bytes_needed-reader_step_bound}
-use Rattle.pcap_frames.proofs.FirstFaultLemmas.{reader_reaches_first_fault, frames_before_first_fault_begin, fronts_complete_to_first_fault, capture_has_no_first_fault}
-use Rattle.pcap_frames.proofs.FedPieceLemmas.{AreFrames-of_fed_pieces, VisitorSees-no_fed_piece, VisitorSees-two_fed_pieces}
+use Rattle.pcap_frames.proofs.FirstFaultLemmas.{reader_reaches_first_fault, frames_before_first_fault_begin}
+use Rattle.pcap_frames.proofs.FirstFaultLemmas.{fronts_complete_to_first_fault, capture_has_no_first_fault}
+use Rattle.pcap_frames.proofs.FedPieceLemmas.{AreFrames-of_fed_pieces, VisitorSees-no_fed_piece}
+use Rattle.pcap_frames.proofs.FedPieceLemmas.{VisitorSees-two_fed_pieces}
 use Rattle.pcap_frames.specs.declared.fault.FeedFault.TheVariants as feed
 
 -- ---- how far a reader has come
@@ -46,7 +51,7 @@ source_read_is_bounded (InHeader kept) bytes frames stands goes = omega (arith, 
 source_read_is_bounded (InFrames at) bytes frames stands goes =
     let splits = stands.splits in
     let header = splits.header in
-    let sizes = BeginsFrames-length at.order (drop 24 bytes) frames stands.rest splits.begins in
+    let sizes = BeginsWithFrames-length at.order (drop 24 bytes) frames stands.rest splits.begins in
     omega (
       arith,
       sizes,
@@ -60,7 +65,7 @@ source_read_is_bounded (AtFault fault) bytes frames stands goes = absurd (goes t
 source_read_is_bounded LacksMemory bytes frames stands goes = absurd stands
 
 -- a reader that answers Ok goes on
-pub source_read_answer_goes_on : {T : Type 0} (state : ReaderState) (x : T) → IsFeedingResultOf state (Ok x) → ReaderHasStopped state → ⊥
+pub source_read_answer_goes_on : {T : Type 0} (state : ReaderState) (x : T) → IsFeedingResultInState state (Ok x) → ReaderHasStopped state → ⊥
 source_read_answer_goes_on (InHeader kept) x answer stopped = stopped
 source_read_answer_goes_on (InFrames at) x answer stopped = stopped
 source_read_answer_goes_on (AtFault fault) x answer stopped = cc
@@ -69,7 +74,7 @@ source_read_answer_goes_on LacksMemory x answer stopped = cc
 -- a reader that refuses stands for bytes that show its fault
 pub source_read_shows_fault : (T : Type 0) (state : ReaderState) (bytes : List ℕ) (frames : List FrameValue)
     (fault : CaptureFault) → ReaderRepresents state bytes frames
-    → IsFeedingResultOf {T = T} state (Err (feed.Refused fault)) → ShowsCaptureFault bytes frames fault
+    → IsFeedingResultInState {T = T} state (Err (feed.Refused fault)) → ShowsCaptureFault bytes frames fault
 source_read_shows_fault T (InHeader kept) bytes frames fault stands answer = absurd cc
 source_read_shows_fault T (InFrames at) bytes frames fault stands answer = absurd cc
 source_read_shows_fault T (AtFault shown) bytes frames fault stands answer =
@@ -130,7 +135,7 @@ module _ {V : Type 0} (represents : V → List FrameValue → Type 0) where
   pub more_of_source_is_read : {T : Type 0} (seen mid saw : V) (left now after : Option (List ℕ)) (old new : ReaderState)
       (piece : List ℕ) (x : T)
       → HasReadSource seen mid left now old → Consumes now after piece → Feeds represents mid saw old new piece
-      → IsFeedingResultOf new (Ok x) → HasReadSource seen saw left after new
+      → IsFeedingResultInState new (Ok x) → HasReadSource seen saw left after new
   more_of_source_is_read seen mid saw left now after old new piece x read consumed feeds answer =
       let fed = feeds.advances in record {
         bytes = read.bytes ++ piece;
@@ -145,7 +150,7 @@ module _ {V : Type 0} (represents : V → List FrameValue → Type 0) where
   pub source_read_leaves_less : {T : Type 0} (seen mid saw : V) (left now : Option (List ℕ)) (old new : ReaderState)
       (piece : List ℕ) (x : T)
       → HasReadSource seen mid left now old → 0 < length piece → Feeds represents mid saw old new piece
-      → IsFeedingResultOf new (Ok x) → 24 + 262160 * 16777217 - source_read_extent new < 24 + 262160 * 16777217 - source_read_extent old
+      → IsFeedingResultInState new (Ok x) → 24 + 262160 * 16777217 - source_read_extent new < 24 + 262160 * 16777217 - source_read_extent old
   source_read_leaves_less seen mid saw left now old new piece x read some feeds answer =
       let fed = feeds.advances in
       let stands = fed.reads read.bytes read.frames read.stands in
@@ -194,7 +199,7 @@ module _ {V : Type 0} (represents : V → List FrameValue → Type 0) where
   pub source_read_is_refused : (T : Type 0) (seen mid saw : V) (left now after : Option (List ℕ)) (old new : ReaderState)
       (piece : List ℕ) (fault : CaptureFault)
       → HasReadSource seen mid left now old → Consumes now after piece → Feeds represents mid saw old new piece
-      → IsFeedingResultOf {T = T} new (Err (feed.Refused fault))
+      → IsFeedingResultInState {T = T} new (Err (feed.Refused fault))
       → SourceReadingShowsBeforeFault represents seen saw left after fault × IfSome left (λ file. IsSourceReadingOf file (Err (Capture fault)))
   source_read_is_refused T seen mid saw left now after old new piece fault read consumed feeds answer =
       let whole = Consumes-trans left now after read.bytes piece read.consumed consumed in
@@ -225,7 +230,7 @@ module _ {V : Type 0} (represents : V → List FrameValue → Type 0) where
       (piece : List ℕ) (fault : FeedFault)
       → HasReadSource seen mid left now old → Consumes now after piece
       → IfFeedingHadMemory {T = T} (Err fault) (Feeds represents mid saw old new piece)
-      (FeedingShowsBeginning represents mid saw old piece) → IsFeedingResultOf {T = T} new (Err fault)
+      (FeedingShowsBeginning represents mid saw old piece) → IsFeedingResultInState {T = T} new (Err fault)
       → IsSeenInSourceReading represents seen saw left after (Err (source_reading_refusal fault))
       × IfSome left (λ file. IsSourceReadingOf file (Err (source_reading_refusal fault)))
   source_read_is_stopped T seen mid saw left now after old new piece (feed.Refused fault) read consumed fed answer =

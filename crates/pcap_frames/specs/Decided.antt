@@ -2,8 +2,9 @@
 use Rattle.std.specs.Prelude.{ℕ, ◌≡◌, ◌<◌, ◌⊎◌, List, ◌++◌, slice_index}
 use Rattle.pcap_frames.specs.declared.fault.CaptureFault.{CaptureFault}
 use Rattle.pcap_frames.specs.Frame.{FrameValue}
-use Rattle.pcap_frames.specs.Frames.{AreFrames}
-use Rattle.pcap_frames.specs.Capture.{IsCapture, ShowsCaptureFault, HasCaptureFaultAfter, HasCaptureFault}
+use Rattle.pcap_frames.specs.Frame.{AreFrames}
+use Rattle.pcap_frames.specs.Capture.{IsCapture}
+use Rattle.pcap_frames.specs.CaptureFault.{ShowsCaptureFault, HasCaptureFaultAfter, HasCaptureFault}
 use Rattle.pcap_frames.specs.ReaderState.{ReaderCompletes}
 use Rattle.outside_io.specs.{IsBeginning}
 

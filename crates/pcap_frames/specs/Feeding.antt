@@ -5,18 +5,19 @@ use Rattle.pcap_frames.specs.declared.fault.FeedFault.{FeedFault}
 use Rattle.pcap_frames.specs.declared.fault.FeedFault.TheVariants.{Refused, OutOfMemory}
 use Rattle.pcap_frames.specs.declared.fault.CaptureFault.{CaptureFault}
 use Rattle.pcap_frames.specs.Frame.{FrameValue}
-use Rattle.pcap_frames.specs.Frames.{AreFrames}
-use Rattle.pcap_frames.specs.Capture.{IsCapture, ShowsCaptureFault, HasCaptureFaultAfter}
+use Rattle.pcap_frames.specs.Frame.{AreFrames}
+use Rattle.pcap_frames.specs.Capture.{IsCapture}
+use Rattle.pcap_frames.specs.CaptureFault.{ShowsCaptureFault, HasCaptureFaultAfter}
 use Rattle.pcap_frames.specs.ReaderState.{ReaderState, InHeader, InFrames, AtFault, LacksMemory, ReaderRepresents}
 use Rattle.pcap_frames.specs.ReaderState.{ReaderCompletes, ReaderAdvances}
 use Rattle.pcap_frames.specs.Visitor.{VisitorSees}
 
 -- what a reader in this state returns
-abbrev pub IsFeedingResultOf : {T : Type 0} → ReaderState → Result T FeedFault → Type 0
-IsFeedingResultOf (InHeader kept) result = IsOk result
-IsFeedingResultOf (InFrames at) result = IsOk result
-IsFeedingResultOf (AtFault fault) result = result ≡ Err (Refused fault)
-IsFeedingResultOf LacksMemory result = result ≡ Err OutOfMemory
+abbrev pub IsFeedingResultInState : {T : Type 0} → ReaderState → Result T FeedFault → Type 0
+IsFeedingResultInState (InHeader kept) result = IsOk result
+IsFeedingResultInState (InFrames at) result = IsOk result
+IsFeedingResultInState (AtFault fault) result = result ≡ Err (Refused fault)
+IsFeedingResultInState LacksMemory result = result ≡ Err OutOfMemory
 
 -- the first fact if memory sufficed, the second if it ran out
 abbrev pub IfFeedingHadMemory : {T : Type 0} → Result T FeedFault → Type 0 → Type 0 → Type 0
@@ -41,11 +42,11 @@ pub record FeedingShowsBeginning {V : Type 0} (represents : V → List FrameValu
   pub begins : (before : List ℕ) (frames more : List FrameValue) → ReaderRepresents old before frames
       → ReaderCompletes (before ++ bytes) (frames ++ more) → IsBeginning given more
 
--- bytes are refused exactly where they show a fault, unless memory ran out
-abbrev pub IsFeedingResultFor : {T : Type 0} → List ℕ → Result T FeedFault → Type 0
-IsFeedingResultFor bytes (Ok x) = (frames : List FrameValue) (fault : CaptureFault) → ShowsCaptureFault bytes frames fault → ⊥
-IsFeedingResultFor bytes (Err (Refused fault)) = (frames : List FrameValue) × ShowsCaptureFault bytes frames fault
-IsFeedingResultFor bytes (Err OutOfMemory) = ⊤
+-- what feeding returns for bytes: they are refused exactly where they show a fault, unless memory ran out
+abbrev pub IsFeedingResultOfBytes : {T : Type 0} → List ℕ → Result T FeedFault → Type 0
+IsFeedingResultOfBytes bytes (Ok x) = (frames : List FrameValue) (fault : CaptureFault) → ShowsCaptureFault bytes frames fault → ⊥
+IsFeedingResultOfBytes bytes (Err (Refused fault)) = (frames : List FrameValue) × ShowsCaptureFault bytes frames fault
+IsFeedingResultOfBytes bytes (Err OutOfMemory) = ⊤
 
 -- the file ends here: it is a capture of these frames, whose number is returned, or it has this first fault after them
 abbrev pub IsFinalFeedingResult : List ℕ → List FrameValue → Result ℕ FeedFault → Type 0

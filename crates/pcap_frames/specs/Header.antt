@@ -1,6 +1,6 @@
 -- The file header of libpcap's file format 2.4 (pcap-savefile): magic, version, three ignored fields, link type.
 use Rattle.std.specs.Prelude.{ℕ, ◌≡◌, ◌≤◌, Bool, ◌==◌, ◌||◌, nat_lt, if◌then◌else◌, Option, Some, None, List, length}
-use Rattle.pcap_frames.specs.FileFormat.{file_header_length}
+use Rattle.pcap_frames.specs.Lengths.{file_header_length}
 use Rattle.pcap_frames.specs.declared.file_order.FileOrder.{FileOrder}
 use Rattle.pcap_frames.specs.declared.file_order.FileOrder.TheVariants.{Big, Little}
 use Rattle.pcap_frames.specs.declared.fault.CaptureFault.{CaptureFault}

@@ -1,12 +1,13 @@
 -- What a reader keeps between two pieces of a file.
 use Rattle.std.specs.Prelude.{⊤, ℕ, ◌≡◌, ◌+◌, ◌<◌, None, List, [], length, take, ◌++◌}
-use Rattle.pcap_frames.specs.FileFormat.{file_header_length, kept_length}
+use Rattle.pcap_frames.specs.Lengths.{file_header_length, kept_frame_length}
 use Rattle.pcap_frames.specs.declared.file_order.FileOrder.{FileOrder}
 use Rattle.pcap_frames.specs.declared.fault.CaptureFault.{CaptureFault}
 use Rattle.pcap_frames.specs.Frame.{FrameValue}
 use Rattle.pcap_frames.specs.Header.{header_fault}
-use Rattle.pcap_frames.specs.Frames.{frame_fault, frame_bytes_needed}
-use Rattle.pcap_frames.specs.Capture.{SplitsCapture, ShowsCaptureFault}
+use Rattle.pcap_frames.specs.Frame.{frame_fault, frame_bytes_needed}
+use Rattle.pcap_frames.specs.Capture.{SplitsCapture}
+use Rattle.pcap_frames.specs.CaptureFault.{ShowsCaptureFault}
 
 -- after some frames: the byte order, the number of frames, the offset of the next frame, as much of its first 58 bytes
 -- as arrived, and how many of its bytes arrived
@@ -39,7 +40,7 @@ pub record IsReaderBehind (at : ReaderFramePlace) (bytes : List ℕ) (frames : L
   pub cut : length rest < frame_bytes_needed at.order rest
   pub count_is : at.count ≡ length frames
   pub place_is : at.place + length rest ≡ length bytes
-  pub kept_is : at.kept ≡ take kept_length rest
+  pub kept_is : at.kept ≡ take kept_frame_length rest
   pub came_is : at.came ≡ length rest
 
 -- a reader in this state represents these bytes at the front of a file, which contain these whole frames

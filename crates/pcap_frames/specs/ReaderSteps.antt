@@ -1,13 +1,13 @@
 -- What one step of a reader does, which no public contract cites.
 use Rattle.std.specs.Prelude.{ℕ, ◌≡◌, ◌+◌, ◌<◌, ◌≤◌, Option, None, Some, List, [], ◌∷◌, ◌++◌, length}
-use Rattle.pcap_frames.specs.FileFormat.{frame_header_length, most_captured_length}
+use Rattle.pcap_frames.specs.Lengths.{frame_header_length, most_captured_length}
 use Rattle.pcap_frames.specs.declared.file_order.FileOrder.{FileOrder}
 use Rattle.pcap_frames.specs.declared.reader.held.HeldFrame.{HeldFrame}
 use Rattle.pcap_frames.specs.FileOrder.{number_in_file_order}
 use Rattle.pcap_frames.specs.Frame.{FrameValue}
-use Rattle.pcap_frames.specs.Frames.{frame_at, AreFrames}
+use Rattle.pcap_frames.specs.Frame.{frame_at, AreFrames}
 use Rattle.pcap_frames.specs.ReaderState.{ReaderState, ReaderAdvances}
-use Rattle.pcap_frames.specs.Visitor.{VisitorSees, IsVisitorAlike}
+use Rattle.pcap_frames.specs.Visitor.{VisitorSees, VisitorsRepresentSame}
 
 -- the bytes are this whole frame and then a rest
 pub record StepSplitsFrame (order : FileOrder) (bytes rest : List ℕ) (frame : FrameValue) : Type 0 where
@@ -34,13 +34,13 @@ pub record ReaderStepShowsFront {V : Type 0} (represents : V → List FrameValue
   pub sees : VisitorSees represents seen saw given
 
 -- the visitor ran out of memory for the frame that a front of the piece completes
-pub record ReaderStepLacksRoom {V : Type 0} (represents : V → List FrameValue → Type 0) (seen saw : V) (old : ReaderState)
+pub record ReaderStepLacksMemory {V : Type 0} (represents : V → List FrameValue → Type 0) (seen saw : V) (old : ReaderState)
     (piece : List ℕ) : Type 0 where
   pub after : ReaderState
   pub rest : List ℕ
   pub frame : FrameValue
   pub takes : ReaderStepTakes old after piece rest (frame ∷ [])
-  pub alike : IsVisitorAlike represents seen saw
+  pub alike : VisitorsRepresentSame represents seen saw
 
 -- the frame that was held, if any
 abbrev pub frames_held_in_step : Option HeldFrame → List FrameValue

@@ -1,6 +1,6 @@
 -- What reading a whole source returns.
 use Rattle.std.specs.Prelude.{⊤, ℕ, ◌≡◌, ◌≤◌, List, length, Option, IfSome, Result, Ok, Err}
-use Rattle.pcap_frames.specs.FileFormat.{most_frames_in_file}
+use Rattle.pcap_frames.specs.Frame.{frame_count_limit}
 use Rattle.std.specs.Io.KnownBytes.{Consumes, IsAtEnd}
 use Rattle.pcap_frames.specs.declared.fault.FeedFault.{FeedFault}
 use Rattle.pcap_frames.specs.declared.fault.FeedFault.TheVariants as feed
@@ -8,8 +8,9 @@ use Rattle.pcap_frames.specs.declared.fault.ReadRefusal.{ReadRefusal}
 use Rattle.pcap_frames.specs.declared.fault.ReadRefusal.TheVariants.{Capture, ReadFault, OutOfMemory}
 use Rattle.pcap_frames.specs.declared.fault.CaptureFault.{CaptureFault}
 use Rattle.pcap_frames.specs.Frame.{FrameValue}
-use Rattle.pcap_frames.specs.Frames.{AreFrames}
-use Rattle.pcap_frames.specs.Capture.{IsCapture, IsCaptureEndFault, HasCaptureFaultAfter, HasCaptureFault}
+use Rattle.pcap_frames.specs.Frame.{AreFrames}
+use Rattle.pcap_frames.specs.Capture.{IsCapture}
+use Rattle.pcap_frames.specs.CaptureFault.{IsCaptureEndFault, HasCaptureFaultAfter, HasCaptureFault}
 use Rattle.pcap_frames.specs.ReaderState.{ReaderCompletes}
 use Rattle.pcap_frames.specs.Visitor.{VisitorSees}
 use Rattle.outside_io.specs.{IsBeginning}
@@ -24,7 +25,7 @@ pub record SourceReadingShowsCapture {V : Type 0} (represents : V → List Frame
     (left now : Option (List ℕ)) (count : ℕ) : Type 0 where
   pub frames : List FrameValue
   pub counted : length frames ≡ count
-  pub limit : count ≤ most_frames_in_file
+  pub limit : count ≤ frame_count_limit
   pub are_frames : AreFrames frames
   pub sees : VisitorSees represents seen saw frames
   pub capture : IfSome left (λ file. IsCapture file frames)
@@ -38,7 +39,7 @@ pub record SourceReadingShowsBeforeFault {V : Type 0} (represents : V → List F
   pub frames : List FrameValue
   pub consumed : Consumes left now front
   pub fault_of_front : HasCaptureFaultAfter front frames fault
-  pub limit : length frames ≤ most_frames_in_file
+  pub limit : length frames ≤ frame_count_limit
   pub are_frames : AreFrames frames
   pub sees : VisitorSees represents seen saw frames
   pub first : IfSome left (λ file. HasCaptureFaultAfter file frames fault)

@@ -1,7 +1,7 @@
 //! One frame of a capture, as it is shown to a visitor.
 
 ghost use Rattle.std.specs.Prelude.{◌≡◌, ◌≤◌, length, min};
-ghost use Rattle.pcap_frames.specs.FileFormat.{head_length as head_size, most_captured_length};
+ghost use Rattle.pcap_frames.specs.Lengths.{frame_head_length as head_size, most_captured_length};
 
 /// A frame: what was captured of one packet, and how long the packet was on the wire.
 #[derive(Clone, Copy)]

@@ -5,11 +5,13 @@ mod front;
 mod held;
 mod part;
 
-ghost use Rattle.std.specs.Prelude.{◌≡◌, ℕ, ◌<◌, List, [], ◌∷◌, ◌++◌, length, IfOk, OnOk, OnErr, IfSome, IfNone, IsTrue, ◌↔◌};
+ghost use Rattle.std.specs.Prelude.{◌≡◌, ℕ, ◌<◌, List, [], ◌∷◌, ◌++◌, length, IfOk, OnOk, OnErr, IfSome, IfNone};
+ghost use Rattle.std.specs.Prelude.{IsTrue, ◌↔◌};
 ghost use Rattle.pcap_frames.specs.Frame.{FrameValue};
 ghost use Rattle.pcap_frames.specs.ReaderSteps.{frames_held_in_step};
 ghost use Rattle.pcap_frames.specs.ReaderState.{InHeader, ReaderRepresents, ReaderHasStopped};
-ghost use Rattle.pcap_frames.specs.Feeding.{IsFeedingResultOf, IfFeedingHadMemory, Feeds, FeedingShowsBeginning, IsFeedingResultFor, IsFinalFeedingResult};
+ghost use Rattle.pcap_frames.specs.Feeding.{IsFeedingResultInState, IfFeedingHadMemory, Feeds, FeedingShowsBeginning};
+ghost use Rattle.pcap_frames.specs.Feeding.{IsFeedingResultOfBytes, IsFinalFeedingResult};
 
 use crate::header::fault_at;
 use crate::{FaultKind, FeedFault, Frame, FrameVisitor};
@@ -28,19 +30,19 @@ pub struct FrameReader {
 
 impl Model for FrameReader {
     ghost use Rattle.pcap_frames.specs.ReaderState.{ReaderState};
-    ghost use Rattle.pcap_frames.specs.Part.{state_of_part, IsPartInStage};
+    ghost use Rattle.pcap_frames.specs.ReaderPart.{reader_state_of_part, IsReaderPartInStage};
 
     ghost Value = { ReaderState };
 
-    ghost view = { λ r. state_of_part r.stage r.part };
+    ghost view = { λ r. reader_state_of_part r.stage r.part };
 
-    ghost invariant = { λ r. IsPartInStage r.stage r.part };
+    ghost invariant = { λ r. IsReaderPartInStage r.stage r.part };
 }
 
 impl FrameReader {
     ghost use Rattle.pcap_frames.specs.Frame.{frame_content};
-    ghost use Rattle.pcap_frames.specs.Frames.{IsFrame};
-    ghost use Rattle.pcap_frames.specs.ReaderSteps.{ReaderStepTakes, ReaderStepShowsFront, ReaderStepLacksRoom};
+    ghost use Rattle.pcap_frames.specs.Frame.{IsFrame};
+    ghost use Rattle.pcap_frames.specs.ReaderSteps.{ReaderStepTakes, ReaderStepShowsFront, ReaderStepLacksMemory};
 
     /// A reader that was fed no bytes.
     pub fn new() -> FrameReader
@@ -84,7 +86,7 @@ impl FrameReader {
     ) -> Result<&'a [u8], AllocError>
         requires { 0 < length piece.now }
         ensures ok { IfOk result (λ rest. ReaderStepShowsFront V.represents visitor.old visitor.new self.old self.new piece.now rest.now) }
-        ensures err { OnErr result (ReaderStepLacksRoom V.represents visitor.old visitor.new self.old piece.now) }
+        ensures err { OnErr result (ReaderStepLacksMemory V.represents visitor.old visitor.new self.old piece.now) }
     {
         if let Some((frame, rest)) = self.whole_frame(piece) {
             visitor.frame(&frame)?;
@@ -118,7 +120,7 @@ impl FrameReader {
 
     /// The result that the reader gives in its present state.
     fn answer(&self) -> Result<(), FeedFault>
-        ensures { IsFeedingResultOf self.now result }
+        ensures { IsFeedingResultInState self.now result }
     {
         match self.stage {
             Stage::AtFault(fault) => Err(FeedFault::Refused(fault)),
@@ -139,9 +141,9 @@ impl FrameReader {
             (FeedingShowsBeginning V.represents visitor.old visitor.new self.old piece.now) }
 
         // When each result is returned.
-        ensures answer { IsFeedingResultOf self.new result }
+        ensures answer { IsFeedingResultInState self.new result }
         ensures exact { (before : List ℕ) (frames : List FrameValue) → ReaderRepresents self.old before frames
-            → IsFeedingResultFor (before ++ piece.now) result }
+            → IsFeedingResultOfBytes (before ++ piece.now) result }
 
         // After a fault, or after memory ran out, nothing changes.
         ensures stays { ReaderHasStopped self.old → (self.new ≡ self.old) × (visitor.new ≡ visitor.old) }
@@ -163,7 +165,7 @@ impl FrameReader {
     /// `ShortHeader` and `CutFrame` are returned here. A reader that has refused the file or run out of memory
     /// returns that again.
     pub fn finish(self) -> Result<u64, FeedFault>
-        ensures stopped { ReaderHasStopped self → IsFeedingResultOf self result }
+        ensures stopped { ReaderHasStopped self → IsFeedingResultInState self result }
         ensures end { (file : List ℕ) (frames : List FrameValue) → ReaderRepresents self file frames → IsFinalFeedingResult file frames result }
     {
         match self.stage {

@@ -17,19 +17,28 @@ use Rattle.position_words.specs.declared.view.Aim.TheVariants.{Fold, Read}
 use Rattle.position_words.specs.declared.view.Held.{Held}
 use Rattle.position_words.specs.declared.view.Trail.{Trail}
 use Rattle.position_words.specs.declared.view.View.{View}
-use Rattle.position_words.specs.View.{view_trail_from, view_after_look, view_trail_after_win, view_after_win, view_after_loss, view_trail_after_loss, view_trail_after_giving, view_after_giving}
-use Rattle.position_words.specs.View.{view_after_giving_held, view_after_split, newcomer_view, view_after_join, spent_view, view_with_trail}
-use Rattle.position_words.specs.Rule.{IsEven, IsOdd, FitsRule, RuleIsKept}
-use Rattle.position_words.specs.Step.{StepMeets, StepLooks, StepTakesFor, StepGives}
-use Rattle.position_words.proofs.PositionWordLemmas.{position_word_marked_even, position_word_marked_odd, position_word_has_parity, position_word_here, position_word_halves_rise}
-use Rattle.position_words.proofs.TrailLemmas.{length_of_changed_trails, length_of_joined_trails, changed_trails_stay_below, trail_positions-newcomer}
+use Rattle.position_words.specs.View.{view_trail_from, view_after_look, view_trail_after_win, view_after_win}
+use Rattle.position_words.specs.View.{view_after_loss, view_trail_after_loss, view_trail_after_giving}
+use Rattle.position_words.specs.View.{view_after_giving}
+use Rattle.position_words.specs.View.{view_after_giving_held, view_after_split, newcomer_view, view_after_join}
+use Rattle.position_words.specs.View.{spent_view, view_with_trail}
+use Rattle.position_words.specs.PositionWords.{IsEvenWord, IsOddWord}
+use Rattle.position_words.specs.Rule.{FitsRule, RuleIsKept}
+use Rattle.position_words.specs.WordSteps.{WordStepMeets, WordStepLooks, WordStepTakesFor, WordStepGives}
+use Rattle.position_words.proofs.PositionWordLemmas.{position_word_marked_even, position_word_marked_odd}
+use Rattle.position_words.proofs.PositionWordLemmas.{position_word_has_parity, position_word_here}
+use Rattle.position_words.proofs.PositionWordLemmas.{position_word_halves_rise}
+use Rattle.position_words.proofs.TrailLemmas.{length_of_changed_trails, length_of_joined_trails}
+use Rattle.position_words.proofs.TrailLemmas.{changed_trails_stay_below, trail_positions-newcomer}
 use Rattle.position_words.proofs.TrailLemmas.{joined_trails_stay_below}
-use Rattle.position_words.proofs.RuleLemmas.{rule_survives_view_change, rule_survives_arrival, rule_survives_taking_out, rule_survives_putting_back, rule_fit_survives_rise, rule_parity_is_never_both}
+use Rattle.position_words.proofs.RuleLemmas.{rule_survives_view_change, rule_survives_arrival, rule_survives_taking_out}
+use Rattle.position_words.proofs.RuleLemmas.{rule_survives_putting_back, rule_fit_survives_rise}
+use Rattle.position_words.proofs.RuleLemmas.{rule_parity_is_never_both}
 
 -- a view that fits, and is not spent, meets the position of a word
 step_meets_allowed_position : (shards : List ShardValue) (state : State (Option ShardValue) View) (seat place : ℕ) (view : View)
     → RuleIsKept shards state → get_elem? state.views seat ≡ some view → view.spent ≡ false
-    → StepMeets place (slice_index state.words place / 2) view
+    → WordStepMeets place (slice_index state.words place / 2) view
 step_meets_allowed_position shards state seat place view kept at live =
     let fits : FitsRule shards state.words view = kept.views seat view at live in
     record {
@@ -62,7 +71,7 @@ allowed_step_keeps_words shards state seat place word before now kept is at same
     (rule_survives_view_change shards state.words state.homes state.views kept seat before now at same fits)
 
 pub look_step_is_allowed : (shards : List ShardValue) (slots seat place : ℕ) (me : Me (Option ShardValue) View) → me.0.spent ≡ false
-    → Allows (RuleIsKept shards) slots seat me place (λ n. n) (StepLooks (step slots place 0 0 none) me)
+    → Allows (RuleIsKept shards) slots seat me place (λ n. n) (WordStepLooks (step slots place 0 0 none) me)
 look_step_is_allowed shards slots seat place me live state kept many at small =
     let position : ℕ = slice_index state.words place / 2 in
     let fits : FitsRule shards state.words me.0 = kept.views seat me.0 at live in
@@ -92,7 +101,7 @@ abbrev TakeStepIsAllowed : List ShardValue → ℕ → ℕ → ℕ → Aim → M
 TakeStepIsAllowed shards slots seat place aim me state =
     (now : View) × (act : Act (Option ShardValue)) × Valid state.homes me.1 act
     × RuleIsKept shards (stepped state place (bit_or (slice_index state.words place) 1) seat me.1 now act)
-    × StepTakesFor aim (step slots place 1 0 none) me (slice_index state.words place) (now, carried_after me.1 act)
+    × WordStepTakesFor aim (step slots place 1 0 none) me (slice_index state.words place) (now, carried_after me.1 act)
 
 allowed_step_true_not_false : true ≡ false → ⊥
 allowed_step_true_not_false same = cc same
@@ -106,7 +115,7 @@ allowed_step_finds_shard (s ∷ rest) (suc place) inside = allowed_step_finds_sh
 -- a take may find the word odd, which it leaves
 step_loses_as_allowed : (shards : List ShardValue) (slots seat place : ℕ) (aim : Aim) (me : Me (Option ShardValue) View)
     → me.0.spent ≡ false → (state : State (Option ShardValue) View) → RuleIsKept shards state
-    → get_elem? state.views seat ≡ some me.0 → IsOdd (slice_index state.words place)
+    → get_elem? state.views seat ≡ some me.0 → IsOddWord (slice_index state.words place)
     → TakeStepIsAllowed shards slots seat place aim me state
 step_loses_as_allowed shards slots seat place aim me live state kept at odd =
     let word : ℕ = slice_index state.words place in
@@ -129,7 +138,7 @@ step_loses_as_allowed shards slots seat place aim me live state kept at odd =
 step_wins_as_allowed : (shards : List ShardValue) (slots seat place : ℕ) (aim : Aim) (me : Me (Option ShardValue) View)
     → place < length shards → me.0.spent ≡ false → me.0.held ≡ None
     → (state : State (Option ShardValue) View) → RuleIsKept shards state → get_elem? state.views seat ≡ some me.0
-    → IsEven (slice_index state.words place)
+    → IsEvenWord (slice_index state.words place)
     → TakeStepIsAllowed shards slots seat place aim me state
 step_wins_as_allowed shards slots seat place aim me inside live free state kept at even =
     let word : ℕ = slice_index state.words place in
@@ -176,7 +185,7 @@ step_wins_as_allowed shards slots seat place aim me inside live free state kept 
 
 pub take_step_is_allowed : (shards : List ShardValue) (slots seat place : ℕ) (aim : Aim) (me : Me (Option ShardValue) View)
     → place < length shards → me.0.spent ≡ false → me.0.held ≡ None
-    → Allows (RuleIsKept shards) slots seat me place (λ n. bit_or n 1) (StepTakesFor aim (step slots place 1 0 none) me)
+    → Allows (RuleIsKept shards) slots seat me place (λ n. bit_or n 1) (WordStepTakesFor aim (step slots place 1 0 none) me)
 take_step_is_allowed shards slots seat place aim me inside live free state kept many at small =
     ⊎_elim (step_wins_as_allowed shards slots seat place aim me inside live free state kept at)
     (step_loses_as_allowed shards slots seat place aim me live state kept at) (position_word_has_parity (slice_index state.words place))
@@ -192,7 +201,7 @@ give_held_step_is_allowed : (shards : List ShardValue) (slots seat position : �
     → held.position ≤ position → position ≤ length shard.list → slice_get shards held.shard ≡ Some shard
     → me.1 ≡ (held.shard, Some (shard_state_at position shard)) ∷ []
     → Allows (RuleIsKept shards) slots seat me held.shard (λ _. 2 * position)
-    (λ _. StepGives (step slots held.shard (2 * position) 0 none) me (2 * position))
+    (λ _. WordStepGives (step slots held.shard (2 * position) 0 none) me (2 * position))
 give_held_step_is_allowed shards slots seat position me held shard live holds forward ends is out state kept many at small =
     let place : ℕ = held.shard in
     let after : List ℕ = set state.words place (2 * position) in
@@ -232,11 +241,11 @@ pub give_step_is_allowed : (shards : List ShardValue) (slots seat place position
     → held.shard ≡ place → held.position ≤ position → position ≤ length shard.list
     → slice_get shards place ≡ Some shard → me.1 ≡ (place, Some (shard_state_at position shard)) ∷ []
     → Allows (RuleIsKept shards) slots seat me place (λ _. 2 * position)
-    (λ _. StepGives (step slots place (2 * position) 0 none) me (2 * position))
+    (λ _. WordStepGives (step slots place (2 * position) 0 none) me (2 * position))
 give_step_is_allowed shards slots seat place position me held shard live holds at_place forward ends =
     subst (λ k. slice_get shards k ≡ Some shard → me.1 ≡ (k, Some (shard_state_at position shard)) ∷ []
     → Allows (RuleIsKept shards) slots seat me k (λ _. 2 * position)
-    (λ _. StepGives (step slots k (2 * position) 0 none) me (2 * position))) at_place
+    (λ _. WordStepGives (step slots k (2 * position) 0 none) me (2 * position))) at_place
     (give_held_step_is_allowed shards slots seat position me held shard live holds forward ends)
 
 -- a new seat has seen as much

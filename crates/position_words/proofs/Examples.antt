@@ -6,10 +6,12 @@ use Rattle.position_words.specs.declared.view.Aim.TheVariants.{Fold, Read}
 use Rattle.position_words.specs.declared.view.Held.{Held}
 use Rattle.position_words.specs.declared.view.Trail.{Trail}
 use Rattle.position_words.specs.declared.view.View.{View}
-use Rattle.position_words.specs.View.{view_trail_from, first_view, seen_in_view, view_with_trail, view_after_look, view_trail_after_win, view_after_win, view_trail_after_loss}
-use Rattle.position_words.specs.View.{view_after_loss, view_trail_after_giving, view_after_giving_held, view_after_giving, view_after_split, newcomer_view, joined_view_trails}
+use Rattle.position_words.specs.View.{view_trail_from, first_view, seen_in_view, view_with_trail, view_after_look}
+use Rattle.position_words.specs.View.{view_trail_after_win, view_after_win, view_trail_after_loss}
+use Rattle.position_words.specs.View.{view_after_loss, view_trail_after_giving, view_after_giving_held}
+use Rattle.position_words.specs.View.{view_after_giving, view_after_split, newcomer_view, joined_view_trails}
 use Rattle.position_words.specs.View.{view_after_join, spent_view}
-use Rattle.position_words.specs.Words.{slot_out}
+use Rattle.position_words.specs.Seat.{slots_out_with_seat}
 
 -- a packet from 1.0.0.1 to 101.0.0.1
 abbrev pub x : RecordValue
@@ -128,8 +130,8 @@ pub spent_knows_nothing : spent_view
     ≡ record { opening = []; trails = []; generation = 0; splits = 0; joins = []; held = None; spent = true }
 spent_knows_nothing = refl
 
-pub slot_of_a_holder : slot_out holding.held ≡ (0, None) ∷ []
+pub slot_of_a_holder : slots_out_with_seat holding.held ≡ (0, None) ∷ []
 slot_of_a_holder = refl
 
-pub no_slot_out : slot_out first.held ≡ []
+pub no_slot_out : slots_out_with_seat first.held ≡ []
 no_slot_out = refl

@@ -11,20 +11,24 @@ use Rattle.position_words.specs.declared.view.Aim.TheVariants.{Fold, Read}
 use Rattle.position_words.specs.declared.view.Held.{Held}
 use Rattle.position_words.specs.declared.view.View.{View}
 use Rattle.position_words.specs.View.{newcomer_view, spent_view}
-use Rattle.position_words.specs.Words.{SeatValue, WordsValue, IsSeatOf, IsWordOfShard, WordMayFollow, WordMayGive}
-use Rattle.position_words.specs.Rule.{IsEven, IsOdd, IsHolder, FitsRule, RuleIsKept}
+use Rattle.position_words.specs.Seat.{SeatValue, IsSeatOf}
+use Rattle.position_words.specs.PositionWords.{PositionWordsValue, IsShardAtSomePosition, PositionMayFollow}
+use Rattle.position_words.specs.PositionWords.{MayGiveAtPosition}
+use Rattle.position_words.specs.PositionWords.{IsEvenWord, IsOddWord}
+use Rattle.position_words.specs.Seat.{IsHoldingSeat}
+use Rattle.position_words.specs.Rule.{FitsRule, RuleIsKept}
 use Rattle.position_words.proofs.Examples.{pair, single, shards, first, holding, held_first}
 
-pub word_of_a_free_shard : IsEven 4
+pub word_of_a_free_shard : IsEvenWord 4
 word_of_a_free_shard = refl
 
-pub word_of_a_held_shard : IsEven 5 → ⊥
+pub word_of_a_held_shard : IsEvenWord 5 → ⊥
 word_of_a_held_shard even = omega (arith, even)
 
-pub odd_word : IsOdd 5
+pub odd_word : IsOddWord 5
 odd_word = refl
 
-pub even_word : IsOdd 4 → ⊥
+pub even_word : IsOddWord 4 → ⊥
 even_word odd = omega (arith, odd)
 
 -- two seats, the first of which holds the first shard at position 1
@@ -34,14 +38,14 @@ other = newcomer_view first
 abbrev views : List View
 views = holding ∷ other ∷ []
 
-pub first_seat_holds : IsHolder views 0 0
+pub first_seat_holds : IsHoldingSeat views 0 0
 first_seat_holds = record { view = holding; held = held_first; at = refl; holds = refl; is = refl }
 
 held_is : (held : Held) → holding.held ≡ Some held → held_first ≡ held
 held_is held holds = same_Some (held_first) held holds
 
 -- it is the only one
-only_holder : (seat place : ℕ) → IsHolder views seat place → (seat ≡ 0) × (place ≡ 0)
+only_holder : (seat place : ℕ) → IsHoldingSeat views seat place → (seat ≡ 0) × (place ≡ 0)
 only_holder zero place holder =
     let view : holding ≡ holder.view = some-injective holding holder.view holder.at in
     (refl, sym holder.is ∙ sym (ap (λ h. h.shard) (held_is holder.held (ap (λ v. v.held) view ∙ holder.holds))))
@@ -50,7 +54,7 @@ only_holder (suc zero) place holder =
     absurd (cc (ap (λ v. v.held) view ∙ holder.holds))
 only_holder (suc (suc seat)) place holder = absurd (cc holder.at)
 
-pub second_seat_holds_nothing : IsHolder views 1 0 → ⊥
+pub second_seat_holds_nothing : IsHoldingSeat views 1 0 → ⊥
 second_seat_holds_nothing holder = let only = only_holder 1 0 holder in omega (arith, only.0)
 
 -- the first shard is held at position 1, and the second is free
@@ -102,14 +106,14 @@ held_shard_is_kept = record {
     all_within (suc (suc place)) shard is = absurd (cc is)
 
     slots_of_even : (place : ℕ) (shard : ShardValue) → slice_get shards place ≡ Some shard
-        → IsEven (slice_index words place)
+        → IsEvenWord (slice_index words place)
         → get_elem? held_once.homes place ≡ some (some (Some (shard_state_at (slice_index words place / 2) shard)))
     slots_of_even zero shard is even = absurd (omega (arith, even))
     slots_of_even (suc zero) shard is even =
         ap (λ (s : ShardValue). some (some (Some (shard_state_at 0 s)))) (same_Some single shard is)
     slots_of_even (suc (suc place)) shard is even = absurd (cc is)
 
-    holder_of_odd : (place : ℕ) → place < 2 → IsOdd (slice_index words place) → (seat : ℕ) × IsHolder views seat place
+    holder_of_odd : (place : ℕ) → place < 2 → IsOddWord (slice_index words place) → (seat : ℕ) × IsHoldingSeat views seat place
     holder_of_odd zero inside odd = (0, first_seat_holds)
     holder_of_odd (suc zero) inside odd = absurd (omega (arith, odd))
     holder_of_odd (suc (suc place)) inside odd = absurd (omega (arith, inside))
@@ -151,12 +155,12 @@ held_by_none = record { words = 1 ∷ 0 ∷ []; homes = none ∷ some (Some sing
 pub odd_word_without_a_holder : RuleIsKept shards held_by_none → ⊥
 odd_word_without_a_holder kept = let found = kept.odd 0 (omega arith) refl in none_holds found.0 found.1
   where
-    none_holds : (seat : ℕ) → IsHolder (first ∷ []) seat 0 → ⊥
+    none_holds : (seat : ℕ) → IsHoldingSeat (first ∷ []) seat 0 → ⊥
     none_holds zero holder = cc (ap (λ v. v.held) (some-injective first holder.view holder.at) ∙ holder.holds)
     none_holds (suc seat) holder = cc holder.at
 
 -- words of these shards
-abbrev words_of : SeatValue → WordsValue
+abbrev words_of : SeatValue → PositionWordsValue
 words_of seat = record { id = seat.table_id; opening = shards }
 
 pub first_is_a_seat : (seat : SeatValue) → IsSeatOf (words_of seat) (record seat { me = (first, []) })
@@ -169,33 +173,33 @@ holder_has_a_slot_out seat = record { id = refl; opening = refl; trails = refl; 
 pub seat_that_was_joined : (seat : SeatValue) → IsSeatOf (words_of seat) (record seat { me = (spent_view, []) }) → ⊥
 seat_that_was_joined seat of = omega (arith, of.trails)
 
-pub same_list_and_base : IsWordOfShard shards 0 (shard_state_at 2 pair)
+pub same_list_and_base : IsShardAtSomePosition shards 0 (shard_state_at 2 pair)
 same_list_and_base = record { start = 0; is = refl }
 
-pub list_of_another_shard : IsWordOfShard shards 0 single → ⊥
+pub list_of_another_shard : IsShardAtSomePosition shards 0 single → ⊥
 list_of_another_shard of =
     let count : 2 ≡ 1 = ap (λ (s : ShardValue). length s.list) (same_Some pair (shard_state_at of.start single) of.is) in
     omega (arith, count)
 
-pub fold_may_end_later : WordMayFollow Fold 1 2
+pub fold_may_end_later : PositionMayFollow Fold 1 2
 fold_may_end_later = omega arith
 
-pub fold_may_not_go_back : WordMayFollow Fold 1 0 → ⊥
+pub fold_may_not_go_back : PositionMayFollow Fold 1 0 → ⊥
 fold_may_not_go_back follows = omega (arith, follows)
 
-pub read_leaves_the_position : WordMayFollow Read 1 1
+pub read_leaves_the_position : PositionMayFollow Read 1 1
 read_leaves_the_position = refl
 
-pub read_may_not_move : WordMayFollow Read 1 2 → ⊥
+pub read_may_not_move : PositionMayFollow Read 1 2 → ⊥
 read_may_not_move follows = omega (arith, follows)
 
-pub holder_may_give : WordMayGive 0 2 holding
+pub holder_may_give : MayGiveAtPosition 0 2 holding
 holder_may_give = record { held = held_first; holds = refl; is = refl; follows = omega arith }
 
-pub holder_may_not_give_another_shard : WordMayGive 1 2 holding → ⊥
+pub holder_may_not_give_another_shard : MayGiveAtPosition 1 2 holding → ⊥
 holder_may_not_give_another_shard gives =
     let shard : 0 ≡ 1 = ap (λ h. h.shard) (held_is gives.held gives.holds) ∙ gives.is in
     omega (arith, shard)
 
-pub free_seat_gives_nothing : WordMayGive 0 2 first → ⊥
+pub free_seat_gives_nothing : MayGiveAtPosition 0 2 first → ⊥
 free_seat_gives_nothing gives = cc gives.holds

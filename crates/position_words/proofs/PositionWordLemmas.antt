@@ -7,17 +7,17 @@ use Rattle.std.specs.Int.Bits.{bit_or, bit_and, or_add_and}
 use Rattle.std.proofs.lemmas.Bool.{cases_eq}
 use Rattle.std.proofs.lemmas.Nat.Bits.{bit_at_lowest, shr_and_one}
 use Rattle.std.proofs.lemmas.List.{get_or-set_same, get_or-set_other}
-use Rattle.position_words.specs.Rule.{IsEven, IsOdd}
+use Rattle.position_words.specs.PositionWords.{IsEvenWord, IsOddWord}
 
 position_word_last_bit : (word : ℕ) → bit_and word 1 ≡ word % 2
 position_word_last_bit word = ap (λ n. bit_and n 1) (sym (div-one word)) ∙ shr_and_one word 0 ∙ bit_at_lowest word
 
 -- an even word becomes the next odd one
-pub position_word_marked_even : (word : ℕ) → IsEven word → bit_or word 1 ≡ word + 1
+pub position_word_marked_even : (word : ℕ) → IsEvenWord word → bit_or word 1 ≡ word + 1
 position_word_marked_even word even = omega (arith, or_add_and word 1, position_word_last_bit word, even)
 
 -- and an odd one stays
-pub position_word_marked_odd : (word : ℕ) → IsOdd word → bit_or word 1 ≡ word
+pub position_word_marked_odd : (word : ℕ) → IsOddWord word → bit_or word 1 ≡ word
 position_word_marked_odd word odd = omega (arith, or_add_and word 1, position_word_last_bit word, odd)
 
 position_word_bit_below_two : (n : ℕ) → n < 2 → (n ≡ 0) ⊎ (n ≡ 1)
@@ -25,10 +25,10 @@ position_word_bit_below_two zero below = inl refl
 position_word_bit_below_two (suc zero) below = inr refl
 position_word_bit_below_two (suc (suc n)) below = absurd (omega arith)
 
-pub position_word_has_parity : (word : ℕ) → IsEven word ⊎ IsOdd word
+pub position_word_has_parity : (word : ℕ) → IsEvenWord word ⊎ IsOddWord word
 position_word_has_parity word = position_word_bit_below_two (word % 2) (mod-lt word (omega arith))
 
-pub position_word_even_unless_odd : (word : ℕ) → (IsOdd word → ⊥) → IsEven word
+pub position_word_even_unless_odd : (word : ℕ) → (IsOddWord word → ⊥) → IsEvenWord word
 position_word_even_unless_odd word not_odd = ⊎_elim (λ even. even) (λ odd. absurd (not_odd odd)) (position_word_has_parity word)
 
 -- the words of shards after one of them changed

@@ -16,13 +16,16 @@ use Rattle.shard_state.specs.{ShardValue, IsShard, shard_state_at}
 use Rattle.position_words.specs.declared.view.Held.{Held}
 use Rattle.position_words.specs.declared.view.View.{View}
 use Rattle.position_words.specs.View.{first_view, view_trail_from}
-use Rattle.position_words.specs.Rule.{IsEven, IsOdd, IsHolder, FitsRule, RuleIsKept}
+use Rattle.position_words.specs.PositionWords.{IsEvenWord, IsOddWord}
+use Rattle.position_words.specs.Seat.{IsHoldingSeat}
+use Rattle.position_words.specs.Rule.{FitsRule, RuleIsKept}
 use Rattle.position_words.proofs.PositionWordLemmas.{position_word_here, position_word_there, position_word_halves_rise}
 use Rattle.position_words.proofs.TrailLemmas.{first_trails_have_positions}
-use Rattle.position_words.proofs.HolderLemmas.{IsHolderView, holder_there, holder_here, holder_has_its_view, holder_after}
+use Rattle.position_words.proofs.HolderLemmas.{IsHolderView, holder_there, holder_here, holder_has_its_view}
+use Rattle.position_words.proofs.HolderLemmas.{holder_after}
 use Rattle.position_words.proofs.HolderLemmas.{holder_kept, holder_before}
 
-pub rule_parity_is_never_both : (word : ℕ) → IsEven word → IsOdd word → ⊥
+pub rule_parity_is_never_both : (word : ℕ) → IsEvenWord word → IsOddWord word → ⊥
 rule_parity_is_never_both word even odd = omega (arith, even, odd)
 
 rule_none_is_not_held : (view : View) (held : Held) → view.held ≡ None → view.held ≡ Some held → ⊥
@@ -48,7 +51,7 @@ module _ (shards : List ShardValue) (words : List ℕ) (homes : List (maybe.Opti
       subst (λ k. slice_index words k ≡ 2 * has.held.position + 1) has.is
       (kept.held seat view has.held at has.holds)
 
-  rule_is_odd_if_held : (seat place : ℕ) → IsHolder views seat place → IsOdd (slice_index words place)
+  rule_is_odd_if_held : (seat place : ℕ) → IsHoldingSeat views seat place → IsOddWord (slice_index words place)
   rule_is_odd_if_held seat place holder =
       let word : slice_index words place ≡ 2 * holder.held.position + 1 =
       rule_word_when_held seat place holder.view holder.at
@@ -99,7 +102,7 @@ module _ (shards : List ShardValue) (words : List ℕ) (homes : List (maybe.Opti
         (at_snoc views new view seat is);
   }
     where
-      longer : (seat place : ℕ) → IsHolder views seat place → IsHolder (views ++ new ∷ []) seat place
+      longer : (seat place : ℕ) → IsHoldingSeat views seat place → IsHoldingSeat (views ++ new ∷ []) seat place
       longer seat place holder = record {
         view = holder.view;
         held = holder.held;
@@ -108,7 +111,7 @@ module _ (shards : List ShardValue) (words : List ℕ) (homes : List (maybe.Opti
         is = holder.is;
       }
 
-      before : (seat place : ℕ) → IsHolder (views ++ new ∷ []) seat place → IsHolder views seat place
+      before : (seat place : ℕ) → IsHoldingSeat (views ++ new ∷ []) seat place → IsHoldingSeat views seat place
       before seat place holder =
           ⊎_elim (λ old. record {
             view = holder.view;
@@ -123,7 +126,7 @@ module _ (shards : List ShardValue) (words : List ℕ) (homes : List (maybe.Opti
   -- a seat that holds nothing takes a shard whose word is even
   module _ (seat place : ℕ) (before now : View) (shard : ShardValue) (held : Held)
       (at : get_elem? views seat ≡ some before) (free : before.held ≡ None)
-      (is : slice_get shards place ≡ Some shard) (even : IsEven (slice_index words place))
+      (is : slice_get shards place ≡ Some shard) (even : IsEvenWord (slice_index words place))
       (holds : now.held ≡ Some held) (of : held.shard ≡ place)
       (met : held.position ≡ slice_index words place / 2)
       (fits : FitsRule shards (set words place (slice_index words place + 1)) now) where
@@ -149,16 +152,16 @@ module _ (shards : List ShardValue) (words : List ℕ) (homes : List (maybe.Opti
     rule_halves_rise = position_word_halves_rise words place (word + 1) rule_place_is_inside (omega arith)
 
     -- the seat held nothing before
-    rule_taker_held_nothing : (other at_place : ℕ) → IsHolder views other at_place → other ≡ seat → ⊥
+    rule_taker_held_nothing : (other at_place : ℕ) → IsHoldingSeat views other at_place → other ≡ seat → ⊥
     rule_taker_held_nothing other at_place holder same =
         let mine : IsHolderView before at_place =
-        holder_has_its_view views seat at_place before at (subst (λ k. IsHolder views k at_place) same holder) in
+        holder_has_its_view views seat at_place before at (subst (λ k. IsHoldingSeat views k at_place) same holder) in
         rule_none_is_not_held before mine.held free mine.holds
 
     -- and nobody held the shard
-    rule_nobody_held_it : (other at_place : ℕ) → IsHolder views other at_place → at_place ≡ place → ⊥
+    rule_nobody_held_it : (other at_place : ℕ) → IsHoldingSeat views other at_place → at_place ≡ place → ⊥
     rule_nobody_held_it other at_place holder same =
-        rule_parity_is_never_both word even (rule_is_odd_if_held other place (subst (IsHolder views other) same holder))
+        rule_parity_is_never_both word even (rule_is_odd_if_held other place (subst (IsHoldingSeat views other) same holder))
 
     pub rule_survives_taking_out : RuleIsKept shards (record { words = later; homes = set homes place none; views = set views seat now })
     rule_survives_taking_out = record {
@@ -169,8 +172,8 @@ module _ (shards : List ShardValue) (words : List ℕ) (homes : List (maybe.Opti
             let old : slice_index words other / 2 ≤ length state.list = kept.within other state of_shard in
             let now_is : slice_index later other ≡ slice_index words other + 1 =
             subst (λ k. slice_index later k ≡ slice_index words k + 1) (sym same) here in
-            let was_even : IsEven (slice_index words other) =
-            subst (λ k. IsEven (slice_index words k)) (sym same) even in
+            let was_even : IsEvenWord (slice_index words other) =
+            subst (λ k. IsEvenWord (slice_index words k)) (sym same) even in
             omega (arith, old, now_is, was_even)
         | inr apart ↦
             let old : slice_index words other / 2 ≤ length state.list = kept.within other state of_shard in
@@ -182,16 +185,16 @@ module _ (shards : List ShardValue) (words : List ℕ) (homes : List (maybe.Opti
             absurd (omega (arith, odd, even, even_now))
         | inr apart ↦
             set_else homes place other none apart
-            ∙ subst (λ n. IsEven n → get_elem? homes other ≡ some (some (Some (shard_state_at (n / 2) state))))
+            ∙ subst (λ n. IsEvenWord n → get_elem? homes other ≡ some (some (Some (shard_state_at (n / 2) state))))
             (sym (there other apart)) (kept.even other state of_shard) even_now
       ];
       odd = λ other below odd_now. elim (cases_eq other place) [
         | inl same ↦ (
           seat,
-          subst (IsHolder (set views seat now) seat) (sym same) (holder_here views seat place before now at has),
+          subst (IsHoldingSeat (set views seat now) seat) (sym same) (holder_here views seat place before now at has),
         )
         | inr apart ↦
-            let found = kept.odd other below (subst IsOdd (there other apart) odd_now) in
+            let found = kept.odd other below (subst IsOddWord (there other apart) odd_now) in
             (found.0, holder_there views seat found.0 other now (rule_taker_held_nothing found.0 other found.1) found.1)
       ];
       held = λ other view its at_now its_holds.
@@ -202,7 +205,7 @@ module _ (shards : List ShardValue) (words : List ℕ) (homes : List (maybe.Opti
           let half : 2 * held.position + 1 ≡ word + 1 = omega (arith, met, even) in
           subst (λ (h : Held). slice_index later h.shard ≡ 2 * h.position + 1) same (at_its ∙ sym half))
           (λ old.
-          let holder : IsHolder views other its.shard = record {
+          let holder : IsHoldingSeat views other its.shard = record {
             view = view;
             held = its;
             at = old.1;
@@ -265,24 +268,24 @@ module _ (shards : List ShardValue) (words : List ℕ) (homes : List (maybe.Opti
     rule_halves_grow : (other : ℕ) → slice_index words other / 2 ≤ slice_index after other / 2
     rule_halves_grow = position_word_halves_rise words place (2 * position) rule_place_is_in_words (omega (arith, rule_old_word, forward))
 
-    rule_giver_holds : IsHolder views seat place
+    rule_giver_holds : IsHoldingSeat views seat place
     rule_giver_holds = record { view = before; held = held; at = at; holds = holds; is = refl }
 
     -- another seat holds another shard
-    rule_others_hold_others : (other at_place : ℕ) → (other ≡ seat → ⊥) → IsHolder views other at_place → at_place ≡ place → ⊥
+    rule_others_hold_others : (other at_place : ℕ) → (other ≡ seat → ⊥) → IsHoldingSeat views other at_place → at_place ≡ place → ⊥
     rule_others_hold_others other at_place apart holder same =
-        apart (kept.alone other seat place (subst (IsHolder views other) same holder) rule_giver_holds)
+        apart (kept.alone other seat place (subst (IsHoldingSeat views other) same holder) rule_giver_holds)
 
     -- and the seat holds no other
-    rule_giver_holds_no_other : (other at_place : ℕ) → (at_place ≡ place → ⊥) → IsHolder views other at_place → other ≡ seat → ⊥
+    rule_giver_holds_no_other : (other at_place : ℕ) → (at_place ≡ place → ⊥) → IsHoldingSeat views other at_place → other ≡ seat → ⊥
     rule_giver_holds_no_other other at_place apart holder same =
         let mine : IsHolderView before at_place =
-        holder_has_its_view views seat at_place before at (subst (λ k. IsHolder views k at_place) same holder) in
+        holder_has_its_view views seat at_place before at (subst (λ k. IsHoldingSeat views k at_place) same holder) in
         apart (sym mine.is ∙ ap (λ (h : Held). h.shard) (same_Some mine.held held (sym mine.holds ∙ holds)))
 
     -- after it a holder held its shard before
-    rule_holds_as_before : (other at_place : ℕ) → IsHolder (set views seat now) other at_place
-        → (other ≡ seat → ⊥) × IsHolder views other at_place
+    rule_holds_as_before : (other at_place : ℕ) → IsHoldingSeat (set views seat now) other at_place
+        → (other ≡ seat → ⊥) × IsHoldingSeat views other at_place
     rule_holds_as_before other at_place holder =
         ⊎_elim (λ mine. absurd (rule_none_is_not_held now mine.1.held free mine.1.holds)) (λ old. old)
         (holder_after views seat other at_place now holder)
@@ -314,7 +317,7 @@ module _ (shards : List ShardValue) (words : List ℕ) (homes : List (maybe.Opti
             (ap (get_elem? filled) same ∙ set_here homes place (some (Some (shard_state_at position shard))) rule_place_is_in_slots))
         | inr apart ↦
             set_else homes place other (some (Some (shard_state_at position shard))) apart
-            ∙ subst (λ n. IsEven n → get_elem? homes other ≡ some (some (Some (shard_state_at (n / 2) state))))
+            ∙ subst (λ n. IsEvenWord n → get_elem? homes other ≡ some (some (Some (shard_state_at (n / 2) state))))
             (sym (rule_other_words_stay other apart)) (kept.even other state of_shard) even_now
       ];
       odd = λ other below odd_now. elim (cases_eq other place) [
@@ -322,13 +325,13 @@ module _ (shards : List ShardValue) (words : List ℕ) (homes : List (maybe.Opti
             let word_is : slice_index after other ≡ 2 * position = ap (slice_index after) same ∙ rule_new_word in
             absurd (omega (arith, word_is, odd_now))
         | inr apart ↦
-            let found = kept.odd other below (subst IsOdd (rule_other_words_stay other apart) odd_now) in
+            let found = kept.odd other below (subst IsOddWord (rule_other_words_stay other apart) odd_now) in
             (found.0, holder_there views seat found.0 other now (rule_giver_holds_no_other found.0 other apart found.1) found.1)
       ];
       held = λ other view its at_now its_holds.
           ⊎_elim (λ mine. absurd (rule_none_is_not_held now its free (ap (λ v. v.held) mine.1 ∙ its_holds)))
           (λ old.
-          let holder : IsHolder views other its.shard = record {
+          let holder : IsHoldingSeat views other its.shard = record {
             view = view;
             held = its;
             at = old.1;
@@ -364,7 +367,7 @@ rule_starts_within_end (s ∷ rest) zero shard kept is =
 rule_starts_within_end (s ∷ rest) (suc place) shard kept is = rule_starts_within_end rest place shard (All-tail IsShard s rest kept) is
 
 rule_starts_even : (shards : List ShardValue) (place : ℕ)
-    → IsOdd (slice_index (map (λ (s : ShardValue). 2 * s.position) shards) place) → ⊥
+    → IsOddWord (slice_index (map (λ (s : ShardValue). 2 * s.position) shards) place) → ⊥
 rule_starts_even [] place odd = omega (arith, odd)
 rule_starts_even (s ∷ rest) zero odd = omega (arith, odd)
 rule_starts_even (s ∷ rest) (suc place) odd = rule_starts_even rest place odd

@@ -1,5 +1,5 @@
 -- What words, slots and views keep between any two steps.
-use Rattle.std.specs.Prelude.{ℕ, ◌≡◌, ◌+◌, ◌*◌, ◌/◌, ◌%◌, ◌<◌, ◌≤◌, false, List, length, Option, Some, slice_get}
+use Rattle.std.specs.Prelude.{ℕ, ◌≡◌, ◌+◌, ◌*◌, ◌/◌, ◌<◌, ◌≤◌, false, List, length, Option, Some, slice_get}
 use Rattle.std.specs.Prelude.{slice_index}
 use mathlib.Core.Option.{some}
 use lib.ListN.{get_elem?}
@@ -8,22 +8,8 @@ use Rattle.shard_state.specs.{ShardValue, shard_state_at}
 use Rattle.position_words.specs.declared.view.Held.{Held}
 use Rattle.position_words.specs.declared.view.View.{View}
 use Rattle.position_words.specs.View.{seen_in_view}
-
--- an even word: no seat holds its shard
-abbrev pub IsEven : ℕ → Type 0
-IsEven word = word % 2 ≡ 0
-
--- an odd word: a seat holds its shard
-abbrev pub IsOdd : ℕ → Type 0
-IsOdd word = word % 2 ≡ 1
-
--- the seat with this number holds this shard, as its view says
-pub record IsHolder (views : List View) (seat shard : ℕ) : Type 0 where
-  pub view : View
-  pub held : Held
-  pub at : get_elem? views seat ≡ some view
-  pub holds : view.held ≡ Some held
-  pub is : held.shard ≡ shard
+use Rattle.position_words.specs.PositionWords.{IsEvenWord, IsOddWord}
+use Rattle.position_words.specs.Seat.{IsHoldingSeat}
 
 -- what holds of the view of a seat that was not joined to another: it names the shards, has a trail for each, and has
 -- seen no position past that of the word
@@ -40,12 +26,12 @@ pub record RuleIsKept (opening : List ShardValue) (state : State (Option ShardVa
   pub within : (place : ℕ) (shard : ShardValue) → slice_get opening place ≡ Some shard
       → slice_index state.words place / 2 ≤ length shard.list
   pub even : (place : ℕ) (shard : ShardValue) → slice_get opening place ≡ Some shard
-      → IsEven (slice_index state.words place)
+      → IsEvenWord (slice_index state.words place)
       → get_elem? state.homes place ≡ some (some (Some (shard_state_at (slice_index state.words place / 2) shard)))
-  pub odd : (place : ℕ) → place < length opening → IsOdd (slice_index state.words place)
-      → (seat : ℕ) × IsHolder state.views seat place
+  pub odd : (place : ℕ) → place < length opening → IsOddWord (slice_index state.words place)
+      → (seat : ℕ) × IsHoldingSeat state.views seat place
   pub held : (seat : ℕ) (view : View) (held : Held) → get_elem? state.views seat ≡ some view → view.held ≡ Some held
       → slice_index state.words held.shard ≡ 2 * held.position + 1
-  pub alone : (seat other place : ℕ) → IsHolder state.views seat place → IsHolder state.views other place → seat ≡ other
+  pub alone : (seat other place : ℕ) → IsHoldingSeat state.views seat place → IsHoldingSeat state.views other place → seat ≡ other
   pub views : (seat : ℕ) (view : View) → get_elem? state.views seat ≡ some view → view.spent ≡ false
       → FitsRule opening state.words view

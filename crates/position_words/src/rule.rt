@@ -1,7 +1,7 @@
 //! The rule that the words, the slots and the views keep between any two steps, and what each kind of step does.
 
 ghost use Rattle.position_words.specs.declared.view.Aim.TheVariants.{Fold, Read};
-ghost use Rattle.position_words.specs.Step.{StepLooks, StepTakesFor, StepGives};
+ghost use Rattle.position_words.specs.WordSteps.{WordStepLooks, WordStepTakesFor, WordStepGives};
 ghost use Rattle.position_words.specs.View.{view_after_split, newcomer_view, view_after_join, spent_view};
 
 use crate::view::View;
@@ -25,28 +25,28 @@ impl TableRule<Option<ShardState>, View, Snapshot<Vec<ShardState>>> for SlotRule
 pub(crate) struct Looking;
 
 impl Play<Option<ShardState>, View> for Looking {
-    ghost then = { StepLooks };
+    ghost then = { WordStepLooks };
 }
 
 // A take to fold, which wins or loses.
 pub(crate) struct TakingToFold;
 
 impl Play<Option<ShardState>, View> for TakingToFold {
-    ghost then = { StepTakesFor Fold };
+    ghost then = { WordStepTakesFor Fold };
 }
 
 // A take to read, which wins or loses.
 pub(crate) struct TakingToRead;
 
 impl Play<Option<ShardState>, View> for TakingToRead {
-    ghost then = { StepTakesFor Read };
+    ghost then = { WordStepTakesFor Read };
 }
 
 // The store that gives a shard back.
 pub(crate) struct Giving;
 
 impl Play<Option<ShardState>, View> for Giving {
-    ghost then = { StepGives };
+    ghost then = { WordStepGives };
 }
 
 // A new seat, which has seen the same positions.

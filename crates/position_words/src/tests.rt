@@ -1,6 +1,6 @@
 ghost use Rattle.std.specs.Prelude.{◌≡◌, ◌^◌, ◌<◌, ◌≤◌, [], ◌∷◌, length, IfOk, None};
 ghost use Rattle.shard_state.specs.{AreCoreShards};
-ghost use Rattle.position_words.specs.Words.{IsSeatOf, view};
+ghost use Rattle.position_words.specs.Seat.{IsSeatOf, view};
 
 use super::*;
 use prefix_lattice::{Record, RecordList};

@@ -1,11 +1,13 @@
 //! The words and slots of shards, and the steps on them.
 
 ghost use Rattle.std.specs.Prelude.{◌≡◌, ◌≤◌, ◌<◌, ◌*◌, ◌^◌, All, length, map, IfOk, None, Some};
-ghost use Rattle.prefix_lattice.specs.{most_records};
+ghost use Rattle.prefix_lattice.specs.{record_limit};
 ghost use Rattle.shard_state.specs.{AreCoreShards};
-ghost use Rattle.position_words.specs.View.{first_view, view_after_giving, view_after_join, view_after_look, newcomer_view, view_after_split};
-ghost use Rattle.position_words.specs.Words.{IsWordOfShard, IsSeatOf, WordMayGive, view};
-ghost use Rattle.position_words.specs.Step.{StepAnswers, StepMeets};
+ghost use Rattle.position_words.specs.View.{first_view, view_after_giving, view_after_join, view_after_look};
+ghost use Rattle.position_words.specs.View.{newcomer_view, view_after_split};
+ghost use Rattle.position_words.specs.PositionWords.{IsShardAtSomePosition, MayGiveAtPosition};
+ghost use Rattle.position_words.specs.Seat.{IsSeatOf, view};
+ghost use Rattle.position_words.specs.WordSteps.{WordStepAnswers, WordStepMeets};
 
 use crate::rule::{Joining, SlotRule, SplittingOff};
 use crate::view::{Aim, View};
@@ -45,9 +47,9 @@ pub struct Words {
 impl Model for Words {
     ghost use Rattle.std.specs.Prelude.{◌≡◌, length};
     ghost use Rattle.shard_state.specs.{AreCoreShards};
-    ghost use Rattle.position_words.specs.Words.{WordsValue};
+    ghost use Rattle.position_words.specs.PositionWords.{PositionWordsValue};
 
-    ghost Value = { WordsValue };
+    ghost Value = { PositionWordsValue };
 
     ghost view = { λ w. record { id = w.table.shared.table_id; opening = w.table.shared.key.value.items } };
 
@@ -89,7 +91,7 @@ impl Words {
         requires within { shard < length self.now.opening }
         requires seat { IsSeatOf self.now seat.old }
         ensures look { view seat.new ≡ view_after_look shard result (view seat.old) }
-        ensures meets { StepMeets shard result (view seat.old) }
+        ensures meets { WordStepMeets shard result (view seat.old) }
         ensures seat { IsSeatOf self.now seat.new }
     {
         self.load(shard, seat) / 2
@@ -101,7 +103,7 @@ impl Words {
         requires within { shard < length self.now.opening }
         requires seat { IsSeatOf self.now seat.old }
         requires free { (view seat.old).held ≡ None }
-        ensures take { StepAnswers self.now.opening shard aim (view seat.old) (view seat.new) result }
+        ensures take { WordStepAnswers self.now.opening shard aim (view seat.old) (view seat.new) result }
         ensures seat { IsSeatOf self.now seat.new }
     {
         let word = self.mark(shard, aim, seat);
@@ -116,8 +118,8 @@ impl Words {
     #[tactic(auto, using(crate::proofs::SeatLemmas::seat_slot_is_empty, crate::proofs::SeatLemmas::seat_is_ready_to_give, crate::proofs::SeatLemmas::seat_view_after_giving, crate::proofs::SeatLemmas::seat_is_free_after_giving))]
     pub fn give(&self, shard: u32, seat: &mut Seat, state: ShardState)
         requires seat { IsSeatOf self.now seat.old }
-        requires state { IsWordOfShard self.now.opening shard state }
-        requires held { WordMayGive shard state.position (view seat.old) }
+        requires state { IsShardAtSomePosition self.now.opening shard state }
+        requires held { MayGiveAtPosition shard state.position (view seat.old) }
         ensures give { view seat.new ≡ view_after_giving state.position (view seat.old) }
         ensures free { (view seat.new).held ≡ None }
         ensures seat { IsSeatOf self.now seat.new }
@@ -155,7 +157,7 @@ impl Words {
 
 // A word for each state: twice its position.
 fn starting_words(alloc: Global, states: &[ShardState]) -> Result<Vec<u64>, AllocError>
-    requires { All (λ state. state.position ≤ most_records) states.now }
+    requires { All (λ state. state.position ≤ record_limit) states.now }
     ensures { IfOk result (λ words. words.items ≡ map (λ state. 2 * state.position) states.now) }
 {
     let mut words = Vec::with_capacity(alloc, states.len())?;

@@ -5,7 +5,8 @@ use Rattle.std.proofs.lemmas.Bool.{false≢true, eqb-true, eq-eqb, and_parts, an
 use Rattle.std.proofs.lemmas.Nat.{pow-add}
 use Rattle.std.proofs.Math.Nat.{pow-zero, pow-suc, div-lt_iff_lt-mul, mul-div_cancel, mul-lt-mul_of_pos_right}
 use Rattle.std.proofs.Math.Nat.{div-mul-le_self}
-use Rattle.prefix_lattice.specs.KeptBytes.{address_digits, address_number_from, address_bytes, address_of, begins_with, AreLeadingBytes}
+use Rattle.prefix_lattice.specs.Address.{address_digits, address_number_from, address_bytes, address_of}
+use Rattle.prefix_lattice.specs.KeptBytes.{kept_bytes_begin_with, AreLeadingBytes}
 use Rattle.prefix_lattice.proofs.DigitLemmas.{length-digits, address_digits-read_back, take-digits, digits_small}
 use Rattle.prefix_lattice.proofs.DigitLemmas.{same_digits, digits_stay_below_power}
 use Rattle.prefix_lattice.proofs.ListFrontLemmas.{list_front-taken, longer_list_is_no_front}
@@ -81,21 +82,21 @@ address_tests_agree false true to from = from refl
 address_tests_agree false false to from = refl
 
 -- a list begins with its own front
-pub begins_with-address_front : (bytes front : List ℕ) → take (length front) bytes ≡ front → begins_with bytes front ≡ true
-begins_with-address_front bytes [] same = refl
-begins_with-address_front [] (b ∷ front) same = cc
-begins_with-address_front (x ∷ bytes) (b ∷ front) same =
+pub kept_bytes_begin_with-address_front : (bytes front : List ℕ) → take (length front) bytes ≡ front → kept_bytes_begin_with bytes front ≡ true
+kept_bytes_begin_with-address_front bytes [] same = refl
+kept_bytes_begin_with-address_front [] (b ∷ front) same = cc
+kept_bytes_begin_with-address_front (x ∷ bytes) (b ∷ front) same =
     let heads : x ≡ b = cc in
     let tails : take (length front) bytes ≡ front = cc in
-    and_from (eqb x b) (begins_with bytes front) (eq-eqb x b heads) (begins_with-address_front bytes front tails)
+    and_from (eqb x b) (kept_bytes_begin_with bytes front) (eq-eqb x b heads) (kept_bytes_begin_with-address_front bytes front tails)
 
 -- what a list begins with is its front
-pub address_front-from_begins_with : (bytes front : List ℕ) → begins_with bytes front ≡ true → take (length front) bytes ≡ front
+pub address_front-from_begins_with : (bytes front : List ℕ) → kept_bytes_begin_with bytes front ≡ true → take (length front) bytes ≡ front
 address_front-from_begins_with bytes [] begins = refl
 address_front-from_begins_with [] (b ∷ front) begins = absurd (false≢true begins)
 address_front-from_begins_with (x ∷ bytes) (b ∷ front) begins =
-    let both : (eqb x b ≡ true) × (begins_with bytes front ≡ true) =
-    and_parts (eqb x b) (begins_with bytes front) begins in
+    let both : (eqb x b ≡ true) × (kept_bytes_begin_with bytes front ≡ true) =
+    and_parts (eqb x b) (kept_bytes_begin_with bytes front) begins in
     ap (λ d. d ∷ take (length front) bytes) (eqb-true x b both.0)
     ∙ ap (λ l. b ∷ l) (address_front-from_begins_with bytes front both.1)
 
@@ -121,35 +122,35 @@ address_of-masked n address few small =
 
 -- an address begins with the first bytes of another, whose last bytes are zero, where both are the same once its
 -- last bytes are zero too
-pub begins_with-masked_address : (n address other : ℕ) → n ≤ 4 → address < 2 ^ 32 → other < 2 ^ 32
+pub kept_bytes_begin_with-masked_address : (n address other : ℕ) → n ≤ 4 → address < 2 ^ 32 → other < 2 ^ 32
     → address_of (take n (address_bytes other)) ≡ other
-    → begins_with (address_bytes address) (take n (address_bytes other))
+    → kept_bytes_begin_with (address_bytes address) (take n (address_bytes other))
     ≡ eqb (address / 256 ^ (4 - n) * 256 ^ (4 - n)) other
-begins_with-masked_address n address other few small other_small masked =
+kept_bytes_begin_with-masked_address n address other few small other_small masked =
     let unit = 256 ^ (4 - n) in
     let front = take n (address_bytes other) in
     let as_many : take (length front) (address_bytes address) ≡ take n (address_bytes address) =
     ap (λ m. take m (address_bytes address)) (address_front-length n other few) in
-    address_tests_agree (begins_with (address_bytes address) front) (eqb (address / unit * unit) other)
+    address_tests_agree (kept_bytes_begin_with (address_bytes address) front) (eqb (address / unit * unit) other)
     (λ begins. eq-eqb (address / unit * unit) other
     (sym (address_of-leading n address few small)
     ∙ ap address_of (sym as_many ∙ address_front-from_begins_with (address_bytes address) front begins)
     ∙ masked))
-    (λ same. begins_with-address_front (address_bytes address) front
+    (λ same. kept_bytes_begin_with-address_front (address_bytes address) front
     (as_many ∙ sym (address_front-masked n address few)
     ∙ ap (λ m. take n (address_bytes m)) (eqb-true (address / unit * unit) other same)))
 
 -- the first bytes of an address begin with those of another that are as many at most, where the address does
 pub address_front-begins_with : (n m address other : ℕ) → m ≤ n → n ≤ 4
-    → begins_with (take n (address_bytes address)) (take m (address_bytes other))
-    ≡ begins_with (address_bytes address) (take m (address_bytes other))
+    → kept_bytes_begin_with (take n (address_bytes address)) (take m (address_bytes other))
+    ≡ kept_bytes_begin_with (address_bytes address) (take m (address_bytes other))
 address_front-begins_with n m address other fewer few =
     list_front-taken (address_bytes address) (take m (address_bytes other)) n
     (omega (arith, address_front-length m other (omega arith)))
 
 -- the first bytes of an address don't begin with more of another's
 pub address_front-begins_no_more : (n m address other : ℕ) → n < m → m ≤ 4
-    → begins_with (take n (address_bytes address)) (take m (address_bytes other)) ≡ false
+    → kept_bytes_begin_with (take n (address_bytes address)) (take m (address_bytes other)) ≡ false
 address_front-begins_no_more n m address other more few =
     longer_list_is_no_front (take n (address_bytes address)) (take m (address_bytes other))
     (omega (arith, address_front-length n address (omega arith), address_front-length m other few))

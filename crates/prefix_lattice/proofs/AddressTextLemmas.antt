@@ -3,7 +3,8 @@ use Rattle.std.proofs.Common.{◌≡◌, ℕ, ◌/◌, ◌%◌, ◌^◌, ◌<◌
 use Rattle.std.specs.List.{before_first}
 use Rattle.std.proofs.lemmas.Fmt.{decimal_injective}
 use Rattle.prefix_lattice.specs.PrefixText.{address_text}
-use Rattle.prefix_lattice.proofs.TextCutLemmas.{TextLacksCutByte, first_text_cut, text_cut-next_number, decimal_lacks_text_cut, lacks_text_cut-append, lacks_text_cut-cons}
+use Rattle.prefix_lattice.proofs.TextCutLemmas.{TextLacksCutByte, first_text_cut, text_cut-next_number}
+use Rattle.prefix_lattice.proofs.TextCutLemmas.{decimal_lacks_text_cut, lacks_text_cut-append, lacks_text_cut-cons}
 
 -- what stands behind the first, the second and the third number of an address
 abbrev pub address_text_after_first : ℕ → List ℕ

@@ -4,7 +4,7 @@ use Rattle.std.proofs.Common.{◌≡◌, ◌≢◌, ℕ, ◌<◌, ◌≤◌, Boo
 use Rattle.std.proofs.Common.{inr, refl, sym, arith, subst}
 use Rattle.std.specs.List.{AllPairs}
 use Rattle.std.proofs.lemmas.Bool.{and_from, cases_lt, ltb-true, ltb-false}
-use Rattle.prefix_lattice.specs.KeptBytes.{address_bytes}
+use Rattle.prefix_lattice.specs.Address.{address_bytes}
 use Rattle.prefix_lattice.specs.Record.{RecordValue}
 use Rattle.prefix_lattice.specs.Prefix.{PrefixValue, covers}
 use Rattle.prefix_lattice.specs.Lattice.{under, strictly_under}
@@ -12,7 +12,8 @@ use Rattle.prefix_lattice.specs.ClosestLines.{AreIncomparableLines}
 use Rattle.prefix_lattice.proofs.ListFrontLemmas.{list_front-no_longer, list_front-shorter}
 use Rattle.prefix_lattice.proofs.ListLemmas.{AllPairs-list_head, AllPairs-list_tail}
 use Rattle.prefix_lattice.proofs.AmongLemmas.{Among, among-All, pairs-among}
-use Rattle.prefix_lattice.proofs.OrderedCountLemmas.{ordered_insert, ordered_by, ordered_insert-cases, ordered_by-adds_none}
+use Rattle.prefix_lattice.proofs.OrderedCountLemmas.{ordered_insert, ordered_by, ordered_insert-cases}
+use Rattle.prefix_lattice.proofs.OrderedCountLemmas.{ordered_by-adds_none}
 use Rattle.prefix_lattice.proofs.UnderMeetLemmas.{under_both_sides, covers-sides_like_under, same_unless_strictly_under}
 
 -- how many bytes a prefix keeps of the source, and of the destination

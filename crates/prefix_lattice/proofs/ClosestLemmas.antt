@@ -8,15 +8,19 @@ use Rattle.std.proofs.lemmas.List.Kept.{AllPairs-filter}
 use Rattle.prefix_lattice.specs.Node.{node_level}
 use Rattle.prefix_lattice.specs.Record.{RecordValue}
 use Rattle.prefix_lattice.specs.Prefix.{PrefixValue, IsPrefix, covers, node_of_prefix}
-use Rattle.prefix_lattice.specs.Lattice.{strictly_under, meet}
-use Rattle.prefix_lattice.specs.ClosestLines.{lines_under, one_line_covers, greatest_lines, closest, under_third_line}
-use Rattle.prefix_lattice.specs.ClosestLines.{unless_under_third_line, kept_meet, kept_among, kept_pairs}
+use Rattle.prefix_lattice.specs.Lattice.{strictly_under}
+use Rattle.prefix_lattice.specs.Meets.{meet}
+use Rattle.prefix_lattice.specs.ClosestLines.{lines_under, one_line_covers, greatest_lines, closest}
+use Rattle.prefix_lattice.specs.KeptPairs.{is_under_third_beside_pair}
+use Rattle.prefix_lattice.specs.KeptPairs.{unless_under_third_beside_pair, kept_pair_meet, kept_pair_meets_among}
+use Rattle.prefix_lattice.specs.KeptPairs.{kept_pairs}
 use Rattle.prefix_lattice.specs.ClosestLines.{AreIncomparableLines}
 use Rattle.prefix_lattice.proofs.AddressLemmas.{address_tests_agree}
 use Rattle.prefix_lattice.proofs.AmongLemmas.{Among, PassesAmong, All-from_among, among-All, any_among-true}
 use Rattle.prefix_lattice.proofs.AmongLemmas.{any_among-found, any_among-fails, among-filter, filter-among}
 use Rattle.prefix_lattice.proofs.AmongLemmas.{AllPairs-from_among, All-filter_map_among}
-use Rattle.prefix_lattice.proofs.UnderMeetLemmas.{strictly_under-differs, strictly_under-is_deeper, strictly_under-trans, covers-up_from_under}
+use Rattle.prefix_lattice.proofs.UnderMeetLemmas.{strictly_under-differs, strictly_under-is_deeper}
+use Rattle.prefix_lattice.proofs.UnderMeetLemmas.{strictly_under-trans, covers-up_from_under}
 use Rattle.prefix_lattice.proofs.UnderMeetLemmas.{meet-under, meet-IsPrefix}
 
 -- a greatest member is a member that is strictly under none
@@ -103,7 +107,7 @@ closest-incomparable prefix lines distinct = record {
 
 -- a kept meet is a meet
 closest_kept_meet-is_meet : (members : List PrefixValue) (first second lowest : PrefixValue)
-    → kept_meet members first second ≡ Some lowest → meet first second ≡ Some lowest
+    → kept_pair_meet members first second ≡ Some lowest → meet first second ≡ Some lowest
 closest_kept_meet-is_meet members first second lowest = by_meet (meet first second)
   where
     by_third : (found : PrefixValue) (third : Bool) → cond third None (Some found) ≡ Some lowest
@@ -111,18 +115,18 @@ closest_kept_meet-is_meet members first second lowest = by_meet (meet first seco
     by_third found true kept = absurd (cc)
     by_third found false kept = kept
 
-    by_meet : (o : Option PrefixValue) → unless_under_third_line members first second o ≡ Some lowest → o ≡ Some lowest
+    by_meet : (o : Option PrefixValue) → unless_under_third_beside_pair members first second o ≡ Some lowest → o ≡ Some lowest
     by_meet None kept = kept
-    by_meet (Some found) kept = by_third found (under_third_line members first second found) kept
+    by_meet (Some found) kept = by_third found (is_under_third_beside_pair members first second found) kept
 
 -- what a meet has from its members holds of the kept ones
 closest_kept_meets_inherit : (P : PrefixValue → Type 0) (members some : List PrefixValue)
     → ((first second lowest : PrefixValue) → P first → P second → meet first second ≡ Some lowest → P lowest)
-    → All P some → All P (kept_among members some)
+    → All P some → All P (kept_pair_meets_among members some)
 closest_kept_meets_inherit P members [] of_meet all = All-nil P
 closest_kept_meets_inherit P members (first ∷ rest) of_meet all =
-    All-append P (filter_map (kept_meet members first) rest) (kept_among members rest)
-    (All-filter_map_among P (kept_meet members first) rest
+    All-append P (filter_map (kept_pair_meet members first) rest) (kept_pair_meets_among members rest)
+    (All-filter_map_among P (kept_pair_meet members first) rest
     (λ second lowest among kept. of_meet first second lowest (All-head P first rest all)
     (among-All P second rest (All-tail P first rest all) among)
     (closest_kept_meet-is_meet members first second lowest kept)))

@@ -5,7 +5,7 @@ use Rattle.std.proofs.lemmas.List.{take-append-le}
 use Rattle.std.proofs.lemmas.Nat.{div-add-mod', div-mul-add}
 use Rattle.std.proofs.Math.Nat.{pow-zero, pow-suc, pow-succ', div-one, div-div-eq-div-mul, div-lt_iff_lt-mul}
 use Rattle.std.proofs.Math.Nat.{mul-le-mul_right, mul_assoc}
-use Rattle.prefix_lattice.specs.KeptBytes.{address_digits, address_number_from}
+use Rattle.prefix_lattice.specs.Address.{address_digits, address_number_from}
 
 -- as many digits as asked
 pub length-digits : (base count number : ℕ) → length (address_digits base count number) ≡ count

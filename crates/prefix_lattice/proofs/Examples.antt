@@ -3,15 +3,20 @@ use Rattle.std.proofs.Common.{◌≡◌, ℕ, ◌<◌, zero, suc, [], ◌∷◌,
 use Rattle.std.proofs.Common.{◌+◌, ◌*◌, ◌^◌, length}
 use Rattle.std.specs.declared.cmp.Ordering.TheVariants.{Less, Equal, Greater}
 use Rattle.prefix_lattice.specs.Record.{RecordValue}
-use Rattle.prefix_lattice.specs.Node.{NodeValue, IsNode, node_index, node_at, node_level, node_count, deepest_node_level}
-use Rattle.prefix_lattice.specs.Prefix.{IsPrefixKey, HasPrefixKey, PrefixValue, IsPrefix, covers, prefix_weight, total_weight}
+use Rattle.prefix_lattice.specs.Node.{NodeValue, IsNode, node_index, node_at, node_level, node_count}
+use Rattle.prefix_lattice.specs.Node.{deepest_node_level}
+use Rattle.prefix_lattice.specs.Prefix.{IsPrefixKey, HasPrefixKey, PrefixValue, IsPrefix, covers}
+use Rattle.prefix_lattice.specs.Weight.{prefix_weight, total_weight}
 use Rattle.prefix_lattice.specs.Prefix.{node_of_prefix, prefix_at, prefix_key}
-use Rattle.prefix_lattice.specs.KeptBytes.{address_digits, address_number_from, address_bytes, address_of, begins_with, AreLeadingBytes}
-use Rattle.prefix_lattice.specs.KeptBytes.{address_length}
-use Rattle.prefix_lattice.specs.Lattice.{under, same_prefix, strictly_under, longer_side, prefix_of_sides, meet}
-use Rattle.prefix_lattice.specs.Lattice.{ShareAddresses, report_order}
+use Rattle.prefix_lattice.specs.Address.{address_digits, address_number_from, address_bytes, address_of}
+use Rattle.prefix_lattice.specs.KeptBytes.{kept_bytes_begin_with, AreLeadingBytes}
+use Rattle.prefix_lattice.specs.Address.{address_length}
+use Rattle.prefix_lattice.specs.Lattice.{under, same_in_lattice, strictly_under}
+use Rattle.prefix_lattice.specs.Meets.{meet_side, meet_with_sides, meet}
+use Rattle.prefix_lattice.specs.Meets.{MeetInAddresses}
+use Rattle.prefix_lattice.specs.ReportOrder.{report_order}
 use Rattle.prefix_lattice.proofs.UnderMeetLemmas.{meet-some}
-use Rattle.prefix_lattice.specs.Limits.{most_records, most_shards, total_limit}
+use Rattle.prefix_lattice.specs.Limits.{record_limit, shard_limit, total_limit}
 use Rattle.prefix_lattice.specs.Interval.{IntervalHoldsWeight, IsNarrowInterval}
 
 -- 100 bytes from 10.1.2.3 to 20.1.2.3
@@ -42,13 +47,13 @@ bytes_of_an_address = refl
 pub address_of_two_bytes : address_of (20 ∷ 1 ∷ []) ≡ 0x14010000
 address_of_two_bytes = refl
 
-pub bytes_that_begin_with_others : begins_with (20 ∷ 1 ∷ 2 ∷ 3 ∷ []) (20 ∷ 1 ∷ []) ≡ true
+pub bytes_that_begin_with_others : kept_bytes_begin_with (20 ∷ 1 ∷ 2 ∷ 3 ∷ []) (20 ∷ 1 ∷ []) ≡ true
 bytes_that_begin_with_others = refl
 
-pub bytes_that_begin_otherwise : begins_with (20 ∷ 1 ∷ 2 ∷ 3 ∷ []) (20 ∷ 2 ∷ []) ≡ false
+pub bytes_that_begin_otherwise : kept_bytes_begin_with (20 ∷ 1 ∷ 2 ∷ 3 ∷ []) (20 ∷ 2 ∷ []) ≡ false
 bytes_that_begin_otherwise = refl
 
-pub bytes_too_few_to_begin_with_more : begins_with (20 ∷ []) (20 ∷ 1 ∷ []) ≡ false
+pub bytes_too_few_to_begin_with_more : kept_bytes_begin_with (20 ∷ []) (20 ∷ 1 ∷ []) ≡ false
 bytes_too_few_to_begin_with_more = refl
 
 pub leading_bytes_of_the_source : AreLeadingBytes (10 ∷ [])
@@ -164,10 +169,10 @@ more_kept_bytes_stand_under = refl
 pub more_kept_bytes_on_one_side_do_not : under from_ten to_twenty ≡ false
 more_kept_bytes_on_one_side_do_not = refl
 
-pub each_is_the_same_as_itself : same_prefix prefix prefix ≡ true
+pub each_is_the_same_as_itself : same_in_lattice prefix prefix ≡ true
 each_is_the_same_as_itself = refl
 
-pub under_another_is_not_the_same : same_prefix prefix from_ten_to_twenty ≡ false
+pub under_another_is_not_the_same : same_in_lattice prefix from_ten_to_twenty ≡ false
 under_another_is_not_the_same = refl
 
 pub none_is_strictly_under_itself : strictly_under prefix prefix ≡ false
@@ -176,16 +181,16 @@ none_is_strictly_under_itself = refl
 pub all_others_are_strictly_under_the_root : strictly_under to_twenty root ≡ true
 all_others_are_strictly_under_the_root = refl
 
-pub longer_side_of_two : longer_side (20 ∷ []) (20 ∷ 1 ∷ []) ≡ Some (20 ∷ 1 ∷ [])
+pub longer_side_of_two : meet_side (20 ∷ []) (20 ∷ 1 ∷ []) ≡ Some (20 ∷ 1 ∷ [])
 longer_side_of_two = refl
 
-pub no_longer_side_of_two_that_differ : longer_side (20 ∷ []) (21 ∷ 1 ∷ []) ≡ None
+pub no_longer_side_of_two_that_differ : meet_side (20 ∷ []) (21 ∷ 1 ∷ []) ≡ None
 no_longer_side_of_two_that_differ = refl
 
-pub two_sides_make_a_prefix : prefix_of_sides (Some (10 ∷ [])) (Some []) ≡ Some from_ten
+pub two_sides_make_a_prefix : meet_with_sides (Some (10 ∷ [])) (Some []) ≡ Some from_ten
 two_sides_make_a_prefix = refl
 
-pub one_side_makes_none : prefix_of_sides (Some (10 ∷ [])) None ≡ None
+pub one_side_makes_none : meet_with_sides (Some (10 ∷ [])) None ≡ None
 one_side_makes_none = refl
 
 pub meet_takes_the_longer_side : meet from_ten to_twenty ≡ Some from_ten_to_twenty
@@ -195,7 +200,7 @@ pub other_sources_do_not_meet : meet from_ten from_eleven ≡ None
 other_sources_do_not_meet = refl
 
 -- both cover the packet's pair of addresses
-pub addresses_are_shared : ShareAddresses from_ten to_twenty
+pub addresses_are_shared : MeetInAddresses from_ten to_twenty
 addresses_are_shared = record {
   pair = packet;
   is_source = omega arith;
@@ -204,7 +209,7 @@ addresses_are_shared = record {
   covered_by_other = refl;
 }
 
-pub no_address_is_shared : ShareAddresses from_ten from_eleven → ⊥
+pub no_address_is_shared : MeetInAddresses from_ten from_eleven → ⊥
 no_address_is_shared shares =
     let valid : (byte : ℕ) → byte < 256 → IsPrefix (record { source = byte ∷ []; dest = [] }) = λ byte small. record {
       source = record { few = omega arith; bytes = λ place. one_byte byte place small };
@@ -244,11 +249,11 @@ nodes_up_to_whole_addresses = refl
 pub level_of_whole_addresses : node_level (record { source_bytes = 4; dest_bytes = 4 }) ≡ deepest_node_level
 level_of_whole_addresses = refl
 
-pub records_are_few : most_records ≡ 2 ^ 24
+pub records_are_few : record_limit ≡ 2 ^ 24
 records_are_few = refl
 
 -- the least that the records of all shards stay below
-pub limit_of_a_total : most_shards * (most_records * 2 ^ 32) ≡ total_limit
+pub limit_of_a_total : shard_limit * (record_limit * 2 ^ 32) ≡ total_limit
 limit_of_a_total = refl
 
 -- ---- intervals

@@ -4,10 +4,14 @@ use Rattle.std.proofs.lemmas.List.Elements.{All-cons, All-nil}
 use Rattle.std.proofs.lemmas.List.Kept.{AllPairs-cons}
 use Rattle.prefix_lattice.specs.Record.{RecordValue}
 use Rattle.prefix_lattice.specs.Prefix.{PrefixValue}
-use Rattle.prefix_lattice.specs.Lattice.{strictly_under, meet}
-use Rattle.prefix_lattice.specs.ClosestLines.{lines_under, one_line_covers, conditioned_weight, greatest_lines, closest}
-use Rattle.prefix_lattice.specs.ClosestLines.{under_third_line, unless_under_third_line, kept_meet, kept_among, kept_pairs}
-use Rattle.prefix_lattice.specs.ClosestLines.{AreIncomparableLines, covering_line_count, LinesObeyStaircase}
+use Rattle.prefix_lattice.specs.Lattice.{strictly_under}
+use Rattle.prefix_lattice.specs.Meets.{meet}
+use Rattle.prefix_lattice.specs.ClosestLines.{lines_under, one_line_covers, greatest_lines, closest}
+use Rattle.prefix_lattice.specs.ConditionedWeight.{conditioned_weight}
+use Rattle.prefix_lattice.specs.KeptPairs.{is_under_third_beside_pair, unless_under_third_beside_pair, kept_pair_meet}
+use Rattle.prefix_lattice.specs.KeptPairs.{kept_pair_meets_among, kept_pairs}
+use Rattle.prefix_lattice.specs.ClosestLines.{AreIncomparableLines, covering_line_count}
+use Rattle.prefix_lattice.specs.Staircase.{LinesObeyStaircase}
 use Rattle.prefix_lattice.proofs.Examples.{packet, answer, prefix, root, to_twenty, from_ten_to_twenty}
 
 -- the root and three under it, of which the first is under the other two
@@ -71,31 +75,31 @@ climber = record { src = 0x0a010101; dst = 0x14010101; weight = 9 }
 pub none_of_the_stairs_is_under_another : closest root stairs ≡ stairs
 none_of_the_stairs_is_under_another = refl
 
-pub outer_meet_is_under_the_middle_step : under_third_line stairs lowest_step highest_step outer_meet ≡ true
+pub outer_meet_is_under_the_middle_step : is_under_third_beside_pair stairs lowest_step highest_step outer_meet ≡ true
 outer_meet_is_under_the_middle_step = refl
 
 -- the two whose meet it is don't count
-pub lower_meet_is_under_no_third_step : under_third_line stairs lowest_step middle_step lower_meet ≡ false
+pub lower_meet_is_under_no_third_step : is_under_third_beside_pair stairs lowest_step middle_step lower_meet ≡ false
 lower_meet_is_under_no_third_step = refl
 
-pub prefix_under_a_third_is_dropped : unless_under_third_line stairs lowest_step highest_step (Some outer_meet) ≡ None
+pub prefix_under_a_third_is_dropped : unless_under_third_beside_pair stairs lowest_step highest_step (Some outer_meet) ≡ None
 prefix_under_a_third_is_dropped = refl
 
-pub prefix_under_no_third_stays : unless_under_third_line stairs lowest_step middle_step (Some lower_meet) ≡ Some lower_meet
+pub prefix_under_no_third_stays : unless_under_third_beside_pair stairs lowest_step middle_step (Some lower_meet) ≡ Some lower_meet
 prefix_under_no_third_stays = refl
 
-pub meet_of_neighbours_is_kept : kept_meet stairs middle_step highest_step ≡ Some upper_meet
+pub meet_of_neighbours_is_kept : kept_pair_meet stairs middle_step highest_step ≡ Some upper_meet
 meet_of_neighbours_is_kept = refl
 
 -- it is there, and not kept
 pub meet_of_the_outer_two : meet lowest_step highest_step ≡ Some outer_meet
 meet_of_the_outer_two = refl
 
-pub meet_of_the_outer_two_is_not_kept : kept_meet stairs lowest_step highest_step ≡ None
+pub meet_of_the_outer_two_is_not_kept : kept_pair_meet stairs lowest_step highest_step ≡ None
 meet_of_the_outer_two_is_not_kept = refl
 
 -- the pairs that begin behind the lowest step
-pub kept_pairs_of_the_upper_steps : kept_among stairs (middle_step ∷ highest_step ∷ []) ≡ upper_meet ∷ []
+pub kept_pairs_of_the_upper_steps : kept_pair_meets_among stairs (middle_step ∷ highest_step ∷ []) ≡ upper_meet ∷ []
 kept_pairs_of_the_upper_steps = refl
 
 pub neighbours_are_kept : kept_pairs stairs ≡ lower_meet ∷ upper_meet ∷ []

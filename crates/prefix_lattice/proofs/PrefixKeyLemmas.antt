@@ -2,10 +2,11 @@
 use Rattle.std.proofs.Common.{◌≡◌, ℕ, ◌-◌, ◌/◌, ◌%◌, ◌^◌, ◌<◌, length, take, Option, None, Some, IsSome, IfSome}
 use Rattle.std.proofs.Common.{IfNone, refl, sym, ap, ◌∙◌, arith, subst}
 use Rattle.std.proofs.Math.Nat.{mul-mod_left}
-use Rattle.prefix_lattice.specs.KeptBytes.{address_bytes, address_of, address_number_from}
+use Rattle.prefix_lattice.specs.Address.{address_bytes, address_of, address_number_from}
 use Rattle.prefix_lattice.specs.Record.{RecordValue}
 use Rattle.prefix_lattice.specs.Node.{NodeValue, IsNode}
-use Rattle.prefix_lattice.specs.Prefix.{PrefixValue, IsPrefix, node_of_prefix, prefix_at, prefix_key, IsPrefixKey, HasPrefixKey}
+use Rattle.prefix_lattice.specs.Prefix.{PrefixValue, IsPrefix, node_of_prefix, prefix_at, prefix_key, IsPrefixKey}
+use Rattle.prefix_lattice.specs.Prefix.{HasPrefixKey}
 use Rattle.prefix_lattice.proofs.AddressLemmas.{address_front_is_leading, address_front-length, address_of-small}
 use Rattle.prefix_lattice.proofs.NodePrefixLemmas.{node_prefix-same_key}
 

@@ -4,10 +4,10 @@ use Rattle.std.specs.declared.cmp.Ordering.TheVariants.{Less, Equal, Greater}
 use Rattle.std.specs.Cmp.{IsTotalOrder}
 use Rattle.std.specs.Ordering.{nat_cmp, ordering_then}
 use Rattle.std.proofs.lemmas.Cmp.{ranked, nat_cmp_total, on_total, then_total, back_total, tied_itself}
-use Rattle.prefix_lattice.specs.KeptBytes.{address_of}
+use Rattle.prefix_lattice.specs.Address.{address_of}
 use Rattle.prefix_lattice.specs.Node.{node_level}
 use Rattle.prefix_lattice.specs.Prefix.{PrefixValue, IsPrefix, node_of_prefix}
-use Rattle.prefix_lattice.specs.Lattice.{report_order}
+use Rattle.prefix_lattice.specs.ReportOrder.{report_order}
 use Rattle.prefix_lattice.proofs.AddressLemmas.{address_tells_leading_bytes}
 use Rattle.prefix_lattice.proofs.UnderMeetLemmas.{under_sides_tell_prefix}
 

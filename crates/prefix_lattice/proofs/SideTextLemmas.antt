@@ -3,7 +3,7 @@ use Rattle.std.proofs.Common.{◌≡◌, ℕ, ◌-◌, ◌*◌, ◌%◌, ◌^◌
 use Rattle.std.proofs.Common.{◌∙◌, arith}
 use Rattle.std.proofs.lemmas.Fmt.{decimal_injective}
 use Rattle.std.proofs.Math.Nat.{mul-mod_left}
-use Rattle.prefix_lattice.specs.KeptBytes.{address_number_from, address_of}
+use Rattle.prefix_lattice.specs.Address.{address_number_from, address_of}
 use Rattle.prefix_lattice.specs.PrefixText.{address_text, side_text_of, text_before_slash, IsAddressText, TextHasLength}
 use Rattle.prefix_lattice.specs.PrefixText.{TextSpellsSide, TextHasSideFault}
 use Rattle.prefix_lattice.specs.declared.prefix_fault.Side.{Side}

@@ -6,19 +6,27 @@ use Rattle.std.proofs.lemmas.Bool.{false≢true, false_from_ne_true, and_parts, 
 use Rattle.std.proofs.lemmas.Bool.{not_from_false}
 use Rattle.std.proofs.lemmas.List.Sums.{length-filter}
 use Rattle.std.proofs.lemmas.List.Kept.{AllPairs-filter}
-use Rattle.prefix_lattice.specs.KeptBytes.{address_bytes}
+use Rattle.prefix_lattice.specs.Address.{address_bytes}
 use Rattle.prefix_lattice.specs.Record.{RecordValue}
 use Rattle.prefix_lattice.specs.Prefix.{PrefixValue, covers}
-use Rattle.prefix_lattice.specs.Lattice.{under, same_prefix}
-use Rattle.prefix_lattice.specs.ClosestLines.{under_third_line, kept_pairs, AreIncomparableLines, covering_line_count, LinesObeyStaircase}
+use Rattle.prefix_lattice.specs.Lattice.{under, same_in_lattice}
+use Rattle.prefix_lattice.specs.KeptPairs.{is_under_third_beside_pair, kept_pairs}
+use Rattle.prefix_lattice.specs.ClosestLines.{AreIncomparableLines, covering_line_count}
+use Rattle.prefix_lattice.specs.Staircase.{LinesObeyStaircase}
 use Rattle.prefix_lattice.proofs.AmongLemmas.{Among, any_among-false, any_among-true, among-filter, filter-among}
-use Rattle.prefix_lattice.proofs.OrderedCountLemmas.{added_to_count, count_by-cons, count_by-none, pair_count, pair_count-filter}
-use Rattle.prefix_lattice.proofs.OrderedCountLemmas.{ordered_by, ordered_by-keeps, ordered_by-adds_none, ordered_by-same_count}
+use Rattle.prefix_lattice.proofs.OrderedCountLemmas.{added_to_count, count_by-cons, count_by-none, pair_count}
+use Rattle.prefix_lattice.proofs.OrderedCountLemmas.{pair_count-filter}
+use Rattle.prefix_lattice.proofs.OrderedCountLemmas.{ordered_by, ordered_by-keeps, ordered_by-adds_none}
+use Rattle.prefix_lattice.proofs.OrderedCountLemmas.{ordered_by-same_count}
 use Rattle.prefix_lattice.proofs.OrderedCountLemmas.{pair_count-ordered_by}
-use Rattle.prefix_lattice.proofs.UnderMeetLemmas.{IsMeet, under-antisym, under_same_prefix-refl, covers-up_from_under, meet-covers}
-use Rattle.prefix_lattice.proofs.KeptPairLemmas.{keeps_pair, kept_pair-count, keeps_pair-turned, keeps_pair-by_kept_meet, keeps_pair-covers}
-use Rattle.prefix_lattice.proofs.ChainLemmas.{chain_source_bytes, chain_dest_bytes, IsChainMember, DescendsChain, IsChain, under-by_chain_bytes}
-use Rattle.prefix_lattice.proofs.ChainLemmas.{chain_bytes-by_under, chain_member_under_is_same, chain_from_ordered_members}
+use Rattle.prefix_lattice.proofs.UnderMeetLemmas.{IsMeet, under-antisym, under_same_prefix-refl, covers-up_from_under}
+use Rattle.prefix_lattice.proofs.UnderMeetLemmas.{meet-covers}
+use Rattle.prefix_lattice.proofs.KeptPairLemmas.{keeps_pair, kept_pair-count, keeps_pair-turned}
+use Rattle.prefix_lattice.proofs.KeptPairLemmas.{keeps_pair-by_kept_meet, keeps_pair-covers}
+use Rattle.prefix_lattice.proofs.ChainLemmas.{chain_source_bytes, chain_dest_bytes, IsChainMember, DescendsChain}
+use Rattle.prefix_lattice.proofs.ChainLemmas.{IsChain, under-by_chain_bytes}
+use Rattle.prefix_lattice.proofs.ChainLemmas.{chain_bytes-by_under, chain_member_under_is_same}
+use Rattle.prefix_lattice.proofs.ChainLemmas.{chain_from_ordered_members}
 
 -- a step and the later ones: no further member that covers the record keeps more source bytes than the step
 pub record AreStaircaseRest (members : List PrefixValue) (rec : RecordValue) (step : PrefixValue) (later : List PrefixValue)
@@ -49,12 +57,12 @@ staircase_rest-tail members rec step next later rest = record {
 staircase_has_no_third : (members : List PrefixValue) (rec : RecordValue) (step next lowest : PrefixValue)
     (later : List PrefixValue) → AreIncomparableLines members → AreStaircaseRest members rec step (next ∷ later)
     → IsMeet step next lowest (address_bytes rec.src) (address_bytes rec.dst)
-    → under_third_line members step next lowest ≡ false
+    → is_under_third_beside_pair members step next lowest ≡ false
 staircase_has_no_third members rec step next lowest later incomparable rest found =
-    any_among-false (λ third. under lowest third && not (same_prefix third step || same_prefix third next)) members
+    any_among-false (λ third. under lowest third && not (same_in_lattice third step || same_in_lattice third next)) members
     (λ third among. false_from_ne_true _ (λ passes.
-    let parts = and_parts (under lowest third) (not (same_prefix third step || same_prefix third next)) passes in
-    let neither = or_parts (same_prefix third step) (same_prefix third next) (not-true _ parts.1) in
+    let parts = and_parts (under lowest third) (not (same_in_lattice third step || same_in_lattice third next)) passes in
+    let neither = or_parts (same_in_lattice third step) (same_in_lattice third next) (not-true _ parts.1) in
     let covered = and_from _ _ found.source_begins found.dest_begins in
     let is_step : IsChainMember members rec third = record {
       among = among;
@@ -65,12 +73,12 @@ staircase_has_no_third members rec step next lowest later incomparable rest foun
     descends : DescendsChain step next
     descends = rest.chain.0 next (inl refl)
 
-    is_first : (third : PrefixValue) → third ≡ step → same_prefix third step ≡ false → ⊥
+    is_first : (third : PrefixValue) → third ≡ step → same_in_lattice third step ≡ false → ⊥
     is_first third same other =
-        false≢true (sym other ∙ subst (λ p. same_prefix third p ≡ true) same (under_same_prefix-refl third))
+        false≢true (sym other ∙ subst (λ p. same_in_lattice third p ≡ true) same (under_same_prefix-refl third))
 
     is_one : (third : PrefixValue) → IsChainMember members rec third → under lowest third ≡ true
-        → same_prefix third step ≡ false → same_prefix third next ≡ false
+        → same_in_lattice third step ≡ false → same_in_lattice third next ≡ false
         → (chain_source_bytes third ≤ chain_source_bytes step) ⊎ Among third (next ∷ later) → ⊥
     is_one third is_step is_under not_step not_next (inl less) =
         let lengths = chain_bytes-by_under lowest third is_under in
@@ -81,7 +89,7 @@ staircase_has_no_third members rec step next lowest later incomparable rest foun
         (under-by_chain_bytes rec step third first_step.covered is_step.covered less dests) in
         is_first third (sym same) not_step
     is_one third is_step is_under not_step not_next (inr (inl same)) =
-        false≢true (sym not_next ∙ subst (λ p. same_prefix third p ≡ true) same (under_same_prefix-refl third))
+        false≢true (sym not_next ∙ subst (λ p. same_in_lattice third p ≡ true) same (under_same_prefix-refl third))
     is_one third is_step is_under not_step not_next (inr (inr among)) =
         let lengths = chain_bytes-by_under lowest third is_under in
         let further = rest.chain.1.0 third among in
@@ -113,19 +121,19 @@ staircase_later_is_not_kept members rec step next later rest last among =
     let sources : chain_source_bytes next ≤ chain_source_bytes found.0 = omega (arith, found.1.source_length, further.source) in
     let dests : chain_dest_bytes next ≤ chain_dest_bytes found.0 = omega (arith, found.1.dest_length, descends.dest) in
     let is_under = under-by_chain_bytes rec found.0 next covered next_step.covered sources dests in
-    let not_first = false_from_ne_true (same_prefix next step) (λ same. other next step descends.source same) in
-    let not_last = false_from_ne_true (same_prefix next last) (λ same. turned next last further.source same) in
-    let third = any_among-true (λ p. under found.0 p && not (same_prefix p step || same_prefix p last)) next members
+    let not_first = false_from_ne_true (same_in_lattice next step) (λ same. other next step descends.source same) in
+    let not_last = false_from_ne_true (same_in_lattice next last) (λ same. turned next last further.source same) in
+    let third = any_among-true (λ p. under found.0 p && not (same_in_lattice p step || same_in_lattice p last)) next members
     next_step.among
     (and_from _ _ is_under (not_from_false _ (or_from _ _ not_first not_last))) in
     keeps_pair-by_kept_meet members rec step last found.0 true found.1.is third
   where
-    other : (prefix first : PrefixValue) → chain_source_bytes first < chain_source_bytes prefix → same_prefix prefix first ≡ true → ⊥
+    other : (prefix first : PrefixValue) → chain_source_bytes first < chain_source_bytes prefix → same_in_lattice prefix first ≡ true → ⊥
     other prefix first less same =
         let both = and_parts (under prefix first) (under first prefix) same in
         absurd (omega (arith, less, ap chain_source_bytes (under-antisym prefix first both.0 both.1)))
 
-    turned : (prefix next : PrefixValue) → chain_source_bytes prefix < chain_source_bytes next → same_prefix prefix next ≡ true → ⊥
+    turned : (prefix next : PrefixValue) → chain_source_bytes prefix < chain_source_bytes next → same_in_lattice prefix next ≡ true → ⊥
     turned prefix next less same =
         let both = and_parts (under prefix next) (under next prefix) same in
         absurd (omega (arith, less, ap chain_source_bytes (under-antisym prefix next both.0 both.1)))

@@ -1,7 +1,8 @@
 -- How long the text of a prefix can be.
 use Rattle.std.proofs.Common.{ℕ, ◌*◌, ◌/◌, ◌%◌, ◌≤◌, List, ◌∷◌, ◌++◌, length, decimal, arith, length-append}
 use Rattle.std.proofs.lemmas.Fmt.{length-decimal-le}
-use Rattle.prefix_lattice.specs.KeptBytes.{address_of, AreLeadingBytes}
+use Rattle.prefix_lattice.specs.Address.{address_of}
+use Rattle.prefix_lattice.specs.KeptBytes.{AreLeadingBytes}
 use Rattle.prefix_lattice.specs.Prefix.{PrefixValue, IsPrefix}
 use Rattle.prefix_lattice.specs.PrefixText.{address_text, side_text, prefix_text}
 

@@ -1,34 +1,12 @@
--- An IPv4 address and its leading bytes.
-use Rattle.std.specs.Prelude.{ℕ, ◌+◌, ◌-◌, ◌*◌, ◌/◌, ◌%◌, ◌^◌, ◌<◌, ◌≤◌, ◌==◌, ◌&&◌, Bool, true, false, zero, suc}
-use Rattle.std.specs.Prelude.{List, [], ◌∷◌, ◌++◌, length, slice_index}
-
--- the bytes of an IPv4 address (RFC 791)
-abbrev pub address_length : ℕ
-address_length = 4
-
--- this many of the lowest digits of a number, the most significant first
-abbrev pub address_digits : ℕ → ℕ → ℕ → List ℕ
-address_digits base zero number = []
-address_digits base (suc count) number = address_digits base count (number / base) ++ number % base ∷ []
-
--- the number whose digits are those of `high` followed by these
-abbrev pub address_number_from : ℕ → ℕ → List ℕ → ℕ
-address_number_from base high [] = high
-address_number_from base high (digit ∷ rest) = address_number_from base (high * base + digit) rest
-
--- the four bytes of an address, in network byte order (RFC 791)
-abbrev pub address_bytes : ℕ → List ℕ
-address_bytes address = address_digits 256 address_length address
-
--- the address that begins with these bytes and has zeros after them
-abbrev pub address_of : List ℕ → ℕ
-address_of bytes = address_number_from 256 0 bytes * 256 ^ (address_length - length bytes)
+-- The leading bytes of an IPv4 address, which a prefix keeps.
+use Rattle.std.specs.Prelude.{ℕ, ◌-◌, ◌<◌, ◌≤◌, ◌==◌, ◌&&◌, Bool, true, false, List, [], ◌∷◌, length, slice_index}
+use Rattle.prefix_lattice.specs.Address.{address_length}
 
 -- whether a list of bytes begins with another
-abbrev pub begins_with : List ℕ → List ℕ → Bool
-begins_with bytes [] = true
-begins_with [] (first ∷ front) = false
-begins_with (byte ∷ bytes) (first ∷ front) = byte == first && begins_with bytes front
+abbrev pub kept_bytes_begin_with : List ℕ → List ℕ → Bool
+kept_bytes_begin_with bytes [] = true
+kept_bytes_begin_with [] (first ∷ front) = false
+kept_bytes_begin_with (byte ∷ bytes) (first ∷ front) = byte == first && kept_bytes_begin_with bytes front
 
 -- leading bytes of an address: at most four numbers below 256
 pub record AreLeadingBytes (front : List ℕ) : Type 0 where

@@ -2,12 +2,12 @@
 use Rattle.std.specs.Prelude.{ℕ, ◌^◌}
 
 -- the most records that are dealt or counted, 2^24: as many as a capture may have frames
-abbrev pub most_records : ℕ
-most_records = 16777216
+abbrev pub record_limit : ℕ
+record_limit = 16777216
 
 -- the most shards that records are dealt to
-abbrev pub most_shards : ℕ
-most_shards = 16
+abbrev pub shard_limit : ℕ
+shard_limit = 16
 
 -- no sum of weights reaches this: 16 shards have at most 2^24 records each, and a record weighs less than 2^32
 abbrev pub total_limit : ℕ

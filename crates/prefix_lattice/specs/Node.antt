@@ -1,6 +1,6 @@
 -- A node of the lattice, as contracts see it.
 use Rattle.std.specs.Prelude.{ℕ, ◌+◌, ◌*◌, ◌/◌, ◌%◌, ◌≤◌}
-use Rattle.prefix_lattice.specs.KeptBytes.{address_length}
+use Rattle.prefix_lattice.specs.Address.{address_length}
 
 -- the number of nodes of the lattice: a node keeps 0 to 4 bytes of each of two addresses
 abbrev pub node_count : ℕ

@@ -1,6 +1,7 @@
--- Prefixes of records, their weights and their keys.
-use Rattle.std.specs.Prelude.{ℕ, List, ◌+◌, ◌*◌, ◌^◌, ◌&&◌, Bool, length, take, sum_by, filter, ◌≡◌, ◌-◌, ◌/◌, ◌%◌}
-use Rattle.prefix_lattice.specs.KeptBytes.{AreLeadingBytes, address_bytes, address_of, begins_with, address_length}
+-- Prefixes of records, their nodes and their keys.
+use Rattle.std.specs.Prelude.{ℕ, List, ◌+◌, ◌*◌, ◌^◌, ◌&&◌, Bool, length, take, ◌≡◌, ◌-◌, ◌/◌, ◌%◌}
+use Rattle.prefix_lattice.specs.KeptBytes.{AreLeadingBytes, kept_bytes_begin_with}
+use Rattle.prefix_lattice.specs.Address.{address_bytes, address_of, address_length}
 use Rattle.prefix_lattice.specs.Record.{RecordValue}
 use Rattle.prefix_lattice.specs.Node.{NodeValue}
 
@@ -16,15 +17,7 @@ pub record IsPrefix (prefix : PrefixValue) : Type 0 where
 
 -- a prefix covers a record whose addresses begin with its bytes
 abbrev pub covers : PrefixValue → RecordValue → Bool
-covers prefix rec = begins_with (address_bytes rec.src) prefix.source && begins_with (address_bytes rec.dst) prefix.dest
-
--- the weight of a prefix over some records: the sum of the weights of the records that it covers
-abbrev pub prefix_weight : PrefixValue → List RecordValue → ℕ
-prefix_weight prefix records = sum_by (λ rec. rec.weight) (filter (covers prefix) records)
-
--- the total weight of some records
-abbrev pub total_weight : List RecordValue → ℕ
-total_weight records = sum_by (λ rec. rec.weight) records
+covers prefix rec = kept_bytes_begin_with (address_bytes rec.src) prefix.source && kept_bytes_begin_with (address_bytes rec.dst) prefix.dest
 
 -- the node of a prefix: how many bytes it keeps of each address
 abbrev pub node_of_prefix : PrefixValue → NodeValue

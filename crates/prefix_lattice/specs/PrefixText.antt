@@ -2,7 +2,8 @@
 use Rattle.std.specs.Prelude.{ℕ, ◌≡◌, ◌≢◌, ◌-◌, ◌*◌, ◌^◌, ◌%◌, ◌<◌, ◌≤◌, ◌⊎◌, ◌==◌, List, ◌∷◌, ◌++◌, length, map}
 use Rattle.std.specs.Prelude.{decimal, ◌+◌, take, drop}
 use Rattle.std.specs.List.{join_with_byte, before_first, after_first}
-use Rattle.prefix_lattice.specs.KeptBytes.{address_bytes, address_of, AreLeadingBytes, address_length}
+use Rattle.prefix_lattice.specs.Address.{address_bytes, address_of, address_length}
+use Rattle.prefix_lattice.specs.KeptBytes.{AreLeadingBytes}
 use Rattle.prefix_lattice.specs.Prefix.{PrefixValue}
 use Rattle.prefix_lattice.specs.declared.prefix_fault.Side.{Side}
 use Rattle.prefix_lattice.specs.declared.prefix_fault.Side.TheVariants.{Source, Dest}
@@ -30,28 +31,28 @@ abbrev pub side_text : List ℕ → List ℕ
 side_text front = side_text_of (address_of front) (length front)
 
 -- the most bytes of the text of a side, as of `255.255.255.255/32`
-abbrev pub longest_side_text : ℕ
-longest_side_text = 18
+abbrev pub longest_side_text_length : ℕ
+longest_side_text_length = 18
 
 -- the space that separates the two sides of a prefix
-abbrev pub space : ℕ
-space = 32
+abbrev pub prefix_text_space : ℕ
+prefix_text_space = 32
 
 -- how a prefix is spelled: its source, a space and its destination
 abbrev pub prefix_text : PrefixValue → List ℕ
-prefix_text prefix = side_text prefix.source ++ space ∷ side_text prefix.dest
+prefix_text prefix = side_text prefix.source ++ prefix_text_space ∷ side_text prefix.dest
 
 -- the most bytes of the text of a prefix: two sides and a space
-abbrev pub longest_prefix_text : ℕ
-longest_prefix_text = 2 * longest_side_text + 1
+abbrev pub longest_prefix_text_length : ℕ
+longest_prefix_text_length = 2 * longest_side_text_length + 1
 
 -- the part of a text before its first space
-abbrev pub source_part_of_text : List ℕ → List ℕ
-source_part_of_text text = before_first (λ byte. byte == space) text
+abbrev pub source_part_of_prefix_text : List ℕ → List ℕ
+source_part_of_prefix_text text = before_first (λ byte. byte == prefix_text_space) text
 
 -- the part of a text after its first space
-abbrev pub dest_part_of_text : List ℕ → List ℕ
-dest_part_of_text text = after_first (λ byte. byte == space) text
+abbrev pub dest_part_of_prefix_text : List ℕ → List ℕ
+dest_part_of_prefix_text text = after_first (λ byte. byte == prefix_text_space) text
 
 -- the text spells this side of a prefix
 pub record TextSpellsSide (text front : List ℕ) : Type 0 where
@@ -91,11 +92,11 @@ pub record SpellsPrefix (source_text dest_text : List ℕ) (prefix : PrefixValue
   pub dest : TextSpellsSide dest_text prefix.dest
 
 -- what is wrong with the two texts: the source is checked completely before the destination
-abbrev pub HasPrefixFault : List ℕ → List ℕ → PrefixFault → Type 0
-HasPrefixFault source dest fault =
+abbrev pub HasPrefixTextFault : List ℕ → List ℕ → PrefixFault → Type 0
+HasPrefixTextFault source dest fault =
     TextHasSideFault Source source fault ⊎ (((front : List ℕ) × TextSpellsSide source front) × TextHasSideFault Dest dest fault)
 
 -- this part was written from this offset on, and other bytes are unchanged
-pub record WritesTextPart (old new : List ℕ) (start end : ℕ) (part : List ℕ) : Type 0 where
+pub record WritesPrefixTextPart (old new : List ℕ) (start end : ℕ) (part : List ℕ) : Type 0 where
   pub ends : end ≡ start + length part
   pub written : new ≡ take start old ++ part ++ drop end old

@@ -1,8 +1,9 @@
 //! One half of a prefix: some leading bytes of an address.
 
 ghost use Rattle.std.specs.Prelude.{◌≡◌, ◌≢◌, ◌≤◌, ◌-◌, ◌*◌, ◌/◌, ◌%◌, ◌^◌, length, take, IfSome, IfNone};
-ghost use Rattle.prefix_lattice.specs.KeptBytes.{address_bytes, address_of, address_length, begins_with, AreLeadingBytes};
-ghost use Rattle.prefix_lattice.specs.Lattice.{longer_side};
+ghost use Rattle.prefix_lattice.specs.Address.{address_bytes, address_of, address_length};
+ghost use Rattle.prefix_lattice.specs.KeptBytes.{kept_bytes_begin_with, AreLeadingBytes};
+ghost use Rattle.prefix_lattice.specs.Meets.{meet_side};
 
 use std::marker::Model;
 
@@ -15,7 +16,7 @@ pub struct KeptBytes {
 
 impl Model for KeptBytes {
     ghost use Rattle.std.specs.Prelude.{◌≡◌, ◌<◌, ◌≤◌, ◌^◌, ℕ, List, take, length};
-    ghost use Rattle.prefix_lattice.specs.KeptBytes.{address_bytes, address_of, address_length};
+    ghost use Rattle.prefix_lattice.specs.Address.{address_bytes, address_of, address_length};
 
     ghost Value = { List ℕ };
 
@@ -72,14 +73,14 @@ impl KeptBytes {
 
     /// Whether an address begins with these bytes.
     pub fn begin(&self, address: u32) -> bool
-        ensures { result ≡ begins_with (address_bytes address) self.now }
+        ensures { result ≡ kept_bytes_begin_with (address_bytes address) self.now }
     {
         masked(address, self.bytes) == self.address
     }
 
     /// Whether these bytes begin with those of the other.
     pub fn under(&self, other: &KeptBytes) -> bool
-        ensures value { result ≡ begins_with self.now other.now }
+        ensures value { result ≡ kept_bytes_begin_with self.now other.now }
         ensures leading { AreLeadingBytes self.now }
         ensures other_leading { AreLeadingBytes other.now }
     {
@@ -88,7 +89,7 @@ impl KeptBytes {
 
     /// The longer of the two, if it begins with the bytes of the other.
     pub fn longer(self, other: KeptBytes) -> Option<KeptBytes>
-        ensures value { result ≡ longer_side self other }
+        ensures value { result ≡ meet_side self other }
         ensures leading { AreLeadingBytes self }
         ensures other_leading { AreLeadingBytes other }
     {

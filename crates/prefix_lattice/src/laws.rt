@@ -1,13 +1,20 @@
 //! Laws of the lattice. A caller that calls one has its contract available.
 
-ghost use Rattle.std.specs.Prelude.{◌≡◌, ◌≢◌, ◌<◌, ◌≤◌, ◌↔◌, ℕ, List, ◌∷◌, ◌++◌, length, All, AllPairs, IsSomeAnd, true};
+ghost use Rattle.std.specs.Prelude.{◌≡◌, ◌≢◌, ◌<◌, ◌≤◌, ◌↔◌, ℕ, List, ◌∷◌, ◌++◌, length, All, AllPairs, IsSomeAnd};
+ghost use Rattle.std.specs.Prelude.{true};
 ghost use Rattle.std.specs.Cmp.{IsTotalOrder};
 ghost use Rattle.prefix_lattice.specs.Node.{node_level};
 ghost use Rattle.prefix_lattice.specs.Record.{RecordValue};
 ghost use Rattle.prefix_lattice.specs.Prefix.{PrefixValue, IsPrefix, covers, node_of_prefix};
-ghost use Rattle.prefix_lattice.specs.Lattice.{under, strictly_under, meet, report_order};
-ghost use Rattle.prefix_lattice.specs.PrefixText.{space, source_part_of_text, dest_part_of_text, prefix_text, SpellsPrefix, longest_prefix_text};
-ghost use Rattle.prefix_lattice.specs.ClosestLines.{lines_under, one_line_covers, closest, kept_pairs, AreIncomparableLines, LinesObeyStaircase};
+ghost use Rattle.prefix_lattice.specs.Lattice.{under, strictly_under};
+ghost use Rattle.prefix_lattice.specs.Meets.{meet};
+ghost use Rattle.prefix_lattice.specs.ReportOrder.{report_order};
+ghost use Rattle.prefix_lattice.specs.PrefixText.{prefix_text_space, source_part_of_prefix_text};
+ghost use Rattle.prefix_lattice.specs.PrefixText.{dest_part_of_prefix_text, prefix_text, SpellsPrefix};
+ghost use Rattle.prefix_lattice.specs.PrefixText.{longest_prefix_text_length};
+ghost use Rattle.prefix_lattice.specs.ClosestLines.{lines_under, one_line_covers, closest, AreIncomparableLines};
+ghost use Rattle.prefix_lattice.specs.KeptPairs.{kept_pairs};
+ghost use Rattle.prefix_lattice.specs.Staircase.{LinesObeyStaircase};
 
 use std::cmp::Ordering;
 
@@ -34,10 +41,12 @@ pub fn report_order_is_total()
 /// A law of texts: the text of a prefix is read back as that prefix, side by side, and a text that was read is written
 /// back unchanged. It is at most 37 bytes long, and distinct prefixes have distinct texts.
 pub fn prefix_texts_read_back()
-    ensures read { (prefix : PrefixValue) → IsPrefix prefix → SpellsPrefix (source_part_of_text (prefix_text prefix)) (dest_part_of_text (prefix_text prefix)) prefix }
-    ensures written { (source dest : List ℕ) (prefix : PrefixValue) → SpellsPrefix source dest prefix → prefix_text prefix ≡ source ++ space ∷ dest }
+    ensures read { (prefix : PrefixValue) → IsPrefix prefix
+        → SpellsPrefix (source_part_of_prefix_text (prefix_text prefix)) (dest_part_of_prefix_text (prefix_text prefix)) prefix }
+    ensures written { (source dest : List ℕ) (prefix : PrefixValue) → SpellsPrefix source dest prefix
+        → prefix_text prefix ≡ source ++ prefix_text_space ∷ dest }
     ensures apart { (prefix other : PrefixValue) → IsPrefix prefix → IsPrefix other → prefix_text prefix ≡ prefix_text other → prefix ≡ other }
-    ensures short { (prefix : PrefixValue) → IsPrefix prefix → length (prefix_text prefix) ≤ longest_prefix_text }
+    ensures short { (prefix : PrefixValue) → IsPrefix prefix → length (prefix_text prefix) ≤ longest_prefix_text_length }
 {}
 
 /// A law of lines: the lines closest to a prefix cover the same records as all lines under it, and the closest of

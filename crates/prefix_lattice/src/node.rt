@@ -1,7 +1,7 @@
 //! The nodes of the lattice.
 
 ghost use Rattle.std.specs.Prelude.{◌≡◌, ◌<◌, ◌≤◌, ◌↔◌, ◌⊎◌, IsNone, IfSome};
-ghost use Rattle.prefix_lattice.specs.KeptBytes.{address_length};
+ghost use Rattle.prefix_lattice.specs.Address.{address_length};
 ghost use Rattle.prefix_lattice.specs.Node.{IsNode, node_index, node_at, node_level, node_count, deepest_node_level};
 
 use std::marker::Model;
@@ -15,7 +15,7 @@ pub struct Node {
 
 impl Model for Node {
     ghost use Rattle.std.specs.Prelude.{◌≤◌};
-    ghost use Rattle.prefix_lattice.specs.KeptBytes.{address_length};
+    ghost use Rattle.prefix_lattice.specs.Address.{address_length};
     ghost use Rattle.prefix_lattice.specs.Node.{NodeValue};
 
     ghost Value = { NodeValue };

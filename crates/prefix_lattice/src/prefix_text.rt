@@ -1,9 +1,10 @@
 //! Reading one side of the text of a prefix.
 
-ghost use Rattle.std.specs.Prelude.{◌≡◌, ◌≢◌, ◌==◌, ◌<◌, ◌≤◌, ◌*◌, ◌^◌, ◌++◌, ◌∷◌, ℕ, length, position, decimal, IfSome, IfNone, IfOk, IfErr};
+ghost use Rattle.std.specs.Prelude.{◌≡◌, ◌≢◌, ◌==◌, ◌<◌, ◌≤◌, ◌*◌, ◌^◌, ◌++◌, ◌∷◌, ℕ, length, position, decimal};
+ghost use Rattle.std.specs.Prelude.{IfSome, IfNone, IfOk, IfErr};
 ghost use Rattle.std.specs.List.{before_first};
 ghost use Rattle.prefix_lattice.specs.PrefixText.{address_text, slash, TextSpellsSide, TextHasSideFault};
-ghost use Rattle.prefix_lattice.specs.KeptBytes.{address_length};
+ghost use Rattle.prefix_lattice.specs.Address.{address_length};
 
 use crate::kept_bytes::KeptBytes;
 use crate::{PrefixFault, Side, number_of};

@@ -1,6 +1,7 @@
 //! Records in their order.
 
-ghost use Rattle.std.specs.Prelude.{◌≡◌, ◌==◌, ◌<◌, ◌++◌, [], ◌∷◌, ◌≤◌, ◌^◌, length, All, IfOk, OnOk, OnErr, slice_get, Some};
+ghost use Rattle.std.specs.Prelude.{◌≡◌, ◌==◌, ◌<◌, ◌++◌, [], ◌∷◌, ◌≤◌, ◌^◌, length, All, IfOk, OnOk, OnErr, slice_get};
+ghost use Rattle.std.specs.Prelude.{Some};
 
 use crate::Record;
 use std::alloc::{AllocError, Global};

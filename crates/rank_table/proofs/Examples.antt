@@ -1,14 +1,19 @@
 -- Worked examples of the definitions, most by computing.
-use Rattle.std.proofs.Common.{◌≡◌, ◌<◌, ◌≤◌, ◌^◌, ◌*◌, ◌+◌, ℕ, List, [], ◌∷◌, zero, suc, slice_index_or, lit<, refl, arith}
+use Rattle.std.proofs.Common.{◌≡◌, ◌<◌, ◌≤◌, ◌^◌, ◌*◌, ◌+◌, ℕ, List, [], ◌∷◌, zero, suc, slice_index_or, lit<, refl}
+use Rattle.std.proofs.Common.{arith}
 use Rattle.space_saving.specs.declared.entry.Entry.{Entry}
 use Rattle.key_index.specs.{IndexedKeys}
 use Rattle.rank_table.specs.declared.slot.Slot.{Slot}
-use Rattle.rank_table.specs.SlotOrder.{slot_rank, slot_put_in_order, slots_in_rank_order, entries_in_slot_order, IsApartFromSlots, AreDistinctSlots, AreOrderedSlots}
+use Rattle.rank_table.specs.Ranks.{slot_rank}
+use Rattle.rank_table.specs.SlotOrder.{slot_put_in_order, slots_in_rank_order, entries_in_slot_order, AreOrderedSlots}
+use Rattle.rank_table.specs.Slots.{AreApartSlots, AreDistinctSlots}
 use Rattle.rank_table.specs.Slots.{Slots}
 use Rattle.rank_table.specs.RankWords.{rank_word, IsExactRankWord}
-use Rattle.rank_table.specs.Ranks.{IsLeastRank, AreRankLeaves, AreRanked}
-use Rattle.rank_table.specs.Marks.{mark_of, marks_from, rank_of_mark, slot_without_mark, slot_of_mark, numbered_for_marks}
-use Rattle.rank_table.specs.TableSteps.{raised_by_step, fresh_by_step, heir_by_step, IsTakenOverByStep}
+use Rattle.rank_table.specs.Ranks.{HasLeastRank, AreRankLeaves, AreRanked}
+use Rattle.rank_table.specs.Marks.{mark_of, marks_from, rank_of_mark, slot_without_mark, slot_of_mark}
+use Rattle.rank_table.specs.Marks.{numbered_for_marks}
+use Rattle.rank_table.specs.TableSteps.{raised_slot_of_table_step, fresh_slot_of_table_step, heir_slot_of_table_step}
+use Rattle.rank_table.specs.TableSteps.{IsTakenOverByTableStep}
 use Rattle.rank_table.specs.RankTable.{AreRankTableParts, IsRankTable}
 
 abbrev entry : ℕ → ℕ → ℕ → Entry
@@ -39,7 +44,7 @@ pub put_in_between : slot_put_in_order (slot 4 4 0 3) (slot 2 3 0 0 ∷ slot 3 5
 unfolding slot_rank
 put_in_between = refl
 
-pub slots_apart : IsApartFromSlots (slot 1 5 0 2) (slot 2 3 0 0)
+pub slots_apart : AreApartSlots (slot 1 5 0 2) (slot 2 3 0 0)
 slots_apart = ((λ same. omega (arith, same)), (λ same. omega (arith, same)))
 
 pub one_key_twice : AreDistinctSlots (slot 1 5 0 2 ∷ slot 1 3 0 0 ∷ []) → ⊥
@@ -77,7 +82,7 @@ cut_off_count_is_not exact = omega (arith, exact.0)
 pub cut_off_time_is_not : IsExactRankWord 0 (slot 1 5 0 16777215) → ⊥
 cut_off_time_is_not exact = omega (arith, exact.1)
 
-pub least_of_two : IsLeastRank (slot 1 5 0 2 ∷ slot 2 3 0 0 ∷ []) 1
+pub least_of_two : HasLeastRank (slot 1 5 0 2 ∷ slot 2 3 0 0 ∷ []) 1
 unfolding slot_rank
 least_of_two = record { within = omega arith; least = least }
   where
@@ -86,7 +91,7 @@ least_of_two = record { within = omega arith; least = least }
     least (suc zero) d inside = omega arith
     least (suc (suc other)) d inside = absurd (omega arith)
 
-pub greater_is_not_least : IsLeastRank (slot 1 5 0 2 ∷ slot 2 3 0 0 ∷ []) 0 → ⊥
+pub greater_is_not_least : HasLeastRank (slot 1 5 0 2 ∷ slot 2 3 0 0 ∷ []) 0 → ⊥
 unfolding slot_rank
 greater_is_not_least least = omega (arith, least.least 1 slot_without_mark (omega arith))
 
@@ -98,14 +103,14 @@ leaf_is_missing leaves = omega (arith, leaves.shape)
 pub leaf_of_another_place : AreRankLeaves 2 0 (1 ∷ 1 ∷ []) [] → ⊥
 leaf_of_another_place leaves = omega (arith, leaves.early 0 (omega arith) (omega arith))
 
-pub grown_slot : raised_by_step 4 7 (slot 1 5 2 2) ≡ slot 1 9 2 7
+pub grown_slot : raised_slot_of_table_step 4 7 (slot 1 5 2 2) ≡ slot 1 9 2 7
 grown_slot = refl
 
-pub fresh_slot : fresh_by_step 6 4 7 ≡ slot 6 4 0 7
+pub fresh_slot : fresh_slot_of_table_step 6 4 7 ≡ slot 6 4 0 7
 fresh_slot = refl
 
 -- the count of the slot that is taken over becomes the error
-pub taken_over_slot : heir_by_step 6 4 7 (slot 2 3 1 0) ≡ slot 6 7 3 7
+pub taken_over_slot : heir_slot_of_table_step 6 4 7 (slot 2 3 1 0) ≡ slot 6 7 3 7
 taken_over_slot = refl
 
 pub mark_of_a_slot : mark_of 1 (slot 2 3 1 8) ≡ entry 1 3 8
@@ -145,7 +150,7 @@ pub no_room_for_slots : AreRanked 0 4 0 [] [] → ⊥
 no_room_for_slots ranked = omega (arith, ranked.some)
 
 -- key 6 takes over the slot of key 2
-pub slot_taken_over : IsTakenOverByStep 6 4 7 (record { room = 2; keys = 1 ∷ 2 ∷ [] }) (record { capacity = 2; slots = slot 1 5 0 2 ∷ slot 2 3 0 0 ∷ [] })
+pub slot_taken_over : IsTakenOverByTableStep 6 4 7 (record { room = 2; keys = 1 ∷ 2 ∷ [] }) (record { capacity = 2; slots = slot 1 5 0 2 ∷ slot 2 3 0 0 ∷ [] })
     (record { room = 2; keys = 1 ∷ 6 ∷ [] }) (record { capacity = 2; slots = slot 1 5 0 2 ∷ slot 6 7 3 7 ∷ [] })
 slot_taken_over = record { place = 1; least = least_of_two; indexed = refl; taken = λ d. refl }
 

@@ -1,5 +1,6 @@
 -- Leaves beside slots, through changes of both.
-use Rattle.std.proofs.Common.{◌≡◌, ◌≢◌, ℕ, ◌+◌, ◌-◌, ◌*◌, ◌%◌, ◌^◌, ◌<◌, ◌≤◌, List, [], ◌∷◌, ◌++◌, length, get_or, set, sym, ap, ◌∙◌}
+use Rattle.std.proofs.Common.{◌≡◌, ◌≢◌, ℕ, ◌+◌, ◌-◌, ◌*◌, ◌%◌, ◌^◌, ◌<◌, ◌≤◌, List, [], ◌∷◌, ◌++◌, length, get_or, set}
+use Rattle.std.proofs.Common.{sym, ap, ◌∙◌}
 use Rattle.std.proofs.Common.{subst, ⊎_elim, arith, All, Contains, sum, length-set, get_or-set_same, get_or-set_other}
 use Rattle.std.specs.List.{range_with_len}
 use Rattle.std.proofs.lemmas.Bool.{cases_eq, cases_lt}
@@ -7,10 +8,11 @@ use Rattle.std.proofs.lemmas.List.{get_or_default, get_or_append_left, length_pu
 use Rattle.std.proofs.lemmas.List.FromFn.{length-range_with_len, get_or-range_with_len}
 use Rattle.std.proofs.lemmas.List.Sums.{sum_by-set, sum_by-le}
 use Rattle.rank_table.specs.declared.slot.Slot.{Slot}
-use Rattle.rank_table.specs.SlotOrder.{slot_rank}
+use Rattle.rank_table.specs.Ranks.{slot_rank}
 use Rattle.rank_table.specs.RankWords.{rank_word, IsExactRankWord}
-use Rattle.rank_table.specs.Ranks.{AreRankLeaves, AreRanked, IsLeastRank}
-use Rattle.rank_table.proofs.RankWordLemmas.{rank_word_names_place, rank_word_not_below_place, rank_word_fits, rank_word_rises, exact_rank_word_is_least}
+use Rattle.rank_table.specs.Ranks.{AreRankLeaves, AreRanked, HasLeastRank}
+use Rattle.rank_table.proofs.RankWordLemmas.{rank_word_names_place, rank_word_not_below_place, rank_word_fits}
+use Rattle.rank_table.proofs.RankWordLemmas.{rank_word_rises, exact_rank_word_is_least}
 
 -- leaves that are their places' numbers
 pub leaf_starts_as_its_place : (capacity base : ℕ) (slots : List Slot) → capacity ≤ 4096 → length slots ≤ capacity
@@ -147,7 +149,7 @@ pub exact_leaf_is_least : (capacity base : ℕ) (leaves : List ℕ) (slots : Lis
     → place < length slots
     → slot ≡ get_or slots place slot → IsExactRankWord base slot
     → ((other : ℕ) (d : Slot) → other < length slots → rank_word base (get_or slots place d) place ≤ rank_word base (get_or slots other d) other)
-    → IsLeastRank slots place
+    → HasLeastRank slots place
 exact_leaf_is_least capacity base leaves slots place slot are within read exact least =
     let most : capacity ≤ 4096 = are.most in
     let fits : length slots ≤ capacity = are.fits in

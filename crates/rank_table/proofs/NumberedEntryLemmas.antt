@@ -1,14 +1,18 @@
 -- Entries of a table that are put in one after the other.
-use Rattle.std.proofs.Common.{◌≡◌, ℕ, ◌+◌, ◌<◌, ◌≤◌, true, false, cond, eqb, List, [], ◌∷◌, ◌++◌, length, map, None, Some, refl, sym, ap, ◌∙◌, arith}
+use Rattle.std.proofs.Common.{◌≡◌, ℕ, ◌+◌, ◌<◌, ◌≤◌, true, false, cond, eqb, List, [], ◌∷◌, ◌++◌, length, map, None}
+use Rattle.std.proofs.Common.{Some, refl, sym, ap, ◌∙◌, arith}
 use Rattle.std.specs.List.{AllByRecursion}
 use Rattle.std.proofs.lemmas.Bool.{eqb-false}
 use Rattle.std.proofs.lemmas.List.Elements.{recursion_from_All}
 use Rattle.std.proofs.lemmas.List.Sums.{sum_by-cons}
 use Rattle.space_saving.specs.declared.entry.Entry.{Entry}
-use Rattle.space_saving.specs.{table_entry, table_total, TableRisesFrom, AreApartInTable, HasSmallTableError, AreTableEntries}
+use Rattle.space_saving.specs.{table_entry, table_total, TableRisesFrom, AreApartInTable, HasSmallTableError}
+use Rattle.space_saving.specs.{AreTableEntries}
 use Rattle.rank_table.specs.declared.slot.Slot.{Slot}
 use Rattle.rank_table.specs.Marks.{numbered_for_marks}
-use Rattle.rank_table.specs.SlotOrder.{slot_rank, slot_put_in_order, slots_in_rank_order, entries_in_slot_order, IsApartFromSlots, AreOrderedSlots}
+use Rattle.rank_table.specs.Ranks.{slot_rank}
+use Rattle.rank_table.specs.SlotOrder.{slot_put_in_order, slots_in_rank_order, entries_in_slot_order, AreOrderedSlots}
+use Rattle.rank_table.specs.Slots.{AreApartSlots}
 use Rattle.rank_table.proofs.RankedSlotLemmas.{ranked_slot_entry, slot_put_in_order-least}
 use Rattle.rank_table.proofs.SlotKeyLemmas.{slot_key}
 
@@ -71,7 +75,7 @@ keys-numbered_entries time (entry ∷ rest) = ap (λ l. entry.key ∷ l) (keys-n
 
 -- an entry that is missing among others is apart from their slots
 apart_from_numbered_entries : (slot : Slot) (time : ℕ) (entries : List Entry) → slot.time < time → table_entry slot.entry.key entries ≡ None
-    → AllByRecursion (IsApartFromSlots slot) (numbered_for_marks time entries)
+    → AllByRecursion (AreApartSlots slot) (numbered_for_marks time entries)
 apart_from_numbered_entries slot time [] sooner missing = tt
 apart_from_numbered_entries slot time (entry ∷ rest) sooner missing =
     let parts = missing_numbered_entry_parts slot.entry.key entry rest missing in

@@ -1,21 +1,25 @@
 -- What a table keeps through an add, and the interval of a key.
-use Rattle.std.proofs.Common.{◌≡◌, ℕ, ◌+◌, ◌^◌, ◌<◌, ◌≤◌, ltb, List, [], ◌∷◌, length, map, get_or, None, sym, ap, ◌∙◌, subst, arith}
+use Rattle.std.proofs.Common.{◌≡◌, ℕ, ◌+◌, ◌^◌, ◌<◌, ◌≤◌, ltb, List, [], ◌∷◌, length, map, get_or, None, sym, ap, ◌∙◌}
+use Rattle.std.proofs.Common.{subst, arith}
 use Rattle.std.specs.List.{AllByRecursion}
 use Rattle.std.proofs.lemmas.Bool.{cond-true, cond-false, lt-ltb, le-ltb}
 use Rattle.std.proofs.lemmas.List.Elements.{recursion_from_All}
 use Rattle.key_index.specs.{IndexedKeys}
 use Rattle.space_saving.specs.declared.entry.Entry.{Entry}
-use Rattle.space_saving.specs.{TableAdd, TableValue, table_after_step, table_entry, table_total, least_table_count, table_interval_from, interval_in_table, HasSmallTableError, IsTable, AreTableEntries}
+use Rattle.space_saving.specs.{TableAdd, TableValue, table_after_step, table_entry, table_total, least_table_count}
+use Rattle.space_saving.specs.{table_interval_from, interval_in_table, HasSmallTableError, IsTable, AreTableEntries}
 use Rattle.rank_table.specs.declared.slot.Slot.{Slot}
 use Rattle.rank_table.specs.SlotOrder.{slots_in_rank_order, entries_in_slot_order, AreOrderedSlots}
-use Rattle.rank_table.specs.Ranks.{IsLeastRank}
+use Rattle.rank_table.specs.Ranks.{HasLeastRank}
 use Rattle.rank_table.specs.Slots.{Slots}
 use Rattle.rank_table.specs.RankTable.{AreRankTableParts, IsRankTable}
 use Rattle.rank_table.proofs.RankedSlotLemmas.{ranked_slot_entry, all-ranked_slot_at}
 use Rattle.rank_table.specs.Marks.{numbered_for_marks}
-use Rattle.rank_table.proofs.SlotChangeLemmas.{AreOrderedSlots-change_of_time, least_entry_in_slot_change, slot_change_entry_count}
+use Rattle.rank_table.proofs.SlotChangeLemmas.{AreOrderedSlots-change_of_time, least_entry_in_slot_change}
+use Rattle.rank_table.proofs.SlotChangeLemmas.{slot_change_entry_count}
 use Rattle.rank_table.proofs.SlotKeyLemmas.{slot_key}
-use Rattle.rank_table.proofs.NumberedEntryLemmas.{entries_in_slot_order-numbered, keys-numbered_entries, AreOrderedSlots-all_numbered_entries, numbered_entries_fit_total}
+use Rattle.rank_table.proofs.NumberedEntryLemmas.{entries_in_slot_order-numbered, keys-numbered_entries}
+use Rattle.rank_table.proofs.NumberedEntryLemmas.{AreOrderedSlots-all_numbered_entries, numbered_entries_fit_total}
 use Rattle.rank_table.proofs.SlotRiseLemmas.{all_slots_from_rise_order}
 
 -- a table after an add
@@ -75,7 +79,7 @@ rank_table_high_with_room capacity key slots missing room =
     (lt-ltb (length (entries_in_slot_order slots)) capacity (omega (arith, slot_change_entry_count slots))))
 
 pub rank_table_high_when_full : (capacity key place : ℕ) (slots : List Slot) (d : Slot) → table_entry key (entries_in_slot_order slots) ≡ None
-    → capacity ≤ length slots → AreOrderedSlots (2 ^ 64) slots → IsLeastRank slots place
+    → capacity ≤ length slots → AreOrderedSlots (2 ^ 64) slots → HasLeastRank slots place
     → (get_or slots place d).entry.count ≡ (interval_in_table (record { capacity = capacity; entries = entries_in_slot_order slots }) key).high
 rank_table_high_when_full capacity key place slots d missing full are least =
     let table : TableValue = record { capacity = capacity; entries = entries_in_slot_order slots } in

@@ -3,7 +3,7 @@ use Rattle.std.proofs.Common.{◌≡◌, ℕ, ◌+◌, ◌-◌, ◌*◌, ◌%◌
 use Rattle.std.proofs.lemmas.Bool.{cases_order}
 use Rattle.std.proofs.lemmas.Nat.{mod-mul-add}
 use Rattle.rank_table.specs.declared.slot.Slot.{Slot}
-use Rattle.rank_table.specs.SlotOrder.{slot_rank}
+use Rattle.rank_table.specs.Ranks.{slot_rank}
 use Rattle.rank_table.specs.RankWords.{rank_word, IsExactRankWord}
 
 -- a word names its place

@@ -5,13 +5,20 @@ use Rattle.std.specs.List.{AllByRecursion}
 use Rattle.std.proofs.lemmas.Bool.{cond-true, cond-false, lt-ltb, le-ltb}
 use Rattle.std.proofs.lemmas.List.{get_or_default, get_or_push, length_push, length-map}
 use Rattle.std.proofs.lemmas.List.Elements.{recursion_from_All}
-use Rattle.space_saving.specs.{TableAdd, put_in_table, table_entry, table_without, replace_table_head, table_after_step, table_after_step_from}
+use Rattle.space_saving.specs.{TableAdd, put_in_table, table_entry, table_without, replace_table_head, table_after_step}
+use Rattle.space_saving.specs.{table_after_step_from}
 use Rattle.rank_table.specs.declared.slot.Slot.{Slot}
-use Rattle.rank_table.specs.SlotOrder.{slot_rank, slot_put_in_order, slots_in_rank_order, entries_in_slot_order, IsApartFromSlots, AreDistinctSlots, AreOrderedSlots}
-use Rattle.rank_table.specs.Ranks.{IsLeastRank}
-use Rattle.rank_table.specs.TableSteps.{raised_by_step, fresh_by_step, heir_by_step}
-use Rattle.rank_table.proofs.RankedSlotLemmas.{ranked_slot_entry, other_ranked_slots, all-other_ranked_slots, all-ranked_slots_weaker, all-ranked_slots_in_order, ranked_slot_apart_from_others, slots_in_rank_order-ranked_slot_out}
-use Rattle.rank_table.proofs.RankedSlotLemmas.{latest_ranked_slot_is_put, table_without-ranked_slot, table_entry-ranked_slot, table_entry-missing_ranked_slot, slot_put_in_order-least, length-ranked_slots_in_order}
+use Rattle.rank_table.specs.Ranks.{slot_rank}
+use Rattle.rank_table.specs.SlotOrder.{slot_put_in_order, slots_in_rank_order, entries_in_slot_order, AreOrderedSlots}
+use Rattle.rank_table.specs.Slots.{AreApartSlots, AreDistinctSlots}
+use Rattle.rank_table.specs.Ranks.{HasLeastRank}
+use Rattle.rank_table.specs.TableSteps.{raised_slot_of_table_step, fresh_slot_of_table_step, heir_slot_of_table_step}
+use Rattle.rank_table.proofs.RankedSlotLemmas.{ranked_slot_entry, other_ranked_slots, all-other_ranked_slots}
+use Rattle.rank_table.proofs.RankedSlotLemmas.{all-ranked_slots_weaker, all-ranked_slots_in_order}
+use Rattle.rank_table.proofs.RankedSlotLemmas.{ranked_slot_apart_from_others, slots_in_rank_order-ranked_slot_out}
+use Rattle.rank_table.proofs.RankedSlotLemmas.{latest_ranked_slot_is_put, table_without-ranked_slot}
+use Rattle.rank_table.proofs.RankedSlotLemmas.{table_entry-ranked_slot, table_entry-missing_ranked_slot}
+use Rattle.rank_table.proofs.RankedSlotLemmas.{slot_put_in_order-least, length-ranked_slots_in_order}
 
 -- two facts of each slot give a third
 all-both_in_slot_change : (P Q R : Slot → Type 0) → ((slot : Slot) → P slot → Q slot → R slot) → (slots : List Slot) → AllByRecursion P slots
@@ -39,12 +46,12 @@ slot_change_push_leaves_others [] slot = refl
 slot_change_push_leaves_others (first ∷ rest) slot = ap (λ l. first ∷ l) (slot_change_push_leaves_others rest slot)
 
 AreDistinctSlots-slot_change_set : (place : ℕ) (slots : List Slot) (slot : Slot) → AreDistinctSlots slots
-    → AllByRecursion (IsApartFromSlots slot) (other_ranked_slots place slots)
+    → AllByRecursion (AreApartSlots slot) (other_ranked_slots place slots)
     → AreDistinctSlots (set slots place slot)
 AreDistinctSlots-slot_change_set place [] slot distinct apart = tt
 AreDistinctSlots-slot_change_set zero (first ∷ rest) slot distinct apart = (apart, distinct.1)
 AreDistinctSlots-slot_change_set (suc place) (first ∷ rest) slot distinct apart = (
-  all-set_in_slot_change (IsApartFromSlots first) place rest slot (
+  all-set_in_slot_change (AreApartSlots first) place rest slot (
     λ same. apart.0.0 (sym same),
     λ same. apart.0.1
         (sym same),
@@ -52,11 +59,11 @@ AreDistinctSlots-slot_change_set (suc place) (first ∷ rest) slot distinct apar
   AreDistinctSlots-slot_change_set place rest slot distinct.1 apart.1,
 )
 
-AreDistinctSlots-slot_change_push : (slots : List Slot) (slot : Slot) → AreDistinctSlots slots → AllByRecursion (IsApartFromSlots slot) slots
+AreDistinctSlots-slot_change_push : (slots : List Slot) (slot : Slot) → AreDistinctSlots slots → AllByRecursion (AreApartSlots slot) slots
     → AreDistinctSlots (slots ++ slot ∷ [])
 AreDistinctSlots-slot_change_push [] slot distinct apart = (tt, tt)
 AreDistinctSlots-slot_change_push (first ∷ rest) slot distinct apart = (
-  all-push_in_slot_change (IsApartFromSlots first) rest slot (
+  all-push_in_slot_change (AreApartSlots first) rest slot (
     λ same. apart.0.0 (sym same),
     λ same. apart.0.1
         (sym same),
@@ -74,9 +81,9 @@ AreOrderedSlots-change_of_time now later slots after are = record {
 -- a slot that is put in now is apart from others with other keys
 slot_change_stands_apart : (now : ℕ) (slots : List Slot) (slot : Slot) → slot.time ≡ now → AllByRecursion (λ other. other.time < now) slots
     → AllByRecursion (λ other. slot.entry.key ≢ other.entry.key) slots
-    → AllByRecursion (IsApartFromSlots slot) slots
+    → AllByRecursion (AreApartSlots slot) slots
 slot_change_stands_apart now slots slot is timed keys =
-    all-both_in_slot_change (λ other. other.time < now) (λ other. slot.entry.key ≢ other.entry.key) (IsApartFromSlots slot)
+    all-both_in_slot_change (λ other. other.time < now) (λ other. slot.entry.key ≢ other.entry.key) (AreApartSlots slot)
     (λ other before apart. (apart, λ same. omega arith)) slots timed keys
 
 -- a slot that changes now, to a key that no other has
@@ -132,14 +139,14 @@ entries_set_in_slot_change now place slots slot small before are is within =
 other_keys_in_slot_change : (place : ℕ) (slots : List Slot) (d : Slot) → AreDistinctSlots slots → place < length slots
     → AllByRecursion (λ other. (get_or slots place d).entry.key ≢ other.entry.key) (other_ranked_slots place slots)
 other_keys_in_slot_change place slots d distinct within =
-    all-ranked_slots_weaker (IsApartFromSlots (get_or slots place d)) (λ other. (get_or slots place d).entry.key ≢ other.entry.key) (λ other apart. apart.0)
+    all-ranked_slots_weaker (AreApartSlots (get_or slots place d)) (λ other. (get_or slots place d).entry.key ≢ other.entry.key) (λ other apart. apart.0)
     (other_ranked_slots place slots) (ranked_slot_apart_from_others place slots d distinct within)
 
 -- a weight more for a key that has a slot
 pub AreOrderedSlots-grown_change : (weight now place : ℕ) (slots : List Slot) (d : Slot) → AreOrderedSlots now slots → place < length slots
-    → AreOrderedSlots (now + 1) (set slots place (raised_by_step weight now (get_or slots place d)))
+    → AreOrderedSlots (now + 1) (set slots place (raised_slot_of_table_step weight now (get_or slots place d)))
 AreOrderedSlots-grown_change weight now place slots d are within = AreOrderedSlots-set_change now place slots
-    (raised_by_step weight now (get_or slots place d)) are refl
+    (raised_slot_of_table_step weight now (get_or slots place d)) are refl
     (other_keys_in_slot_change place slots d are.distinct within)
 
 -- the entry of a key that has a slot
@@ -149,7 +156,7 @@ pub entry_found_in_slot_change : (key now place : ℕ) (slots : List Slot) (d : 
 entry_found_in_slot_change key now place slots d small are within has =
     let slot = get_or slots place d in
     let rest = slots_in_rank_order (other_ranked_slots place slots) in
-    let apart : AllByRecursion (IsApartFromSlots slot) rest = all-ranked_slots_in_order (IsApartFromSlots slot) (other_ranked_slots place slots)
+    let apart : AllByRecursion (AreApartSlots slot) rest = all-ranked_slots_in_order (AreApartSlots slot) (other_ranked_slots place slots)
     (ranked_slot_apart_from_others place slots d are.distinct within) in
     ap (table_entry key) (entries_out_in_slot_change now place slots d small are within)
     ∙ ap (λ k. table_entry k (map ranked_slot_entry (slot_put_in_order slot rest)))
@@ -159,12 +166,13 @@ entry_found_in_slot_change key now place slots d small are within has =
 pub grown_slot_change_is_step : (capacity key weight now place : ℕ) (slots : List Slot) (d : Slot) → now < 2 ^ 64 → AreOrderedSlots now slots
     → place < length slots
     → (get_or slots place d).entry.key ≡ key
-    → entries_in_slot_order (set slots place (raised_by_step weight now (get_or slots place d))) ≡ table_after_step capacity (entries_in_slot_order slots)
+    → entries_in_slot_order (set slots place (raised_slot_of_table_step weight now (get_or slots place d))) ≡ table_after_step capacity
+    (entries_in_slot_order slots)
     (record { key = key; weight = weight })
 grown_slot_change_is_step capacity key weight now place slots d small are within has =
     let slot = get_or slots place d in
     let rest = slots_in_rank_order (other_ranked_slots place slots) in
-    let apart : AllByRecursion (IsApartFromSlots slot) rest = all-ranked_slots_in_order (IsApartFromSlots slot) (other_ranked_slots place slots)
+    let apart : AllByRecursion (AreApartSlots slot) rest = all-ranked_slots_in_order (AreApartSlots slot) (other_ranked_slots place slots)
     (ranked_slot_apart_from_others place slots d are.distinct within) in
     let out : entries_in_slot_order slots ≡ map ranked_slot_entry (slot_put_in_order slot rest) = entries_out_in_slot_change now place slots d (omega arith)
     are within in
@@ -172,10 +180,11 @@ grown_slot_change_is_step capacity key weight now place slots d small are within
     has in
     let gone : table_without key (entries_in_slot_order slots) ≡ map ranked_slot_entry rest = ap (table_without key) out
     ∙ ap (λ k. table_without k (map ranked_slot_entry (slot_put_in_order slot rest))) (sym has) ∙ table_without-ranked_slot slot rest apart in
-    entries_set_in_slot_change now place slots (raised_by_step weight now slot) small are (AreOrderedSlots-grown_change weight now place slots d are within)
+    entries_set_in_slot_change now place slots (raised_slot_of_table_step weight now slot) small are
+    (AreOrderedSlots-grown_change weight now place slots d are within)
     refl
     within
-    ∙ ap (put_in_table (raised_by_step weight now slot).entry) (sym gone)
+    ∙ ap (put_in_table (raised_slot_of_table_step weight now slot).entry) (sym gone)
     ∙ ap (λ o. table_after_step_from o capacity (entries_in_slot_order slots) (record { key = key; weight = weight })) (sym found)
 
 -- keys that differ, the other way round
@@ -195,16 +204,16 @@ slot_change_entry_count slots = length-map (slots_in_rank_order slots) ranked_sl
 
 -- a new key in free room
 pub AreOrderedSlots-fresh_change : (key weight now : ℕ) (slots : List Slot) → AreOrderedSlots now slots → AllByRecursion (λ other. other.entry.key ≢ key) slots
-    → AreOrderedSlots (now + 1) (slots ++ fresh_by_step key weight now ∷ [])
-AreOrderedSlots-fresh_change key weight now slots are missing = AreOrderedSlots-push_change now slots (fresh_by_step key weight now) are refl
+    → AreOrderedSlots (now + 1) (slots ++ fresh_slot_of_table_step key weight now ∷ [])
+AreOrderedSlots-fresh_change key weight now slots are missing = AreOrderedSlots-push_change now slots (fresh_slot_of_table_step key weight now) are refl
     (missing_keys_in_slot_change key slots missing)
 
 pub fresh_slot_change_is_step : (capacity key weight now : ℕ) (slots : List Slot) → now < 2 ^ 64 → AreOrderedSlots now slots
     → AllByRecursion (λ other. other.entry.key ≢ key) slots → length slots < capacity
-    → entries_in_slot_order (slots ++ fresh_by_step key weight now ∷ []) ≡ table_after_step capacity (entries_in_slot_order slots)
+    → entries_in_slot_order (slots ++ fresh_slot_of_table_step key weight now ∷ []) ≡ table_after_step capacity (entries_in_slot_order slots)
     (record { key = key; weight = weight })
 fresh_slot_change_is_step capacity key weight now slots small are missing room =
-    let slot = fresh_by_step key weight now in
+    let slot = fresh_slot_of_table_step key weight now in
     let add : TableAdd = record { key = key; weight = weight } in
     let after = AreOrderedSlots-fresh_change key weight now slots are missing in
     entries_out_in_slot_change (now + 1) (length slots) (slots ++ slot ∷ []) slot (omega arith) after (omega (arith, length_push slots slot))
@@ -220,13 +229,13 @@ fresh_slot_change_is_step capacity key weight now slots small are missing room =
 -- a new key in place of the first one
 pub AreOrderedSlots-heir_change : (key weight now place : ℕ) (slots : List Slot) (d : Slot) → AreOrderedSlots now slots
     → AllByRecursion (λ other. other.entry.key ≢ key) slots
-    → AreOrderedSlots (now + 1) (set slots place (heir_by_step key weight now (get_or slots place d)))
+    → AreOrderedSlots (now + 1) (set slots place (heir_slot_of_table_step key weight now (get_or slots place d)))
 AreOrderedSlots-heir_change key weight now place slots d are missing =
-    AreOrderedSlots-set_change now place slots (heir_by_step key weight now (get_or slots place d)) are refl (all-other_ranked_slots
+    AreOrderedSlots-set_change now place slots (heir_slot_of_table_step key weight now (get_or slots place d)) are refl (all-other_ranked_slots
     (λ other. key ≢ other.entry.key) place slots (missing_keys_in_slot_change key slots missing))
 
 -- the least slot comes first
-pub least_entry_in_slot_change : (now place : ℕ) (slots : List Slot) (d : Slot) → now ≤ 2 ^ 64 → AreOrderedSlots now slots → IsLeastRank slots place
+pub least_entry_in_slot_change : (now place : ℕ) (slots : List Slot) (d : Slot) → now ≤ 2 ^ 64 → AreOrderedSlots now slots → HasLeastRank slots place
     → entries_in_slot_order slots ≡ (get_or slots place d).entry ∷ map ranked_slot_entry (slots_in_rank_order (other_ranked_slots place slots))
 least_entry_in_slot_change now place slots d small are least =
     let slot = get_or slots place d in
@@ -240,11 +249,12 @@ least_entry_in_slot_change now place slots d small are least =
 
 pub heir_slot_change_is_step : (capacity key weight now place : ℕ) (slots : List Slot) (d : Slot) → now < 2 ^ 64 → AreOrderedSlots now slots
     → AllByRecursion (λ other. other.entry.key ≢ key) slots → length slots ≡ capacity
-    → IsLeastRank slots place → entries_in_slot_order (set slots place (heir_by_step key weight now (get_or slots place d))) ≡ table_after_step capacity
+    → HasLeastRank slots place → entries_in_slot_order
+    (set slots place (heir_slot_of_table_step key weight now (get_or slots place d))) ≡ table_after_step capacity
     (entries_in_slot_order slots)
     (record { key = key; weight = weight })
 heir_slot_change_is_step capacity key weight now place slots d small are missing full least =
-    let slot = heir_by_step key weight now (get_or slots place d) in
+    let slot = heir_slot_of_table_step key weight now (get_or slots place d) in
     let add : TableAdd = record { key = key; weight = weight } in
     entries_set_in_slot_change now place slots slot small are (AreOrderedSlots-heir_change key weight now place slots d are missing) refl least.within
     ∙ ap (λ l. replace_table_head l add) (sym (least_entry_in_slot_change now place slots d (omega arith) are least))

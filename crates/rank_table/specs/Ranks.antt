@@ -1,11 +1,14 @@
 -- Slots beside the leaves of a tree, which no public contract cites.
-use Rattle.std.specs.Prelude.{ℕ, ◌≡◌, ◌%◌, ◌<◌, ◌≤◌, List, length, slice_index, slice_index_or}
+use Rattle.std.specs.Prelude.{ℕ, ◌≡◌, ◌%◌, ◌<◌, ◌≤◌, List, length, slice_index, slice_index_or, ◌+◌, ◌*◌, ◌^◌}
 use Rattle.rank_table.specs.declared.slot.Slot.{Slot}
-use Rattle.rank_table.specs.SlotOrder.{slot_rank}
 use Rattle.rank_table.specs.RankWords.{rank_word}
 
+-- the count, and among equal counts the time
+unfoldable pub slot_rank : Slot → ℕ
+slot_rank slot = slot.entry.count * 2 ^ 64 + slot.time
+
 -- the slot at this place comes before all others
-pub record IsLeastRank (slots : List Slot) (place : ℕ) : Type 0 where
+pub record HasLeastRank (slots : List Slot) (place : ℕ) : Type 0 where
   pub within : place < length slots
   pub least : (other : ℕ) (d : Slot) → other < length slots → slot_rank (slice_index_or slots place d) ≤ slot_rank (slice_index_or slots other d)
 

@@ -2,25 +2,25 @@
 use Rattle.std.specs.Prelude.{ℕ, ◌≡◌, ◌+◌, slice_index_or, slice_set}
 use Rattle.key_index.specs.{IndexedKeys}
 use Rattle.rank_table.specs.declared.slot.Slot.{Slot}
-use Rattle.rank_table.specs.Ranks.{IsLeastRank}
+use Rattle.rank_table.specs.Ranks.{HasLeastRank}
 use Rattle.rank_table.specs.Slots.{Slots}
 
 -- the slot with this weight more
-abbrev pub raised_by_step : ℕ → ℕ → Slot → Slot
-raised_by_step weight now slot = record { entry = record slot.entry { count = slot.entry.count + weight }; time = now }
+abbrev pub raised_slot_of_table_step : ℕ → ℕ → Slot → Slot
+raised_slot_of_table_step weight now slot = record { entry = record slot.entry { count = slot.entry.count + weight }; time = now }
 
 -- the slot of a key that takes free room
-abbrev pub fresh_by_step : ℕ → ℕ → ℕ → Slot
-fresh_by_step key weight now = record { entry = record { key = key; count = weight; error = 0 }; time = now }
+abbrev pub fresh_slot_of_table_step : ℕ → ℕ → ℕ → Slot
+fresh_slot_of_table_step key weight now = record { entry = record { key = key; count = weight; error = 0 }; time = now }
 
 -- the slot of a key that takes over another: that one's count becomes its error
-abbrev pub heir_by_step : ℕ → ℕ → ℕ → Slot → Slot
-heir_by_step key weight now slot = record { entry = record { key = key; count = slot.entry.count + weight; error = slot.entry.count }; time = now }
+abbrev pub heir_slot_of_table_step : ℕ → ℕ → ℕ → Slot → Slot
+heir_slot_of_table_step key weight now slot = record { entry = record { key = key; count = slot.entry.count + weight; error = slot.entry.count }; time = now }
 
--- the slot that came first has this key now
-pub record IsTakenOverByStep (key weight now : ℕ) (index : IndexedKeys) (ranked : Slots) (index_after : IndexedKeys) (ranked_after : Slots) : Type 0 where
+-- the slot of the least rank has this key now
+pub record IsTakenOverByTableStep (key weight now : ℕ) (index : IndexedKeys) (ranked : Slots) (index_after : IndexedKeys) (ranked_after : Slots) : Type 0 where
   pub place : ℕ
-  pub least : IsLeastRank ranked.slots place
+  pub least : HasLeastRank ranked.slots place
   pub indexed : index_after ≡ record index { keys = slice_set index.keys place key }
   pub taken : (d : Slot)
-      → ranked_after ≡ record ranked { slots = slice_set ranked.slots place (heir_by_step key weight now (slice_index_or ranked.slots place d)) }
+      → ranked_after ≡ record ranked { slots = slice_set ranked.slots place (heir_slot_of_table_step key weight now (slice_index_or ranked.slots place d)) }

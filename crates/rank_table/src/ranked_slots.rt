@@ -1,8 +1,9 @@
 //! Slots, and a tree that answers which one comes first.
 
-ghost use Rattle.std.specs.Prelude.{◌≡◌, ◌+◌, ◌<◌, ◌≤◌, ◌++◌, ◌∷◌, [], ℕ, IfOk, IsTrue, false, ◌↔◌, length, slice_index_or, slice_set};
+ghost use Rattle.std.specs.Prelude.{◌≡◌, ◌+◌, ◌<◌, ◌≤◌, ◌++◌, ◌∷◌, [], ℕ, IfOk, IsTrue, false, ◌↔◌, length};
+ghost use Rattle.std.specs.Prelude.{slice_index_or, slice_set};
 ghost use Rattle.rank_table.specs.declared.slot.Slot.{Slot};
-ghost use Rattle.rank_table.specs.Ranks.{AreRankLeaves, IsLeastRank};
+ghost use Rattle.rank_table.specs.Ranks.{AreRankLeaves, HasLeastRank};
 ghost use Rattle.rank_table.specs.RankWords.{rank_word};
 
 use crate::scanning::least_of;
@@ -98,7 +99,7 @@ impl RankedSlots {
     pub(crate) fn least(&mut self) -> usize
         requires { length self.old.slots ≡ self.old.capacity }
         ensures same { self.new ≡ self.old }
-        ensures least { IsLeastRank self.old.slots result }
+        ensures least { HasLeastRank self.old.slots result }
     {
         let place = winner(&mut self.tree, &self.slots, self.base);
         if is_exact(self.base, &self.slots[place]) {

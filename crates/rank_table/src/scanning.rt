@@ -1,10 +1,12 @@
 //! Slots by rank, found by looking at all of them.
 
-ghost use Rattle.std.specs.Prelude.{◌≡◌, ◌^◌, ◌<◌, ◌≤◌, ℕ, Some, IsTrue, false, nat_lt, length, map, slice_get, slice_index_or, count_by};
+ghost use Rattle.std.specs.Prelude.{◌≡◌, ◌^◌, ◌<◌, ◌≤◌, ℕ, Some, IsTrue, false, nat_lt, length, map, slice_get};
+ghost use Rattle.std.specs.Prelude.{slice_index_or, count_by};
 ghost use Rattle.rank_table.specs.declared.slot.Slot.{Slot};
 ghost use Rattle.space_saving.specs.{interval_in_table, AreTableEntries};
-ghost use Rattle.rank_table.specs.SlotOrder.{AreOrderedSlots, entries_in_slot_order, slots_in_rank_order, slot_rank};
-ghost use Rattle.rank_table.specs.Ranks.{IsLeastRank};
+ghost use Rattle.rank_table.specs.SlotOrder.{AreOrderedSlots, entries_in_slot_order, slots_in_rank_order};
+ghost use Rattle.rank_table.specs.Ranks.{slot_rank};
+ghost use Rattle.rank_table.specs.Ranks.{HasLeastRank};
 
 use crate::slot::Slot;
 use key_index::KeyIndex;
@@ -25,7 +27,7 @@ pub(crate) fn is_before(first: &Slot, second: &Slot) -> bool
 /// The place of the slot that comes before all others.
 pub(crate) fn least_of(slots: &[Slot]) -> usize
     requires { 0 < length slots.now }
-    ensures least { IsLeastRank slots.now result }
+    ensures least { HasLeastRank slots.now result }
     ensures count { (other : ℕ) (d : Slot) → other < length slots.now
         → (slice_index_or slots.now result d).entry.count ≤ (slice_index_or slots.now other d).entry.count }
 {

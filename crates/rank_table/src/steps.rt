@@ -3,7 +3,8 @@
 ghost use Rattle.std.specs.Prelude.{◌≡◌, ◌+◌, ◌^◌, ◌<◌, ◌≤◌, ◌++◌, ◌∷◌, [], length, slice_index_or, slice_set};
 ghost use Rattle.space_saving.specs.{table_after_step, table_total};
 ghost use Rattle.rank_table.specs.SlotOrder.{AreOrderedSlots, entries_in_slot_order};
-ghost use Rattle.rank_table.specs.TableSteps.{IsTakenOverByStep, fresh_by_step, raised_by_step};
+ghost use Rattle.rank_table.specs.TableSteps.{IsTakenOverByTableStep, fresh_slot_of_table_step};
+ghost use Rattle.rank_table.specs.TableSteps.{raised_slot_of_table_step};
 ghost use Rattle.rank_table.specs.RankTable.{AreRankTableParts};
 ghost use Rattle.rank_table.specs.declared.slot.Slot.{Slot};
 
@@ -46,7 +47,7 @@ fn grow(ranked: &mut RankedSlots, place: usize, weight: u64, now: u64)
     requires early { now < 2 ^ 56 }
     requires room { table_total (entries_in_slot_order ranked.old.slots) + weight < 2 ^ 56 }
     ensures { (d : Slot) → ranked.new ≡ record ranked.old {
-      slots = slice_set ranked.old.slots place (raised_by_step weight now (slice_index_or ranked.old.slots place d));
+      slots = slice_set ranked.old.slots place (raised_slot_of_table_step weight now (slice_index_or ranked.old.slots place d));
     } }
 {
     let slot = ranked.slots()[place];
@@ -63,7 +64,7 @@ fn take_room(index: &mut KeyIndex, ranked: &mut RankedSlots, key: u64, weight: u
     requires room { length ranked.old.slots < ranked.old.capacity }
     requires together { AreRankTableParts ranked.old.capacity index.old ranked.old }
     ensures index { index.new ≡ record index.old { keys = index.old.keys ++ key ∷ [] } }
-    ensures ranked { ranked.new ≡ record ranked.old { slots = ranked.old.slots ++ fresh_by_step key weight now ∷ [] } }
+    ensures ranked { ranked.new ≡ record ranked.old { slots = ranked.old.slots ++ fresh_slot_of_table_step key weight now ∷ [] } }
 {
     let entry = Entry {
         key,
@@ -81,7 +82,7 @@ fn take_over(index: &mut KeyIndex, ranked: &mut RankedSlots, key: u64, weight: u
     requires slots { AreOrderedSlots now ranked.old.slots }
     requires early { now < 2 ^ 56 }
     requires room { table_total (entries_in_slot_order ranked.old.slots) + weight < 2 ^ 56 }
-    ensures { IsTakenOverByStep key weight now index.old ranked.old index.new ranked.new }
+    ensures { IsTakenOverByTableStep key weight now index.old ranked.old index.new ranked.new }
 {
     let place = ranked.least();
     let least = ranked.slots()[place].entry.count;

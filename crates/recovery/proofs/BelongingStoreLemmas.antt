@@ -1,5 +1,6 @@
 -- Stores that belong to dealt lists.
-use Rattle.std.proofs.Common.{◌≡◌, ◌≤◌, ℕ, Bool, true, false, nat_lt, if◌then◌else◌, List, [], ◌∷◌, Option, None, Some, All, take, refl, subst, arith}
+use Rattle.std.proofs.Common.{◌≡◌, ◌≤◌, ℕ, Bool, true, false, nat_lt, if◌then◌else◌, List, [], ◌∷◌, Option, None, Some}
+use Rattle.std.proofs.Common.{All, take, refl, subst, arith}
 use Rattle.std.specs.List.{AllZip}
 use Rattle.std.proofs.lemmas.List.Elements.{All-head, All-tail}
 use Rattle.prefix_lattice.specs.{RecordValue, total_weight}
@@ -7,7 +8,7 @@ use Rattle.shard_state.specs.{IsSnapshot, SnapshotRepresents, SnapshotValue, sna
 use Rattle.checkpoint.specs.declared.settings.StoreSettings.{StoreSettings}
 use Rattle.checkpoint.specs.{IsSavedBody, SavedValue, StoreHolds, newest_in_store}
 use Rattle.recovery.specs.Opening.{OpeningContinuesList}
-use Rattle.recovery.specs.OpeningLaws.{BelongingStoresAreOpened}
+use Rattle.recovery.specs.Opening.{BelongingStoresAreOpened}
 
 -- a snapshot that represents a list has the weight of the records before its position
 abbrev BelongingStoreHasWeights : Type 0

@@ -5,14 +5,17 @@ use Rattle.std.proofs.lemmas.Bool.{cases_lt}
 use Rattle.prefix_lattice.specs.{RecordValue}
 use Rattle.shard_state.specs.{CutValue}
 use Rattle.checkpoint.specs.declared.settings.StoreSettings.{StoreSettings}
-use Rattle.checkpoint.specs.{AreHeaderSettings, StoreHasNewest, HeadersSpellOne, SavedValue, StoreHolds, StoresHoldOne, newest_in_store, newest_slot_in_store}
+use Rattle.checkpoint.specs.{AreHeaderSettings, StoreHasNewest, StoreHeadersSpellOneThing, SavedValue, StoreHolds}
+use Rattle.checkpoint.specs.{StoreSlotsHoldOneThing, newest_in_store, newest_slot_in_store}
 use Rattle.recovery.specs.declared.fault.OpenFault.{OpenFault}
-use Rattle.recovery.specs.declared.fault.OpenFault.TheVariants.{DiskFault, NotFormatted, OtherSettings, Damaged, OtherCapture, OutOfMemory}
-use Rattle.recovery.specs.Opening.{HasOpeningHeader, IsFirstDamagedAtOpening, IsRefusedAtOpening, IsSavedBeforeOpening, OpensToBase}
-use Rattle.recovery.specs.OpeningLaws.{IsShownByOpening, OpeningsAreDecided}
+use Rattle.recovery.specs.declared.fault.OpenFault.TheVariants.{DiskFault, NotFormatted, OtherSettings, Damaged}
+use Rattle.recovery.specs.declared.fault.OpenFault.TheVariants.{OtherCapture, OutOfMemory}
+use Rattle.recovery.specs.Opening.{HasOpeningHeader, IsFirstDamagedAtOpening, IsRefusedAtOpening, MatchesListsAtOpening}
+use Rattle.recovery.specs.Opening.{OpensToBase}
+use Rattle.recovery.specs.Opening.{IsShownByOpening, OpeningsAreDecided}
 use Rattle.recovery.proofs.OpenSlotLemmas.{store_open_slot_is_sound}
 
-module _ (spell : HeadersSpellOne) (hold : StoresHoldOne) (settings : StoreSettings) (lists : List (List RecordValue))
+module _ (spell : StoreHeadersSpellOneThing) (hold : StoreSlotsHoldOneThing) (settings : StoreSettings) (lists : List (List RecordValue))
     (image : List ℕ) (are : AreHeaderSettings settings) where
   decided_header_is_same : (one other : StoreSettings) → HasOpeningHeader one image → HasOpeningHeader other image → one ≡ other
   decided_header_is_same one other header again = spell one other header.are again.are (sym header.spelled ∙ again.spelled)
@@ -146,12 +149,12 @@ module _ (spell : HeadersSpellOne) (hold : StoresHoldOne) (settings : StoreSetti
       store_open_slot_is_sound settings slot image opens.1.0 opens.1.1 one.1.within opens.1.2 one.1.damaged
   not_both base (Damaged slot) opens shown (inr past) =
       let is = decided_base_is_newest opens.1.0 opens.1.1 opens.0 slot past.0 opens.1.2 opens.1.3 past.1 in
-      let of : IsSavedBeforeOpening settings lists past.0 = subst (λ (held : Option SavedValue). IfSome held (IsSavedBeforeOpening settings lists)) is
+      let of : MatchesListsAtOpening settings lists past.0 = subst (λ (held : Option SavedValue). IfSome held (MatchesListsAtOpening settings lists)) is
       opens.2 in
       past.3 of.continues
   not_both base (OtherCapture stored asked) opens shown capture =
       let is = decided_base_is_newest opens.1.0 opens.1.1 opens.0 capture.0 capture.1 opens.1.2 opens.1.3 capture.2 in
-      let of : IsSavedBeforeOpening settings lists capture.1 = subst (λ (held : Option SavedValue). IfSome held (IsSavedBeforeOpening settings lists)) is
+      let of : MatchesListsAtOpening settings lists capture.1 = subst (λ (held : Option SavedValue). IfSome held (MatchesListsAtOpening settings lists)) is
       opens.2 in
       capture.5 (capture.3 ∙ of.digest ∙ sym capture.4)
 
@@ -164,7 +167,7 @@ module _ (spell : HeadersSpellOne) (hold : StoresHoldOne) (settings : StoreSetti
       ∙ ap (λ (held : Option SavedValue). newest_in_store again.1.0 held) same.1 ∙ again.1.3 in
       opens.3 ∙ ap (λ (held : Option SavedValue). option_map (λ (s : SavedValue). s.cut) held) held ∙ sym again.3
 
-pub openings_are_decided : HeadersSpellOne → StoresHoldOne → OpeningsAreDecided
+pub openings_are_decided : StoreHeadersSpellOneThing → StoreSlotsHoldOneThing → OpeningsAreDecided
 openings_are_decided spell hold settings lists image are = record {
   one_base = one_base spell hold settings lists image are;
   one_fault = one_fault spell hold settings lists image are;

@@ -3,19 +3,25 @@ use Rattle.std.proofs.Common.{◌≡◌, ℕ, ◌+◌, List, [], ◌∷◌, None
 use Rattle.std.specs.Prelude.{slice_index}
 use Rattle.prefix_lattice.specs.{RecordValue}
 use Rattle.shard_state.specs.{CutValue, SnapshotValue, empty_snapshot, no_snapshot_entries}
-use Rattle.slot_disk.specs.{slots_of}
+use Rattle.slot_disk.specs.{known_slots_of}
 use Rattle.slot_disk.specs.declared.fault.BeginFault.TheVariants.{TooShort}
 use Rattle.slot_disk.specs.declared.fault.BodyFault.TheVariants as body
 use Rattle.checkpoint.specs.declared.fault.DecodeFault.TheVariants as decode
 use Rattle.checkpoint.specs.declared.settings.StoreSettings.{StoreSettings}
-use Rattle.checkpoint.specs.{AreHeaderSettings, SavedValue, StoreHolds, digest_of_lists, header_of_settings, last_body_sequence, saver_of}
-use Rattle.recovery.specs.declared.fault.OpenFault.TheVariants.{DiskFault, NotFormatted, OtherSettings, Damaged, OutOfMemory}
+use Rattle.checkpoint.specs.{AreHeaderSettings, SavedValue, StoreHolds, digest_of_lists, header_of_settings}
+use Rattle.checkpoint.specs.{greatest_body_sequence, saver_of}
+use Rattle.recovery.specs.declared.fault.OpenFault.TheVariants.{DiskFault, NotFormatted, OtherSettings, Damaged}
+use Rattle.recovery.specs.declared.fault.OpenFault.TheVariants.{OutOfMemory}
 use Rattle.recovery.specs.declared.opened.Opened.{Opened}
 use Rattle.recovery.specs.OpenFaults.{open_fault_of_begin, open_fault_of_body, open_fault_of_decode}
-use Rattle.recovery.specs.Opening.{HasOpeningHeader, IsDamagedAtOpening, IsFirstDamagedAtOpening, OpeningContinuesList, OpeningContinuesLists, OpeningContinuesFrom, IsRefusedAtOpening}
-use Rattle.recovery.specs.Opening.{IsSavedBeforeOpening, OpensToBase, IsOpeningBase, OpeningCanGoOn, opening_base_positions, last_opened_sequence}
-use Rattle.recovery.specs.OpeningLaws.{IsShownByOpening}
-use Rattle.recovery.specs.OpeningParts.{IsFrontPartFault, IsBodyPartFault, IsFoundPartFault, IsListPartFault, IsPartOfDigest, HoldsFoundParts, base_in_parts}
+use Rattle.recovery.specs.Opening.{HasOpeningHeader, IsDamagedAtOpening, IsFirstDamagedAtOpening, OpeningContinuesList}
+use Rattle.recovery.specs.Opening.{OpeningContinuesLists, OpeningContinuesFrom, IsRefusedAtOpening}
+use Rattle.recovery.specs.Opening.{MatchesListsAtOpening, OpensToBase, IsOpeningBase, OpeningCanGoOn}
+use Rattle.recovery.specs.Opening.{opening_base_positions, greatest_opened_sequence}
+use Rattle.recovery.specs.Opening.{IsShownByOpening}
+use Rattle.recovery.specs.OpeningParts.{IsOpeningFaultOfFrontPart, IsOpeningFaultOfBodyPart, IsOpeningFaultOfFoundPart}
+use Rattle.recovery.specs.OpeningParts.{IsOpeningFaultOfListPart, MatchesDigestAtOpening, HoldsFoundParts}
+use Rattle.recovery.specs.OpeningParts.{base_in_parts}
 use Rattle.recovery.proofs.OpenSlotLemmas.{store_open_slot_is_sound}
 
 -- however records are weighed and dealt
@@ -71,7 +77,7 @@ module _ (any : StoreSettings) where
   pub closed_gate_is_not_damaged : IsDamagedAtOpening (settings 1) 0 (store 0 0) → ⊥
   closed_gate_is_not_damaged damaged = cc damaged.gate
 
-  pub late_sequences_are_left_out : last_opened_sequence + 64 ≡ last_body_sequence
+  pub late_sequences_are_left_out : greatest_opened_sequence + 64 ≡ greatest_body_sequence
   late_sequences_are_left_out = refl
 
   pub empty_snapshot_continues : OpeningContinuesList none_counted list
@@ -87,7 +93,7 @@ module _ (any : StoreSettings) where
   pub first_save_continues : OpeningContinuesFrom (saved 1) (list ∷ [])
   first_save_continues = record { early = omega arith; continues = empty_cut_continues }
 
-  pub last_save_does_not : OpeningContinuesFrom (saved last_body_sequence) (list ∷ []) → ⊥
+  pub last_save_does_not : OpeningContinuesFrom (saved greatest_body_sequence) (list ∷ []) → ⊥
   last_save_does_not continues = omega (arith, continues.early)
 
   pub short_bytes_are_refused : IsRefusedAtOpening (settings 1) (list ∷ []) (0 ∷ []) NotFormatted
@@ -125,7 +131,7 @@ module _ (any : StoreSettings) where
   empty_cut_is_a_base = record { shape = record { as_many = refl; alike = refl }; continues = empty_cut_continues }
 
   pub save_with_another_digest_is_not_of_the_lists : ([] ≡ digest_of_lists (settings 1) (list ∷ []) → ⊥)
-      → IsSavedBeforeOpening (settings 1) (list ∷ []) (saved 1) → ⊥
+      → MatchesListsAtOpening (settings 1) (list ∷ []) (saved 1) → ⊥
   save_with_another_digest_is_not_of_the_lists other of = other of.digest
 
   -- what the opening of that store gives
@@ -133,7 +139,7 @@ module _ (any : StoreSettings) where
   opened = record {
     base = None;
     positions = 0 ∷ [];
-    saver = saver_of (slots_of (store 0 0)) (settings 1) (digest_of_lists (settings 1) (list ∷ [])) None;
+    saver = saver_of (known_slots_of (store 0 0)) (settings 1) (digest_of_lists (settings 1) (list ∷ [])) None;
   }
 
   pub opened_store_can_go_on : OpeningCanGoOn (settings 1) (list ∷ []) opened
@@ -162,19 +168,19 @@ module _ (any : StoreSettings) where
   pub undecoded_body_is_damaged : open_fault_of_decode decode.Damaged 1 ≡ Damaged 1
   undecoded_body_is_damaged = refl
 
-  pub front_shows_no_damage : IsFrontPartFault (settings 1) (store 1 0) (Damaged 0) → ⊥
+  pub front_shows_no_damage : IsOpeningFaultOfFrontPart (settings 1) (store 1 0) (Damaged 0) → ⊥
   front_shows_no_damage is = is
 
-  pub slot_0_is_refused : IsBodyPartFault (settings 1) 0 (store 1 0) (Damaged 0)
+  pub slot_0_is_refused : IsOpeningFaultOfBodyPart (settings 1) 0 (store 1 0) (Damaged 0)
   slot_0_is_refused = (refl, open_gate_is_damaged)
 
-  pub memory_may_run_out : IsFoundPartFault (settings 1) (store 0 0) OutOfMemory
+  pub memory_may_run_out : IsOpeningFaultOfFoundPart (settings 1) (store 0 0) OutOfMemory
   memory_may_run_out = tt
 
-  pub nothing_is_no_fault_of_lists : (slot : ℕ) → IsListPartFault (list ∷ []) [] None (Damaged slot) → ⊥
+  pub nothing_is_no_fault_of_lists : (slot : ℕ) → IsOpeningFaultOfListPart (list ∷ []) [] None (Damaged slot) → ⊥
   nothing_is_no_fault_of_lists slot is = cc is.1
 
-  pub first_save_is_of_its_digest : IsPartOfDigest (list ∷ []) [] (saved 1)
+  pub first_save_is_of_its_digest : MatchesDigestAtOpening (list ∷ []) [] (saved 1)
   first_save_is_of_its_digest = record { digest_is = refl; continues = first_save_continues }
 
   pub nothing_was_found : HoldsFoundParts (settings 1) None (store 0 0)

@@ -1,23 +1,27 @@
 -- The newest slot of a store, and what it opens to.
-use Rattle.std.proofs.Common.{◌≡◌, ◌≤◌, ℕ, Bool, true, false, nat_lt, if◌then◌else◌, List, Option, None, Some, IfSome, length}
+use Rattle.std.proofs.Common.{◌≡◌, ◌≤◌, ℕ, Bool, true, false, nat_lt, if◌then◌else◌, List, Option, None, Some, IfSome}
+use Rattle.std.proofs.Common.{length}
 use Rattle.std.proofs.Common.{refl, sym, ap, subst, ◌∙◌, inr, arith}
 use Rattle.prefix_lattice.specs.{RecordValue}
 use Rattle.shard_state.specs.{CutValue}
-use Rattle.slot_disk.specs.{IsStoreOfSlots, SlotsState, store_front_bytes, header_of}
+use Rattle.slot_disk.specs.{IsStoreOfKnownSlots, KnownSlotsState, layout_front_bytes, layout_header}
 use Rattle.checkpoint.specs.declared.newest.Newest.{Newest}
 use Rattle.checkpoint.specs.declared.settings.StoreSettings.{StoreSettings}
-use Rattle.checkpoint.specs.{AreHeaderSettings, StoreHasNewest, IsSafeForSaver, SavedValue, StoreSlotHolds, digest_of_lists, header_of_settings, newest_in_store}
-use Rattle.checkpoint.specs.{newest_slot_in_store, opened_store_positions, opened_store_sequence, saved_in, saver_of}
+use Rattle.checkpoint.specs.{AreHeaderSettings, StoreHasNewest, IsSafeForSaver, SavedValue, StoreSlotHolds}
+use Rattle.checkpoint.specs.{digest_of_lists, header_of_settings, newest_in_store}
+use Rattle.checkpoint.specs.{newest_slot_in_store, store_positions, store_sequence, saved_in, saver_of}
 use Rattle.recovery.specs.Opening.{IsDamagedAtOpening, IsRefusedAtOpening, OpensToBase}
-use Rattle.recovery.specs.OpeningParts.{HoldsFoundParts, IsBodyPartFault, IsFoundPartFault, IsListPartFault, IsPartOfDigest, base_in_parts}
+use Rattle.recovery.specs.OpeningParts.{HoldsFoundParts, IsOpeningFaultOfBodyPart, IsOpeningFaultOfFoundPart}
+use Rattle.recovery.specs.OpeningParts.{IsOpeningFaultOfListPart, MatchesDigestAtOpening, base_in_parts}
 use Rattle.recovery.specs.declared.fault.OpenFault.{OpenFault}
-use Rattle.recovery.specs.declared.fault.OpenFault.TheVariants.{DiskFault, NotFormatted, OtherSettings, Damaged, OtherCapture, OutOfMemory}
+use Rattle.recovery.specs.declared.fault.OpenFault.TheVariants.{DiskFault, NotFormatted, OtherSettings, Damaged}
+use Rattle.recovery.specs.declared.fault.OpenFault.TheVariants.{OtherCapture, OutOfMemory}
 use Rattle.recovery.proofs.OpenSlotLemmas.{open_slot_is_not_damaged}
 
 -- a fault of slot 0
-pub found_store_fault_at_zero : (settings : StoreSettings) (image : List ℕ) (fault : OpenFault) → store_front_bytes ≤ length image
-    → AreHeaderSettings settings → header_of image ≡ header_of_settings settings → IsBodyPartFault settings 0 image fault
-    → IsFoundPartFault settings image fault
+pub found_store_fault_at_zero : (settings : StoreSettings) (image : List ℕ) (fault : OpenFault) → layout_front_bytes ≤ length image
+    → AreHeaderSettings settings → layout_header image ≡ header_of_settings settings → IsOpeningFaultOfBodyPart settings 0 image fault
+    → IsOpeningFaultOfFoundPart settings image fault
 found_store_fault_at_zero settings image DiskFault long are spelled is = tt
 found_store_fault_at_zero settings image OutOfMemory long are spelled is = tt
 found_store_fault_at_zero settings image NotFormatted long are spelled is = absurd is
@@ -33,9 +37,9 @@ found_store_fault_at_zero settings image (Damaged slot) long are spelled is = (
 )
 
 -- a fault of slot 1, where slot 0 is sound
-pub found_store_fault_at_one : (settings : StoreSettings) (image : List ℕ) (fault : OpenFault) → store_front_bytes ≤ length image
-    → AreHeaderSettings settings → header_of image ≡ header_of_settings settings → (held : Option SavedValue)
-    → StoreSlotHolds settings 0 image held → IsBodyPartFault settings 1 image fault → IsFoundPartFault settings image fault
+pub found_store_fault_at_one : (settings : StoreSettings) (image : List ℕ) (fault : OpenFault) → layout_front_bytes ≤ length image
+    → AreHeaderSettings settings → layout_header image ≡ header_of_settings settings → (held : Option SavedValue)
+    → StoreSlotHolds settings 0 image held → IsOpeningFaultOfBodyPart settings 1 image fault → IsOpeningFaultOfFoundPart settings image fault
 found_store_fault_at_one settings image DiskFault long are spelled held holds is = tt
 found_store_fault_at_one settings image OutOfMemory long are spelled held holds is = tt
 found_store_fault_at_one settings image NotFormatted long are spelled held holds is = absurd is
@@ -67,7 +71,7 @@ found_store_has_newest settings image found last slot holds is at =
 
 -- a fault of the newest slot
 pub list_fault_of_found_store : (settings : StoreSettings) (lists : List (List RecordValue)) (image digest : List ℕ) (found : Option Newest) (fault : OpenFault)
-    → HoldsFoundParts settings found image → digest ≡ digest_of_lists settings lists → IsListPartFault lists digest found fault
+    → HoldsFoundParts settings found image → digest ≡ digest_of_lists settings lists → IsOpeningFaultOfListPart lists digest found fault
     → IsRefusedAtOpening settings lists image fault
 list_fault_of_found_store settings lists image digest found DiskFault holds of is = absurd is
 list_fault_of_found_store settings lists image digest found OutOfMemory holds of is = absurd is
@@ -81,7 +85,7 @@ list_fault_of_found_store settings lists image digest found (OtherCapture stored
 -- what a store opens to whose newest slot was found
 pub found_store_opens_to_base : (settings : StoreSettings) (lists : List (List RecordValue)) (image digest : List ℕ) (found : Option Newest)
     (base : Option CutValue) → HoldsFoundParts settings found image → digest ≡ digest_of_lists settings lists
-    → IfSome found (λ (last : Newest). IsPartOfDigest lists digest (saved_in last)) → base ≡ base_in_parts found
+    → IfSome found (λ (last : Newest). MatchesDigestAtOpening lists digest (saved_in last)) → base ≡ base_in_parts found
     → OpensToBase settings lists image base
 found_store_opens_to_base settings lists image digest None base holds of accepted is =
     (None, (holds.0, holds.1, holds.2, sym holds.3), tt, is)
@@ -103,8 +107,8 @@ found_store_without_newest (Some one) (Some two) none = by_test (nat_lt one.sequ
     by_test false none = cc none
 
 -- the disk stands as the saver of that store knows it
-pub found_store_saver_stands : (settings : StoreSettings) (slots : SlotsState) (digest : List ℕ) (found : Option Newest)
-    (possible : List ℕ → Type 0) (image : List ℕ) → HoldsFoundParts settings found image → IsStoreOfSlots image possible slots
+pub found_store_saver_stands : (settings : StoreSettings) (slots : KnownSlotsState) (digest : List ℕ) (found : Option Newest)
+    (possible : List ℕ → Type 0) (image : List ℕ) → HoldsFoundParts settings found image → IsStoreOfKnownSlots image possible slots
     → IsSafeForSaver (saver_of slots settings digest found) possible image
 found_store_saver_stands settings slots digest None possible image holds store = record {
   is_known = record {
@@ -113,8 +117,8 @@ found_store_saver_stands settings slots digest None possible image holds store =
     second = holds.1;
     holds = holds.2;
     slot_is = found_store_without_newest holds.0 holds.1 holds.3;
-    sequence_is = ap opened_store_sequence holds.3;
-    positions_are = ap (opened_store_positions settings) holds.3;
+    sequence_is = ap store_sequence holds.3;
+    positions_are = ap (store_positions settings) holds.3;
   };
   only = store.only;
 }
@@ -125,8 +129,8 @@ found_store_saver_stands settings slots digest (Some last) possible image holds 
     second = holds.1;
     holds = holds.2;
     slot_is = holds.4;
-    sequence_is = ap opened_store_sequence holds.3;
-    positions_are = ap (opened_store_positions settings) holds.3;
+    sequence_is = ap store_sequence holds.3;
+    positions_are = ap (store_positions settings) holds.3;
   };
   only = store.only;
 }

@@ -1,24 +1,28 @@
 -- What the bytes of a store open to over dealt lists, or why they are refused.
-use Rattle.std.specs.Prelude.{ℕ, ◌≡◌, ◌≢◌, ◌-◌, ◌<◌, ◌≤◌, ◌⊎◌, ⊤, true, List, length, take, replicate, Option, Some, None, IfSome, option_map}
+use Rattle.std.specs.Prelude.{ℕ, ◌≡◌, ◌≢◌, ◌-◌, ◌<◌, ◌≤◌, ◌⊎◌, ⊤, true, List, length, take, replicate, Option, Some}
+use Rattle.std.specs.Prelude.{None, IfSome, option_map}
 use Rattle.std.specs.List.{AllZip}
 use Rattle.prefix_lattice.specs.{RecordValue, total_weight}
 use Rattle.shard_state.specs.{CutValue, SnapshotValue, HasCoreShape, cut_positions, snapshot_total}
-use Rattle.slot_disk.specs.{store_front_bytes, header_of, store_is_open}
+use Rattle.slot_disk.specs.{layout_front_bytes, layout_header, layout_gate_is_open}
 use Rattle.checkpoint.specs.declared.settings.StoreSettings.{StoreSettings}
-use Rattle.checkpoint.specs.{AreHeaderSettings, SavedValue, StoreSlotHolds, StoreHasNewest, StoreOpensTo, digest_of_lists, header_of_settings, last_body_sequence}
+use Rattle.checkpoint.specs.{AreHeaderSettings, SavedValue, StoreSlotHolds, StoreHasNewest, StoreOpensTo}
+use Rattle.checkpoint.specs.{digest_of_lists, header_of_settings, greatest_body_sequence, IsStoreOfLists}
+use Rattle.checkpoint.specs.{store_sequence}
 use Rattle.recovery.specs.declared.fault.OpenFault.{OpenFault}
-use Rattle.recovery.specs.declared.fault.OpenFault.TheVariants.{DiskFault, NotFormatted, OtherSettings, Damaged, OtherCapture, OutOfMemory}
+use Rattle.recovery.specs.declared.fault.OpenFault.TheVariants.{DiskFault, NotFormatted, OtherSettings, Damaged}
+use Rattle.recovery.specs.declared.fault.OpenFault.TheVariants.{OtherCapture, OutOfMemory}
 use Rattle.recovery.specs.declared.opened.Opened.{Opened}
 
 -- the bytes have a header, and it spells these settings
 pub record HasOpeningHeader (settings : StoreSettings) (image : List ℕ) : Type 0 where
-  pub long : store_front_bytes ≤ length image
+  pub long : layout_front_bytes ≤ length image
   pub are : AreHeaderSettings settings
-  pub spelled : header_of image ≡ header_of_settings settings
+  pub spelled : layout_header image ≡ header_of_settings settings
 
 -- the gate of a slot is open, and under it is no body of these settings
 pub record IsDamagedAtOpening (settings : StoreSettings) (slot : ℕ) (image : List ℕ) : Type 0 where
-  pub gate : store_is_open slot image ≡ true
+  pub gate : layout_gate_is_open slot image ≡ true
   pub no_body : (saved : SavedValue) → StoreSlotHolds settings slot image (Some saved) → ⊥
 
 -- the slot is the first of two such
@@ -27,9 +31,9 @@ pub record IsFirstDamagedAtOpening (settings : StoreSettings) (slot : ℕ) (imag
   pub damaged : IsDamagedAtOpening settings slot image
   pub first : (earlier : ℕ) → earlier < slot → IsDamagedAtOpening settings earlier image → ⊥
 
--- the last sequence that is opened, which leaves room for as many saves as one run makes
-abbrev pub last_opened_sequence : ℕ
-last_opened_sequence = last_body_sequence - 64
+-- the greatest sequence that is opened, which leaves room for as many saves as one run makes
+abbrev pub greatest_opened_sequence : ℕ
+greatest_opened_sequence = greatest_body_sequence - 64
 
 -- a snapshot may be continued from over a list: its position isn't past the end, and its total is the weight of the
 -- records before it
@@ -43,7 +47,7 @@ OpeningContinuesLists cut lists = AllZip OpeningContinuesList cut.shards lists
 
 -- what is saved may be continued from: its sequence isn't too late, and its cut continues over the lists
 pub record OpeningContinuesFrom (saved : SavedValue) (lists : List (List RecordValue)) : Type 0 where
-  pub early : saved.sequence ≤ last_opened_sequence
+  pub early : saved.sequence ≤ greatest_opened_sequence
   pub continues : OpeningContinuesLists saved.cut lists
 
 -- the bytes are refused for this fault over dealt lists and settings. A fault of the disk, and that memory runs out, say
@@ -62,14 +66,14 @@ IsRefusedAtOpening settings lists image (OtherCapture stored asked) =
 IsRefusedAtOpening settings lists image OutOfMemory = ⊤
 
 -- what was saved has the digest of the lists, and may be continued from
-pub record IsSavedBeforeOpening (settings : StoreSettings) (lists : List (List RecordValue)) (saved : SavedValue) : Type 0 where
+pub record MatchesListsAtOpening (settings : StoreSettings) (lists : List (List RecordValue)) (saved : SavedValue) : Type 0 where
   pub digest : saved.digest ≡ digest_of_lists settings lists
   pub continues : OpeningContinuesFrom saved lists
 
 -- the bytes open to this base: the cut of the newest slot, which was saved of these lists, or none where no gate is open
 abbrev pub OpensToBase : StoreSettings → List (List RecordValue) → List ℕ → Option CutValue → Type 0
 OpensToBase settings lists image base =
-    (opened : Option SavedValue) × StoreOpensTo settings image opened × IfSome opened (IsSavedBeforeOpening settings lists)
+    (opened : Option SavedValue) × StoreOpensTo settings image opened × IfSome opened (MatchesListsAtOpening settings lists)
     × (base ≡ option_map (λ saved. saved.cut) opened)
 
 -- the positions of a base, each 0 where there is none
@@ -90,4 +94,30 @@ pub record OpeningCanGoOn (settings : StoreSettings) (lists : List (List RecordV
   pub saver_positions : opened.saver.positions ≡ opened.positions
   pub saver_settings : opened.saver.settings ≡ settings
   pub saver_digest : opened.saver.digest ≡ digest_of_lists settings lists
-  pub early : opened.saver.sequence ≤ last_opened_sequence
+  pub early : opened.saver.sequence ≤ greatest_opened_sequence
+
+-- a fault that bytes show: none of the disk, and not that memory ran out
+pub record IsShownByOpening (fault : OpenFault) : Type 0 where
+  pub not_of_disk : fault ≢ DiskFault
+  pub not_of_memory : fault ≢ OutOfMemory
+
+-- the bytes open to one base at most, show one fault at most, and never both
+pub record IsDecidedOpening (settings : StoreSettings) (lists : List (List RecordValue)) (image : List ℕ) : Type 0 where
+  pub one_base : (base other : Option CutValue) → OpensToBase settings lists image base
+      → OpensToBase settings lists image other → base ≡ other
+  pub one_fault : (fault other : OpenFault) → IsShownByOpening fault → IsShownByOpening other → IsRefusedAtOpening settings lists image fault
+      → IsRefusedAtOpening settings lists image other → fault ≡ other
+  pub not_both : (base : Option CutValue) (fault : OpenFault) → OpensToBase settings lists image base → IsShownByOpening fault
+      → IsRefusedAtOpening settings lists image fault → ⊥
+
+-- all bytes are so decided, over any dealt lists
+abbrev pub OpeningsAreDecided : Type 0
+OpeningsAreDecided = (settings : StoreSettings) (lists : List (List RecordValue)) (image : List ℕ) → AreHeaderSettings settings
+    → IsDecidedOpening settings lists image
+
+-- a store that belongs to dealt lists opens to its newest cut, where its sequence isn't too late
+abbrev pub BelongingStoresAreOpened : Type 0
+BelongingStoresAreOpened = (settings : StoreSettings) (lists : List (List RecordValue)) (image : List ℕ)
+    (opened : Option SavedValue) → StoreOpensTo settings image opened → IsStoreOfLists settings lists opened
+    → store_sequence opened ≤ greatest_opened_sequence
+    → OpensToBase settings lists image (option_map (λ saved. saved.cut) opened)

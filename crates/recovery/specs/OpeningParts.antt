@@ -7,51 +7,52 @@ use Rattle.checkpoint.specs.declared.settings.StoreSettings.{StoreSettings}
 use Rattle.checkpoint.specs.{SavedValue, StoreHolds, newest_in_store, newest_slot_in_store, saved_in}
 use Rattle.recovery.specs.Opening.{HasOpeningHeader, IsDamagedAtOpening, IsFirstDamagedAtOpening, OpeningContinuesFrom}
 use Rattle.recovery.specs.declared.fault.OpenFault.{OpenFault}
-use Rattle.recovery.specs.declared.fault.OpenFault.TheVariants.{DiskFault, NotFormatted, OtherSettings, Damaged, OtherCapture, OutOfMemory}
+use Rattle.recovery.specs.declared.fault.OpenFault.TheVariants.{DiskFault, NotFormatted, OtherSettings, Damaged}
+use Rattle.recovery.specs.declared.fault.OpenFault.TheVariants.{OtherCapture, OutOfMemory}
 
 -- the gates and the header are refused for this fault
-abbrev pub IsFrontPartFault : StoreSettings → List ℕ → OpenFault → Type 0
-IsFrontPartFault settings image DiskFault = ⊤
-IsFrontPartFault settings image NotFormatted = (spelled : StoreSettings) → HasOpeningHeader spelled image → ⊥
-IsFrontPartFault settings image (OtherSettings stored asked) = HasOpeningHeader stored image × (asked ≡ settings) × (stored ≢ settings)
-IsFrontPartFault settings image (Damaged slot) = ⊥
-IsFrontPartFault settings image (OtherCapture stored asked) = ⊥
-IsFrontPartFault settings image OutOfMemory = ⊥
+abbrev pub IsOpeningFaultOfFrontPart : StoreSettings → List ℕ → OpenFault → Type 0
+IsOpeningFaultOfFrontPart settings image DiskFault = ⊤
+IsOpeningFaultOfFrontPart settings image NotFormatted = (spelled : StoreSettings) → HasOpeningHeader spelled image → ⊥
+IsOpeningFaultOfFrontPart settings image (OtherSettings stored asked) = HasOpeningHeader stored image × (asked ≡ settings) × (stored ≢ settings)
+IsOpeningFaultOfFrontPart settings image (Damaged slot) = ⊥
+IsOpeningFaultOfFrontPart settings image (OtherCapture stored asked) = ⊥
+IsOpeningFaultOfFrontPart settings image OutOfMemory = ⊥
 
 -- a slot is refused for this fault
-abbrev pub IsBodyPartFault : StoreSettings → ℕ → List ℕ → OpenFault → Type 0
-IsBodyPartFault settings slot image DiskFault = ⊤
-IsBodyPartFault settings slot image NotFormatted = ⊥
-IsBodyPartFault settings slot image (OtherSettings stored asked) = ⊥
-IsBodyPartFault settings slot image (Damaged at) = (at ≡ slot) × IsDamagedAtOpening settings slot image
-IsBodyPartFault settings slot image (OtherCapture stored asked) = ⊥
-IsBodyPartFault settings slot image OutOfMemory = ⊤
+abbrev pub IsOpeningFaultOfBodyPart : StoreSettings → ℕ → List ℕ → OpenFault → Type 0
+IsOpeningFaultOfBodyPart settings slot image DiskFault = ⊤
+IsOpeningFaultOfBodyPart settings slot image NotFormatted = ⊥
+IsOpeningFaultOfBodyPart settings slot image (OtherSettings stored asked) = ⊥
+IsOpeningFaultOfBodyPart settings slot image (Damaged at) = (at ≡ slot) × IsDamagedAtOpening settings slot image
+IsOpeningFaultOfBodyPart settings slot image (OtherCapture stored asked) = ⊥
+IsOpeningFaultOfBodyPart settings slot image OutOfMemory = ⊤
 
 -- the store is refused for this fault, whatever was dealt
-abbrev pub IsFoundPartFault : StoreSettings → List ℕ → OpenFault → Type 0
-IsFoundPartFault settings image DiskFault = ⊤
-IsFoundPartFault settings image NotFormatted = (spelled : StoreSettings) → HasOpeningHeader spelled image → ⊥
-IsFoundPartFault settings image (OtherSettings stored asked) = HasOpeningHeader stored image × (asked ≡ settings) × (stored ≢ settings)
-IsFoundPartFault settings image (Damaged slot) = HasOpeningHeader settings image × IsFirstDamagedAtOpening settings slot image
-IsFoundPartFault settings image (OtherCapture stored asked) = ⊥
-IsFoundPartFault settings image OutOfMemory = ⊤
+abbrev pub IsOpeningFaultOfFoundPart : StoreSettings → List ℕ → OpenFault → Type 0
+IsOpeningFaultOfFoundPart settings image DiskFault = ⊤
+IsOpeningFaultOfFoundPart settings image NotFormatted = (spelled : StoreSettings) → HasOpeningHeader spelled image → ⊥
+IsOpeningFaultOfFoundPart settings image (OtherSettings stored asked) = HasOpeningHeader stored image × (asked ≡ settings) × (stored ≢ settings)
+IsOpeningFaultOfFoundPart settings image (Damaged slot) = HasOpeningHeader settings image × IsFirstDamagedAtOpening settings slot image
+IsOpeningFaultOfFoundPart settings image (OtherCapture stored asked) = ⊥
+IsOpeningFaultOfFoundPart settings image OutOfMemory = ⊤
 
 -- what is saved has this digest, and may be continued from over the lists
-pub record IsPartOfDigest (lists : List (List RecordValue)) (digest : List ℕ) (saved : SavedValue) : Type 0 where
+pub record MatchesDigestAtOpening (lists : List (List RecordValue)) (digest : List ℕ) (saved : SavedValue) : Type 0 where
   pub digest_is : saved.digest ≡ digest
   pub continues : OpeningContinuesFrom saved lists
 
 -- the newest slot is refused for this fault, over lists with this digest
-abbrev pub IsListPartFault : List (List RecordValue) → List ℕ → Option Newest → OpenFault → Type 0
-IsListPartFault lists digest found DiskFault = ⊥
-IsListPartFault lists digest found NotFormatted = ⊥
-IsListPartFault lists digest found (OtherSettings stored asked) = ⊥
-IsListPartFault lists digest found (Damaged slot) =
+abbrev pub IsOpeningFaultOfListPart : List (List RecordValue) → List ℕ → Option Newest → OpenFault → Type 0
+IsOpeningFaultOfListPart lists digest found DiskFault = ⊥
+IsOpeningFaultOfListPart lists digest found NotFormatted = ⊥
+IsOpeningFaultOfListPart lists digest found (OtherSettings stored asked) = ⊥
+IsOpeningFaultOfListPart lists digest found (Damaged slot) =
     (last : Newest) × (found ≡ Some last) × (slot ≡ last.slot) × (last.saved.digest ≡ digest)
     × (OpeningContinuesFrom (saved_in last) lists → ⊥)
-IsListPartFault lists digest found (OtherCapture stored asked) =
+IsOpeningFaultOfListPart lists digest found (OtherCapture stored asked) =
     (last : Newest) × (found ≡ Some last) × (stored ≡ last.saved.digest) × (asked ≡ digest) × (stored ≢ asked)
-IsListPartFault lists digest found OutOfMemory = ⊥
+IsOpeningFaultOfListPart lists digest found OutOfMemory = ⊥
 
 -- this is the newest slot of the bytes
 abbrev pub HoldsFoundParts : StoreSettings → Option Newest → List ℕ → Type 0

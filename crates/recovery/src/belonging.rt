@@ -1,11 +1,11 @@
 //! Whether a saved cut is one of the dealt records.
 
 ghost use Rattle.std.specs.Prelude.{◌≡◌, ◌≤◌, ◌<◌, ◌↔◌, ◌*◌, ◌^◌, length, take, IfErr, IfSome, IsTrue, OnOk};
-ghost use Rattle.prefix_lattice.specs.{most_records, total_weight};
+ghost use Rattle.prefix_lattice.specs.{record_limit, total_weight};
 ghost use Rattle.deal_rules.specs.{AreDealingLists};
 ghost use Rattle.checkpoint.specs.{IsSavedBody, saved_in};
 ghost use Rattle.recovery.specs.Opening.{OpeningContinuesList, OpeningContinuesLists, OpeningContinuesFrom};
-ghost use Rattle.recovery.specs.OpeningParts.{IsListPartFault, IsPartOfDigest};
+ghost use Rattle.recovery.specs.OpeningParts.{IsOpeningFaultOfListPart, MatchesDigestAtOpening};
 
 use crate::OpenFault;
 use checkpoint::Newest;
@@ -23,8 +23,8 @@ pub(crate) fn check_newest(
     digest: &[u8; 32],
 ) -> Result<(), OpenFault>
     requires { IfSome newest.now (λ found. length found.saved.cut.shards ≡ length dealt.now) }
-    ensures accepted { OnOk result (IfSome newest.now (λ found. IsPartOfDigest dealt.now digest.now (saved_in found))) }
-    ensures refused { IfErr result (IsListPartFault dealt.now digest.now newest.now) }
+    ensures accepted { OnOk result (IfSome newest.now (λ found. MatchesDigestAtOpening dealt.now digest.now (saved_in found))) }
+    ensures refused { IfErr result (IsOpeningFaultOfListPart dealt.now digest.now newest.now) }
 {
     match newest {
         None => Ok(()),
@@ -34,8 +34,8 @@ pub(crate) fn check_newest(
 
 fn check_saved(newest: &Newest, dealt: &Dealt, digest: &[u8; 32]) -> Result<(), OpenFault>
     requires { length newest.now.saved.cut.shards ≡ length dealt.now }
-    ensures accepted { OnOk result (IsPartOfDigest dealt.now digest.now (saved_in newest.now)) }
-    ensures refused { IfErr result (IsListPartFault dealt.now digest.now (Some newest.now)) }
+    ensures accepted { OnOk result (MatchesDigestAtOpening dealt.now digest.now (saved_in newest.now)) }
+    ensures refused { IfErr result (IsOpeningFaultOfListPart dealt.now digest.now (Some newest.now)) }
 {
     if !are_same(&newest.saved.digest, digest) {
         return Err(OpenFault::OtherCapture {
@@ -73,7 +73,7 @@ fn continues_lists(cut: &Cut, dealt: &Dealt) -> bool
 
 // Whether a snapshot may be continued from over a list.
 fn continues_list(snapshot: &Snapshot, list: &RecordList) -> bool
-    requires { length list.now ≤ most_records }
+    requires { length list.now ≤ record_limit }
     ensures { IsTrue result ↔ OpeningContinuesList snapshot.now list.now }
 {
     let position = snapshot.position();
@@ -86,7 +86,7 @@ fn continues_list(snapshot: &Snapshot, list: &RecordList) -> bool
 // The weight of the records before a position.
 fn weight_before(list: &RecordList, position: usize) -> u64
     requires within { position ≤ length list.now }
-    requires few { length list.now ≤ most_records }
+    requires few { length list.now ≤ record_limit }
     ensures { result ≡ total_weight (take position list.now) }
 {
     let mut weight = 0;

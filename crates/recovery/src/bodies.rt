@@ -2,9 +2,10 @@
 
 ghost use Rattle.std.specs.Prelude.{◌≡◌, ◌≤◌, ◌<◌, ℕ, is_some, option_map, IfErr, IfOk, IfSome, IsErrOf};
 ghost use Rattle.outside_io.specs.{FaultCountRose};
-ghost use Rattle.slot_disk.specs.{IfImageKnown, Leaves, IsUnchangedAtMoment, known_slot_open, slots_of};
+ghost use Rattle.slot_disk.specs.{IfImageKnown, CrashLeavesAtAnyMoment, IsUnchangedAtMoment, known_slot_open};
+ghost use Rattle.slot_disk.specs.{known_slots_of};
 ghost use Rattle.checkpoint.specs.{AreHeaderSettings, IsSavedBody, StoreSlotHolds, saved_value};
-ghost use Rattle.recovery.specs.OpeningParts.{IsBodyPartFault};
+ghost use Rattle.recovery.specs.OpeningParts.{IsOpeningFaultOfBodyPart};
 
 use crate::OpenFault;
 use crate::fault::{fault_of_body, fault_of_decode};
@@ -25,11 +26,11 @@ pub(crate) fn read_slot<D: Disk>(
     ensures gate { IfOk result (λ held. is_some held ≡ known_slot_open slots.now slot) }
     ensures saved { IfOk result (λ held. IfSome held (λ saved. IsSavedBody settings.now.shards settings.now.capacity (saved_value saved))) }
     ensures holds { IfOk result (λ held. IfImageKnown (D.reads disk.old)
-        (λ image. slots.now ≡ slots_of image → StoreSlotHolds settings.now slot image (option_map saved_value held))) }
+        (λ image. slots.now ≡ known_slots_of image → StoreSlotHolds settings.now slot image (option_map saved_value held))) }
     ensures refused { IfErr result (λ fault. IfImageKnown (D.reads disk.old)
-        (λ image. slots.now ≡ slots_of image → IsBodyPartFault settings.now slot image fault)) }
+        (λ image. slots.now ≡ known_slots_of image → IsOpeningFaultOfBodyPart settings.now slot image fault)) }
     ensures unchanged { IsUnchangedAtMoment D.reads D.image_now disk.old disk.new }
-    ensures any_moment { Leaves D.moment D.image_since disk.old disk.new (D.image_now disk.old) }
+    ensures any_moment { CrashLeavesAtAnyMoment D.moment D.image_since disk.old disk.new (D.image_now disk.old) }
     ensures later { D.faults disk.old ≤ D.faults disk.new }
     ensures fault { IsErrOf result OpenFault.DiskFault → FaultCountRose (D.faults disk.old) (D.faults disk.new) }
     ensures no_fault { (IsErrOf result OpenFault.DiskFault → ⊥) → D.faults disk.new ≡ D.faults disk.old }

@@ -2,9 +2,9 @@
 
 ghost use Rattle.std.specs.Prelude.{◌≡◌, ◌≤◌, ◌↔◌, ℕ, IfErr, IfOk, IsErrOf, IsTrue};
 ghost use Rattle.outside_io.specs.{FaultCountRose};
-ghost use Rattle.slot_disk.specs.{IfImageKnown, Leaves, SlotsStandAs};
+ghost use Rattle.slot_disk.specs.{IfImageKnown, CrashLeavesAtAnyMoment, DiskMatchesKnownSlots};
 ghost use Rattle.checkpoint.specs.{AreHeaderSettings, header_of_settings};
-ghost use Rattle.recovery.specs.OpeningParts.{IsFrontPartFault};
+ghost use Rattle.recovery.specs.OpeningParts.{IsOpeningFaultOfFrontPart};
 
 use crate::OpenFault;
 use checkpoint::{StoreSettings, read_header};
@@ -15,11 +15,11 @@ pub(crate) fn open_front<D: Disk>(
     disk: &mut D,
     settings: &StoreSettings,
 ) -> Result<Slots, OpenFault>
-    ensures stands { IfOk result (λ slots. SlotsStandAs (D.reads disk.new) (D.image_now disk.new) slots) }
+    ensures stands { IfOk result (λ slots. DiskMatchesKnownSlots (D.reads disk.new) (D.image_now disk.new) slots) }
     ensures header { IfOk result (λ slots. slots.header ≡ header_of_settings settings.now) }
-    ensures refused { IfErr result (λ fault. IfImageKnown (D.reads disk.old) (λ image. IsFrontPartFault settings.now image fault)) }
+    ensures refused { IfErr result (λ fault. IfImageKnown (D.reads disk.old) (λ image. IsOpeningFaultOfFrontPart settings.now image fault)) }
     ensures reads { D.reads disk.new ≡ D.reads disk.old }
-    ensures any_moment { Leaves D.moment D.image_since disk.old disk.new (D.image_now disk.old) }
+    ensures any_moment { CrashLeavesAtAnyMoment D.moment D.image_since disk.old disk.new (D.image_now disk.old) }
     ensures later { D.faults disk.old ≤ D.faults disk.new }
     ensures fault { IsErrOf result OpenFault.DiskFault → FaultCountRose (D.faults disk.old) (D.faults disk.new) }
     ensures no_fault { (IsErrOf result OpenFault.DiskFault → ⊥) → D.faults disk.new ≡ D.faults disk.old }

@@ -1,6 +1,6 @@
 //! What holds of openings, each law the contract of a function that does nothing.
 
-ghost use Rattle.recovery.specs.OpeningLaws.{BelongingStoresAreOpened, OpeningsAreDecided};
+ghost use Rattle.recovery.specs.Opening.{BelongingStoresAreOpened, OpeningsAreDecided};
 
 use checkpoint::{headers_spell_one, stores_hold_one};
 use shard_state::snapshots_hold_weights;

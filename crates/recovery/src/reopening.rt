@@ -2,10 +2,10 @@
 
 ghost use Rattle.std.specs.Prelude.{◌≡◌, ◌≤◌, ◌<◌, ℕ, length, option_map, IfErr, IfOk, IfSome, IsErrOf, Some};
 ghost use Rattle.outside_io.specs.{FaultCountRose};
-ghost use Rattle.slot_disk.specs.{IfImageKnown, Leaves, SlotsStandAs};
-ghost use Rattle.checkpoint.specs.{AreHeaderSettings, IsNewestForSaver, StandsForSaver, header_of_settings, saved_in};
+ghost use Rattle.slot_disk.specs.{IfImageKnown, CrashLeavesAtAnyMoment, DiskMatchesKnownSlots};
+ghost use Rattle.checkpoint.specs.{AreHeaderSettings, IsNewestForSaver, DiskMatchesSaver, header_of_settings, saved_in};
 ghost use Rattle.recovery.specs.Opening.{OpeningCanGoOn, IsRefusedAtOpening, OpensToBase, opening_base_positions};
-ghost use Rattle.recovery.specs.OpeningParts.{HoldsFoundParts, IsFoundPartFault, base_in_parts};
+ghost use Rattle.recovery.specs.OpeningParts.{HoldsFoundParts, IsOpeningFaultOfFoundPart, base_in_parts};
 
 use crate::belonging::check_newest;
 use crate::bodies::read_slot;
@@ -34,11 +34,11 @@ pub fn reopen<D: Disk>(
     requires shards { length dealt.now ≡ settings.now.shards }
     ensures opens { IfOk result (λ opened. IfImageKnown (D.reads disk.old)
         (λ image. OpensToBase settings.now dealt.now image opened.base)) }
-    ensures stands { IfOk result (λ opened. StandsForSaver (D.reads disk.new) (D.image_now disk.new) opened.saver) }
+    ensures stands { IfOk result (λ opened. DiskMatchesSaver (D.reads disk.new) (D.image_now disk.new) opened.saver) }
     ensures goes_on { IfOk result (OpeningCanGoOn settings.now dealt.now) }
     ensures refused { IfErr result (λ fault. IfImageKnown (D.reads disk.old) (λ image. IsRefusedAtOpening settings.now dealt.now image fault)) }
     ensures reads { D.reads disk.new ≡ D.reads disk.old }
-    ensures any_moment { Leaves D.moment D.image_since disk.old disk.new (D.image_now disk.old) }
+    ensures any_moment { CrashLeavesAtAnyMoment D.moment D.image_since disk.old disk.new (D.image_now disk.old) }
     ensures later { D.faults disk.old ≤ D.faults disk.new }
     ensures fault { IsErrOf result OpenFault.DiskFault → FaultCountRose (D.faults disk.old) (D.faults disk.new) }
     ensures no_fault { (IsErrOf result OpenFault.DiskFault → ⊥) → D.faults disk.new ≡ D.faults disk.old }
@@ -69,13 +69,13 @@ fn find_newest<D: Disk>(
     settings: &StoreSettings,
 ) -> Result<Found, OpenFault>
     requires { AreHeaderSettings settings.now }
-    ensures stands { IfOk result (λ found. SlotsStandAs (D.reads disk.new) (D.image_now disk.new) found.slots) }
+    ensures stands { IfOk result (λ found. DiskMatchesKnownSlots (D.reads disk.new) (D.image_now disk.new) found.slots) }
     ensures header { IfOk result (λ found. found.slots.header ≡ header_of_settings settings.now) }
     ensures newest { IfOk result (λ found. IsNewestForSaver settings.now found.slots found.newest) }
     ensures holds { IfOk result (λ found. IfImageKnown (D.reads disk.old) (HoldsFoundParts settings.now found.newest)) }
-    ensures refused { IfErr result (λ fault. IfImageKnown (D.reads disk.old) (λ image. IsFoundPartFault settings.now image fault)) }
+    ensures refused { IfErr result (λ fault. IfImageKnown (D.reads disk.old) (λ image. IsOpeningFaultOfFoundPart settings.now image fault)) }
     ensures reads { D.reads disk.new ≡ D.reads disk.old }
-    ensures any_moment { Leaves D.moment D.image_since disk.old disk.new (D.image_now disk.old) }
+    ensures any_moment { CrashLeavesAtAnyMoment D.moment D.image_since disk.old disk.new (D.image_now disk.old) }
     ensures later { D.faults disk.old ≤ D.faults disk.new }
     ensures fault { IsErrOf result OpenFault.DiskFault → FaultCountRose (D.faults disk.old) (D.faults disk.new) }
     ensures no_fault { (IsErrOf result OpenFault.DiskFault → ⊥) → D.faults disk.new ≡ D.faults disk.old }

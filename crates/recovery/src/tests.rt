@@ -1,7 +1,7 @@
 ghost use Rattle.std.specs.Prelude.{◌≡◌, ◌≤◌, ◌%◌, ◌^◌, [], ◌∷◌, length, IfOk};
-ghost use Rattle.deal_rules.specs.{IsAskedOfRule};
+ghost use Rattle.deal_rules.specs.{IsAskedOfDealRule};
 ghost use Rattle.shard_state.specs.{cut_positions};
-ghost use Rattle.checkpoint.specs.{AreHeaderSettings, last_body_sequence};
+ghost use Rattle.checkpoint.specs.{AreHeaderSettings, greatest_body_sequence};
 
 use super::*;
 use checkpoint::{Saver, StoreSettings, digest_of, encode, header_of, read_header};
@@ -67,7 +67,7 @@ fn records(alloc: Global, rec: Record, count: usize) -> Result<RecordList, Alloc
 }
 
 fn by_place(place: u64, rec: Record, shards: u32) -> u32
-    requires { IsAskedOfRule place rec shards }
+    requires { IsAskedOfDealRule place rec shards }
     ensures { result ≡ place % shards }
 {
     (place % u64::from(shards)) as u32
@@ -112,7 +112,7 @@ fn body_of(
     count: usize,
 ) -> Result<Vec<u8>, AllocError>
     requires first { 1 ≤ sequence }
-    requires last { sequence ≤ last_body_sequence }
+    requires last { sequence ≤ greatest_body_sequence }
     requires few { count ≤ 2 ^ 24 }
 {
     let cut = cut_of(alloc, records(alloc, rec, count)?, 2)?;

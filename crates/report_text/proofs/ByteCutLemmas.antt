@@ -9,7 +9,7 @@ use Rattle.std.proofs.lemmas.List.Sums.{fails_before_first}
 use Rattle.std.proofs.lemmas.List.Quantifiers.{position-Some}
 use Rattle.std.proofs.lemmas.List.Splits.{slice_split_at, slice_split_none}
 use Rattle.std.proofs.lemmas.List.Elements.{All-from_recursion}
-use Rattle.report_text.specs.SessionStages.{stage_words_in}
+use Rattle.report_text.specs.Stages.{stage_words_in}
 
 -- no byte of the text is this one
 abbrev pub LacksCutByte : ℕ → List ℕ → Type 0

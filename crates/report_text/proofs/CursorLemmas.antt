@@ -3,9 +3,10 @@ use Rattle.std.proofs.Common.{◌≡◌, ℕ, ◌+◌, ◌<◌, List, [], ◌∷
 use Rattle.std.proofs.Common.{subst, arith, append_assoc, append-nil, take-append-drop, length-append}
 use Rattle.std.specs.List.{flat_map}
 use Rattle.std.proofs.Math.Seq.{length-take-le, take-add, take-append_seam}
-use Rattle.report_text.specs.SessionText.{IsSessionLine, IsSession, session_line_text, session_line_words, session_lines, whole_lines_of_session}
-use Rattle.report_text.specs.SessionText.{HasTextFault}
-use Rattle.report_text.specs.SessionStages.{Stage, IsOpenStage, FollowsStage, stage_words_in}
+use Rattle.report_text.specs.SessionText.{IsSessionLine, IsTextSession, session_line_text, session_line_words}
+use Rattle.report_text.specs.SessionText.{session_lines, whole_lines_of_session}
+use Rattle.report_text.specs.SessionText.{HasSessionTextFault}
+use Rattle.report_text.specs.Stages.{Stage, IsStageBeforeEnd, FollowsStage, stage_words_in}
 use Rattle.report_text.specs.LineReading.{HasReadLines, HasReadLinesToStage, ReadsLine}
 use Rattle.report_text.specs.declared.line_cursor.LineCursor.{LineCursor}
 use Rattle.report_text.specs.declared.session.Session.{Session}
@@ -13,9 +14,11 @@ use Rattle.report_text.specs.declared.session_line.SessionLine.{SessionLine}
 use Rattle.report_text.specs.declared.session_fault.TextFault.TheVariants.{BadLine, MissingEnd}
 use Rattle.report_text.proofs.ByteCutLemmas.{LacksCutByte, IsByteCut}
 use Rattle.report_text.proofs.WordListLemmas.{word_list_in_line_text, word_list_tells_line_text}
-use Rattle.report_text.proofs.WholeLineLemmas.{whole_lines_of_session-line, whole_lines_of_session-rest, whole_lines_of_session-lines}
+use Rattle.report_text.proofs.WholeLineLemmas.{whole_lines_of_session-line, whole_lines_of_session-rest}
+use Rattle.report_text.proofs.WholeLineLemmas.{whole_lines_of_session-lines}
 use Rattle.report_text.proofs.FirstLineLemmas.{FirstLineLaws, first_lines_with_one_text}
-use Rattle.report_text.proofs.SessionFaultLemmas.{session_fault_bad_line, session_fault_unfinished, session_fault_byte_follows}
+use Rattle.report_text.proofs.SessionFaultLemmas.{session_fault_bad_line, session_fault_unfinished}
+use Rattle.report_text.proofs.SessionFaultLemmas.{session_fault_byte_follows}
 
 -- a text is the lines that were read and the rest
 cursor_text_and_rest : (cursor : LineCursor) (read : List SessionLine) → HasReadLines cursor read
@@ -31,21 +34,21 @@ cursor_lines_and_rest cursor read has =
     ∙ whole_lines_of_session-lines read (drop cursor.at cursor.text.now) has.are_lines
 
 -- a byte after the last line of a session
-pub cursor_finds_more_bytes : (cursor : LineCursor) (session : Session) → HasReadLines cursor (session_lines session) → IsSession session
-    → cursor.at < length cursor.text.now → HasTextFault cursor.text.now (BadLine (cursor.lines + 1))
+pub cursor_finds_more_bytes : (cursor : LineCursor) (session : Session) → HasReadLines cursor (session_lines session) → IsTextSession session
+    → cursor.at < length cursor.text.now → HasSessionTextFault cursor.text.now (BadLine (cursor.lines + 1))
 cursor_finds_more_bytes cursor session has is more =
     let text = cursor.text.now in
     let before : length (take cursor.at text) ≡ cursor.at = length-take-le cursor.at text cursor.within in
-    subst (λ n. HasTextFault text (BadLine (n + 1))) (sym has.count)
+    subst (λ n. HasSessionTextFault text (BadLine (n + 1))) (sym has.count)
     (session_fault_byte_follows text session (drop cursor.at text) cursor.limit is (cursor_text_and_rest cursor (session_lines session) has)
     (omega (arith, before, ap length has.text)))
 
 -- no whole line is left
-pub cursor_finds_no_end : FirstLineLaws → (cursor : LineCursor) (stage : Stage) → IsOpenStage stage → HasReadLinesToStage cursor stage
-    → LacksCutByte 10 (drop cursor.at cursor.text.now) → HasTextFault cursor.text.now (MissingEnd (cursor.lines + 1))
+pub cursor_finds_no_end : FirstLineLaws → (cursor : LineCursor) (stage : Stage) → IsStageBeforeEnd stage → HasReadLinesToStage cursor stage
+    → LacksCutByte 10 (drop cursor.at cursor.text.now) → HasSessionTextFault cursor.text.now (MissingEnd (cursor.lines + 1))
 cursor_finds_no_end laws cursor stage is_open stands none =
     let text = cursor.text.now in
-    subst (λ n. HasTextFault text (MissingEnd (n + 1))) (sym stands.has_read.count)
+    subst (λ n. HasSessionTextFault text (MissingEnd (n + 1))) (sym stands.has_read.count)
     (session_fault_unfinished laws text stands.read stage cursor.limit stands.has_read.are_lines
     (cursor_lines_and_rest cursor stands.read stands.has_read
     ∙ ap (λ l. map session_line_text stands.read ++ l) (whole_lines_of_session-rest (drop cursor.at text) none)
@@ -56,12 +59,12 @@ cursor_finds_no_end laws cursor stage is_open stands none =
 pub cursor_finds_bad_line : FirstLineLaws → (cursor : LineCursor) (at : ℕ) (stage : Stage) → HasReadLinesToStage cursor stage
     → IsByteCut 10 at (drop cursor.at cursor.text.now)
     → ((line : SessionLine) → IsSessionLine line → stage_words_in (take at (drop cursor.at cursor.text.now)) ≡ session_line_words line → ⊥)
-    → HasTextFault cursor.text.now (BadLine (cursor.lines + 1))
+    → HasSessionTextFault cursor.text.now (BadLine (cursor.lines + 1))
 cursor_finds_bad_line laws cursor at stage stands cut refused =
     let text = cursor.text.now in
     let rest = drop cursor.at text in
     let line = take at rest in
-    subst (λ n. HasTextFault text (BadLine (n + 1))) (sym stands.has_read.count)
+    subst (λ n. HasSessionTextFault text (BadLine (n + 1))) (sym stands.has_read.count)
     (session_fault_bad_line laws text stands.read stage (line ++ 10 ∷ []) (whole_lines_of_session (drop 1 (drop at rest))) cursor.limit
     stands.has_read.are_lines
     (cursor_lines_and_rest cursor stands.read stands.has_read
@@ -73,7 +76,7 @@ cursor_finds_bad_line laws cursor at stage stands cut refused =
 -- the line that was read last may not come
 pub cursor_refuses_line : FirstLineLaws → (old new : LineCursor) (line : SessionLine) (stage : Stage) → HasReadLinesToStage old stage
     → ReadsLine old new line → ((next : Stage) → FollowsStage stage line next → ⊥)
-    → HasTextFault new.text.now (BadLine new.lines)
+    → HasSessionTextFault new.text.now (BadLine new.lines)
 cursor_refuses_line laws old new line stage stands reads none =
     let text = new.text.now in
     let rest = drop new.at text in
@@ -88,7 +91,7 @@ cursor_refuses_line laws old new line stage stands reads none =
     (ap (λ l. whole_lines_of_session (l ++ rest)) (sym (append-nil (session_line_text line)))
     ∙ whole_lines_of_session-lines (line ∷ []) rest (reads.is_line, tt)) in
     let number : new.lines ≡ length read + 1 = omega (arith, reads.count, stands.has_read.count) in
-    subst (λ n. HasTextFault text (BadLine n)) (sym number)
+    subst (λ n. HasSessionTextFault text (BadLine n)) (sym number)
     (session_fault_bad_line laws text read stage (session_line_text line) (whole_lines_of_session rest) new.limit stands.has_read.are_lines lines stands.leads
     (λ on. none on.next
     (subst (λ k. FollowsStage stage k on.next) (first_lines_with_one_text laws on.line line on.is_line reads.is_line on.text_is)

@@ -10,10 +10,12 @@ use Rattle.frame_records.specs.declared.records.Records.{Records}
 use Rattle.hhh_output.specs.declared.line.Line.{Line}
 use Rattle.hhh_output.specs.declared.report.Report.{Report}
 use Rattle.report_text.specs.declared.mark.Mark.TheVariants.{Opened, Saved}
-use Rattle.report_text.specs.ReportText.{ReportTextShowsPositions, ReportTextShowsLine, ReportTextShows, report_text_line, report_number_text}
+use Rattle.report_text.specs.ReportText.{ReportTextShowsPositions, ReportTextShowsLine, ReportTextShows}
+use Rattle.report_text.specs.ReportText.{report_text_line, report_number_text}
 use Rattle.report_text.specs.ReportText.{report_positions_text}
-use Rattle.report_text.specs.ReportText.{report_mark_name_text, report_line_text, report_lines_text, report_mark_text, report_text, report_tail_text}
-use Rattle.report_text.specs.ReportText.{longest_report_number_text, longest_report_line_text}
+use Rattle.report_text.specs.ReportText.{report_mark_name_text, report_line_text, report_lines_text, report_mark_text}
+use Rattle.report_text.specs.ReportText.{report_text, report_tail_text}
+use Rattle.report_text.specs.ReportText.{longest_report_number_length, longest_report_line_length}
 use Rattle.report_text.proofs.ShortListLemmas.{short_list_of_one_line}
 
 -- 100 bytes from 10.1.2.3 to 20.1.2.3
@@ -29,7 +31,7 @@ unfolding digits
 text_of_a_line = refl
 
 -- the greatest number of 64 bits
-pub longest_number_of_64_bits : length (decimal (2 ^ 64 - 1)) ≡ longest_report_number_text
+pub longest_number_of_64_bits : length (decimal (2 ^ 64 - 1)) ≡ longest_report_number_length
 unfolding digits
 longest_number_of_64_bits = refl
 
@@ -40,7 +42,7 @@ pub longest_line_of_a_report :
       lo = 2 ^ 64 - 1;
       hi = 2 ^ 64 - 1;
     }))
-    ≡ longest_report_line_text
+    ≡ longest_report_line_length
 unfolding digits
 longest_line_of_a_report = refl
 

@@ -5,8 +5,9 @@ use Rattle.std.specs.Fmt.{digits}
 use Rattle.hhh_output.specs.declared.line.Line.{Line as LineValue}
 use Rattle.hhh_output.specs.declared.report.Report.{Report as ReportValue}
 use Rattle.report_text.specs.ReportText.{ReportTextShowsPositions, ReportTextShowsLine}
-use Rattle.report_text.specs.SessionText.{IsSessionLine, AreSessionTextPositions, IsReportedInSession, IsSession}
-use Rattle.report_text.specs.SessionText.{HasTextFault, whole_lines_of_session}
+use Rattle.report_text.specs.SessionText.{IsSessionLine, AreSessionTextPositions, IsReportedInSessionText}
+use Rattle.report_text.specs.SessionText.{IsTextSession}
+use Rattle.report_text.specs.SessionText.{HasSessionTextFault, whole_lines_of_session}
 use Rattle.report_text.specs.SessionText.{session_text}
 use Rattle.report_text.specs.declared.session.Session.{Session}
 use Rattle.report_text.specs.declared.session_fault.TextFault.TheVariants.{BadLine}
@@ -72,7 +73,7 @@ no_position_is_past_the_greatest is =
 pub no_low_is_above_its_high : (line : LineValue) → line.lo ≡ 101 → line.hi ≡ 100 → ¬ IsSessionLine (Line line)
 no_low_is_above_its_high line low high is = omega (arith, is.ordered, low, high)
 
-pub no_session_is_without_a_report : ¬ IsSession (record session { reports = [] })
+pub no_session_is_without_a_report : ¬ IsTextSession (record session { reports = [] })
 no_session_is_without_a_report is = omega (arith, is.some)
 
 pub no_positions_are_of_another_length : ¬ AreSessionTextPositions 2 (1 ∷ [])
@@ -96,12 +97,12 @@ first_position = record {
   within = All-from_recursion (λ (position : ℕ). position ≤ 16777216) (0 ∷ []) (omega arith, tt);
 }
 
-pub session_of_no_record : IsSession empty_session
+pub session_of_no_record : IsTextSession empty_session
 session_of_no_record = record {
   opened = first_position;
   some = omega arith;
   reports =
-      All-cons (IsReportedInSession 1) (record { report = empty; saved = None }) []
+      All-cons (IsReportedInSessionText 1) (record { report = empty; saved = None }) []
       (record {
         positions = record { are_positions = first_position; as_many = refl };
         total = omega arith;
@@ -110,14 +111,14 @@ session_of_no_record = record {
         lines = All-nil ReportTextShowsLine;
         saved = tt;
       })
-      (All-nil (IsReportedInSession 1));
+      (All-nil (IsReportedInSessionText 1));
   frames = omega arith;
   not_ipv4 = omega arith;
   short = omega arith;
   bad_header = omega arith;
 }
 
-pub byte_after_a_session : HasTextFault
+pub byte_after_a_session : HasSessionTextFault
     (codes "opened 0\nreport\nat 0\ntotal 0\nthreshold 1\ndone\nframes 0\nskipped 0 0 0\nend\nx") (BadLine 10)
 unfolding digits
 byte_after_a_session = (

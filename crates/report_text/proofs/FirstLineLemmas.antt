@@ -4,13 +4,15 @@ use Rattle.std.proofs.Common.{refl, sym, ap, ◌∙◌, subst, append_assoc}
 use Rattle.std.specs.List.{join_with_byte, AllByRecursion}
 use Rattle.std.specs.Cmp.{IsTotalOrder}
 use Rattle.prefix_lattice.specs.{report_order}
-use Rattle.report_text.specs.SessionText.{IsSessionLine, IsSession, AreFirstSessionLines, session_line_words, session_line_text, session_lines}
-use Rattle.report_text.specs.SessionStages.{Stage, nothing, ended, FollowsStage, LeadsFromStage}
+use Rattle.report_text.specs.SessionText.{IsSessionLine, IsTextSession, AreFirstSessionLines, session_line_words}
+use Rattle.report_text.specs.SessionText.{session_line_text, session_lines}
+use Rattle.report_text.specs.Stages.{Stage, nothing, ended, FollowsStage, LeadsFromStage}
 use Rattle.report_text.specs.declared.session.Session.{Session}
 use Rattle.report_text.specs.declared.session_line.SessionLine.{SessionLine}
 use Rattle.report_text.proofs.ReportApartLemmas.{ReportPrefixesAreApart}
 use Rattle.report_text.proofs.WordListLemmas.{word_list_in_line_text, word_list_tells_line}
-use Rattle.report_text.proofs.StageLemmas.{lines_lead_to_one_stage, stage_after_appended_lines, stage_between_lines, last_stage_is_fit, end_of_stage, end_of_stage-leads, end_of_stage-lines}
+use Rattle.report_text.proofs.StageLemmas.{lines_lead_to_one_stage, stage_after_appended_lines, stage_between_lines}
+use Rattle.report_text.proofs.StageLemmas.{last_stage_is_fit, end_of_stage, end_of_stage-leads, end_of_stage-lines}
 use Rattle.report_text.proofs.SessionPartLemmas.{session_parts_make_session}
 use Rattle.report_text.proofs.WholeSessionLemmas.{whole_session_leads_to_end, whole_session_lines}
 
@@ -114,7 +116,7 @@ pub record FirstLinesLeadOn (read : List SessionLine) (behind : List (List ℕ))
   pub on : LeadsFromStage stage others ended
 
 pub session_first_lines_lead_on : FirstLineLaws → (session : Session) (read : List SessionLine) (behind : List (List ℕ))
-    → IsSession session → AllByRecursion IsSessionLine read
+    → IsTextSession session → AllByRecursion IsSessionLine read
     → map session_line_text (session_lines session) ≡ map session_line_text read ++ behind → FirstLinesLeadOn read behind
 session_first_lines_lead_on laws session read behind is all same =
     let parted = first_lines_are_parted (session_lines session) (map session_line_text read) behind same in

@@ -3,8 +3,8 @@ use Rattle.std.proofs.Common.{◌≡◌, List, [], ◌∷◌, ◌++◌, take, re
 use Rattle.std.proofs.Common.{append_assoc, append-nil, length-append}
 use Rattle.std.specs.List.{flat_map, AllByRecursion}
 use Rattle.std.proofs.lemmas.List.Concat.{flat_map-append}
-use Rattle.report_text.specs.SessionText.{IsSessionLine, session_line_text, HasSessionFault}
-use Rattle.report_text.specs.SessionStages.{Stage, nothing, IsOpenStage, FollowsStage}
+use Rattle.report_text.specs.SessionText.{IsSessionLine, session_line_text, HasSessionTextReadFault}
+use Rattle.report_text.specs.Stages.{Stage, nothing, IsStageBeforeEnd, FollowsStage}
 use Rattle.report_text.specs.LineReading.{HasReadLinesToStage, ReadsLine, ReadsLines}
 use Rattle.report_text.specs.declared.line_cursor.LineCursor.{LineCursor}
 use Rattle.report_text.specs.declared.session_line.SessionLine.{SessionLine}
@@ -78,14 +78,14 @@ line_reading_reads_more old new lines stage last stands reads = record {
 -- a fault that is found further on
 pub line_reading_later_fault : (old new : LineCursor) (lines : List SessionLine) (stage last : Stage) (fault : SessionFault)
     → HasReadLinesToStage old stage → ReadsLines old new lines stage last
-    → (HasReadLinesToStage new last → HasSessionFault new.text.now fault) → HasSessionFault old.text.now fault
+    → (HasReadLinesToStage new last → HasSessionTextReadFault new.text.now fault) → HasSessionTextReadFault old.text.now fault
 line_reading_later_fault old new lines stage last fault stands reads has =
-    subst (λ t. HasSessionFault t.now fault) reads.same (has (line_reading_reads_more old new lines stage last stands reads))
+    subst (λ t. HasSessionTextReadFault t.now fault) reads.same (has (line_reading_reads_more old new lines stage last stands reads))
 
 -- what is found of the next line
 pub line_reading_next_fault : (old new : LineCursor) (lines : List SessionLine) (stage last : Stage) (fault : SessionFault)
-    → HasReadLinesToStage old stage → ReadsLines old new lines stage last → IsOpenStage last
-    → ((s : Stage) → IsOpenStage s → HasReadLinesToStage new s → HasSessionFault new.text.now fault) → HasSessionFault old.text.now fault
+    → HasReadLinesToStage old stage → ReadsLines old new lines stage last → IsStageBeforeEnd last
+    → ((s : Stage) → IsStageBeforeEnd s → HasReadLinesToStage new s → HasSessionTextReadFault new.text.now fault) → HasSessionTextReadFault old.text.now fault
 line_reading_next_fault old new lines stage last fault stands reads is_open has =
     line_reading_later_fault old new lines stage last fault stands reads (has last is_open)
 
@@ -94,11 +94,11 @@ pub line_reading_refused : (old new after : LineCursor) (lines : List SessionLin
     (fault : SessionFault) → HasReadLinesToStage old stage → ReadsLines old new lines stage last → ReadsLine new after line
     → ((next : Stage) → FollowsStage last line next → ⊥)
     → ((c : LineCursor) (k : SessionLine) (s : Stage) → HasReadLinesToStage c s → ReadsLine c after k
-    → ((next : Stage) → FollowsStage s k next → ⊥) → HasSessionFault after.text.now fault)
-    → HasSessionFault old.text.now fault
+    → ((next : Stage) → FollowsStage s k next → ⊥) → HasSessionTextReadFault after.text.now fault)
+    → HasSessionTextReadFault old.text.now fault
 line_reading_refused old new after lines line stage last fault stands reads reads_line none has =
     line_reading_later_fault old new lines stage last fault stands reads
-    (λ on. subst (λ t. HasSessionFault t.now fault) reads_line.same (has new line last on reads_line none))
+    (λ on. subst (λ t. HasSessionTextReadFault t.now fault) reads_line.same (has new line last on reads_line none))
 
 -- a cursor goes on over one line that is known
 pub line_reading_known_line : (first second third : LineCursor) (lines : List SessionLine) (line known : SessionLine)

@@ -1,5 +1,6 @@
 -- Reading the lines of a report.
-use Rattle.std.proofs.Common.{◌≡◌, ℕ, ◌+◌, ◌-◌, ◌*◌, ◌/◌, ◌%◌, ◌<◌, ◌≤◌, ◌^◌, List, [], ◌∷◌, ◌++◌, map, length, take, All}
+use Rattle.std.proofs.Common.{◌≡◌, ℕ, ◌+◌, ◌-◌, ◌*◌, ◌/◌, ◌%◌, ◌<◌, ◌≤◌, ◌^◌, List, [], ◌∷◌, ◌++◌, map, length, take}
+use Rattle.std.proofs.Common.{All}
 use Rattle.std.proofs.Common.{AllPairs}
 use Rattle.std.proofs.Common.{Option, Some, None, codes, decimal, refl, sym, ap, subst, arith, length-append}
 use Rattle.std.specs.List.{join_with_byte}
@@ -12,7 +13,7 @@ use Rattle.prefix_lattice.specs.{PrefixValue, report_order, side_text, address_o
 use Rattle.hhh_output.specs.{AreReportLines}
 use Rattle.hhh_output.specs.declared.line.Line.{Line as LineValue}
 use Rattle.report_text.specs.SessionText.{session_line_text, session_line_words}
-use Rattle.report_text.specs.SessionStages.{listing, done, ComesAfterInStage}
+use Rattle.report_text.specs.Stages.{listing, done, ComesAfterLastOfStage}
 use Rattle.report_text.specs.LineReading.{ReadsLine, ReadsLines}
 use Rattle.report_text.specs.declared.line_cursor.LineCursor.{LineCursor}
 use Rattle.report_text.specs.declared.session_line.SessionLine.{SessionLine}
@@ -92,13 +93,13 @@ pub record AreListedLines (start cursor : LineCursor) (listed : List LineValue) 
   pub room : 17 * length listed ≤ cursor.at
   pub ordered : All IsOrderedSessionPart listed
   pub rising : AllPairs PrecedesInSessionPart listed
-  pub after : (prefix : PrefixValue) → ComesAfterInStage last prefix
+  pub after : (prefix : PrefixValue) → ComesAfterLastOfStage last prefix
       → All (λ line. report_order line.prefix prefix ≡ Less) listed
 
 -- one line more
 pub listed_lines_one_more : IsTotalOrder report_order → (start cursor next : LineCursor) (listed : List LineValue)
     (last : Option PrefixValue) (line : LineValue) → AreListedLines start cursor listed last
-    → ReadsLine cursor next (Line line) → ComesAfterInStage last line.prefix
+    → ReadsLine cursor next (Line line) → ComesAfterLastOfStage last line.prefix
     → AreListedLines start next (listed ++ line ∷ []) (Some line.prefix)
 listed_lines_one_more order start cursor next listed last line are reads comes =
     let longer = listed_line_takes_bytes cursor next (Line line) reads in

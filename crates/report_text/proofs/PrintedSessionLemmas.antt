@@ -8,9 +8,11 @@ use Rattle.hhh_output.specs.declared.line.Line.{Line as LineValue}
 use Rattle.hhh_output.specs.declared.report.Report.{Report as ReportValue}
 use Rattle.hhh_output.specs.declared.reports.Reported.{Reported}
 use Rattle.report_text.specs.ReportText.{report_line_text, report_lines_text, report_text}
-use Rattle.report_text.specs.SessionText.{session_line_text, session_report_lines, session_saved_lines, session_saved_text, session_reported_lines, session_reported_text}
-use Rattle.report_text.specs.SessionText.{session_lines, session_text, printed_session_text, whole_lines_of_session, IsSession, IsSessionText}
-use Rattle.report_text.specs.SessionText.{AreSameSessions}
+use Rattle.report_text.specs.SessionText.{session_line_text, session_report_lines, session_saved_lines}
+use Rattle.report_text.specs.SessionText.{session_saved_text, session_reported_lines, session_reported_text}
+use Rattle.report_text.specs.SessionText.{session_lines, session_text, printed_session_text, whole_lines_of_session}
+use Rattle.report_text.specs.SessionText.{IsTextSession, IsSessionText}
+use Rattle.report_text.specs.SessionText.{AreSameTextSessions}
 use Rattle.report_text.specs.declared.session.Session.{Session}
 use Rattle.report_text.specs.declared.session_line.SessionLine.TheVariants.{Opened, Report, At, Total, Threshold, Line}
 use Rattle.report_text.specs.declared.session_line.SessionLine.TheVariants.{Done, Saved, Frames, Skipped, End}
@@ -76,7 +78,7 @@ session-printed session =
     (printed_session_counts frames skipped_text (session_line_text End))))
 
 -- the whole lines of the text of a session are its lines
-pub printed_session_has_its_lines : (session : Session) → IsSession session
+pub printed_session_has_its_lines : (session : Session) → IsTextSession session
     → whole_lines_of_session (session_text session) ≡ map session_line_text (session_lines session)
 printed_session_has_its_lines session is =
     ap whole_lines_of_session (sym (append-nil (session_text session)))
@@ -85,7 +87,7 @@ printed_session_has_its_lines session is =
 
 -- sessions with one text say the same
 pub printed_sessions_told_apart : FirstLineLaws → (text : List ℕ) (session other : Session) → IsSessionText text session
-    → IsSessionText text other → AreSameSessions session other
+    → IsSessionText text other → AreSameTextSessions session other
 printed_sessions_told_apart laws text session other is other_is =
     whole_sessions_apart session other
     (first_lines_told_by_texts laws (session_lines session) (session_lines other) (whole_session_lines session is.is_session)

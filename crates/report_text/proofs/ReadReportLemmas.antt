@@ -6,8 +6,10 @@ use Rattle.std.proofs.Math.Seq.{length-take-le}
 use Rattle.std.proofs.lemmas.List.Concat.{flat_map-append}
 use Rattle.hhh_output.specs.declared.report.Report.{Report as ReportValue}
 use Rattle.hhh_output.specs.declared.reports.Reported.{Reported}
-use Rattle.report_text.specs.SessionText.{session_line_text, session_line_words, session_reported_lines, session_saved_lines}
-use Rattle.report_text.specs.SessionStages.{Stage, opened, begun, done, after_stage_line, after_stage, stage_body_lines}
+use Rattle.report_text.specs.SessionText.{session_line_text, session_line_words, session_reported_lines}
+use Rattle.report_text.specs.SessionText.{session_saved_lines}
+use Rattle.report_text.specs.Stages.{Stage, opened, begun, done, stage_line_after_report, stage_after_report}
+use Rattle.report_text.specs.Stages.{stage_body_lines}
 use Rattle.report_text.specs.LineReading.{ReadsLines}
 use Rattle.report_text.specs.declared.line_cursor.LineCursor.{LineCursor}
 use Rattle.report_text.specs.declared.session_line.SessionLine.{SessionLine}
@@ -58,18 +60,18 @@ pub one_more_read_report : (start cursor middle new : LineCursor) (n : ℕ) (rep
     (positions : Option (List ℕ)) (frames : Option ℕ)
     → ReadsLines start cursor (flat_map session_reported_lines reports ++ Report ∷ []) (opened n) (begun n)
     → ReadsLines cursor middle (stage_body_lines report) (begun n) (done n)
-    → ReadsLines middle new (session_saved_lines positions ++ after_stage_line frames ∷ []) (done n) (after_stage n frames)
+    → ReadsLines middle new (session_saved_lines positions ++ stage_line_after_report frames ∷ []) (done n) (stage_after_report n frames)
     → ReadsLines start new
-    (flat_map session_reported_lines (reports ++ record { report = report; saved = positions } ∷ []) ++ after_stage_line frames ∷ [])
-    (opened n) (after_stage n frames)
+    (flat_map session_reported_lines (reports ++ record { report = report; saved = positions } ∷ []) ++ stage_line_after_report frames ∷ [])
+    (opened n) (stage_after_report n frames)
 one_more_read_report start cursor middle new n reports report positions frames one two three =
     let reported : Reported = record { report = report; saved = positions } in
-    subst (λ l. ReadsLines start new l (opened n) (after_stage n frames))
+    subst (λ l. ReadsLines start new l (opened n) (stage_after_report n frames))
     (read_report_groups (flat_map session_reported_lines reports) (Report ∷ []) (stage_body_lines report) (session_saved_lines positions)
-    (after_stage_line frames ∷ [])
-    ∙ ap (λ l. l ++ after_stage_line frames ∷ []) (sym (flat_map-append session_reported_lines reports (reported ∷ []))))
+    (stage_line_after_report frames ∷ [])
+    ∙ ap (λ l. l ++ stage_line_after_report frames ∷ []) (sym (flat_map-append session_reported_lines reports (reported ∷ []))))
     (line_reading_goes_on start middle new ((flat_map session_reported_lines reports ++ Report ∷ []) ++ stage_body_lines report)
-    (session_saved_lines positions ++ after_stage_line frames ∷ []) (opened n) (done n) (after_stage n frames)
+    (session_saved_lines positions ++ stage_line_after_report frames ∷ []) (opened n) (done n) (stage_after_report n frames)
     (line_reading_goes_on start cursor middle (flat_map session_reported_lines reports ++ Report ∷ []) (stage_body_lines report) (opened n)
     (begun n) (done n) one two)
     three)

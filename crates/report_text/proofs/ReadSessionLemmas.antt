@@ -4,8 +4,8 @@ use Rattle.std.proofs.Common.{take_all}
 use Rattle.std.specs.List.{flat_map}
 use Rattle.std.specs.Cmp.{IsTotalOrder}
 use Rattle.prefix_lattice.specs.{report_order}
-use Rattle.report_text.specs.SessionText.{IsSession, IsSessionText, session_line_text, session_lines}
-use Rattle.report_text.specs.SessionStages.{Stage, nothing, ended}
+use Rattle.report_text.specs.SessionText.{IsTextSession, IsSessionText, session_line_text, session_lines}
+use Rattle.report_text.specs.Stages.{Stage, nothing, ended}
 use Rattle.report_text.specs.LineReading.{HasReadLines, ReadsLines}
 use Rattle.report_text.specs.declared.line_cursor.LineCursor.{LineCursor}
 use Rattle.report_text.specs.declared.session.Session.{Session}
@@ -24,13 +24,13 @@ read_session_from_start old new lines stage last start reads = record {
 
 -- what says these lines is a session
 pub read_session_is_session : IsTotalOrder report_order → (old new : LineCursor) (session : Session)
-    → ReadsLines old new (session_lines session) nothing ended → IsSession session
+    → ReadsLines old new (session_lines session) nothing ended → IsTextSession session
 read_session_is_session order old new session reads =
     let whole = session_parts_make_session order (session_lines session) reads.leads reads.are_lines in
     whole_session_same whole.session session whole.is_session (whole_sessions_apart whole.session session (sym whole.spelled))
 
 -- the whole text was read
-pub read_session_has_its_text : (text : List ℕ) (cursor : LineCursor) (session : Session) → IsSession session
+pub read_session_has_its_text : (text : List ℕ) (cursor : LineCursor) (session : Session) → IsTextSession session
     → HasReadLines cursor (session_lines session) → cursor.text.now ≡ text → cursor.at ≡ length cursor.text.now
     → IsSessionText text session
 read_session_has_its_text text cursor session is has same all = record {

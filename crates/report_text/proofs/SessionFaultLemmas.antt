@@ -1,14 +1,17 @@
 -- What is wrong with the text of a session.
 use Rattle.std.proofs.Common.{◌≡◌, ℕ, ◌+◌, ◌<◌, ◌≤◌, ◌⊎◌, inl, inr, List, [], ◌∷◌, ◌++◌, map, length, take, drop}
-use Rattle.std.proofs.Common.{refl, sym, ap, ◌∙◌, subst, arith, append_assoc, append-nil, take-append-drop, length-append}
+use Rattle.std.proofs.Common.{refl, sym, ap, ◌∙◌, subst, arith, append_assoc, append-nil, take-append-drop}
+use Rattle.std.proofs.Common.{length-append}
 use Rattle.std.specs.List.{flat_map, AllByRecursion}
 use Rattle.std.proofs.Math.Seq.{take-append_seam}
 use Rattle.std.proofs.lemmas.Bool.{cases_lt}
 use Rattle.std.proofs.lemmas.List.{length-map, take-take}
-use Rattle.report_text.specs.SessionText.{IsSessionLine, IsSession, IsSessionText, AreFirstSessionLines, session_line_text, session_lines}
-use Rattle.report_text.specs.SessionText.{session_text, whole_lines_of_session, SessionIsWrongAfter, SessionIsFollowedAfter, IsBadSessionLine, HasTextFault}
-use Rattle.report_text.specs.SessionText.{longest_session_text}
-use Rattle.report_text.specs.SessionStages.{Stage, nothing, ended, IsOpenStage, LeadsFromStage}
+use Rattle.report_text.specs.SessionText.{IsSessionLine, IsTextSession, IsSessionText, AreFirstSessionLines}
+use Rattle.report_text.specs.SessionText.{session_line_text, session_lines}
+use Rattle.report_text.specs.SessionText.{session_text, whole_lines_of_session, SessionTextIsWrongAfter}
+use Rattle.report_text.specs.SessionText.{SessionTextGoesOnAfter, IsBadSessionLine, HasSessionTextFault}
+use Rattle.report_text.specs.SessionText.{longest_session_text_length}
+use Rattle.report_text.specs.Stages.{Stage, nothing, ended, IsStageBeforeEnd, LeadsFromStage}
 use Rattle.report_text.specs.declared.session.Session.{Session}
 use Rattle.report_text.specs.declared.session_line.SessionLine.{SessionLine}
 use Rattle.report_text.specs.declared.session_fault.TextFault.{TextFault}
@@ -16,8 +19,10 @@ use Rattle.report_text.specs.declared.session_fault.TextFault.TheVariants.{BadLi
 use Rattle.report_text.proofs.WholeLineLemmas.{whole_lines_of_session-lines}
 use Rattle.report_text.proofs.StageLemmas.{lines_lead_to_one_stage, stage_between_lines, ended_stage_is_last}
 use Rattle.report_text.proofs.WholeSessionLemmas.{whole_session_leads_to_end, whole_session_lines}
-use Rattle.report_text.proofs.FirstLineLemmas.{FirstLineLaws, first_lines_told_by_texts, first_lines_are_parted, first_lines_stay_lines}
-use Rattle.report_text.proofs.FirstLineLemmas.{session_first_lines_lead_on, first_lines_begin_session, FirstLinesGoOnWith, next_line_after_first_lines, fewer_first_lines}
+use Rattle.report_text.proofs.FirstLineLemmas.{FirstLineLaws, first_lines_told_by_texts, first_lines_are_parted}
+use Rattle.report_text.proofs.FirstLineLemmas.{first_lines_stay_lines}
+use Rattle.report_text.proofs.FirstLineLemmas.{session_first_lines_lead_on, first_lines_begin_session}
+use Rattle.report_text.proofs.FirstLineLemmas.{FirstLinesGoOnWith, next_line_after_first_lines, fewer_first_lines}
 
 -- the first of joined lists
 session_fault_takes_front : (front behind : List (List ℕ)) (n : ℕ) → n ≡ length front → take n (front ++ behind) ≡ front
@@ -37,9 +42,9 @@ session_fault_text_count lines = length-map lines session_line_text
 
 -- a line that goes on with no beginning of a session
 pub session_fault_bad_line : FirstLineLaws → (text : List ℕ) (read : List SessionLine) (stage : Stage) (line : List ℕ)
-    (behind : List (List ℕ)) → length text ≤ longest_session_text → AllByRecursion IsSessionLine read
+    (behind : List (List ℕ)) → length text ≤ longest_session_text_length → AllByRecursion IsSessionLine read
     → whole_lines_of_session text ≡ map session_line_text read ++ line ∷ behind → LeadsFromStage nothing read stage → (FirstLinesGoOnWith stage line → ⊥)
-    → HasTextFault text (BadLine (length read + 1))
+    → HasSessionTextFault text (BadLine (length read + 1))
 session_fault_bad_line laws text read stage line behind limit all lines leads none =
     let as_many = session_fault_text_count read in
     let before : take (length read) (whole_lines_of_session text) ≡ map session_line_text read =
@@ -61,7 +66,7 @@ session_fault_bad_line laws text read stage line behind limit all lines leads no
 
 -- lines that were read and don't end a session aren't those of a session and others
 session_fault_open_lines : FirstLineLaws → (read : List SessionLine) (stage : Stage) (session : Session) (behind : List (List ℕ))
-    → AllByRecursion IsSessionLine read → LeadsFromStage nothing read stage → IsOpenStage stage → IsSession session
+    → AllByRecursion IsSessionLine read → LeadsFromStage nothing read stage → IsStageBeforeEnd stage → IsTextSession session
     → map session_line_text read ≡ map session_line_text (session_lines session) ++ behind → ⊥
 session_fault_open_lines laws read stage session behind all leads is_open is same =
     let parted = first_lines_are_parted read (map session_line_text (session_lines session)) behind same in
@@ -76,13 +81,13 @@ session_fault_open_lines laws read stage session behind all leads is_open is sam
     none_after parted.second (subst (λ s. LeadsFromStage s parted.second stage) end split.2)
   where
     none_after : (lines : List SessionLine) → LeadsFromStage ended lines stage → ⊥
-    none_after [] leads = subst IsOpenStage (sym leads) is_open
+    none_after [] leads = subst IsStageBeforeEnd (sym leads) is_open
     none_after (line ∷ lines) leads = ended_stage_is_last line lines stage leads
 
 -- all lines of a text that was read begin a session, so none is wrong
 pub session_fault_unfinished : FirstLineLaws → (text : List ℕ) (read : List SessionLine) (stage : Stage)
-    → length text ≤ longest_session_text → AllByRecursion IsSessionLine read → whole_lines_of_session text ≡ map session_line_text read
-    → LeadsFromStage nothing read stage → IsOpenStage stage → HasTextFault text (MissingEnd (length read + 1))
+    → length text ≤ longest_session_text_length → AllByRecursion IsSessionLine read → whole_lines_of_session text ≡ map session_line_text read
+    → LeadsFromStage nothing read stage → IsStageBeforeEnd stage → HasSessionTextFault text (MissingEnd (length read + 1))
 session_fault_unfinished laws text read stage limit all lines leads is_open =
     (limit, omega (arith, ap length lines, session_fault_text_count read), none_bad, no_session)
   where
@@ -91,13 +96,13 @@ session_fault_unfinished laws text read stage limit all lines leads is_open =
         wrong.wrong (fewer_first_lines (take (before + 1) (whole_lines_of_session text)) (drop (before + 1) (whole_lines_of_session text))
         (subst AreFirstSessionLines (sym lines ∙ sym (take-append-drop (before + 1) (whole_lines_of_session text)))
         (first_lines_begin_session laws read stage all leads)))
-    none_bad line (before, number, inr session_fault_byte_follows) =
-        session_fault_open_lines laws read stage session_fault_byte_follows.session
-        (whole_lines_of_session (session_fault_byte_follows.byte ∷ session_fault_byte_follows.others)) all leads is_open
-        session_fault_byte_follows.is_session
-        (sym lines ∙ ap whole_lines_of_session session_fault_byte_follows.spelled
-        ∙ whole_lines_of_session-lines (session_lines session_fault_byte_follows.session) (session_fault_byte_follows.byte ∷ session_fault_byte_follows.others)
-        (whole_session_lines session_fault_byte_follows.session session_fault_byte_follows.is_session))
+    none_bad line (before, number, inr follows) =
+        session_fault_open_lines laws read stage follows.session
+        (whole_lines_of_session (follows.byte ∷ follows.others)) all leads is_open
+        follows.is_session
+        (sym lines ∙ ap whole_lines_of_session follows.spelled
+        ∙ whole_lines_of_session-lines (session_lines follows.session) (follows.byte ∷ follows.others)
+        (whole_session_lines follows.session follows.is_session))
 
     no_session : (session : Session) → IsSessionText text session → ⊥
     no_session session is =
@@ -106,9 +111,9 @@ session_fault_unfinished laws text read stage limit all lines leads is_open =
         ∙ whole_lines_of_session-lines (session_lines session) [] (whole_session_lines session is.is_session))
 
 -- a session and a byte after it
-pub session_fault_byte_follows : (text : List ℕ) (session : Session) (rest : List ℕ) → length text ≤ longest_session_text → IsSession session
+pub session_fault_byte_follows : (text : List ℕ) (session : Session) (rest : List ℕ) → length text ≤ longest_session_text_length → IsTextSession session
     → text ≡ session_text session ++ rest → length (session_text session) < length text
-    → HasTextFault text (BadLine (length (session_lines session) + 1))
+    → HasSessionTextFault text (BadLine (length (session_lines session) + 1))
 session_fault_byte_follows text session [] limit is spelled more =
     absurd (omega (arith, ap length spelled, ap length (append-nil (session_text session))))
 session_fault_byte_follows text session (byte ∷ rest) limit is spelled more = (
@@ -128,7 +133,7 @@ session_fault_byte_follows text session (byte ∷ rest) limit is spelled more = 
 )
 
 -- no line follows those of a session
-session_fault_no_line_follows : FirstLineLaws → (session : Session) (text : List ℕ) (behind : List (List ℕ)) → IsSession session
+session_fault_no_line_follows : FirstLineLaws → (session : Session) (text : List ℕ) (behind : List (List ℕ)) → IsTextSession session
     → AreFirstSessionLines (map session_line_text (session_lines session) ++ text ∷ behind) → ⊥
 session_fault_no_line_follows laws session text behind is first =
     let on = session_first_lines_lead_on laws first.session (session_lines session) (text ∷ (behind ++ first.others)) first.is_session
@@ -144,10 +149,10 @@ session_fault_no_line_follows laws session text behind is first =
 
 -- what is wrong after some lines
 abbrev IsSessionFaultAfter : List ℕ → ℕ → Type 0
-IsSessionFaultAfter text before = SessionIsWrongAfter text before ⊎ SessionIsFollowedAfter text before
+IsSessionFaultAfter text before = SessionTextIsWrongAfter text before ⊎ SessionTextGoesOnAfter text before
 
 -- the whole lines of a session and what follows
-session_fault_all_lines : (session : Session) (text rest : List ℕ) → IsSession session → text ≡ session_text session ++ rest
+session_fault_all_lines : (session : Session) (text rest : List ℕ) → IsTextSession session → text ≡ session_text session ++ rest
     → whole_lines_of_session text ≡ map session_line_text (session_lines session) ++ whole_lines_of_session rest
 session_fault_all_lines session text rest is spelled =
     ap whole_lines_of_session spelled ∙ whole_lines_of_session-lines (session_lines session) rest (whole_session_lines session is)
@@ -156,14 +161,14 @@ session_fault_all_lines session text rest is spelled =
 session_fault_line_is_wrong : FirstLineLaws → (text : List ℕ) (before : ℕ) → IsSessionFaultAfter text before → before < length (whole_lines_of_session text)
     → AreFirstSessionLines (take (before + 1) (whole_lines_of_session text)) → ⊥
 session_fault_line_is_wrong laws text before (inl wrong) within first = wrong.wrong first
-session_fault_line_is_wrong laws text before (inr session_fault_byte_follows) within first =
-    let session = session_fault_byte_follows.session in
-    let lines = session_fault_all_lines session text (session_fault_byte_follows.byte ∷ session_fault_byte_follows.others)
-    session_fault_byte_follows.is_session session_fault_byte_follows.spelled in
-    one_more session (whole_lines_of_session (session_fault_byte_follows.byte ∷ session_fault_byte_follows.others)) session_fault_byte_follows.is_session lines
-    session_fault_byte_follows.ends
+session_fault_line_is_wrong laws text before (inr follows) within first =
+    let session = follows.session in
+    let lines = session_fault_all_lines session text (follows.byte ∷ follows.others)
+    follows.is_session follows.spelled in
+    one_more session (whole_lines_of_session (follows.byte ∷ follows.others)) follows.is_session lines
+    follows.ends
   where
-    one_more : (session : Session) (behind : List (List ℕ)) → IsSession session
+    one_more : (session : Session) (behind : List (List ℕ)) → IsTextSession session
         → whole_lines_of_session text ≡ map session_line_text (session_lines session) ++ behind → length (session_lines session) ≡ before → ⊥
     one_more session [] is lines ends =
         absurd (omega (
@@ -244,7 +249,7 @@ no_line_fault_in_session laws text session line is (before, number, bad) =
       begun = sym lines ∙ sym (append-nil (whole_lines_of_session text));
     }
 
-    no_more : (other : Session) (behind : List (List ℕ)) (rest : List ℕ) → IsSession other
+    no_more : (other : Session) (behind : List (List ℕ)) (rest : List ℕ) → IsTextSession other
         → whole_lines_of_session text ≡ map session_line_text (session_lines other) ++ behind
         → text ≡ session_text other ++ rest → 1 ≤ length rest → ⊥
     no_more other [] rest other_is same spelled some =
@@ -269,14 +274,14 @@ no_line_fault_in_session laws text session line is (before, number, bad) =
 
 -- the text of a session has no fault
 pub session-no-fault : FirstLineLaws → (text : List ℕ) (session : Session) (fault : TextFault) → IsSessionText text session
-    → length text ≤ longest_session_text → HasTextFault text fault → ⊥
+    → length text ≤ longest_session_text_length → HasSessionTextFault text fault → ⊥
 session-no-fault laws text session (BadLine line) is limit has = no_line_fault_in_session laws text session line is has.1
 session-no-fault laws text session (MissingEnd line) is limit has = has.3 session is
 session-no-fault laws text session TooLong is limit has = absurd (omega arith)
 
 -- a text has one fault
-pub session_fault_is_unique : FirstLineLaws → (text : List ℕ) (fault other : TextFault) → HasTextFault text fault
-    → HasTextFault text other → fault ≡ other
+pub session_fault_is_unique : FirstLineLaws → (text : List ℕ) (fault other : TextFault) → HasSessionTextFault text fault
+    → HasSessionTextFault text other → fault ≡ other
 session_fault_is_unique laws text (BadLine line) (BadLine other) has other_has =
     ap BadLine (session_fault_one_bad_line laws text line other has.1 other_has.1)
 session_fault_is_unique laws text (BadLine line) (MissingEnd other) has other_has = absurd (other_has.2 line has.1)

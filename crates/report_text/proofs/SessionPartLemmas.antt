@@ -13,10 +13,12 @@ use Rattle.hhh_output.specs.declared.line.Line.{Line as LineValue}
 use Rattle.hhh_output.specs.declared.report.Report.{Report as ReportValue}
 use Rattle.hhh_output.specs.declared.reports.Reported.{Reported}
 use Rattle.report_text.specs.ReportText.{ReportTextShowsPositions, ReportTextShowsLine}
-use Rattle.report_text.specs.SessionText.{IsSessionLine, IsSessionReportLine, AreSessionSkips, AreSessionTextPositions, IsReportedInSession, IsSession}
+use Rattle.report_text.specs.SessionText.{IsSessionLine, IsSessionReportLine, AreSessionTextSkips}
+use Rattle.report_text.specs.SessionText.{AreSessionTextPositions, IsReportedInSessionText, IsTextSession}
 use Rattle.report_text.specs.SessionText.{session_reported_lines, session_saved_lines, session_lines}
-use Rattle.report_text.specs.SessionStages.{Stage, nothing, opened, begun, placed, weighed, listing, done, saved, counted}
-use Rattle.report_text.specs.SessionStages.{skipped, ended, FollowsStage, LeadsFromStage, ComesAfterInStage, stage_body_lines}
+use Rattle.report_text.specs.Stages.{Stage, nothing, opened, begun, placed, weighed, listing, done, saved, counted}
+use Rattle.report_text.specs.Stages.{skipped, ended, FollowsStage, LeadsFromStage, ComesAfterLastOfStage}
+use Rattle.report_text.specs.Stages.{stage_body_lines}
 use Rattle.report_text.specs.declared.session.Session.{Session}
 use Rattle.report_text.specs.declared.session_line.Skips.{Skips}
 use Rattle.report_text.specs.declared.session_line.SessionLine.{SessionLine}
@@ -26,7 +28,7 @@ use Rattle.report_text.specs.declared.session_line.SessionLine.TheVariants.{Done
 -- lines of a report that rise from the last one on
 abbrev pub SessionPartRises : Option PrefixValue → List LineValue → Type 0
 SessionPartRises last [] = Unit {0}
-SessionPartRises last (line ∷ lines) = ComesAfterInStage last line.prefix × SessionPartRises (Some line.prefix) lines
+SessionPartRises last (line ∷ lines) = ComesAfterLastOfStage last line.prefix × SessionPartRises (Some line.prefix) lines
 
 -- a line comes before another in a report
 abbrev pub PrecedesInSessionPart : LineValue → LineValue → Type 0
@@ -65,7 +67,7 @@ SessionPartRises-pairs order last (line ∷ lines) rises =
 
 -- and back
 pub session_part_pairs_rise : (last : Option PrefixValue) (lines : List LineValue)
-    → ((line : LineValue) (others : List LineValue) → lines ≡ line ∷ others → ComesAfterInStage last line.prefix)
+    → ((line : LineValue) (others : List LineValue) → lines ≡ line ∷ others → ComesAfterLastOfStage last line.prefix)
     → AllPairs PrecedesInSessionPart lines → SessionPartRises last lines
 session_part_pairs_rise last [] first pairs = tt
 session_part_pairs_rise last (line ∷ []) first pairs = (first line [] refl, tt)
@@ -81,11 +83,11 @@ session_part_pairs_rise last (line ∷ second ∷ lines) first pairs = (
 -- the counts and the end of a session over n shards, after some reports
 pub record SessionTailPart (n : ℕ) (lines : List SessionLine) : Type 0 where
   reports : List Reported
-  are : AllByRecursion (IsReportedInSession n) reports
+  are : AllByRecursion (IsReportedInSessionText n) reports
   frames : ℕ
   small : frames < 2 ^ 64
   skips : Skips
-  are_skips : AreSessionSkips skips
+  are_skips : AreSessionTextSkips skips
   spelled : lines ≡ flat_map session_reported_lines reports ++ Frames frames ∷ Skipped skips ∷ End ∷ []
 
 -- what may follow a report
@@ -148,7 +150,7 @@ pub record StartedSessionPart (n : ℕ) (lines : List SessionLine) : Type 0 wher
 -- all lines of a session
 pub record SessionFromParts (lines : List SessionLine) : Type 0 where
   pub session : Session
-  pub is_session : IsSession session
+  pub is_session : IsTextSession session
   pub spelled : lines ≡ session_lines session
 
 -- what may follow each stage
@@ -161,7 +163,7 @@ SessionPartRest (weighed n) lines = WeighedSessionPart n lines
 SessionPartRest (listing n count last) lines = ListedSessionPart n count last lines
 SessionPartRest (done n) lines = SessionPartAfterDone n lines
 SessionPartRest (saved n) lines = SessionTailPart n lines
-SessionPartRest counted lines = (skips : Skips) × AreSessionSkips skips × (lines ≡ Skipped skips ∷ End ∷ [])
+SessionPartRest counted lines = (skips : Skips) × AreSessionTextSkips skips × (lines ≡ Skipped skips ∷ End ∷ [])
 SessionPartRest skipped lines = lines ≡ End ∷ []
 SessionPartRest ended lines = lines ≡ []
 
@@ -251,7 +253,7 @@ session_part_report_tail n lines begun_lines =
     }
 
 -- the counts right after a report
-session_part_counts_tail : (n frames : ℕ) (skips : Skips) (lines : List SessionLine) → frames < 2 ^ 64 → AreSessionSkips skips
+session_part_counts_tail : (n frames : ℕ) (skips : Skips) (lines : List SessionLine) → frames < 2 ^ 64 → AreSessionTextSkips skips
     → lines ≡ Skipped skips ∷ End ∷ [] → SessionTailPart n (Frames frames ∷ lines)
 session_part_counts_tail n frames skips lines small are spelled = record {
   reports = [];
@@ -284,7 +286,7 @@ session_of_opened_parts positions lines are started =
       is_session = record {
         opened = are;
         some = omega arith;
-        reports = All-from_recursion (IsReportedInSession (length positions)) tail.reports tail.are;
+        reports = All-from_recursion (IsReportedInSessionText (length positions)) tail.reports tail.are;
         frames = tail.small;
         not_ipv4 = tail.are_skips.not_ipv4;
         short = tail.are_skips.short;

@@ -6,8 +6,8 @@ use Rattle.std.proofs.Math.ListN.{replicate, length-replicate}
 use Rattle.std.proofs.lemmas.List.Elements.{All-replicate}
 use Rattle.report_text.specs.ReportText.{ReportTextShowsPositions}
 use Rattle.report_text.specs.SessionText.{IsSessionLine}
-use Rattle.report_text.specs.SessionStages.{Stage, nothing, opened, begun, placed, weighed, listing, done, saved, counted}
-use Rattle.report_text.specs.SessionStages.{skipped, ended, FollowsStage, LeadsFromStage}
+use Rattle.report_text.specs.Stages.{Stage, nothing, opened, begun, placed, weighed, listing, done, saved, counted}
+use Rattle.report_text.specs.Stages.{skipped, ended, FollowsStage, LeadsFromStage}
 use Rattle.report_text.specs.declared.session_line.SessionLine.{SessionLine}
 use Rattle.report_text.specs.declared.session_line.SessionLine.TheVariants.{Opened, Report, At, Total, Threshold, Line}
 use Rattle.report_text.specs.declared.session_line.SessionLine.TheVariants.{Done, Saved, Frames, Skipped, End}

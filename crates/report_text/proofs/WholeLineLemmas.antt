@@ -3,7 +3,8 @@ use Rattle.std.proofs.Common.{◌≡◌, ℕ, ◌≤◌, eqb, false, cond, List,
 use Rattle.std.proofs.Common.{refl, ap, ◌∙◌, arith, append_assoc}
 use Rattle.std.specs.List.{flat_map, join_with_byte, AllByRecursion}
 use Rattle.std.proofs.lemmas.Bool.{ne_eqb}
-use Rattle.report_text.specs.SessionText.{IsSessionLine, session_line_words, session_line_text, whole_lines_of_session, before_session_line}
+use Rattle.report_text.specs.SessionText.{IsSessionLine, session_line_words, session_line_text, whole_lines_of_session}
+use Rattle.report_text.specs.SessionText.{before_session_line}
 use Rattle.report_text.specs.declared.session_line.SessionLine.{SessionLine}
 use Rattle.report_text.proofs.TextWordLemmas.{IsTextWord}
 use Rattle.report_text.proofs.WordListLemmas.{word_list_of_line}

@@ -7,10 +7,12 @@ use Rattle.hhh_output.specs.{AreReportLines, IsSameReport}
 use Rattle.hhh_output.specs.declared.line.Line.{Line as LineValue}
 use Rattle.hhh_output.specs.declared.reports.Reported.{Reported}
 use Rattle.report_text.specs.ReportText.{ReportTextShowsPositions, ReportTextShowsLine}
-use Rattle.report_text.specs.SessionText.{IsSessionLine, AreSessionTextPositions, IsReportedInSession, IsSession}
-use Rattle.report_text.specs.SessionText.{AreSameSessions, session_report_lines, session_reported_lines, session_saved_lines, session_lines}
-use Rattle.report_text.specs.SessionStages.{Stage, nothing, opened, begun, placed, weighed, listing, done, saved, counted}
-use Rattle.report_text.specs.SessionStages.{skipped, ended, LeadsFromStage, stage_body_lines}
+use Rattle.report_text.specs.SessionText.{IsSessionLine, AreSessionTextPositions, IsReportedInSessionText}
+use Rattle.report_text.specs.SessionText.{IsTextSession}
+use Rattle.report_text.specs.SessionText.{AreSameTextSessions, session_report_lines, session_reported_lines}
+use Rattle.report_text.specs.SessionText.{session_saved_lines, session_lines}
+use Rattle.report_text.specs.Stages.{Stage, nothing, opened, begun, placed, weighed, listing, done, saved, counted}
+use Rattle.report_text.specs.Stages.{skipped, ended, LeadsFromStage, stage_body_lines}
 use Rattle.report_text.specs.declared.session.Session.{Session}
 use Rattle.report_text.specs.declared.session_line.Skips.{Skips}
 use Rattle.report_text.specs.declared.session_line.SessionLine.{SessionLine}
@@ -45,7 +47,7 @@ whole_session_saved_leads n None rest are on = on.after_done
 whole_session_saved_leads n (Some positions) rest are on = (saved n, (are.as_many, refl), on.after_saved)
 
 -- a report leads on
-whole_session_report_leads : (n : ℕ) (reported : Reported) (rest : List SessionLine) → IsReportedInSession n reported → WholeSessionGoesOn n rest
+whole_session_report_leads : (n : ℕ) (reported : Reported) (rest : List SessionLine) → IsReportedInSessionText n reported → WholeSessionGoesOn n rest
     → LeadsFromStage (begun n) (stage_body_lines reported.report ++ (session_saved_lines reported.saved ++ rest)) ended
 whole_session_report_leads n reported rest is on =
     let report = reported.report in
@@ -81,7 +83,7 @@ whole_session_counts-lead skips = (skipped, refl, (ended, refl, refl))
 
 -- the first of some reports, after its first line
 whole_session_first_report : (n : ℕ) (reported : Reported) (reports : List Reported) (frames : ℕ) (skips : Skips)
-    → IsReportedInSession n reported → WholeSessionGoesOn n (flat_map session_reported_lines reports ++ whole_session_counts frames skips)
+    → IsReportedInSessionText n reported → WholeSessionGoesOn n (flat_map session_reported_lines reports ++ whole_session_counts frames skips)
     → LeadsFromStage (begun n)
     (((stage_body_lines reported.report ++ session_saved_lines reported.saved) ++ flat_map session_reported_lines reports) ++ whole_session_counts frames skips)
     ended
@@ -92,7 +94,7 @@ whole_session_first_report n reported reports frames skips is on =
     (whole_session_report_leads n reported (flat_map session_reported_lines reports ++ whole_session_counts frames skips) is on)
 
 -- reports lead to the end
-whole_session_reports_lead : (n : ℕ) (reports : List Reported) (frames : ℕ) (skips : Skips) → AllByRecursion (IsReportedInSession n) reports
+whole_session_reports_lead : (n : ℕ) (reports : List Reported) (frames : ℕ) (skips : Skips) → AllByRecursion (IsReportedInSessionText n) reports
     → WholeSessionGoesOn n (flat_map session_reported_lines reports ++ whole_session_counts frames skips)
 whole_session_reports_lead n [] frames skips all = record {
   after_done = (counted, refl, whole_session_counts-lead skips);
@@ -104,7 +106,7 @@ whole_session_reports_lead n (reported ∷ reports) frames skips all =
 
 -- one report or more
 whole_session_some_reports : (n : ℕ) (reports : List Reported) (frames : ℕ) (skips : Skips) → 1 ≤ length reports
-    → AllByRecursion (IsReportedInSession n) reports
+    → AllByRecursion (IsReportedInSessionText n) reports
     → LeadsFromStage (opened n) (flat_map session_reported_lines reports ++ whole_session_counts frames skips) ended
 whole_session_some_reports n [] frames skips some all = absurd (omega arith)
 whole_session_some_reports n (reported ∷ reports) frames skips some all =
@@ -115,12 +117,12 @@ abbrev pub whole_session_skips : Session → Skips
 whole_session_skips session = record { not_ipv4 = session.not_ipv4; short = session.short; bad_header = session.bad_header }
 
 -- the lines of a session lead to its end
-pub whole_session_leads_to_end : (session : Session) → IsSession session → LeadsFromStage nothing (session_lines session) ended
+pub whole_session_leads_to_end : (session : Session) → IsTextSession session → LeadsFromStage nothing (session_lines session) ended
 whole_session_leads_to_end session is = (
   opened (length session.opened),
   refl,
   whole_session_some_reports (length session.opened) session.reports session.frames (whole_session_skips session) is.some
-      (recursion_from_All (IsReportedInSession (length session.opened)) session.reports is.reports),
+      (recursion_from_All (IsReportedInSessionText (length session.opened)) session.reports is.reports),
 )
 
 whole_session_append : (lines others : List SessionLine) → AllByRecursion IsSessionLine lines → AllByRecursion IsSessionLine others
@@ -139,7 +141,8 @@ whole_session_saved_lines : (n : ℕ) (positions : Option (List ℕ)) → IfSome
 whole_session_saved_lines n None are = tt
 whole_session_saved_lines n (Some positions) are = (are.are_positions, tt)
 
-whole_session_reported_lines : (n : ℕ) (reported : Reported) → IsReportedInSession n reported → AllByRecursion IsSessionLine (session_reported_lines reported)
+whole_session_reported_lines : (n : ℕ) (reported : Reported) → IsReportedInSessionText n reported
+    → AllByRecursion IsSessionLine (session_reported_lines reported)
 whole_session_reported_lines n reported is =
     let report = reported.report in
     whole_session_append (session_report_lines report) (session_saved_lines reported.saved) (
@@ -160,7 +163,7 @@ whole_session_reported_lines n reported is =
     )
     (whole_session_saved_lines n reported.saved is.saved)
 
-whole_session_lines_of_reports : (n : ℕ) (reports : List Reported) → AllByRecursion (IsReportedInSession n) reports
+whole_session_lines_of_reports : (n : ℕ) (reports : List Reported) → AllByRecursion (IsReportedInSessionText n) reports
     → AllByRecursion IsSessionLine (flat_map session_reported_lines reports)
 whole_session_lines_of_reports n [] all = tt
 whole_session_lines_of_reports n (reported ∷ reports) all =
@@ -168,12 +171,12 @@ whole_session_lines_of_reports n (reported ∷ reports) all =
     (whole_session_lines_of_reports n reports all.1)
 
 -- the lines of a session hold what lines may hold
-pub whole_session_lines : (session : Session) → IsSession session → AllByRecursion IsSessionLine (session_lines session)
+pub whole_session_lines : (session : Session) → IsTextSession session → AllByRecursion IsSessionLine (session_lines session)
 whole_session_lines session is = (
   is.opened,
   whole_session_append (flat_map session_reported_lines session.reports) (whole_session_counts session.frames (whole_session_skips session))
       (whole_session_lines_of_reports (length session.opened) session.reports
-      (recursion_from_All (IsReportedInSession (length session.opened)) session.reports is.reports))
+      (recursion_from_All (IsReportedInSessionText (length session.opened)) session.reports is.reports))
       (is.frames, (record { not_ipv4 = is.not_ipv4; short = is.short; bad_header = is.bad_header }, (tt, tt))),
 )
 
@@ -254,7 +257,7 @@ whole_session_reports_apart (reported ∷ reports) (another ∷ others) frames o
 
 -- sessions with the same lines say the same
 pub whole_sessions_apart : (session other : Session) → session_lines session ≡ session_lines other
-    → AreSameSessions session other
+    → AreSameTextSessions session other
 whole_sessions_apart session other same =
     let opened_same : session.opened ≡ other.opened = cc in
     let behind : flat_map session_reported_lines session.reports ++ whole_session_counts session.frames (whole_session_skips session)
@@ -273,8 +276,8 @@ whole_sessions_apart session other same =
       bad_header = ap (λ (s : Skips). s.bad_header) skips_same;
     }
 
-whole_session_same_report : (n : ℕ) (reported another : Reported) → IsReportedInSession n reported → IsSameInWholeSession reported another
-    → IsReportedInSession n another
+whole_session_same_report : (n : ℕ) (reported another : Reported) → IsReportedInSessionText n reported → IsSameInWholeSession reported another
+    → IsReportedInSessionText n another
 whole_session_same_report n reported another is same = record {
   positions = subst (AreSessionTextPositions n) same.0.positions is.positions;
   total = omega (arith, same.0.total, is.total);
@@ -284,8 +287,8 @@ whole_session_same_report n reported another is same = record {
   saved = subst (λ s. IfSome s (AreSessionTextPositions n)) same.1 is.saved;
 }
 
-whole_session_same_reports : (n : ℕ) (reports others : List Reported) → AllByRecursion (IsReportedInSession n) reports
-    → AllZip IsSameInWholeSession reports others → AllByRecursion (IsReportedInSession n) others
+whole_session_same_reports : (n : ℕ) (reports others : List Reported) → AllByRecursion (IsReportedInSessionText n) reports
+    → AllZip IsSameInWholeSession reports others → AllByRecursion (IsReportedInSessionText n) others
 whole_session_same_reports n [] [] all same = tt
 whole_session_same_reports n [] (another ∷ others) all same = absurd same
 whole_session_same_reports n (reported ∷ reports) [] all same = absurd same
@@ -299,16 +302,16 @@ whole_session_same_length (reported ∷ reports) [] same = absurd same
 whole_session_same_length (reported ∷ reports) (another ∷ others) same = ap (λ n. suc n) (whole_session_same_length reports others same.1)
 
 -- what says the same as a session is one
-pub whole_session_same : (session other : Session) → IsSession session → AreSameSessions session other → IsSession other
+pub whole_session_same : (session other : Session) → IsTextSession session → AreSameTextSessions session other → IsTextSession other
 whole_session_same session other is same =
     let reports = whole_session_same_reports (length session.opened) session.reports other.reports
-    (recursion_from_All (IsReportedInSession (length session.opened)) session.reports is.reports) same.reports in
+    (recursion_from_All (IsReportedInSessionText (length session.opened)) session.reports is.reports) same.reports in
     let as_many = whole_session_same_length session.reports other.reports same.reports in
     record {
       opened = subst ReportTextShowsPositions same.opened is.opened;
       some = omega (arith, as_many, is.some);
-      reports = All-from_recursion (IsReportedInSession (length other.opened)) other.reports
-          (subst (λ l. AllByRecursion (IsReportedInSession (length l)) other.reports) same.opened reports);
+      reports = All-from_recursion (IsReportedInSessionText (length other.opened)) other.reports
+          (subst (λ l. AllByRecursion (IsReportedInSessionText (length l)) other.reports) same.opened reports);
       frames = omega (arith, same.frames, is.frames);
       not_ipv4 = omega (arith, same.not_ipv4, is.not_ipv4);
       short = omega (arith, same.short, is.short);

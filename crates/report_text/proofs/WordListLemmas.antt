@@ -1,5 +1,6 @@
 -- Lines cut into words.
-use Rattle.std.proofs.Common.{◌≡◌, ℕ, ◌+◌, ◌*◌, ◌^◌, ◌<◌, ◌≤◌, eqb, false, List, [], ◌∷◌, ◌++◌, map, length, All, get_or}
+use Rattle.std.proofs.Common.{◌≡◌, ℕ, ◌+◌, ◌*◌, ◌^◌, ◌<◌, ◌≤◌, eqb, false, List, [], ◌∷◌, ◌++◌, map, length, All}
+use Rattle.std.proofs.Common.{get_or}
 use Rattle.std.proofs.Common.{decimal, refl, sym, ap, ap₂, ◌∙◌, arith, rules}
 use Rattle.std.specs.List.{join_with_byte, AllByRecursion}
 use Rattle.std.proofs.lemmas.Bool.{ne_eqb}
@@ -10,7 +11,7 @@ use Rattle.std.proofs.lemmas.Fmt.{decimal_injective}
 use Rattle.hhh_output.specs.declared.line.Line.{Line as LineValue}
 use Rattle.report_text.specs.ReportText.{ReportTextShowsPositions}
 use Rattle.report_text.specs.SessionText.{IsSessionLine, session_line_words, session_line_text}
-use Rattle.report_text.specs.SessionStages.{stage_words_in}
+use Rattle.report_text.specs.Stages.{stage_words_in}
 use Rattle.report_text.specs.declared.session_line.Skips.{Skips}
 use Rattle.report_text.specs.declared.session_line.SessionLine.{SessionLine}
 use Rattle.report_text.specs.declared.session_line.SessionLine.TheVariants.{Opened, Report, At, Total, Threshold, Line}
@@ -121,14 +122,14 @@ word_list_tells_line_text line text same =
 -- lists of numbers with the same digits are the same
 word_list_same_numbers : (numbers others : List ℕ) → AllByRecursion (λ n. n < 2 ^ 64) numbers
     → AllByRecursion (λ n. n < 2 ^ 64) others → map decimal numbers ≡ map decimal others → numbers ≡ others
-word_list_same_numbers [] [] word_list_small_numbers others_small same = refl
-word_list_same_numbers [] (other ∷ others) word_list_small_numbers others_small same = cc
-word_list_same_numbers (number ∷ numbers) [] word_list_small_numbers others_small same = cc
-word_list_same_numbers (number ∷ numbers) (other ∷ others) word_list_small_numbers others_small same =
+word_list_same_numbers [] [] small others_small same = refl
+word_list_same_numbers [] (other ∷ others) small others_small same = cc
+word_list_same_numbers (number ∷ numbers) [] small others_small same = cc
+word_list_same_numbers (number ∷ numbers) (other ∷ others) small others_small same =
     let head : decimal number ≡ decimal other = cc in
     let rest : map decimal numbers ≡ map decimal others = cc in
-    let first = decimal_injective number other word_list_small_numbers.0 others_small.0 head in
-    let behind = word_list_same_numbers numbers others word_list_small_numbers.1 others_small.1 rest in
+    let first = decimal_injective number other small.0 others_small.0 head in
+    let behind = word_list_same_numbers numbers others small.1 others_small.1 rest in
     cc
 
 -- the first two letters of the first word

@@ -2,7 +2,7 @@
 use Rattle.std.specs.Prelude.{◌≡◌, ◌+◌, List, ◌++◌, length, take}
 use Rattle.std.specs.List.{flat_map, AllByRecursion}
 use Rattle.report_text.specs.SessionText.{IsSessionLine, session_line_text}
-use Rattle.report_text.specs.SessionStages.{Stage, LeadsFromStage, nothing}
+use Rattle.report_text.specs.Stages.{Stage, LeadsFromStage, nothing}
 use Rattle.report_text.specs.declared.line_cursor.LineCursor.{LineCursor}
 use Rattle.report_text.specs.declared.session_line.SessionLine.{SessionLine}
 

@@ -1,7 +1,8 @@
 -- The texts of reports and of the lines around them, and the positions that they can show.
 use Rattle.std.specs.Prelude.{ℕ, ◌+◌, ◌*◌, ◌≤◌, List, length, All, [], ◌∷◌, ◌++◌, map, codes, decimal, ◌<◌, ◌^◌}
 use Rattle.std.specs.List.{join_with_byte, flat_map}
-use Rattle.prefix_lattice.specs.{space, prefix_text, IsPrefix, longest_prefix_text, most_records, most_shards}
+use Rattle.prefix_lattice.specs.{prefix_text_space, prefix_text, IsPrefix, longest_prefix_text_length, record_limit}
+use Rattle.prefix_lattice.specs.{shard_limit}
 use Rattle.hhh_output.specs.declared.line.Line.{Line}
 use Rattle.hhh_output.specs.declared.report.Report.{Report}
 use Rattle.frame_records.specs.declared.records.Records.{Records}
@@ -11,12 +12,12 @@ use Rattle.report_text.specs.declared.mark.Mark.TheVariants.{Opened, Saved}
 -- one position for each of 1 to 16 shards, none above 16,777,216, the most frames that a capture can have
 pub record ReportTextShowsPositions (positions : List ℕ) : Type 0 where
   pub some : 1 ≤ length positions
-  pub few : length positions ≤ most_shards
-  pub within : All (λ position. position ≤ most_records) positions
+  pub few : length positions ≤ shard_limit
+  pub within : All (λ position. position ≤ record_limit) positions
 
 -- a line of text: its words, joined by one space, and a line feed
 abbrev pub report_text_line : List (List ℕ) → List ℕ
-report_text_line words = join_with_byte space words ++ codes "\n"
+report_text_line words = join_with_byte prefix_text_space words ++ codes "\n"
 
 -- a line with a name and a number
 abbrev pub report_number_text : List ℕ → ℕ → List ℕ
@@ -27,12 +28,12 @@ abbrev pub report_positions_text : List ℕ → List ℕ → List ℕ
 report_positions_text name positions = report_text_line (name ∷ map decimal positions)
 
 -- the most bytes of a number of 64 bits in decimal
-abbrev pub longest_report_number_text : ℕ
-longest_report_number_text = 20
+abbrev pub longest_report_number_length : ℕ
+longest_report_number_length = 20
 
 -- the most bytes of a line of a report: `line`, a prefix and two numbers, each with a space or a line feed
-abbrev pub longest_report_line_text : ℕ
-longest_report_line_text = 4 + 1 + longest_prefix_text + 2 * (1 + longest_report_number_text) + 1
+abbrev pub longest_report_line_length : ℕ
+longest_report_line_length = 4 + 1 + longest_prefix_text_length + 2 * (1 + longest_report_number_length) + 1
 
 -- a line of a report: `line`, the prefix, which is two words, its low and its high
 abbrev pub report_line_text : Line → List ℕ

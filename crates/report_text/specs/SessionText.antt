@@ -7,7 +7,8 @@ use Rattle.hhh_output.specs.{IsSameReport}
 use Rattle.hhh_output.specs.declared.line.Line.{Line as LineValue}
 use Rattle.hhh_output.specs.declared.report.Report.{Report as ReportValue}
 use Rattle.hhh_output.specs.declared.reports.Reported.{Reported}
-use Rattle.report_text.specs.ReportText.{ReportTextShowsPositions, ReportTextShowsLine, report_text_line, report_text, report_mark_text, report_counts_text}
+use Rattle.report_text.specs.ReportText.{ReportTextShowsPositions, ReportTextShowsLine, report_text_line, report_text}
+use Rattle.report_text.specs.ReportText.{report_mark_text, report_counts_text}
 use Rattle.report_text.specs.declared.mark.Mark.TheVariants.{Opened as OpenedMark, Saved as SavedMark}
 use Rattle.report_text.specs.declared.session.Session.{Session}
 use Rattle.report_text.specs.declared.session_line.Skips.{Skips}
@@ -52,7 +53,7 @@ pub record IsSessionReportLine (line : LineValue) : Type 0 where
   pub ordered : line.lo ≤ line.hi
 
 -- numbers of 64 bits
-pub record AreSessionSkips (skips : Skips) : Type 0 where
+pub record AreSessionTextSkips (skips : Skips) : Type 0 where
   pub not_ipv4 : skips.not_ipv4 < 2 ^ 64
   pub short : skips.short < 2 ^ 64
   pub bad_header : skips.bad_header < 2 ^ 64
@@ -69,7 +70,7 @@ IsSessionLine (Line line) = IsSessionReportLine line
 IsSessionLine Done = ⊤
 IsSessionLine (Saved positions) = ReportTextShowsPositions positions
 IsSessionLine (Frames frames) = frames < 2 ^ 64
-IsSessionLine (Skipped skips) = AreSessionSkips skips
+IsSessionLine (Skipped skips) = AreSessionTextSkips skips
 IsSessionLine End = ⊤
 
 -- the lines of a report
@@ -105,7 +106,7 @@ pub record AreSessionTextPositions (shards : ℕ) (positions : List ℕ) : Type 
 
 -- a report of a session over so many shards. Of every report it holds that its lines are in the strict order of a
 -- report, each with its low at most its high, and fewer than 2^24
-pub record IsReportedInSession (shards : ℕ) (reported : Reported) : Type 0 where
+pub record IsReportedInSessionText (shards : ℕ) (reported : Reported) : Type 0 where
   pub positions : AreSessionTextPositions shards reported.report.positions
   pub total : reported.report.total < 2 ^ 64
   pub some : 1 ≤ reported.report.threshold
@@ -114,10 +115,10 @@ pub record IsReportedInSession (shards : ℕ) (reported : Reported) : Type 0 whe
   pub saved : IfSome reported.saved (AreSessionTextPositions shards)
 
 -- what a session text can show: one report or more, all lists of positions of one length, and numbers of 64 bits
-pub record IsSession (session : Session) : Type 0 where
+pub record IsTextSession (session : Session) : Type 0 where
   pub opened : ReportTextShowsPositions session.opened
   pub some : 1 ≤ length session.reports
-  pub reports : All (IsReportedInSession (length session.opened)) session.reports
+  pub reports : All (IsReportedInSessionText (length session.opened)) session.reports
   pub frames : session.frames < 2 ^ 64
   pub not_ipv4 : session.not_ipv4 < 2 ^ 64
   pub short : session.short < 2 ^ 64
@@ -125,12 +126,12 @@ pub record IsSession (session : Session) : Type 0 where
 
 -- the text of the session
 pub record IsSessionText (text : List ℕ) (session : Session) : Type 0 where
-  pub is_session : IsSession session
+  pub is_session : IsTextSession session
   pub spelled : text ≡ session_text session
 
 -- the byte that ends a line
-abbrev pub line_feed : ℕ
-line_feed = 10
+abbrev pub session_text_line_feed : ℕ
+session_text_line_feed = 10
 
 -- a byte in front of the first line, if there is one
 abbrev pub before_session_line : ℕ → List (List ℕ) → List (List ℕ)
@@ -141,25 +142,25 @@ before_session_line byte (line ∷ lines) = (byte ∷ line) ∷ lines
 abbrev pub whole_lines_of_session : List ℕ → List (List ℕ)
 whole_lines_of_session [] = []
 whole_lines_of_session (byte ∷ rest) =
-    if byte == line_feed then (byte ∷ []) ∷ whole_lines_of_session rest else before_session_line byte (whole_lines_of_session rest)
+    if byte == session_text_line_feed then (byte ∷ []) ∷ whole_lines_of_session rest else before_session_line byte (whole_lines_of_session rest)
 
 -- some session begins with these lines
 pub record AreFirstSessionLines (lines : List (List ℕ)) : Type 0 where
   pub session : Session
-  pub is_session : IsSession session
+  pub is_session : IsTextSession session
   pub others : List (List ℕ)
   pub begun : map session_line_text (session_lines session) ≡ lines ++ others
 
 -- the whole lines before line `before + 1` begin a session, this line is whole too, and no session begins with it as well
-pub record SessionIsWrongAfter (text : List ℕ) (before : ℕ) : Type 0 where
+pub record SessionTextIsWrongAfter (text : List ℕ) (before : ℕ) : Type 0 where
   pub whole : before < length (whole_lines_of_session text)
   pub begun : AreFirstSessionLines (take before (whole_lines_of_session text))
   pub wrong : ¬ AreFirstSessionLines (take (before + 1) (whole_lines_of_session text))
 
 -- the text begins with that of a whole session, which has this many lines, and at least one byte follows
-pub record SessionIsFollowedAfter (text : List ℕ) (before : ℕ) : Type 0 where
+pub record SessionTextGoesOnAfter (text : List ℕ) (before : ℕ) : Type 0 where
   pub session : Session
-  pub is_session : IsSession session
+  pub is_session : IsTextSession session
   pub byte : ℕ
   pub others : List ℕ
   pub spelled : text ≡ session_text session ++ byte ∷ others
@@ -168,28 +169,28 @@ pub record SessionIsFollowedAfter (text : List ℕ) (before : ℕ) : Type 0 wher
 -- the first wrong line of a text, by its number, counted from 1
 abbrev pub IsBadSessionLine : List ℕ → ℕ → Type 0
 IsBadSessionLine text number =
-    (before : ℕ) × (number ≡ before + 1) × (SessionIsWrongAfter text before ⊎ SessionIsFollowedAfter text before)
+    (before : ℕ) × (number ≡ before + 1) × (SessionTextIsWrongAfter text before ⊎ SessionTextGoesOnAfter text before)
 
 -- the most bytes of a session text that is read
-abbrev pub longest_session_text : ℕ
-longest_session_text = 268435456
+abbrev pub longest_session_text_length : ℕ
+longest_session_text_length = 268435456
 
 -- what is wrong with a text: it is too long, which is tested first; or a line is wrong; or no line is, and no session
 -- has this text, so that the next line is missing
-abbrev pub HasTextFault : List ℕ → TextFault → Type 0
-HasTextFault text TooLong = longest_session_text < length text
-HasTextFault text (BadLine number) = (length text ≤ longest_session_text) × IsBadSessionLine text number
-HasTextFault text (MissingEnd number) =
-    (length text ≤ longest_session_text) × (number ≡ length (whole_lines_of_session text) + 1)
+abbrev pub HasSessionTextFault : List ℕ → TextFault → Type 0
+HasSessionTextFault text TooLong = longest_session_text_length < length text
+HasSessionTextFault text (BadLine number) = (length text ≤ longest_session_text_length) × IsBadSessionLine text number
+HasSessionTextFault text (MissingEnd number) =
+    (length text ≤ longest_session_text_length) × (number ≡ length (whole_lines_of_session text) + 1)
     × ((line : ℕ) → ¬ IsBadSessionLine text line) × ((session : Session) → ¬ IsSessionText text session)
 
 -- why a text is not read: its fault, or that memory ran out
-abbrev pub HasSessionFault : List ℕ → SessionFault → Type 0
-HasSessionFault text (Text fault) = HasTextFault text fault
-HasSessionFault text OutOfMemory = ⊤
+abbrev pub HasSessionTextReadFault : List ℕ → SessionFault → Type 0
+HasSessionTextReadFault text (Text fault) = HasSessionTextFault text fault
+HasSessionTextReadFault text OutOfMemory = ⊤
 
 -- two sessions say the same
-pub record AreSameSessions (session other : Session) : Type 0 where
+pub record AreSameTextSessions (session other : Session) : Type 0 where
   pub opened : session.opened ≡ other.opened
   pub reports : AllZip (λ reported another. IsSameReport reported.report another.report × (reported.saved ≡ another.saved))
       session.reports other.reports

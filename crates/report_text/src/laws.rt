@@ -5,8 +5,10 @@ ghost use Rattle.std.specs.List.{flat_map};
 ghost use Rattle.hhh_output.specs.{IsSameReport};
 ghost use Rattle.hhh_output.specs.declared.report.Report.{Report};
 ghost use Rattle.report_text.specs.ReportText.{report_text, ReportTextShows};
-ghost use Rattle.report_text.specs.SessionText.{AreSameSessions, HasTextFault, IsSession, IsSessionText, longest_session_text};
-ghost use Rattle.report_text.specs.SessionText.{printed_session_text, session_report_lines, session_lines, session_text, session_line_text, whole_lines_of_session};
+ghost use Rattle.report_text.specs.SessionText.{AreSameTextSessions, HasSessionTextFault, IsTextSession, IsSessionText};
+ghost use Rattle.report_text.specs.SessionText.{longest_session_text_length};
+ghost use Rattle.report_text.specs.SessionText.{printed_session_text, session_report_lines, session_lines};
+ghost use Rattle.report_text.specs.SessionText.{session_text, session_line_text, whole_lines_of_session};
 ghost use Rattle.report_text.specs.declared.session.Session.{Session};
 ghost use Rattle.report_text.specs.declared.session_fault.TextFault.{TextFault};
 
@@ -29,8 +31,9 @@ pub fn same_reports_have_one_text()
 pub fn printed_sessions_read_back()
     ensures report { (report : Report) → flat_map session_line_text (session_report_lines report) ≡ report_text report }
     ensures printed { (session : Session) → printed_session_text session ≡ session_text session }
-    ensures lines { (session : Session) → IsSession session → whole_lines_of_session (session_text session) ≡ map session_line_text (session_lines session) }
-    ensures read { (session other : Session) → IsSession session → IsSessionText (printed_session_text session) other → AreSameSessions session other }
+    ensures lines { (session : Session) → IsTextSession session
+        → whole_lines_of_session (session_text session) ≡ map session_line_text (session_lines session) }
+    ensures read { (session other : Session) → IsTextSession session → IsSessionText (printed_session_text session) other → AreSameTextSessions session other }
 {
     prefix_texts_read_back();
     report_order_is_total();
@@ -39,9 +42,10 @@ pub fn printed_sessions_read_back()
 /// A law of sessions: a text has one fault at most, and is that of one session at most. A text of at most 268,435,456 bytes
 /// isn't both.
 pub fn session_texts_have_one_reading()
-    ensures apart { (text : List ℕ) (session other : Session) → IsSessionText text session → IsSessionText text other → AreSameSessions session other }
-    ensures one_fault { (text : List ℕ) (fault other : TextFault) → HasTextFault text fault → HasTextFault text other → fault ≡ other }
-    ensures no_fault { (text : List ℕ) (session : Session) (fault : TextFault) → IsSessionText text session → length text ≤ longest_session_text → ¬ HasTextFault text fault }
+    ensures apart { (text : List ℕ) (session other : Session) → IsSessionText text session → IsSessionText text other → AreSameTextSessions session other }
+    ensures one_fault { (text : List ℕ) (fault other : TextFault) → HasSessionTextFault text fault → HasSessionTextFault text other → fault ≡ other }
+    ensures no_fault { (text : List ℕ) (session : Session) (fault : TextFault) → IsSessionText text session
+        → length text ≤ longest_session_text_length → ¬ HasSessionTextFault text fault }
 {
     prefix_texts_read_back();
     report_order_is_total();

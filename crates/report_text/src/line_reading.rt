@@ -1,10 +1,12 @@
 //! Reading one line of a session.
 
-ghost use Rattle.std.specs.Prelude.{◌≡◌, ◌≢◌, ◌≤◌, ◌<◌, ◌^◌, ℕ, List, [], ◌∷◌, map, codes, decimal, IfOk, IfSome, IfNone};
+ghost use Rattle.std.specs.Prelude.{◌≡◌, ◌≢◌, ◌≤◌, ◌<◌, ◌^◌, ℕ, List, [], ◌∷◌, map, codes, decimal, IfOk, IfSome};
+ghost use Rattle.std.specs.Prelude.{IfNone};
 ghost use Rattle.hhh_output.specs.declared.line.Line.{Line as LineValue};
 ghost use Rattle.report_text.specs.ReportText.{ReportTextShowsPositions};
-ghost use Rattle.report_text.specs.SessionText.{AreSessionSkips, IsSessionLine, IsSessionReportLine, session_report_words, session_skipped_words, session_line_words};
-ghost use Rattle.report_text.specs.SessionStages.{stage_words_in};
+ghost use Rattle.report_text.specs.SessionText.{AreSessionTextSkips, IsSessionLine, IsSessionReportLine};
+ghost use Rattle.report_text.specs.SessionText.{session_report_words, session_skipped_words, session_line_words};
+ghost use Rattle.report_text.specs.Stages.{stage_words_in};
 ghost use Rattle.report_text.specs.declared.session_line.SessionLine.{SessionLine};
 ghost use Rattle.report_text.specs.declared.session_line.Skips.{Skips};
 
@@ -52,7 +54,8 @@ fn read_word(word: &[u8]) -> Option<SessionLine>
 // Reads a line with this first word and this text after it.
 fn read_words(alloc: Global, name: &[u8], rest: &[u8]) -> Result<Option<SessionLine>, AllocError>
     ensures read { IfOk result (λ read. IfSome read (λ line. IsSessionLine line × (name.now ∷ stage_words_in rest.now ≡ session_line_words line))) }
-    ensures refused { IfOk result (λ read. IfNone read ((line : SessionLine) → IsSessionLine line → name.now ∷ stage_words_in rest.now ≢ session_line_words line)) }
+    ensures refused { IfOk result (λ read. IfNone read
+        ((line : SessionLine) → IsSessionLine line → name.now ∷ stage_words_in rest.now ≢ session_line_words line)) }
 {
     if name == b"line".as_slice() {
         return Ok(report_line_of(rest).map(SessionLine::Line));
@@ -119,7 +122,7 @@ fn threshold_of(text: &[u8]) -> Option<u64>
 
 fn skips_of(text: &[u8]) -> Option<Skips>
     ensures read { IfSome result (λ skips. stage_words_in text.now ≡ session_skipped_words skips) }
-    ensures refused { IfNone result ((skips : Skips) → AreSessionSkips skips → stage_words_in text.now ≢ session_skipped_words skips) }
+    ensures refused { IfNone result ((skips : Skips) → AreSessionTextSkips skips → stage_words_in text.now ≢ session_skipped_words skips) }
 {
     let Some(first) = cut_word(text) else {
         return None;
@@ -174,7 +177,8 @@ fn report_line_of(text: &[u8]) -> Option<Line>
 // Reads 1 to 16 positions.
 fn positions_of(alloc: Global, text: &[u8]) -> Result<Option<Positions>, AllocError>
     ensures read { IfOk result (λ read. IfSome read (λ positions. ReportTextShowsPositions positions × (stage_words_in text.now ≡ map decimal positions))) }
-    ensures refused { IfOk result (λ read. IfNone read ((positions : List ℕ) → ReportTextShowsPositions positions → stage_words_in text.now ≢ map decimal positions)) }
+    ensures refused { IfOk result (λ read. IfNone read
+        ((positions : List ℕ) → ReportTextShowsPositions positions → stage_words_in text.now ≢ map decimal positions)) }
 {
     let mut positions = Positions::new(alloc);
     let mut rest = text;

@@ -1,7 +1,8 @@
 //! The text of reports and of the lines around them.
 
 ghost use Rattle.std.specs.Prelude.{◌≡◌, ◌≤◌, ◌++◌, OnOk, OnErr};
-ghost use Rattle.report_text.specs.ReportText.{ReportTextShowsPositions, report_text, report_mark_text, report_tail_text};
+ghost use Rattle.report_text.specs.ReportText.{ReportTextShowsPositions, report_text, report_mark_text};
+ghost use Rattle.report_text.specs.ReportText.{report_tail_text};
 
 use crate::Mark;
 use crate::putting::{put, put_lines, put_number, put_positions};

@@ -1,7 +1,7 @@
 //! Cutting texts at a byte.
 
 ghost use Rattle.std.specs.Prelude.{◌≡◌, ◌==◌, ◌<◌, ◌∷◌, [], length, position, IfSome, IfNone};
-ghost use Rattle.report_text.specs.SessionStages.{stage_words_in};
+ghost use Rattle.report_text.specs.Stages.{stage_words_in};
 
 /// The first word of a text, and the text after the space that ends it.
 #[derive(Clone, Copy)]

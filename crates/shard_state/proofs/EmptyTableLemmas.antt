@@ -1,10 +1,12 @@
 -- Tables with no entry.
-use Rattle.std.proofs.Common.{◌≡◌, ℕ, ◌≤◌, zero, suc, List, [], length, get_or, map, replicate, All, refl, sym, ap, ◌∙◌, arith, subst, lit<}
+use Rattle.std.proofs.Common.{◌≡◌, ℕ, ◌≤◌, zero, suc, List, [], length, get_or, map, replicate, All, refl, sym, ap, ◌∙◌}
+use Rattle.std.proofs.Common.{arith, subst, lit<}
 use Rattle.std.proofs.lemmas.List.Elements.{All-nil, All-replicate}
 use Rattle.prefix_lattice.specs.{NodeValue, node_index, IsPrefixKey}
 use Rattle.space_saving.specs.declared.entry.Entry.{Entry}
 use Rattle.space_saving.specs.{TableValue, table_total, AreTableEntries, HasSmallTableError}
-use Rattle.shard_state.specs.Snapshot.{IsSnapshotTableAt, SnapshotValue, IsSnapshot, no_snapshot_entries, empty_snapshot, snapshot_entries_at}
+use Rattle.shard_state.specs.Snapshot.{IsSnapshotTableAt, SnapshotValue, IsSnapshot, no_snapshot_entries}
+use Rattle.shard_state.specs.Snapshot.{empty_snapshot, snapshot_entries_at}
 use Rattle.shard_state.specs.Cut.{IsCut, empty_cut}
 use Rattle.std.proofs.lemmas.List.{length-replicate}
 

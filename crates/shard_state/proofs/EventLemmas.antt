@@ -7,10 +7,15 @@ use Rattle.std.proofs.lemmas.Bool.{cases_eq, eq-eqb, ne_eqb}
 use Rattle.shard_state.specs.Snapshot.{SnapshotValue}
 use Rattle.shard_state.specs.Cut.{CutValue}
 use Rattle.shard_state.specs.ShardState.{ShardValue, folded_shard, snapshot_of_shard}
-use Rattle.shard_state.specs.ShardCore.{CoreValue, CoreShardMovedOn, core_after, changed_in_core, core_cut_with_shard, core_capacity, HasCoreShape, met_in_core, position_in_core, latest_core_snapshot, shard_in_core_cut, snapshot_in_core}
+use Rattle.shard_state.specs.ShardCore.{CoreValue, CoreShardMovedOn, core_after, changed_in_core, core_cut_with_shard}
+use Rattle.shard_state.specs.ShardCore.{core_capacity, HasCoreShape, position_met_in_core, position_in_core}
+use Rattle.shard_state.specs.ShardCore.{latest_core_snapshot, shard_in_core_cut, snapshot_in_core}
 use Rattle.shard_state.specs.declared.event.Event.{Event}
 use Rattle.shard_state.specs.declared.event.Event.TheVariants.{Fold, Read}
-use Rattle.shard_state.proofs.ChangedElementLemmas.{changed_in_core-element_keeps_length, changed_in_core-element_holds_change, changed_in_core-other_elements_stay, All-changed_element, set_element_is_changed, changed_element_keeps_others}
+use Rattle.shard_state.proofs.ChangedElementLemmas.{changed_in_core-element_keeps_length}
+use Rattle.shard_state.proofs.ChangedElementLemmas.{changed_in_core-element_holds_change}
+use Rattle.shard_state.proofs.ChangedElementLemmas.{changed_in_core-other_elements_stay, All-changed_element}
+use Rattle.shard_state.proofs.ChangedElementLemmas.{set_element_is_changed, changed_element_keeps_others}
 
 event_leaves_shard_still : (shards : List ShardValue) (shard : ℕ) (state : ShardValue) → slice_get shards shard ≡ Some state
     → state.position ≤ length state.list → CoreShardMovedOn shards shard state
@@ -38,7 +43,7 @@ event_moves_shard_on core (Fold at block) shard state is within =
 
 -- a read of another cut, or of another shard, meets nothing of this one
 other_event_meets_nothing : (by caller at shard : ℕ) (shards : List ShardValue) → (eqb by caller && eqb at shard) ≡ false
-    → met_in_core caller shard shards (Read by at) ≡ []
+    → position_met_in_core caller shard shards (Read by at) ≡ []
 other_event_meets_nothing by caller at shard shards apart = ap (λ b. cond b (position_in_core (slice_get shards shard)) []) apart
 
 -- the cut of a caller, if it has that shard
@@ -65,14 +70,14 @@ event_leaves_other_shards at shard (Some state) cut apart = changed_element_keep
 shard_after_read_event : (core : CoreValue) (by at caller shard : ℕ) (state : ShardValue) (before : SnapshotValue) → slice_get core.shards shard ≡ Some state
     → snapshot_in_core caller shard core.cuts ≡ Some before
     → snapshot_in_core caller shard (core_after core (Read by at)).cuts
-    ≡ Some (latest_core_snapshot state before (met_in_core caller shard core.shards (Read by at)))
+    ≡ Some (latest_core_snapshot state before (position_met_in_core caller shard core.shards (Read by at)))
 shard_after_read_event core by at caller shard state before is holds =
     let change = core_cut_with_shard at (slice_get core.shards at) in
     let cut_before : CutBeforeEvent caller shard core.cuts before = cut_before_event caller shard core.cuts before holds in
     let cut = cut_before.cut in
     elim (cases_eq by caller) [
       | inr apart ↦
-          let none : met_in_core caller shard core.shards (Read by at) ≡ [] =
+          let none : position_met_in_core caller shard core.shards (Read by at) ≡ [] =
           other_event_meets_nothing by caller at shard core.shards (ap (λ b. b && eqb at shard) (ne_eqb by caller apart)) in
           ap (shard_in_core_cut shard) (changed_in_core-other_elements_stay change by caller core.cuts apart) ∙ holds
           ∙ ap (λ ps. Some (latest_core_snapshot state before ps)) (sym none)
@@ -84,7 +89,7 @@ shard_after_read_event core by at caller shard state before is holds =
           let by_is : eqb by caller ≡ true = eq-eqb by caller same in
           elim (cases_eq at shard) [
             | inr other ↦
-                let none : met_in_core caller shard core.shards (Read by at) ≡ [] =
+                let none : position_met_in_core caller shard core.shards (Read by at) ≡ [] =
                 other_event_meets_nothing by caller at shard core.shards
                 (ap (λ b. b && eqb at shard) by_is ∙ ne_eqb at shard other) in
                 ap (shard_in_core_cut shard) here ∙ event_leaves_other_shards at shard (slice_get core.shards at) cut other
@@ -92,7 +97,7 @@ shard_after_read_event core by at caller shard state before is holds =
             | inl here_too ↦
                 let at_is : eqb at shard ≡ true = eq-eqb at shard here_too in
                 let both : (eqb by caller && eqb at shard) ≡ true = ap (λ b. b && eqb at shard) by_is ∙ at_is in
-                let one : met_in_core caller shard core.shards (Read by at) ≡ state.position ∷ [] =
+                let one : position_met_in_core caller shard core.shards (Read by at) ≡ state.position ∷ [] =
                 ap (λ b. cond b (position_in_core (slice_get core.shards shard)) []) both ∙ ap position_in_core is in
                 let read : slice_get core.shards at ≡ Some state = ap (slice_get core.shards) here_too ∙ is in
                 let written : slice_get (slice_set cut.shards at (snapshot_of_shard state)) shard ≡ Some (snapshot_of_shard state) =
@@ -108,7 +113,7 @@ pub shard_snapshot_after_event : (core : CoreValue) (event : Event) (caller shar
     (before : SnapshotValue) → slice_get core.shards shard ≡ Some state
     → snapshot_in_core caller shard core.cuts ≡ Some before
     → snapshot_in_core caller shard (core_after core event).cuts
-    ≡ Some (latest_core_snapshot state before (met_in_core caller shard core.shards event))
+    ≡ Some (latest_core_snapshot state before (position_met_in_core caller shard core.shards event))
 shard_snapshot_after_event core (Fold at block) caller shard state before is holds = holds
 shard_snapshot_after_event core (Read by at) caller shard state before is holds = shard_after_read_event core by at caller shard state before is holds
 

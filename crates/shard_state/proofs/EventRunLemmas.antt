@@ -4,18 +4,22 @@ use Rattle.std.proofs.Common.{slice_get, get_or, Some, option_map, All, refl, sy
 use Rattle.std.specs.List.{AllZip}
 use Rattle.std.proofs.lemmas.List.{length-map}
 use Rattle.std.proofs.lemmas.List.Elements.{All-nil, All-cons, All-head, All-tail, All-get_or}
-use Rattle.std.proofs.lemmas.Option.{slice_get-map, slice_get-get_or, slice_get_within, same_Some, get_or_from_slice_get}
+use Rattle.std.proofs.lemmas.Option.{slice_get-map, slice_get-get_or, slice_get_within, same_Some}
+use Rattle.std.proofs.lemmas.Option.{get_or_from_slice_get}
 use Rattle.prefix_lattice.specs.{RecordValue}
 use Rattle.shard_state.specs.Snapshot.{SnapshotValue, SnapshotRepresents}
 use Rattle.shard_state.specs.Cut.{CutValue, cut_positions, CutRepresents}
 use Rattle.shard_state.specs.ShardState.{ShardValue, IsShard, snapshot_of_shard}
-use Rattle.shard_state.specs.ShardCore.{CoreValue, CoreShardMovedOn, core_after, run, core_capacity, HasCoreShape, IsCore, met_in_core, position_in_core}
-use Rattle.shard_state.specs.ShardCore.{core_reads_of, last_core_read, CorePositionsNeverFall, latest_core_snapshot, shard_in_core_cut, snapshot_in_core, core_lists}
+use Rattle.shard_state.specs.ShardCore.{CoreValue, CoreShardMovedOn, core_after, core_after_run, core_capacity}
+use Rattle.shard_state.specs.ShardCore.{HasCoreShape, IsCore, position_met_in_core, position_in_core}
+use Rattle.shard_state.specs.ShardCore.{core_reads_of, last_core_read, CorePositionsNeverFall, latest_core_snapshot}
+use Rattle.shard_state.specs.ShardCore.{shard_in_core_cut, snapshot_in_core, core_lists}
 use Rattle.shard_state.specs.ShardCore.{CoreBasesRepresent, ReadsEachCoreShard}
 use Rattle.shard_state.specs.declared.event.Event.{Event}
 use Rattle.shard_state.specs.declared.event.Event.TheVariants.{Fold, Read}
 use Rattle.shard_state.proofs.RepresentationLemmas.{representation_of_shard}
-use Rattle.shard_state.proofs.EventLemmas.{event_moves_shard_on, shard_snapshot_after_event, shapes_after_event, shards_as_many_after_event, callers_after_event, capacity_after_event}
+use Rattle.shard_state.proofs.EventLemmas.{event_moves_shard_on, shard_snapshot_after_event, shapes_after_event}
+use Rattle.shard_state.proofs.EventLemmas.{shards_as_many_after_event, callers_after_event, capacity_after_event}
 
 -- reads may come in parts
 latest_core_snapshot-parts_of_event_run : (state : ShardValue) (before : SnapshotValue) (earlier later : List ℕ)
@@ -29,18 +33,18 @@ latest_core_snapshot-parts_of_event_run state before (position ∷ earlier) late
 latest_core_snapshot-moved_in_event_run : (state : ShardValue) (position : ℕ) (before : SnapshotValue) (reads : List ℕ)
     → latest_core_snapshot (record state { position = position }) before reads ≡ latest_core_snapshot state before reads
 latest_core_snapshot-moved_in_event_run state position before [] = refl
-latest_core_snapshot-moved_in_event_run state position before (met_in_core ∷ later) = latest_core_snapshot-moved_in_event_run state position
-    (snapshot_of_shard (record state { position = met_in_core })) later
+latest_core_snapshot-moved_in_event_run state position before (met ∷ later) = latest_core_snapshot-moved_in_event_run state position
+    (snapshot_of_shard (record state { position = met })) later
 
 -- a run leaves in each cut what its reads met last
 pub latest_core_snapshot-after_event_run : (events : List Event) (core : CoreValue) (caller shard : ℕ) (state : ShardValue)
     (before : SnapshotValue) → slice_get core.shards shard ≡ Some state
     → state.position ≤ length state.list → snapshot_in_core caller shard core.cuts ≡ Some before
-    → snapshot_in_core caller shard (run core events).cuts ≡ Some (latest_core_snapshot state before (core_reads_of caller shard core events))
+    → snapshot_in_core caller shard (core_after_run core events).cuts ≡ Some (latest_core_snapshot state before (core_reads_of caller shard core events))
 latest_core_snapshot-after_event_run [] core caller shard state before is within holds = holds
 latest_core_snapshot-after_event_run (event ∷ rest) core caller shard state before is within holds =
     let moved : CoreShardMovedOn (core_after core event).shards shard state = event_moves_shard_on core event shard state is within in
-    let read = met_in_core caller shard core.shards event in
+    let read = position_met_in_core caller shard core.shards event in
     let later = core_reads_of caller shard (core_after core event) rest in
     latest_core_snapshot-after_event_run rest (core_after core event) caller shard (record state { position = moved.position })
     (latest_core_snapshot state before read)
@@ -53,7 +57,7 @@ latest_core_snapshot-after_event_run (event ∷ rest) core caller shard state be
 -- what an event meets is the position of the shard
 event_in_run_meets_shard : (P : List ℕ → Type 0) (caller shard : ℕ) (shards : List ShardValue) (event : Event) (state : ShardValue)
     → slice_get shards shard ≡ Some state
-    → P [] → P (state.position ∷ []) → P (met_in_core caller shard shards event)
+    → P [] → P (state.position ∷ []) → P (position_met_in_core caller shard shards event)
 event_in_run_meets_shard P caller shard shards (Fold at block) state is none one = none
 event_in_run_meets_shard P caller shard shards (Read by at) state is none one =
     elim (eqb by caller && eqb at shard) as (λ b. P (cond b (position_in_core (slice_get shards shard)) [])) [
@@ -141,20 +145,20 @@ event_run_read_is_alike state before (position ∷ later) some = latest_core_sna
 
 -- what a run keeps of shapes
 pub event_run_keeps_shapes : (events : List Event) (core : CoreValue) (shards capacity : ℕ)
-    → All (HasCoreShape shards capacity) core.cuts → All (HasCoreShape shards capacity) (run core events).cuts
+    → All (HasCoreShape shards capacity) core.cuts → All (HasCoreShape shards capacity) (core_after_run core events).cuts
 event_run_keeps_shapes [] core shards capacity shapes = shapes
 event_run_keeps_shapes (event ∷ rest) core shards capacity shapes = event_run_keeps_shapes rest (core_after core event) shards capacity
     (shapes_after_event core event shards capacity shapes)
 
-pub event_run_keeps_shards : (events : List Event) (core : CoreValue) → length (run core events).shards ≡ length core.shards
+pub event_run_keeps_shards : (events : List Event) (core : CoreValue) → length (core_after_run core events).shards ≡ length core.shards
 event_run_keeps_shards [] core = refl
 event_run_keeps_shards (event ∷ rest) core = event_run_keeps_shards rest (core_after core event) ∙ shards_as_many_after_event core event
 
-pub event_run_keeps_callers : (events : List Event) (core : CoreValue) → length (run core events).cuts ≡ length core.cuts
+pub event_run_keeps_callers : (events : List Event) (core : CoreValue) → length (core_after_run core events).cuts ≡ length core.cuts
 event_run_keeps_callers [] core = refl
 event_run_keeps_callers (event ∷ rest) core = event_run_keeps_callers rest (core_after core event) ∙ callers_after_event core event
 
-pub event_run_keeps_capacity : (events : List Event) (core : CoreValue) → core_capacity (run core events).shards ≡ core_capacity core.shards
+pub event_run_keeps_capacity : (events : List Event) (core : CoreValue) → core_capacity (core_after_run core events).shards ≡ core_capacity core.shards
 event_run_keeps_capacity [] core = refl
 event_run_keeps_capacity (event ∷ rest) core = event_run_keeps_capacity rest (core_after core event) ∙ capacity_after_event core event
 
@@ -205,11 +209,11 @@ pub record LeftByEventRun (events : List Event) (core : CoreValue) (caller shard
   pub holds : slice_get cut.shards shard ≡ Some (latest_core_snapshot state before (core_reads_of caller shard core events))
 
 pub left_by_event_run : (events : List Event) (core : CoreValue) (caller shard : ℕ) (cut : CutValue) → All IsShard core.shards
-    → All (HasCoreShape (length core.shards) (core_capacity core.shards)) core.cuts → slice_get (run core events).cuts caller ≡ Some cut
+    → All (HasCoreShape (length core.shards) (core_capacity core.shards)) core.cuts → slice_get (core_after_run core events).cuts caller ≡ Some cut
     → shard < length core.shards
     → LeftByEventRun events core caller shard cut
 left_by_event_run events core caller shard cut kept shapes is_cut in_shards =
-    let in_run : caller < length (run core events).cuts = slice_get_within (run core events).cuts caller cut is_cut in
+    let in_run : caller < length (core_after_run core events).cuts = slice_get_within (core_after_run core events).cuts caller cut is_cut in
     let in_cuts : caller < length core.cuts = omega (arith, event_run_keeps_callers events core) in
     let had : HeldBeforeEventRun caller shard core.cuts = held_before_event_run caller shard (length core.shards) (core_capacity core.shards) core.cuts
     shapes in_cuts in_shards in
@@ -228,19 +232,19 @@ left_by_event_run events core caller shard cut kept shapes is_cut in_shards =
 -- a cut in which each shard was read stands for the shards' lists, where their bases do
 pub event_run_cut_stands : (events : List Event) (core : CoreValue) (caller : ℕ) (cut : CutValue) → IsCore core.shards
     → All (HasCoreShape (length core.shards) (core_capacity core.shards)) core.cuts → CoreBasesRepresent core.shards
-    → slice_get (run core events).cuts caller ≡ Some cut
+    → slice_get (core_after_run core events).cuts caller ≡ Some cut
     → ReadsEachCoreShard caller core events → CutRepresents cut (core_lists core.shards)
 event_run_cut_stands events core caller cut is_core shapes bases is_cut reads =
     let kept : All IsShard core.shards = is_core.kept in
-    let in_run : caller < length (run core events).cuts = slice_get_within (run core events).cuts caller cut is_cut in
-    let shape : HasCoreShape (length core.shards) (core_capacity core.shards) (get_or (run core events).cuts caller cut) =
-    All-get_or (HasCoreShape (length core.shards) (core_capacity core.shards)) (run core events).cuts caller cut in_run
+    let in_run : caller < length (core_after_run core events).cuts = slice_get_within (core_after_run core events).cuts caller cut is_cut in
+    let shape : HasCoreShape (length core.shards) (core_capacity core.shards) (get_or (core_after_run core events).cuts caller cut) =
+    All-get_or (HasCoreShape (length core.shards) (core_capacity core.shards)) (core_after_run core events).cuts caller cut in_run
     (event_run_keeps_shapes events core (length core.shards) (core_capacity core.shards) shapes) in
     let many : length cut.shards ≡ length core.shards =
-    ap (λ (c : CutValue). length c.shards) (sym (get_or_from_slice_get (run core events).cuts caller cut cut is_cut)) ∙ shape.as_many in
+    ap (λ (c : CutValue). length c.shards) (sym (get_or_from_slice_get (core_after_run core events).cuts caller cut cut is_cut)) ∙ shape.as_many in
     let list_of : ShardValue → List RecordValue = λ s. s.list in
     let same_capacity : cut.capacity ≡ core_capacity core.shards =
-    ap (λ (c : CutValue). c.capacity) (sym (get_or_from_slice_get (run core events).cuts caller cut cut is_cut)) ∙ shape.alike in
+    ap (λ (c : CutValue). c.capacity) (sym (get_or_from_slice_get (core_after_run core events).cuts caller cut cut is_cut)) ∙ shape.alike in
     record {
       alike = λ k default in_cut.
           let in_shards : k < length core.shards = omega (arith, many, in_cut) in
@@ -279,7 +283,7 @@ event_run_cut_stands events core caller cut is_core shapes bases is_cut reads =
 -- its position of a shard is that of the last read
 pub event_run_tells_last_read : (events : List Event) (core : CoreValue) (caller shard position : ℕ) (cut : CutValue) → All IsShard core.shards
     → All (HasCoreShape (length core.shards) (core_capacity core.shards)) core.cuts → shard < length core.shards
-    → slice_get (run core events).cuts caller ≡ Some cut
+    → slice_get (core_after_run core events).cuts caller ≡ Some cut
     → last_core_read (core_reads_of caller shard core events) ≡ Some position → slice_get (cut_positions cut) shard ≡ Some position
 event_run_tells_last_read events core caller shard position cut kept shapes in_shards is_cut last =
     let here : LeftByEventRun events core caller shard cut = left_by_event_run events core caller shard cut kept shapes is_cut in_shards in

@@ -4,10 +4,13 @@ use Rattle.std.proofs.lemmas.List.Elements.{All-from_recursion, All-head}
 use Rattle.prefix_lattice.specs.{RecordValue, node_at, IsPrefixKey, PrefixValue}
 use Rattle.space_saving.specs.declared.entry.Entry.{Entry}
 use Rattle.space_saving.specs.{TableValue, HasSmallTableError}
-use Rattle.shard_state.specs.Snapshot.{snapshot_adds, snapshot_records_table, fold_snapshot_at, fold_snapshot_from, HasSnapshotKeys, IsSnapshotTableAt, fold_snapshot_table}
-use Rattle.shard_state.specs.Snapshot.{fold_snapshot_tables, no_snapshot_entries, empty_snapshot, snapshot_entries_at, snapshot_total}
+use Rattle.shard_state.specs.Snapshot.{snapshot_adds, snapshot_records_table, fold_snapshot_at, fold_snapshot_from}
+use Rattle.shard_state.specs.Snapshot.{HasSnapshotKeys, IsSnapshotTableAt, snapshot_table_after}
+use Rattle.shard_state.specs.Snapshot.{snapshot_tables_after, no_snapshot_entries, empty_snapshot, snapshot_entries_at}
+use Rattle.shard_state.specs.Snapshot.{snapshot_total}
 use Rattle.shard_state.specs.ShardState.{ShardValue, IsShard, folded_shard, snapshot_of_shard}
-use Rattle.shard_state.specs.Weights.{HoldsWeightNarrowly, HoldsWeightOver, weight_interval_over, weight_interval_of}
+use Rattle.shard_state.specs.WeightIntervals.{NarrowIntervalHoldsWeight, NarrowIntervalHoldsWeightOver}
+use Rattle.shard_state.specs.WeightIntervals.{weight_interval_over, weight_interval_of}
 use Rattle.shard_state.proofs.EmptyTableLemmas.{IsSnapshot-empty_tables}
 use Rattle.shard_state.proofs.ShardStateLemmas.{shard_state_is_begun}
 
@@ -47,10 +50,10 @@ last_two_tables_go_on = refl
 abbrev root_table : TableValue
 root_table = record { capacity = 4; entries = entry 0 4 0 ∷ [] }
 
-pub root_table_goes_on : fold_snapshot_table (node_at 0) (x ∷ u ∷ []) root_table ≡ record { capacity = 4; entries = entry 0 6 0 ∷ [] }
+pub root_table_goes_on : snapshot_table_after (node_at 0) (x ∷ u ∷ []) root_table ≡ record { capacity = 4; entries = entry 0 6 0 ∷ [] }
 root_table_goes_on = refl
 
-pub row_of_one_table : fold_snapshot_tables 0 (root_table ∷ []) (x ∷ u ∷ []) ≡ fold_snapshot_table (node_at 0) (x ∷ u ∷ []) root_table ∷ []
+pub row_of_one_table : snapshot_tables_after 0 (root_table ∷ []) (x ∷ u ∷ []) ≡ snapshot_table_after (node_at 0) (x ∷ u ∷ []) root_table ∷ []
 row_of_one_table = refl
 
 pub key_of_three_bytes : HasSnapshotKeys (node_at 23) (entry 0x0100000165000000 1 0 ∷ [])
@@ -128,12 +131,12 @@ pub interval_in_a_snapshot : weight_interval_of from_one (snapshot_of_shard (fol
 unfolding no_snapshot_entries
 interval_in_a_snapshot = refl
 
-pub five_are_held : HoldsWeightOver 4 from_one first
+pub five_are_held : NarrowIntervalHoldsWeightOver 4 from_one first
 five_are_held = record { holds = record { low = omega arith; high = omega arith }; narrow = omega arith }
 
 -- 2 times 4 is more than 6
-pub interval_that_is_too_wide : HoldsWeightNarrowly (record { low = 4; high = 6 }) 4 5 6 → ⊥
+pub interval_that_is_too_wide : NarrowIntervalHoldsWeight (record { low = 4; high = 6 }) 4 5 6 → ⊥
 interval_that_is_too_wide holds = omega (arith, holds.narrow)
 
-pub interval_beside_the_weight : HoldsWeightNarrowly (record { low = 4; high = 5 }) 4 6 6 → ⊥
+pub interval_beside_the_weight : NarrowIntervalHoldsWeight (record { low = 4; high = 5 }) 4 6 6 → ⊥
 interval_beside_the_weight holds = omega (arith, holds.holds.high)

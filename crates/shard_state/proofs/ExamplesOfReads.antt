@@ -4,14 +4,17 @@ use Rattle.std.proofs.lemmas.List.Elements.{All-from_recursion}
 use Rattle.shard_state.specs.Snapshot.{empty_snapshot, SnapshotRepresents}
 use Rattle.shard_state.specs.Cut.{empty_cut, most_cut_snapshots}
 use Rattle.shard_state.specs.ShardState.{ShardValue, IsShard, folded_shard, snapshot_of_shard}
-use Rattle.shard_state.specs.ShardCore.{CoreValue, changed_in_core, core_cut_with_shard, core_after, run, core_capacity, AreCoreShards, IsCore}
-use Rattle.shard_state.specs.ShardCore.{HasCoreShape, IsCoreEvent, position_in_core, met_in_core, core_reads_of, last_core_read, CorePositionsNeverFall}
-use Rattle.shard_state.specs.ShardCore.{latest_core_snapshot, shard_in_core_cut, snapshot_in_core, core_lists, CoreBasesRepresent, ReadsEachCoreShard}
+use Rattle.shard_state.specs.ShardCore.{CoreValue, changed_in_core, core_cut_with_shard, core_after, core_after_run}
+use Rattle.shard_state.specs.ShardCore.{core_capacity, AreCoreShards, IsCore}
+use Rattle.shard_state.specs.ShardCore.{HasCoreShape, IsCoreEvent, position_in_core, position_met_in_core}
+use Rattle.shard_state.specs.ShardCore.{core_reads_of, last_core_read, CorePositionsNeverFall}
+use Rattle.shard_state.specs.ShardCore.{latest_core_snapshot, shard_in_core_cut, snapshot_in_core, core_lists}
+use Rattle.shard_state.specs.ShardCore.{CoreBasesRepresent, ReadsEachCoreShard}
 use Rattle.shard_state.specs.declared.event.Event.{Event}
 use Rattle.shard_state.specs.declared.event.Event.TheVariants.{Fold, Read}
 use Rattle.shard_state.proofs.RepresentationLemmas.{representation_when_empty}
 use Rattle.shard_state.proofs.Examples.{first, shard, begun_shard}
-use Rattle.prefix_lattice.specs.{most_shards}
+use Rattle.prefix_lattice.specs.{shard_limit}
 
 pub second_changed : changed_in_core (λ n. n + 10) 1 (1 ∷ 2 ∷ 3 ∷ []) ≡ 1 ∷ 12 ∷ 3 ∷ []
 second_changed = refl
@@ -46,7 +49,7 @@ read_leaves = refl
 abbrev events : List Event
 events = Fold 0 4 ∷ Read 0 0 ∷ Fold 0 4 ∷ Read 1 0 ∷ Read 0 0 ∷ []
 
-pub run_leaves : run core events ≡ record {
+pub run_leaves : core_after_run core events ≡ record {
   shards = folded_shard 4 (folded_shard 4 shard) ∷ [];
   cuts = record { capacity = 4; shards = snapshot_of_shard (folded_shard 9 shard) ∷ [] } ∷ record {
     capacity = 4;
@@ -94,13 +97,13 @@ position_of_a_shard = refl
 pub position_of_no_shard : position_in_core None ≡ []
 position_of_no_shard = refl
 
-pub read_meets_its_shard : met_in_core 0 0 core.shards (Read 0 0) ≡ 0 ∷ []
+pub read_meets_its_shard : position_met_in_core 0 0 core.shards (Read 0 0) ≡ 0 ∷ []
 read_meets_its_shard = refl
 
-pub read_by_another_meets_nothing : met_in_core 0 0 core.shards (Read 1 0) ≡ []
+pub read_by_another_meets_nothing : position_met_in_core 0 0 core.shards (Read 1 0) ≡ []
 read_by_another_meets_nothing = refl
 
-pub fold_meets_nothing : met_in_core 0 0 core.shards (Fold 0 4) ≡ []
+pub fold_meets_nothing : position_met_in_core 0 0 core.shards (Fold 0 4) ≡ []
 fold_meets_nothing = refl
 
 pub reads_meet : core_reads_of 0 0 core events ≡ 4 ∷ 6 ∷ []
@@ -134,7 +137,7 @@ snapshot_of_a_shard = refl
 pub snapshot_in_no_cut : shard_in_core_cut 0 None ≡ None
 snapshot_in_no_cut = refl
 
-pub snapshot_of_the_other_caller : snapshot_in_core 1 0 (run core events).cuts ≡ Some (snapshot_of_shard (folded_shard 9 shard))
+pub snapshot_of_the_other_caller : snapshot_in_core 1 0 (core_after_run core events).cuts ≡ Some (snapshot_of_shard (folded_shard 9 shard))
 snapshot_of_the_other_caller = refl
 
 pub snapshot_of_a_third_caller : snapshot_in_core 2 0 core.cuts ≡ None
@@ -154,5 +157,5 @@ both_callers_read_each (suc place) below = absurd (omega (arith, below))
 pub third_caller_reads_none : ReadsEachCoreShard 2 core events → ⊥
 third_caller_reads_none each = let one = each 0 (omega arith) in omega (arith, one)
 
-pub snapshots_of_eight_times_the_shards : most_cut_snapshots ≡ 8 * most_shards
+pub snapshots_of_eight_times_the_shards : most_cut_snapshots ≡ 8 * shard_limit
 snapshots_of_eight_times_the_shards = refl

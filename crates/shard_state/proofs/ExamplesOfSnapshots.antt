@@ -4,8 +4,10 @@ use Rattle.std.proofs.lemmas.List.Elements.{All-nil, All-cons, All-head}
 use Rattle.prefix_lattice.specs.{node_at, IsPrefixKey}
 use Rattle.space_saving.specs.declared.entry.Entry.{Entry}
 use Rattle.space_saving.specs.{TableValue}
-use Rattle.shard_state.specs.Snapshot.{SnapshotValue, IsSnapshot, no_snapshot_entries, empty_snapshot, snapshot_entries_at, snapshot_table_at}
-use Rattle.shard_state.specs.Snapshot.{tables_of_snapshot, snapshot_total, IsLikeSnapshotTable, AreTablesOfSnapshot, AreSnapshotParts, snapshot_copied_from}
+use Rattle.shard_state.specs.Snapshot.{SnapshotValue, IsSnapshot, no_snapshot_entries, empty_snapshot}
+use Rattle.shard_state.specs.Snapshot.{snapshot_entries_at, snapshot_table_at}
+use Rattle.shard_state.specs.Snapshot.{tables_of_snapshot, snapshot_total, IsLikeSnapshotTable, AreTablesOfSnapshot}
+use Rattle.shard_state.specs.Snapshot.{AreSnapshotParts, snapshot_copied_from}
 use Rattle.shard_state.specs.Snapshot.{SnapshotRepresents}
 use Rattle.shard_state.specs.Cut.{AreCutPositionsNotPast, CutValue, IsCut, empty_cut, cut_positions, total_of_cut}
 use Rattle.shard_state.specs.Cut.{CutRepresents, records_before_cut}

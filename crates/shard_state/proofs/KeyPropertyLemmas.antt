@@ -1,8 +1,10 @@
 -- A step keeps what is true of every key.
-use Rattle.std.proofs.Common.{ℕ, ◌+◌, eqb, Bool, true, false, cond, nat_le, nat_lt, List, [], ◌∷◌, length, Option, None, Some, IfSome, All}
+use Rattle.std.proofs.Common.{ℕ, ◌+◌, eqb, Bool, true, false, cond, nat_le, nat_lt, List, [], ◌∷◌, length, Option, None}
+use Rattle.std.proofs.Common.{Some, IfSome, All}
 use Rattle.std.proofs.lemmas.List.Elements.{All-cons, All-head, All-tail}
 use Rattle.space_saving.specs.declared.entry.Entry.{Entry}
-use Rattle.space_saving.specs.{TableAdd, put_in_table, table_entry, table_without, replace_table_head, enter_in_table, table_after_step_from, table_after_step}
+use Rattle.space_saving.specs.{TableAdd, put_in_table, table_entry, table_without, replace_table_head, enter_in_table}
+use Rattle.space_saving.specs.{table_after_step_from, table_after_step}
 
 -- each key has this property
 abbrev pub KeysHaveProperty : (ℕ → Type 0) → List Entry → Type 0

@@ -3,10 +3,12 @@ use Rattle.std.proofs.Common.{◌≡◌, ℕ, ◌+◌, ◌-◌, ◌*◌, ◌≤�
 use Rattle.std.proofs.Common.{sum_by, All, refl, sym, ap, ◌∙◌, arith, subst}
 use Rattle.std.proofs.lemmas.List.Sums.{sum_by-cons}
 use Rattle.std.proofs.lemmas.List.Elements.{All-map}
-use Rattle.prefix_lattice.specs.{RecordValue, PrefixValue, covers, node_of_prefix, prefix_at, prefix_key, prefix_weight, total_weight, NodeValue, IntervalHoldsWeight}
-use Rattle.space_saving.specs.{TableAdd, table_interval_after, table_weight_of_key, total_added_to_table, AreWeighedForTable}
+use Rattle.prefix_lattice.specs.{RecordValue, PrefixValue, covers, node_of_prefix, prefix_at, prefix_key, prefix_weight}
+use Rattle.prefix_lattice.specs.{total_weight, NodeValue, IntervalHoldsWeight}
+use Rattle.space_saving.specs.{TableAdd, table_interval_after, table_weight_of_key, total_added_to_table}
+use Rattle.space_saving.specs.{AreWeighedForTable}
 use Rattle.shard_state.specs.Snapshot.{snapshot_adds}
-use Rattle.shard_state.specs.Weights.{HoldsWeightOver}
+use Rattle.shard_state.specs.WeightIntervals.{NarrowIntervalHoldsWeightOver}
 use Rattle.shard_state.proofs.TableFoldLemmas.{table_fold_add}
 
 -- the sum over the elements that pass, by whether the first passes
@@ -53,7 +55,7 @@ pub record IntervalsHoldPrefixWeight : Type 0 where
 -- the interval of a prefix holds what it weighs
 pub prefix_weight_is_held : (capacity : ℕ) (prefix : PrefixValue) (records : List RecordValue) → PrefixWeightIsTold prefix → IntervalsHoldPrefixWeight
     → 1 ≤ capacity
-    → All (λ (r : RecordValue). 1 ≤ r.weight) records → HoldsWeightOver capacity prefix records
+    → All (λ (r : RecordValue). 1 ≤ r.weight) records → NarrowIntervalHoldsWeightOver capacity prefix records
 prefix_weight_is_held capacity prefix records keys laws some weighed =
     let adds = snapshot_adds (node_of_prefix prefix) records in
     let interval = table_interval_after capacity adds (prefix_key prefix) in

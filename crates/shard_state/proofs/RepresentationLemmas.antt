@@ -1,19 +1,24 @@
 -- What snapshots and cuts stand for.
-use Rattle.std.proofs.Common.{◌≡◌, ℕ, ◌+◌, ◌<◌, ◌≤◌, List, [], ◌∷◌, length, take, get_or, map, sum_by, All, refl, sym, ap, ◌∙◌, arith, subst}
+use Rattle.std.proofs.Common.{◌≡◌, ℕ, ◌+◌, ◌<◌, ◌≤◌, List, [], ◌∷◌, length, take, get_or, map, sum_by, All, refl, sym}
+use Rattle.std.proofs.Common.{ap, ◌∙◌, arith, subst}
 use Rattle.std.specs.List.{slice_range, AllZip}
 use Rattle.std.proofs.lemmas.List.{ext_get_or}
 use Rattle.std.proofs.lemmas.List.Sums.{sum_by-cons, sum_by-append}
 use Rattle.std.proofs.lemmas.List.Elements.{All-head, All-tail, All-take}
-use Rattle.prefix_lattice.specs.{RecordValue, NodeValue, IsNode, node_index, node_at, PrefixValue, IsPrefix, node_of_prefix, prefix_key, prefix_weight, total_weight}
+use Rattle.prefix_lattice.specs.{RecordValue, NodeValue, IsNode, node_index, node_at, PrefixValue, IsPrefix}
+use Rattle.prefix_lattice.specs.{node_of_prefix, prefix_key, prefix_weight, total_weight}
 use Rattle.space_saving.specs.declared.entry.Entry.{Entry}
 use Rattle.space_saving.specs.{TableInterval, interval_in_table, table_total}
-use Rattle.shard_state.specs.Snapshot.{snapshot_records_table, fold_snapshot_at, SnapshotValue, IsSnapshot, empty_snapshot, snapshot_entries_at, snapshot_total, SnapshotRepresents}
+use Rattle.shard_state.specs.Snapshot.{snapshot_records_table, fold_snapshot_at, SnapshotValue, IsSnapshot}
+use Rattle.shard_state.specs.Snapshot.{empty_snapshot, snapshot_entries_at, snapshot_total, SnapshotRepresents}
 use Rattle.shard_state.specs.Cut.{CutValue, IsCut, cut_positions, total_of_cut, CutRepresents, records_before_cut}
 use Rattle.shard_state.specs.ShardState.{ShardValue, snapshot_of_shard}
-use Rattle.shard_state.specs.Weights.{HoldsWeightNarrowly, HoldsWeightOver, weight_interval_of}
+use Rattle.shard_state.specs.WeightIntervals.{NarrowIntervalHoldsWeight, NarrowIntervalHoldsWeightOver}
+use Rattle.shard_state.specs.WeightIntervals.{weight_interval_of}
 use Rattle.prefix_lattice.proofs.NodePlaceLemmas.{IsNode-node_at_place, node_index-node_at_place}
 use Rattle.shard_state.proofs.EmptyTableLemmas.{empty_table_at_place, number_of_empty_tables}
-use Rattle.shard_state.proofs.TableFoldLemmas.{fold_snapshot_at-append_in_table, table_fold_at_shard_node, fold_snapshot_from-as_many_tables}
+use Rattle.shard_state.proofs.TableFoldLemmas.{fold_snapshot_at-append_in_table, table_fold_at_shard_node}
+use Rattle.shard_state.proofs.TableFoldLemmas.{fold_snapshot_from-as_many_tables}
 use Rattle.shard_state.proofs.ShardStateLemmas.{shard_state_take_further}
 
 -- empty tables stand for every list
@@ -45,7 +50,7 @@ representation_of_shard shard stands begun within =
 -- what tables of records hold
 pub record RepresentationLaws : Type 0 where
   pub weight : (capacity : ℕ) (prefix : PrefixValue) (records : List RecordValue) → 1 ≤ capacity → IsPrefix prefix
-      → All (λ (r : RecordValue). 1 ≤ r.weight) records → HoldsWeightOver capacity prefix records
+      → All (λ (r : RecordValue). 1 ≤ r.weight) records → NarrowIntervalHoldsWeightOver capacity prefix records
   pub total : (capacity : ℕ) (node : NodeValue) (records : List RecordValue) → 1 ≤ capacity
       → table_total (snapshot_records_table capacity node records) ≡ total_weight records
 
@@ -59,16 +64,17 @@ representation_keeps_total snapshot list hold stands some =
 pub representation_keeps_weight : (snapshot : SnapshotValue) (list : List RecordValue) (prefix : PrefixValue) → RepresentationLaws
     → SnapshotRepresents snapshot list → 1 ≤ snapshot.capacity
     → IsPrefix prefix → All (λ (r : RecordValue). 1 ≤ r.weight) list
-    → HoldsWeightNarrowly (weight_interval_of prefix snapshot) snapshot.capacity (prefix_weight prefix (take snapshot.position list)) (snapshot_total snapshot)
+    → NarrowIntervalHoldsWeight (weight_interval_of prefix snapshot) snapshot.capacity
+    (prefix_weight prefix (take snapshot.position list)) (snapshot_total snapshot)
 representation_keeps_weight snapshot list prefix hold stands some valid weighed =
     let records = take snapshot.position list in
     let capacity = snapshot.capacity in
     let is_node : IsNode (node_of_prefix prefix) = record { source = valid.source.few; dest = valid.dest.few } in
     let over = hold.weight capacity prefix records some valid (All-take (λ (r : RecordValue). 1 ≤ r.weight) snapshot.position list weighed) in
     let interval : List Entry → TableInterval = λ entries. interval_in_table (record { capacity = capacity; entries = entries }) (prefix_key prefix) in
-    subst (λ entries. HoldsWeightNarrowly (interval entries) capacity (prefix_weight prefix records) (snapshot_total snapshot))
+    subst (λ entries. NarrowIntervalHoldsWeight (interval entries) capacity (prefix_weight prefix records) (snapshot_total snapshot))
     (sym (stands.tables (node_of_prefix prefix) is_node))
-    (subst (HoldsWeightNarrowly (interval (snapshot_records_table capacity (node_of_prefix prefix) records)) capacity (prefix_weight prefix records))
+    (subst (NarrowIntervalHoldsWeight (interval (snapshot_records_table capacity (node_of_prefix prefix) records)) capacity (prefix_weight prefix records))
     (sym (representation_keeps_total snapshot list hold stands some)) over)
 
 -- the totals of snapshots that stand for lists

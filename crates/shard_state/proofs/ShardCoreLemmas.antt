@@ -1,5 +1,6 @@
 -- The core after a fold, and cuts after a read.
-use Rattle.std.proofs.Common.{◌≡◌, ℕ, ◌<◌, List, length, get_or, slice_get, slice_set, Some, All, refl, sym, ap, ◌∙◌, arith, subst, length-set}
+use Rattle.std.proofs.Common.{◌≡◌, ℕ, ◌<◌, List, length, get_or, slice_get, slice_set, Some, All, refl, sym, ap, ◌∙◌}
+use Rattle.std.proofs.Common.{arith, subst, length-set}
 use Rattle.std.proofs.lemmas.List.Elements.{All-set}
 use Rattle.std.proofs.lemmas.Option.{slice_get_read}
 use Rattle.shard_state.specs.Cut.{CutValue}

@@ -1,5 +1,6 @@
 -- The state of a shard as it begins, and after more records.
-use Rattle.std.proofs.Common.{◌≡◌, ℕ, ◌+◌, ◌*◌, ◌-◌, ◌^◌, ◌<◌, ◌≤◌, List, [], ◌∷◌, ◌++◌, length, get_or, take, drop, map, All, refl, sym, ap, ◌∙◌, arith, subst}
+use Rattle.std.proofs.Common.{◌≡◌, ℕ, ◌+◌, ◌*◌, ◌-◌, ◌^◌, ◌<◌, ◌≤◌, List, [], ◌∷◌, ◌++◌, length, get_or, take, drop}
+use Rattle.std.proofs.Common.{map, All, refl, sym, ap, ◌∙◌, arith, subst}
 use Rattle.std.specs.List.{slice_range}
 use Rattle.std.proofs.Math.Seq.{take-add}
 use Rattle.std.proofs.lemmas.List.{drop-drop, get_or-drop, length-take-le}
@@ -8,11 +9,14 @@ use Rattle.std.proofs.lemmas.List.Elements.{All-take, All-drop, All-weaker, All-
 use Rattle.prefix_lattice.specs.{RecordValue, node_index, node_at, total_weight}
 use Rattle.space_saving.specs.declared.entry.Entry.{Entry}
 use Rattle.space_saving.specs.{TableValue, table_total}
-use Rattle.shard_state.specs.Snapshot.{fold_snapshot_from, SnapshotValue, IsSnapshot, snapshot_total, tables_of_snapshot, snapshot_copied_from, fold_snapshot_tables}
+use Rattle.shard_state.specs.Snapshot.{fold_snapshot_from, SnapshotValue, IsSnapshot, snapshot_total}
+use Rattle.shard_state.specs.Snapshot.{tables_of_snapshot, snapshot_copied_from, snapshot_tables_after}
 use Rattle.shard_state.specs.ShardState.{ShardValue, IsShard, snapshot_of_shard}
 use Rattle.prefix_lattice.proofs.NodePlaceLemmas.{IsNode-node_at_place, node_index-node_at_place}
 use Rattle.shard_state.proofs.SnapshotPartLemmas.{snapshot_part_with_entries, snapshot_part_entries}
-use Rattle.shard_state.proofs.TableFoldLemmas.{TableFoldKeeps, TableFoldAdvances, table_fold_advances, fold_snapshot_from-append_in_tables, fold_snapshot_from-none_in_tables, fold_snapshot_tables-entries}
+use Rattle.shard_state.proofs.TableFoldLemmas.{TableFoldKeeps, TableFoldAdvances, table_fold_advances}
+use Rattle.shard_state.proofs.TableFoldLemmas.{fold_snapshot_from-append_in_tables, fold_snapshot_from-none_in_tables}
+use Rattle.shard_state.proofs.TableFoldLemmas.{snapshot_tables_after-entries}
 
 -- what stands at a place, where the rest from there is the same
 pub shard_state_place_in_rest : {X : Type 0} → (xs ys : List X) (n : ℕ) (d : X) → drop n xs ≡ drop n ys → get_or xs n d ≡ get_or ys n d
@@ -119,10 +123,10 @@ shard_state_has_room shard to is later within =
 -- the tables of a shard at a later position
 pub shard_state_folded_tables : (shard : ShardValue) (to : ℕ) (tables : List TableValue) → ShardStateFoldedOn shard to
     → tables ≡ tables_of_snapshot (snapshot_of_shard shard)
-    → fold_snapshot_tables 0 tables (slice_range shard.list shard.position to) ≡ tables_of_snapshot (snapshot_of_shard (record shard { position = to }))
+    → snapshot_tables_after 0 tables (slice_range shard.list shard.position to) ≡ tables_of_snapshot (snapshot_of_shard (record shard { position = to }))
 shard_state_folded_tables shard to tables on are =
-    ap (λ ts. fold_snapshot_tables 0 ts (slice_range shard.list shard.position to)) are
-    ∙ fold_snapshot_tables-entries 0 shard.base.capacity (snapshot_of_shard shard).tables (slice_range shard.list shard.position to)
+    ap (λ ts. snapshot_tables_after 0 ts (slice_range shard.list shard.position to)) are
+    ∙ snapshot_tables_after-entries 0 shard.base.capacity (snapshot_of_shard shard).tables (slice_range shard.list shard.position to)
     ∙ ap (map (snapshot_part_with_entries shard.base.capacity)) (sym on.tables)
 
 -- a shard that goes on from a snapshot

@@ -1,5 +1,6 @@
 -- Tables of one capacity, as lists of entries.
-use Rattle.std.proofs.Common.{◌≡◌, ℕ, ◌+◌, ◌^◌, ◌<◌, ◌≤◌, List, [], ◌∷◌, length, get_or, map, slice_get, Some, All, refl, sym, ap, ◌∙◌, arith, subst}
+use Rattle.std.proofs.Common.{◌≡◌, ℕ, ◌+◌, ◌^◌, ◌<◌, ◌≤◌, List, [], ◌∷◌, length, get_or, map, slice_get, Some, All}
+use Rattle.std.proofs.Common.{refl, sym, ap, ◌∙◌, arith, subst}
 use Rattle.std.proofs.lemmas.List.{get_or-map, length-map}
 use Rattle.std.proofs.lemmas.List.Elements.{All-head, All-tail, All-from_get_or}
 use Rattle.std.proofs.lemmas.Option.{slice_get-get_or, slice_get_read, same_Some}
@@ -7,7 +8,8 @@ use borrow.Author.Count.{below_more}
 use Rattle.prefix_lattice.specs.{node_index, node_at}
 use Rattle.space_saving.specs.declared.entry.Entry.{Entry}
 use Rattle.space_saving.specs.{TableValue, table_total, AreTableEntries}
-use Rattle.shard_state.specs.Snapshot.{IsSnapshotTableAt, HasSnapshotKeys, IsSnapshot, IsLikeSnapshotTable, AreTablesOfSnapshot}
+use Rattle.shard_state.specs.Snapshot.{IsSnapshotTableAt, HasSnapshotKeys, IsSnapshot, IsLikeSnapshotTable}
+use Rattle.shard_state.specs.Snapshot.{AreTablesOfSnapshot}
 use Rattle.prefix_lattice.proofs.NodePlaceLemmas.{node_place_is_small, node_at_own_place}
 
 -- a table of this capacity with these entries

@@ -1,12 +1,16 @@
 -- Tables after more records.
-use Rattle.std.proofs.Common.{◌≡◌, ℕ, ◌+◌, ◌^◌, ◌<◌, ◌≤◌, zero, suc, List, [], ◌∷◌, ◌++◌, length, get_or, map, All, refl, sym, ap, ◌∙◌, arith, subst, fold}
+use Rattle.std.proofs.Common.{◌≡◌, ℕ, ◌+◌, ◌^◌, ◌<◌, ◌≤◌, zero, suc, List, [], ◌∷◌, ◌++◌, length, get_or, map, All}
+use Rattle.std.proofs.Common.{refl, sym, ap, ◌∙◌, arith, subst, fold}
 use Rattle.std.proofs.lemmas.List.{map-append}
 use Rattle.std.proofs.lemmas.List.Sums.{fold-append, sum_by-cons}
 use Rattle.std.proofs.lemmas.List.Elements.{All-head, All-tail}
-use Rattle.prefix_lattice.specs.{RecordValue, NodeValue, IsNode, node_index, node_at, prefix_at, prefix_key, total_weight, IsPrefixKey}
+use Rattle.prefix_lattice.specs.{RecordValue, NodeValue, IsNode, node_index, node_at, prefix_at, prefix_key}
+use Rattle.prefix_lattice.specs.{total_weight, IsPrefixKey}
 use Rattle.space_saving.specs.declared.entry.Entry.{Entry}
 use Rattle.space_saving.specs.{TableAdd, table_after_step, table_total, IsTable}
-use Rattle.shard_state.specs.Snapshot.{snapshot_adds, fold_snapshot_at, fold_snapshot_from, IsSnapshotTableAt, SnapshotValue, IsSnapshot, snapshot_total, snapshot_entries_at, fold_snapshot_tables}
+use Rattle.shard_state.specs.Snapshot.{snapshot_adds, fold_snapshot_at, fold_snapshot_from, IsSnapshotTableAt}
+use Rattle.shard_state.specs.Snapshot.{SnapshotValue, IsSnapshot, snapshot_total, snapshot_entries_at}
+use Rattle.shard_state.specs.Snapshot.{snapshot_tables_after}
 use Rattle.prefix_lattice.proofs.NodePlaceLemmas.{node_place_is_small, node_at_own_place, IsNode-node_at_place}
 use Rattle.shard_state.proofs.KeyPropertyLemmas.{KeysHaveProperty-step}
 use Rattle.shard_state.proofs.SnapshotPartLemmas.{snapshot_part_with_entries}
@@ -53,13 +57,13 @@ fold_snapshot_from-table_at_place place capacity (entries ∷ tables) records (s
     ∙ ap (λ p. fold_snapshot_at capacity (node_at p) (get_or tables k []) records) same
 
 -- the same of tables with a capacity
-pub fold_snapshot_tables-entries : (place capacity : ℕ) (tables : List (List Entry)) (records : List RecordValue)
-    → fold_snapshot_tables place (map (snapshot_part_with_entries capacity) tables) records ≡ map (snapshot_part_with_entries capacity)
+pub snapshot_tables_after-entries : (place capacity : ℕ) (tables : List (List Entry)) (records : List RecordValue)
+    → snapshot_tables_after place (map (snapshot_part_with_entries capacity) tables) records ≡ map (snapshot_part_with_entries capacity)
     (fold_snapshot_from place capacity tables records)
-fold_snapshot_tables-entries place capacity [] records = refl
-fold_snapshot_tables-entries place capacity (entries ∷ tables) records =
+snapshot_tables_after-entries place capacity [] records = refl
+snapshot_tables_after-entries place capacity (entries ∷ tables) records =
     ap (λ ts. snapshot_part_with_entries capacity (fold_snapshot_at capacity (node_at place) entries records) ∷ ts)
-    (fold_snapshot_tables-entries (place + 1) capacity tables records)
+    (snapshot_tables_after-entries (place + 1) capacity tables records)
 
 -- what a step keeps
 pub record TableFoldKeeps : Type 0 where

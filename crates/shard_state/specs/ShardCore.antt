@@ -5,7 +5,7 @@ use Rattle.shard_state.specs.Cut.{CutValue}
 use Rattle.shard_state.specs.ShardState.{ShardValue, IsShard, folded_shard, snapshot_of_shard, shard_state_at}
 use Rattle.shard_state.specs.declared.event.Event.{Event}
 use Rattle.shard_state.specs.declared.event.Event.TheVariants.{Fold, Read}
-use Rattle.prefix_lattice.specs.{RecordValue, most_shards}
+use Rattle.prefix_lattice.specs.{RecordValue, shard_limit}
 use Rattle.shard_state.specs.Snapshot.{SnapshotValue, SnapshotRepresents}
 
 -- what events act on: the states of the shards, and one cut for each caller
@@ -30,8 +30,8 @@ core_after core (Fold shard block) = record core { shards = changed_in_core (fol
 core_after core (Read caller shard) = record core { cuts = changed_in_core (core_cut_with_shard shard (slice_get core.shards shard)) caller core.cuts }
 
 -- the core after a run of events
-abbrev pub run : CoreValue → List Event → CoreValue
-run core events = fold core_after core events
+abbrev pub core_after_run : CoreValue → List Event → CoreValue
+core_after_run core events = fold core_after core events
 
 -- the capacity of the first shard, which is that of all
 abbrev pub core_capacity : List ShardValue → ℕ
@@ -41,7 +41,7 @@ core_capacity (first ∷ rest) = first.base.capacity
 -- 1 to 16 shards of one capacity
 pub record AreCoreShards (shards : List ShardValue) : Type 0 where
   pub some : 1 ≤ length shards
-  pub few : length shards ≤ most_shards
+  pub few : length shards ≤ shard_limit
   pub alike : All (λ shard. shard.base.capacity ≡ core_capacity shards) shards
 
 -- what always holds of the core: 1 to 16 shards of one capacity, each within its limits
@@ -72,14 +72,14 @@ position_in_core None = []
 position_in_core (Some state) = state.position ∷ []
 
 -- the position that an event meets, if it is a read of this shard by this caller
-abbrev pub met_in_core : ℕ → ℕ → List ShardValue → Event → List ℕ
-met_in_core caller shard shards (Fold at block) = []
-met_in_core caller shard shards (Read by at) = if by == caller && at == shard then position_in_core (slice_get shards shard) else []
+abbrev pub position_met_in_core : ℕ → ℕ → List ShardValue → Event → List ℕ
+position_met_in_core caller shard shards (Fold at block) = []
+position_met_in_core caller shard shards (Read by at) = if by == caller && at == shard then position_in_core (slice_get shards shard) else []
 
 -- the positions that a caller's reads of a shard meet in a run of events, in order
 abbrev pub core_reads_of : ℕ → ℕ → CoreValue → List Event → List ℕ
 core_reads_of caller shard core [] = []
-core_reads_of caller shard core (event ∷ rest) = met_in_core caller shard core.shards event ++ core_reads_of caller shard (core_after core event) rest
+core_reads_of caller shard core (event ∷ rest) = position_met_in_core caller shard core.shards event ++ core_reads_of caller shard (core_after core event) rest
 
 -- the last of some positions
 abbrev pub last_core_read : List ℕ → Option ℕ

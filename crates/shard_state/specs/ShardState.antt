@@ -1,7 +1,7 @@
 -- The state of a shard, as contracts see it.
 use Rattle.std.specs.Prelude.{ℕ, ◌≡◌, ◌+◌, ◌^◌, ◌<◌, ◌≤◌, List, length, take, min, All}
 use Rattle.std.specs.List.{slice_range}
-use Rattle.prefix_lattice.specs.{RecordValue, total_weight, most_records}
+use Rattle.prefix_lattice.specs.{RecordValue, total_weight, record_limit}
 use Rattle.shard_state.specs.Snapshot.{fold_snapshot_from, SnapshotValue, IsSnapshot, snapshot_total}
 
 -- the state of a shard: its records, the snapshot that it started from, and how many of its records it counted
@@ -28,7 +28,7 @@ folded_shard block shard = record shard { position = min (length shard.list) (sh
 
 -- what always holds of a shard's state: its limits, and that each table counted the weight before its position
 pub record IsShard (shard : ShardValue) : Type 0 where
-  pub few : length shard.list ≤ most_records
+  pub few : length shard.list ≤ record_limit
   pub begun : shard.base.position ≤ shard.position
   pub within : shard.position ≤ length shard.list
   pub weighed : All (λ rec. 1 ≤ rec.weight) shard.list

@@ -1,8 +1,11 @@
 -- The tables of a shard at a position: 25 of them, one for each node of the lattice.
-use Rattle.std.specs.Prelude.{ℕ, ◌≡◌, ◌+◌, List, [], ◌∷◌, map, fold, All, ◌≤◌, length, slice_index_or, slice_get, Some, take}
-use Rattle.prefix_lattice.specs.{RecordValue, NodeValue, node_at, IsNode, node_index, prefix_at, prefix_key, IsPrefixKey, node_count, most_records}
+use Rattle.std.specs.Prelude.{ℕ, ◌≡◌, ◌+◌, List, [], ◌∷◌, map, fold, All, ◌≤◌, length, slice_index_or, slice_get, Some}
+use Rattle.std.specs.Prelude.{take}
+use Rattle.prefix_lattice.specs.{RecordValue, NodeValue, node_at, IsNode, node_index, prefix_at, prefix_key}
+use Rattle.prefix_lattice.specs.{IsPrefixKey, node_count, record_limit}
 use Rattle.space_saving.specs.declared.entry.Entry.{Entry}
-use Rattle.space_saving.specs.{TableAdd, table_after_step, table_of, table_total, TableValue, AreTableEntries, least_table_capacity, most_table_capacity}
+use Rattle.space_saving.specs.{TableAdd, table_after_step, table_of, table_total, TableValue, AreTableEntries}
+use Rattle.space_saving.specs.{least_table_capacity, most_table_capacity}
 use Rattle.std.proofs.Math.ListN.{replicate}
 
 -- what records add to a table at a node: for each record its weight, under the key of its prefix at the node
@@ -60,7 +63,7 @@ snapshot_total snapshot = table_total (slice_index_or snapshot.tables 0 [])
 pub record IsSnapshot (snapshot : SnapshotValue) : Type 0 where
   pub least : least_table_capacity ≤ snapshot.capacity
   pub most : snapshot.capacity ≤ most_table_capacity
-  pub placed : snapshot.position ≤ most_records
+  pub placed : snapshot.position ≤ record_limit
   pub shape : length snapshot.tables ≡ node_count
   pub tables : (node : NodeValue) → IsNode node → IsSnapshotTableAt snapshot.capacity (snapshot_total snapshot) node (snapshot_entries_at node snapshot)
 
@@ -87,17 +90,17 @@ pub record AreTablesOfSnapshot (tables : List TableValue) : Type 0 where
 
 -- the parts of a snapshot: a position of at most 2^24, and 25 such tables
 pub record AreSnapshotParts (position : ℕ) (tables : List TableValue) : Type 0 where
-  pub placed : position ≤ most_records
+  pub placed : position ≤ record_limit
   pub are_tables : AreTablesOfSnapshot tables
 
 -- a table of a node after more records
-abbrev pub fold_snapshot_table : NodeValue → List RecordValue → TableValue → TableValue
-fold_snapshot_table node records table = record table { entries = fold_snapshot_at table.capacity node table.entries records }
+abbrev pub snapshot_table_after : NodeValue → List RecordValue → TableValue → TableValue
+snapshot_table_after node records table = record table { entries = fold_snapshot_at table.capacity node table.entries records }
 
 -- a row of tables after more records; the first table is that of the node at this index
-abbrev pub fold_snapshot_tables : ℕ → List TableValue → List RecordValue → List TableValue
-fold_snapshot_tables place [] records = []
-fold_snapshot_tables place (table ∷ rest) records = fold_snapshot_table (node_at place) records table ∷ fold_snapshot_tables (place + 1) rest records
+abbrev pub snapshot_tables_after : ℕ → List TableValue → List RecordValue → List TableValue
+snapshot_tables_after place [] records = []
+snapshot_tables_after place (table ∷ rest) records = snapshot_table_after (node_at place) records table ∷ snapshot_tables_after (place + 1) rest records
 
 -- the snapshot of this capacity, at this position, with the entries of these tables
 abbrev pub snapshot_copied_from : ℕ → ℕ → List TableValue → SnapshotValue

@@ -4,7 +4,7 @@ ghost use Rattle.std.specs.Prelude.{◌≡◌, ◌<◌, ◌≤◌, length, slice
 ghost use Rattle.shard_state.specs.Snapshot.{IsSnapshot};
 ghost use Rattle.shard_state.specs.ShardState.{snapshot_of_shard};
 ghost use Rattle.shard_state.specs.Cut.{IsCut, empty_cut, cut_positions, total_of_cut, most_cut_snapshots};
-ghost use Rattle.prefix_lattice.specs.{most_shards, total_limit};
+ghost use Rattle.prefix_lattice.specs.{shard_limit, total_limit};
 ghost use Rattle.space_saving.specs.{least_table_capacity, most_table_capacity};
 
 use crate::{Positions, ShardState, Snapshot};
@@ -52,7 +52,7 @@ impl Cut {
     pub fn shards(&self) -> u32
         ensures shards { result ≡ length self.now.shards }
         ensures kept { IsCut self.now }
-        ensures bounded { length self.now.shards ≤ most_shards → total_of_cut self.now < total_limit }
+        ensures bounded { length self.now.shards ≤ shard_limit → total_of_cut self.now < total_limit }
     {
         self.shards.len() as u32
     }

@@ -4,8 +4,11 @@ ghost use Rattle.std.specs.Prelude.{◌≡◌, ◌<◌, ◌≤◌, ℕ, length, 
 ghost use Rattle.shard_state.specs.Snapshot.{SnapshotValue};
 ghost use Rattle.shard_state.specs.Cut.{CutValue, cut_positions, CutRepresents};
 ghost use Rattle.shard_state.specs.ShardState.{ShardValue, IsShard, folded_shard};
-ghost use Rattle.shard_state.specs.ShardCore.{AreCoreShards, HasCoreShape, IsCore, IsCoreEvent, core_after, core_capacity, changed_in_core, run, core_cut_with_shard};
-ghost use Rattle.shard_state.specs.ShardCore.{CoreBasesRepresent, CoreShardMovedOn, CorePositionsNeverFall, ReadsEachCoreShard, last_core_read, latest_core_snapshot, core_lists, core_reads_of, snapshot_in_core};
+ghost use Rattle.shard_state.specs.ShardCore.{AreCoreShards, HasCoreShape, IsCore, IsCoreEvent, core_after};
+ghost use Rattle.shard_state.specs.ShardCore.{core_capacity, changed_in_core, core_after_run, core_cut_with_shard};
+ghost use Rattle.shard_state.specs.ShardCore.{CoreBasesRepresent, CoreShardMovedOn, CorePositionsNeverFall};
+ghost use Rattle.shard_state.specs.ShardCore.{ReadsEachCoreShard, last_core_read, latest_core_snapshot, core_lists};
+ghost use Rattle.shard_state.specs.ShardCore.{core_reads_of, snapshot_in_core};
 
 use crate::{Cut, Event, ShardState};
 use std::marker::Model;
@@ -62,8 +65,8 @@ impl Core {
     pub fn run_events(&mut self, events: &[Event], cuts: &mut Vec<Cut>)
         requires events { All (IsCoreEvent (length self.old) (length cuts.old.items)) events.now }
         requires cuts { All (HasCoreShape (length self.old) (core_capacity self.old)) cuts.old.items }
-        ensures shards { self.new ≡ (run (record { shards = self.old; cuts = cuts.old.items }) events.now).shards }
-        ensures cuts { cuts.new.items ≡ (run (record { shards = self.old; cuts = cuts.old.items }) events.now).cuts }
+        ensures shards { self.new ≡ (core_after_run (record { shards = self.old; cuts = cuts.old.items }) events.now).shards }
+        ensures cuts { cuts.new.items ≡ (core_after_run (record { shards = self.old; cuts = cuts.old.items }) events.now).cuts }
 
         // For each shard, a caller's cut has the snapshot at the position that the caller's last read of it met.
         ensures latest { (caller shard : ℕ) (state : ShardValue) (before : SnapshotValue) → slice_get self.old shard ≡ Some state
@@ -100,8 +103,8 @@ impl Core {
     fn run_in_order(&mut self, events: &[Event], cuts: &mut Vec<Cut>)
         requires events { All (IsCoreEvent (length self.old) (length cuts.old.items)) events.now }
         requires cuts { All (HasCoreShape (length self.old) (core_capacity self.old)) cuts.old.items }
-        ensures shards { self.new ≡ (run (record { shards = self.old; cuts = cuts.old.items }) events.now).shards }
-        ensures cuts { cuts.new.items ≡ (run (record { shards = self.old; cuts = cuts.old.items }) events.now).cuts }
+        ensures shards { self.new ≡ (core_after_run (record { shards = self.old; cuts = cuts.old.items }) events.now).shards }
+        ensures cuts { cuts.new.items ≡ (core_after_run (record { shards = self.old; cuts = cuts.old.items }) events.now).cuts }
     {
         for event in events {
             self.step(*event, cuts);

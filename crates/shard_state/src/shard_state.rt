@@ -2,7 +2,7 @@
 
 ghost use Rattle.std.specs.Prelude.{◌≡◌, ◌+◌, ◌≤◌, ◌↔◌, length, take, IfOk};
 ghost use Rattle.std.specs.List.{slice_range};
-ghost use Rattle.prefix_lattice.specs.{total_weight, most_records};
+ghost use Rattle.prefix_lattice.specs.{total_weight, record_limit};
 ghost use Rattle.shard_state.specs.Snapshot.{fold_snapshot_from, empty_snapshot, snapshot_total};
 ghost use Rattle.shard_state.specs.ShardState.{IsShard, folded_shard, snapshot_of_shard};
 ghost use Rattle.space_saving.specs.{least_table_capacity, most_table_capacity};
@@ -51,7 +51,7 @@ impl ShardState {
     /// The state with no record counted. The list has at most 16,777,216 records, and each table 2 to 4096 entries.
     /// On an error, which means that memory ran out, the list is dropped.
     pub fn start(alloc: Global, list: RecordList, capacity: u32) -> Result<ShardState, AllocError>
-        requires few { length list ≤ most_records }
+        requires few { length list ≤ record_limit }
         requires least { least_table_capacity ≤ capacity }
         requires most { capacity ≤ most_table_capacity }
         ensures { IfOk result (λ state. state ≡ record { list = list; base = empty_snapshot capacity; position = 0 }) }
@@ -64,7 +64,7 @@ impl ShardState {
     /// The list has at most 16,777,216 records. On an error, which means that memory ran out, list and base are
     /// dropped.
     pub fn resume(alloc: Global, list: RecordList, base: Snapshot) -> Result<ShardState, AllocError>
-        requires few { length list ≤ most_records }
+        requires few { length list ≤ record_limit }
         requires within { base.position ≤ length list }
         requires counted { snapshot_total base ≡ total_weight (take base.position list) }
         ensures { IfOk result (λ state. state ≡ record { list = list; base = base; position = base.position }) }
@@ -113,7 +113,7 @@ impl ShardState {
     /// How many records there are, at most 16,777,216.
     pub fn length(&self) -> u64
         ensures length { result ≡ length self.now.list }
-        ensures few { result ≤ most_records }
+        ensures few { result ≤ record_limit }
         ensures kept { IsShard self.now }
     {
         self.list.len() as u64

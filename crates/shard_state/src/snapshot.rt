@@ -1,7 +1,8 @@
 //! The tables of a shard at one position.
 
 ghost use Rattle.std.specs.Prelude.{◌≡◌, ◌<◌, ◌≤◌, ◌↔◌, All, IfOk, IfSome, IsSome};
-ghost use Rattle.shard_state.specs.Snapshot.{IsSnapshot, empty_snapshot, snapshot_table_at, tables_of_snapshot, snapshot_total, AreSnapshotParts, snapshot_copied_from};
+ghost use Rattle.shard_state.specs.Snapshot.{IsSnapshot, empty_snapshot, snapshot_table_at, tables_of_snapshot};
+ghost use Rattle.shard_state.specs.Snapshot.{snapshot_total, AreSnapshotParts, snapshot_copied_from};
 ghost use Rattle.space_saving.specs.{least_table_capacity, most_table_capacity, table_limit};
 
 use crate::folding::copy_tables;

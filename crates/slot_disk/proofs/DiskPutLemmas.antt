@@ -1,39 +1,43 @@
 -- The three parts of a put, one after the other.
-use Rattle.std.proofs.Common.{◌≡◌, ℕ, zero, suc, ◌<◌, List, Bool, true, false, Option, Some, None, refl, sym, ap, ◌∙◌, subst, inl, inr, ⊎_elim, arith}
+use Rattle.std.proofs.Common.{◌≡◌, ℕ, zero, suc, ◌<◌, List, Bool, true, false, Option, Some, None, refl, sym, ap, ◌∙◌}
+use Rattle.std.proofs.Common.{subst, inl, inr, ⊎_elim, arith}
 use Rattle.std.specs.Prelude.{is_some, if◌then◌else◌}
 use Rattle.slot_disk.specs.Images.{IsOnlyImage}
-use Rattle.slot_disk.specs.Moments.{Leaves, Leaves-weaker, Leaves-trans}
-use Rattle.slot_disk.specs.StoreLayout.{store_is_open, header_of, stored_body, store_content, shown_in_store, StoreSlotContent, Closed, Broken, Whole}
-use Rattle.slot_disk.specs.KnownSlots.{SlotsState, closed_slots, known_slot_open, with_open_slot, slots_of, IsStoreOfSlots}
+use Rattle.slot_disk.specs.Moments.{CrashLeavesAtAnyMoment, CrashLeavesAtAnyMoment-weaker, CrashLeavesAtAnyMoment-trans}
+use Rattle.slot_disk.specs.StoreLayout.{layout_gate_is_open, layout_header, layout_body, layout_slot_content}
+use Rattle.slot_disk.specs.StoreLayout.{shown_in_layout, LayoutSlotContent, Closed, Broken, Whole}
+use Rattle.slot_disk.specs.KnownSlots.{KnownSlotsState, closed_known_slots, known_slot_open, known_slots_after_opening}
+use Rattle.slot_disk.specs.KnownSlots.{known_slots_of, IsStoreOfKnownSlots}
 use Rattle.slot_disk.proofs.ContentLemmas.{content_is_closed_by_gate}
-use Rattle.slot_disk.specs.Puts.{other_slot_of_put, IsSoundForPut, IsReadyForPut, PutCanClose, PutCanWrite, PutCanOpen, IsSameBesidePut, MayBeClosedByPut}
+use Rattle.slot_disk.specs.Puts.{other_slot_of_put, IsSoundForPut, IsReadyForPut, PutCanClose, PutCanWrite, PutCanOpen}
+use Rattle.slot_disk.specs.Puts.{IsSameApartFromPut, MayBeClosedByPut}
 use Rattle.slot_disk.specs.Puts.{IsClosedByPut, IsStoredByPut, MayBeOpenByPut, PutMayLeave, IsPut}
 
 pub disk_put_finds_some : {X : Type 0} (found : Option X) → is_some found ≡ true → (x : X) × (found ≡ Some x)
 disk_put_finds_some {X} None is = absurd (cc is)
 disk_put_finds_some {X} (Some x) is = (x, refl)
 
-disk_put_beside_is_transitive : (span slot : ℕ) (old mid new : List ℕ) → IsSameBesidePut span slot old mid → IsSameBesidePut span slot mid new
-    → IsSameBesidePut span slot old new
+disk_put_beside_is_transitive : (span slot : ℕ) (old mid new : List ℕ) → IsSameApartFromPut span slot old mid → IsSameApartFromPut span slot mid new
+    → IsSameApartFromPut span slot old new
 disk_put_beside_is_transitive span slot old mid new first second = record {
   long = second.long;
   header = second.header ∙ first.header;
   other_slot = second.other_slot ∙ first.other_slot;
 }
 
-disk_put_other_is_sound : (span slot : ℕ) (old : List ℕ) → IsReadyForPut span slot old → IsSoundForPut (store_content span (other_slot_of_put slot) old)
+disk_put_other_is_sound : (span slot : ℕ) (old : List ℕ) → IsReadyForPut span slot old → IsSoundForPut (layout_slot_content span (other_slot_of_put slot) old)
 disk_put_other_is_sound span slot old ready = ⊎_elim (λ whole. inl whole) (λ closed. inr closed.0) ready.other_holds
 
-disk_put_gate_is_known : (slot : ℕ) (bytes : List ℕ) → slot < 2 → store_is_open slot bytes ≡ known_slot_open (slots_of bytes) slot
+disk_put_gate_is_known : (slot : ℕ) (bytes : List ℕ) → slot < 2 → layout_gate_is_open slot bytes ≡ known_slot_open (known_slots_of bytes) slot
 disk_put_gate_is_known zero bytes small = refl
 disk_put_gate_is_known (suc zero) bytes small = refl
 disk_put_gate_is_known (suc (suc slot)) bytes small = absurd (omega arith)
 
-pub disk_put_can_close_gate : (span slot : ℕ) (old : List ℕ) (possible : List ℕ → Type 0) (slots : SlotsState) → slot < 2
-    → IsStoreOfSlots old possible slots → IsReadyForPut span slot old → PutCanClose span slot (known_slot_open slots slot) old
+pub disk_put_can_close_gate : (span slot : ℕ) (old : List ℕ) (possible : List ℕ → Type 0) (slots : KnownSlotsState) → slot < 2
+    → IsStoreOfKnownSlots old possible slots → IsReadyForPut span slot old → PutCanClose span slot (known_slot_open slots slot) old
 disk_put_can_close_gate span slot old possible slots small store ready = record {
   long = store.long;
-  gate = disk_put_gate_is_known slot old small ∙ ap (λ (s : SlotsState). known_slot_open s slot) (sym store.slots_are);
+  gate = disk_put_gate_is_known slot old small ∙ ap (λ (s : KnownSlotsState). known_slot_open s slot) (sym store.slots_are);
   slot_holds = ready.slot_holds;
   other_holds = disk_put_other_is_sound span slot old ready;
 }
@@ -63,45 +67,47 @@ disk_put_from_parts span slot body old closed stored new first second third = re
 }
 
 -- whether a gate is open shows in what its slot holds
-abbrev disk_put_shows_open : StoreSlotContent → Bool
+abbrev disk_put_shows_open : LayoutSlotContent → Bool
 disk_put_shows_open Closed = false
 disk_put_shows_open Broken = true
 disk_put_shows_open (Whole body) = true
 
-disk_put_shows_open-gate : (gate : Bool) (stored : Option (List ℕ)) → disk_put_shows_open (if gate then shown_in_store stored else Closed) ≡ gate
+disk_put_shows_open-gate : (gate : Bool) (stored : Option (List ℕ)) → disk_put_shows_open (if gate then shown_in_layout stored else Closed) ≡ gate
 disk_put_shows_open-gate false stored = refl
 disk_put_shows_open-gate true None = refl
 disk_put_shows_open-gate true (Some body) = refl
 
-disk_put_shows_open-content : (span slot : ℕ) (image : List ℕ) → disk_put_shows_open (store_content span slot image) ≡ store_is_open slot image
-disk_put_shows_open-content span slot image = disk_put_shows_open-gate (store_is_open slot image) (stored_body span slot image)
+disk_put_shows_open-content : (span slot : ℕ) (image : List ℕ) → disk_put_shows_open (layout_slot_content span slot image) ≡ layout_gate_is_open slot image
+disk_put_shows_open-content span slot image = disk_put_shows_open-gate (layout_gate_is_open slot image) (layout_body span slot image)
 
-disk_put_keeps_gate : (span slot : ℕ) (old new : List ℕ) → store_content span slot new ≡ store_content span slot old
-    → store_is_open slot new ≡ store_is_open slot old
+disk_put_keeps_gate : (span slot : ℕ) (old new : List ℕ) → layout_slot_content span slot new ≡ layout_slot_content span slot old
+    → layout_gate_is_open slot new ≡ layout_gate_is_open slot old
 disk_put_keeps_gate span slot old new same = sym (disk_put_shows_open-content span slot new) ∙ ap disk_put_shows_open same
     ∙ disk_put_shows_open-content span slot old
 
-disk_put_opens_gate : (span slot : ℕ) (body new : List ℕ) → store_content span slot new ≡ Whole body → store_is_open slot new ≡ true
+disk_put_opens_gate : (span slot : ℕ) (body new : List ℕ) → layout_slot_content span slot new ≡ Whole body → layout_gate_is_open slot new ≡ true
 disk_put_opens_gate span slot body new whole = sym (disk_put_shows_open-content span slot new) ∙ ap disk_put_shows_open whole
 
-slots_after_disk_put : (span slot : ℕ) (body old new : List ℕ) → slot < 2 → IsPut span slot body old new → with_open_slot (slots_of old) slot ≡ slots_of new
+slots_after_disk_put : (span slot : ℕ) (body old new : List ℕ) → slot < 2 → IsPut span slot body old new
+    → known_slots_after_opening (known_slots_of old) slot ≡ known_slots_of new
 slots_after_disk_put span zero body old new small put =
-    let first : store_is_open 0 new ≡ true = disk_put_opens_gate span 0 body new put.slot_holds in
-    let second : store_is_open 1 new ≡ store_is_open 1 old = disk_put_keeps_gate span 1 old new put.beside.other_slot in
-    let header : header_of new ≡ header_of old = put.beside.header in
+    let first : layout_gate_is_open 0 new ≡ true = disk_put_opens_gate span 0 body new put.slot_holds in
+    let second : layout_gate_is_open 1 new ≡ layout_gate_is_open 1 old = disk_put_keeps_gate span 1 old new put.beside.other_slot in
+    let header : layout_header new ≡ layout_header old = put.beside.header in
     λ i. record { first_open = sym first i; second_open = sym second i; header = sym header i }
 slots_after_disk_put span (suc zero) body old new small put =
-    let first : store_is_open 0 new ≡ store_is_open 0 old = disk_put_keeps_gate span 0 old new put.beside.other_slot in
-    let second : store_is_open 1 new ≡ true = disk_put_opens_gate span 1 body new put.slot_holds in
-    let header : header_of new ≡ header_of old = put.beside.header in
+    let first : layout_gate_is_open 0 new ≡ layout_gate_is_open 0 old = disk_put_keeps_gate span 0 old new put.beside.other_slot in
+    let second : layout_gate_is_open 1 new ≡ true = disk_put_opens_gate span 1 body new put.slot_holds in
+    let header : layout_header new ≡ layout_header old = put.beside.header in
     λ i. record { first_open = sym first i; second_open = sym second i; header = sym header i }
 slots_after_disk_put span (suc (suc slot)) body old new small put = absurd (omega arith)
 
-pub disk_put_knows_slots : (span slot : ℕ) (body old new : List ℕ) (was is : List ℕ → Type 0) (slots after : SlotsState) → slot < 2
-    → IsStoreOfSlots old was slots → IsPut span slot body old new → IsOnlyImage new is → after ≡ with_open_slot slots slot → IsStoreOfSlots new is after
+pub disk_put_knows_slots : (span slot : ℕ) (body old new : List ℕ) (was is : List ℕ → Type 0) (slots after : KnownSlotsState) → slot < 2
+    → IsStoreOfKnownSlots old was slots → IsPut span slot body old new → IsOnlyImage new is → after ≡ known_slots_after_opening slots slot
+    → IsStoreOfKnownSlots new is after
 disk_put_knows_slots span slot body old new was is slots after small store put only opened = record {
   long = put.beside.long;
-  slots_are = opened ∙ ap (λ (s : SlotsState). with_open_slot s slot) store.slots_are ∙ slots_after_disk_put span slot body old new small put;
+  slots_are = opened ∙ ap (λ (s : KnownSlotsState). known_slots_after_opening s slot) store.slots_are ∙ slots_after_disk_put span slot body old new small put;
   only = only;
 }
 
@@ -131,13 +137,15 @@ disk_put_may_leave_open span slot body old closed stored image first second thir
 
 -- a store that was made takes a put into either slot
 pub closed_slots_take_disk_put : (span slot : ℕ) (bytes header : List ℕ) (possible : List ℕ → Type 0) → slot < 2
-    → IsStoreOfSlots bytes possible (closed_slots header) → IsReadyForPut span slot bytes
+    → IsStoreOfKnownSlots bytes possible (closed_known_slots header) → IsReadyForPut span slot bytes
 closed_slots_take_disk_put span slot bytes header possible small store =
-    let first : store_content span 0 bytes ≡ Closed = content_is_closed_by_gate span 0 bytes (sym (ap (λ (s : SlotsState). s.first_open) store.slots_are)) in
-    let second : store_content span 1 bytes ≡ Closed = content_is_closed_by_gate span 1 bytes (sym (ap (λ (s : SlotsState). s.second_open) store.slots_are)) in
+    let first : layout_slot_content span 0 bytes ≡ Closed = content_is_closed_by_gate span 0 bytes
+    (sym (ap (λ (s : KnownSlotsState). s.first_open) store.slots_are)) in
+    let second : layout_slot_content span 1 bytes ≡ Closed = content_is_closed_by_gate span 1 bytes
+    (sym (ap (λ (s : KnownSlotsState). s.second_open) store.slots_are)) in
     either_ready span slot bytes small first second
   where
-    either_ready : (span slot : ℕ) (bytes : List ℕ) → slot < 2 → store_content span 0 bytes ≡ Closed → store_content span 1 bytes ≡ Closed
+    either_ready : (span slot : ℕ) (bytes : List ℕ) → slot < 2 → layout_slot_content span 0 bytes ≡ Closed → layout_slot_content span 1 bytes ≡ Closed
         → IsReadyForPut span slot bytes
     either_ready span zero bytes small first second = record { other_holds = inr (second, first); slot_holds = inr first }
     either_ready span (suc zero) bytes small first second = record { other_holds = inr (first, second); slot_holds = inr second }
@@ -157,25 +165,28 @@ next_slot_takes_disk_put span (suc zero) body old new small ready put = record {
 next_slot_takes_disk_put span (suc (suc slot)) body old new small ready put = absurd (omega arith)
 
 module _ {D : Type 0} (moment : D → ℕ) (image_since : D → ℕ → List ℕ → Type 0) (span slot : ℕ) (body old : List ℕ) where
-  pub disk_put_leaves_closing : (begun closed : D) → Leaves moment image_since begun closed (MayBeClosedByPut span slot old)
-      → Leaves moment image_since begun closed (PutMayLeave span slot body old)
+  pub disk_put_leaves_closing : (begun closed : D) → CrashLeavesAtAnyMoment moment image_since begun closed (MayBeClosedByPut span slot old)
+      → CrashLeavesAtAnyMoment moment image_since begun closed (PutMayLeave span slot body old)
   disk_put_leaves_closing begun closed leaves =
-      Leaves-weaker moment image_since begun closed (MayBeClosedByPut span slot old) (PutMayLeave span slot body old) leaves
+      CrashLeavesAtAnyMoment-weaker moment image_since begun closed (MayBeClosedByPut span slot old) (PutMayLeave span slot body old) leaves
       (disk_put_may_leave_closed span slot body old)
 
-  pub disk_put_leaves_writing : (begun closed stored : D) (mid : List ℕ) → Leaves moment image_since begun closed (MayBeClosedByPut span slot old)
-      → IsClosedByPut span slot old mid → Leaves moment image_since closed stored (IsClosedByPut span slot mid)
-      → Leaves moment image_since begun stored (PutMayLeave span slot body old)
+  pub disk_put_leaves_writing : (begun closed stored : D) (mid : List ℕ)
+      → CrashLeavesAtAnyMoment moment image_since begun closed (MayBeClosedByPut span slot old)
+      → IsClosedByPut span slot old mid → CrashLeavesAtAnyMoment moment image_since closed stored (IsClosedByPut span slot mid)
+      → CrashLeavesAtAnyMoment moment image_since begun stored (PutMayLeave span slot body old)
   disk_put_leaves_writing begun closed stored mid first is second =
-      Leaves-trans moment image_since begun closed stored (PutMayLeave span slot body old) (disk_put_leaves_closing begun closed first)
-      (Leaves-weaker moment image_since closed stored (IsClosedByPut span slot mid) (PutMayLeave span slot body old) second
+      CrashLeavesAtAnyMoment-trans moment image_since begun closed stored (PutMayLeave span slot body old) (disk_put_leaves_closing begun closed first)
+      (CrashLeavesAtAnyMoment-weaker moment image_since closed stored (IsClosedByPut span slot mid) (PutMayLeave span slot body old) second
       (λ image now. disk_put_may_leave_unfinished span slot body old mid image is now))
 
-  pub disk_put_leaves_opening : (begun closed stored opened : D) (mid late : List ℕ) → Leaves moment image_since begun closed (MayBeClosedByPut span slot old)
-      → IsClosedByPut span slot old mid → Leaves moment image_since closed stored (IsClosedByPut span slot mid)
-      → IsStoredByPut span slot body mid late → Leaves moment image_since stored opened (MayBeOpenByPut span slot body late)
-      → Leaves moment image_since begun opened (PutMayLeave span slot body old)
+  pub disk_put_leaves_opening : (begun closed stored opened : D) (mid late : List ℕ)
+      → CrashLeavesAtAnyMoment moment image_since begun closed (MayBeClosedByPut span slot old)
+      → IsClosedByPut span slot old mid → CrashLeavesAtAnyMoment moment image_since closed stored (IsClosedByPut span slot mid)
+      → IsStoredByPut span slot body mid late → CrashLeavesAtAnyMoment moment image_since stored opened (MayBeOpenByPut span slot body late)
+      → CrashLeavesAtAnyMoment moment image_since begun opened (PutMayLeave span slot body old)
   disk_put_leaves_opening begun closed stored opened mid late first is second has third =
-      Leaves-trans moment image_since begun stored opened (PutMayLeave span slot body old) (disk_put_leaves_writing begun closed stored mid first is second)
-      (Leaves-weaker moment image_since stored opened (MayBeOpenByPut span slot body late) (PutMayLeave span slot body old) third
+      CrashLeavesAtAnyMoment-trans moment image_since begun stored opened (PutMayLeave span slot body old)
+      (disk_put_leaves_writing begun closed stored mid first is second)
+      (CrashLeavesAtAnyMoment-weaker moment image_since stored opened (MayBeOpenByPut span slot body late) (PutMayLeave span slot body old) third
       (λ image now. disk_put_may_leave_open span slot body old mid late image is has now))

@@ -1,14 +1,20 @@
 -- Worked examples of what calls of a disk and crashes leave, most by computing.
 use Rattle.std.proofs.Common.{◌≡◌, ℕ, zero, suc, ◌<◌, ◌≤◌, List, [], ◌∷◌, length, get_or, Some}
 use Rattle.std.proofs.Common.{None, true, false, refl, ap, inl, inr, arith}
-use Rattle.slot_disk.specs.Images.{IfImageKnown, IfBothImagesKnown, GivesImageRange, IsTornImage, IsWrittenImage, IsTornFromImage, IsOnlyImage}
-use Rattle.slot_disk.specs.Moments.{MomentsGoOn, Leaves, IsUnchangedAtMoment, Leaves-call}
-use Rattle.slot_disk.specs.Recorded.{DiskStep, Wrote, Began, Synced, recorded_over, recorded_range_start}
-use Rattle.slot_disk.specs.Recorded.{written_over, recorded_reading, IsRecordedImage, WasRecordedImage, recorded_bytes}
+use Rattle.slot_disk.specs.Images.{IfImageKnown, IfBothImagesKnown, GivesImageRange, IsTornImage, IsWrittenImage}
+use Rattle.slot_disk.specs.Images.{IsTornFromImage, IsOnlyImage}
+use Rattle.slot_disk.specs.Moments.{MomentsGoOn, CrashLeavesAtAnyMoment, IsUnchangedAtMoment}
+use Rattle.slot_disk.specs.Moments.{CrashLeavesAtAnyMoment-call}
+use Rattle.slot_disk.specs.Recorded.{RecordedStep, Wrote, Began, Synced, recorded_over, recorded_range_start}
+use Rattle.slot_disk.specs.Recorded.{recorded_after_write, recorded_reading, IsRecordedImage, WasRecordedImage}
+use Rattle.slot_disk.specs.Recorded.{recorded_bytes}
 use Rattle.slot_disk.specs.Recorded.{recorded_crash}
-use Rattle.slot_disk.specs.MemoryDisk.{MemoryDiskState, disk_fuse_blows_at, disk_fuse_has_blown, memory_disk_call_fails, memory_disk_write_fits, memory_disk_sync_fails}
-use Rattle.slot_disk.specs.MemoryDisk.{memory_disk_write_fails, memory_disk_after_call, memory_disk_after_fault, memory_disk_with_step, memory_disk_after_failed_write}
-use Rattle.slot_disk.specs.MemoryDisk.{memory_disk_reads, memory_disk_image_now, memory_disk_moment, memory_disk_image_since}
+use Rattle.slot_disk.specs.MemoryDisk.{MemoryDiskState, disk_fuse_blows_at, disk_fuse_has_blown, memory_disk_call_fails}
+use Rattle.slot_disk.specs.MemoryDisk.{memory_disk_write_fits, memory_disk_sync_fails}
+use Rattle.slot_disk.specs.MemoryDisk.{memory_disk_write_fails, memory_disk_after_call, memory_disk_after_fault}
+use Rattle.slot_disk.specs.MemoryDisk.{memory_disk_with_step, memory_disk_after_failed_write}
+use Rattle.slot_disk.specs.MemoryDisk.{memory_disk_reads, memory_disk_image_now, memory_disk_moment}
+use Rattle.slot_disk.specs.MemoryDisk.{memory_disk_image_since}
 use Rattle.slot_disk.specs.OverLaws.{torn_from_itself}
 
 pub known_bytes_are_short : IfImageKnown (Some (5 ∷ [])) (λ bytes. length bytes ≤ 1)
@@ -94,11 +100,11 @@ piece_past_the_end = refl
 pub range_begins_at_the_end : recorded_range_start 3 (5 ∷ []) ≡ 1
 range_begins_at_the_end = refl
 
-pub gap_is_filled : written_over 3 (6 ∷ 7 ∷ []) (5 ∷ []) ≡ 5 ∷ 0 ∷ 0 ∷ 6 ∷ 7 ∷ []
+pub gap_is_filled : recorded_after_write 3 (6 ∷ 7 ∷ []) (5 ∷ []) ≡ 5 ∷ 0 ∷ 0 ∷ 6 ∷ 7 ∷ []
 gap_is_filled = refl
 
 -- the newest step comes first: a sync after that write
-abbrev steps : List DiskStep
+abbrev steps : List RecordedStep
 steps = Synced ∷ Wrote 3 (6 ∷ 7 ∷ []) ∷ []
 
 pub bytes_recorded : recorded_bytes steps ≡ 2
@@ -202,5 +208,6 @@ pub time_goes_on : MomentsGoOn memory_disk_moment memory_disk_image_since disk (
 time_goes_on = record { later = omega arith; earlier = λ t image le was. inl was }
 
 -- an empty disk at which nothing was written leaves nothing
-pub leaves_nothing : Leaves memory_disk_moment memory_disk_image_since disk (memory_disk_after_call disk) (λ image. image ≡ [])
-leaves_nothing = Leaves-call memory_disk_moment memory_disk_image_since disk (memory_disk_after_call disk) (λ image. image ≡ []) time_goes_on (λ image was. was)
+pub leaves_nothing : CrashLeavesAtAnyMoment memory_disk_moment memory_disk_image_since disk (memory_disk_after_call disk) (λ image. image ≡ [])
+leaves_nothing = CrashLeavesAtAnyMoment-call memory_disk_moment memory_disk_image_since disk (memory_disk_after_call disk)
+    (λ image. image ≡ []) time_goes_on (λ image was. was)

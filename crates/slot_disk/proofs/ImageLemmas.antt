@@ -2,7 +2,9 @@
 use Rattle.std.proofs.Common.{◌≡◌, ℕ, List, length, sym, subst, ⊎_elim, ◌∙◌, ap}
 use Rattle.slot_disk.specs.Images.{IsTornFromImage}
 use Rattle.slot_disk.specs.Recorded.{Wrote, Began, Synced, IsRecordedImage}
-use Rattle.slot_disk.specs.MemoryDisk.{MemoryDiskState, memory_disk_with_step, memory_disk_image_now, memory_disk_image_since, memory_disk_moment, memory_disk_after_call, memory_disk_after_fault}
+use Rattle.slot_disk.specs.MemoryDisk.{MemoryDiskState, memory_disk_with_step, memory_disk_image_now}
+use Rattle.slot_disk.specs.MemoryDisk.{memory_disk_image_since, memory_disk_moment, memory_disk_after_call}
+use Rattle.slot_disk.specs.MemoryDisk.{memory_disk_after_fault}
 use Rattle.slot_disk.specs.RecordedLaws.{reading_is_image, only_now}
 use Rattle.slot_disk.specs.OverLaws.{torn_from_itself}
 

@@ -1,11 +1,11 @@
 -- The newest body in what a put may leave.
 use Rattle.std.proofs.Common.{◌≡◌, ◌⊎◌, ℕ, List, inl, inr, ⊎_elim, ◌∙◌}
-use Rattle.slot_disk.specs.StoreLayout.{store_content, Closed, Whole}
+use Rattle.slot_disk.specs.StoreLayout.{layout_slot_content, Closed, Whole}
 use Rattle.slot_disk.specs.Puts.{IsReadyForPut, PutMayLeave, PutHoldsNewest}
 
 -- a slot that was closed is closed, or has the new body
-closed_or_newest_body : (span slot : ℕ) (body old image : List ℕ) → store_content span slot old ≡ Closed → PutMayLeave span slot body old image
-    → (store_content span slot image ≡ Closed) ⊎ (store_content span slot image ≡ Whole body)
+closed_or_newest_body : (span slot : ℕ) (body old image : List ℕ) → layout_slot_content span slot old ≡ Closed → PutMayLeave span slot body old image
+    → (layout_slot_content span slot image ≡ Closed) ⊎ (layout_slot_content span slot image ≡ Whole body)
 closed_or_newest_body span slot body old image shut may = ⊎_elim (λ same. inl (same ∙ shut)) (λ new. new) may.slot_holds
 
 pub newest_body_survives_put : (span slot : ℕ) (body old image : List ℕ) → IsReadyForPut span slot old → PutMayLeave span slot body old image

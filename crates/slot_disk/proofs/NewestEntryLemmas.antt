@@ -1,5 +1,6 @@
 -- The newest entry of a record.
-use Rattle.std.proofs.Common.{◌≡◌, ℕ, ◌+◌, List, [], ◌∷◌, ◌++◌, length, take, drop, min, reverse, sym, ap, ◌∙◌, arith, get_or}
+use Rattle.std.proofs.Common.{◌≡◌, ℕ, ◌+◌, List, [], ◌∷◌, ◌++◌, length, take, drop, min, reverse, sym, ap, ◌∙◌, arith}
+use Rattle.std.proofs.Common.{get_or}
 use Rattle.std.proofs.lemmas.List.{take_all, take_more, take_min, drop_min, reverse-append}
 use Rattle.slot_disk.specs.declared.step_entry.StepEntry.{StepEntry}
 use Rattle.slot_disk.specs.StepEntries.{entry_steps, entry_step}

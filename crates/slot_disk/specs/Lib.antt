@@ -12,12 +12,18 @@ pub mod MemoryDisk
 pub mod OverLaws
 pub mod RecordedLaws
 -- the face: what contracts of other crates cite
-pub use Rattle.slot_disk.specs.Images.{IfImageKnown, IfBothImagesKnown, GivesImageRange, IsTornImage, IsWrittenImage, IsTornFromImage, IsOnlyImage}
-pub use Rattle.slot_disk.specs.Moments.{MomentsGoOn, Leaves, IsUnchangedAtMoment, Leaves-none, Leaves-call, Leaves-trans, Leaves-weaker}
-pub use Rattle.slot_disk.specs.StoreLayout.{store_front_bytes, store_is_open, header_of, stored_body, StoreSlotContent, Closed, Broken, Whole, shown_in_store}
-pub use Rattle.slot_disk.specs.StoreLayout.{store_content}
-unfoldable pub use Rattle.slot_disk.specs.StoreLayout.{store_number_at}
-pub use Rattle.slot_disk.specs.KnownSlots.{SlotsState, known_slot_open, with_open_slot, slots_of, closed_slots, IsStoreOfSlots, SlotsStandAs}
-pub use Rattle.slot_disk.specs.KnownSlots.{SlotsStandAs-unchanged}
-pub use Rattle.slot_disk.specs.Puts.{other_slot_of_put, IsWholeForPut, IsReadyForPut, FitsPutSlot, IsSameBesidePut, PutMayLeave, IsPut, PutHoldsNewest}
+pub use Rattle.slot_disk.specs.Images.{IfImageKnown, IfBothImagesKnown, GivesImageRange, IsTornImage, IsWrittenImage}
+pub use Rattle.slot_disk.specs.Images.{IsTornFromImage, IsOnlyImage}
+pub use Rattle.slot_disk.specs.Moments.{MomentsGoOn, CrashLeavesAtAnyMoment, IsUnchangedAtMoment}
+pub use Rattle.slot_disk.specs.Moments.{CrashLeavesAtAnyMoment-none, CrashLeavesAtAnyMoment-call}
+pub use Rattle.slot_disk.specs.Moments.{CrashLeavesAtAnyMoment-trans, CrashLeavesAtAnyMoment-weaker}
+pub use Rattle.slot_disk.specs.StoreLayout.{layout_front_bytes, layout_gate_is_open, layout_header, layout_body}
+pub use Rattle.slot_disk.specs.StoreLayout.{LayoutSlotContent, Closed, Broken, Whole, shown_in_layout}
+pub use Rattle.slot_disk.specs.StoreLayout.{layout_slot_content}
+unfoldable pub use Rattle.slot_disk.specs.StoreLayout.{layout_number_at}
+pub use Rattle.slot_disk.specs.KnownSlots.{KnownSlotsState, known_slot_open, known_slots_after_opening, known_slots_of}
+pub use Rattle.slot_disk.specs.KnownSlots.{closed_known_slots, IsStoreOfKnownSlots, DiskMatchesKnownSlots}
+pub use Rattle.slot_disk.specs.KnownSlots.{DiskMatchesKnownSlots-unchanged}
+pub use Rattle.slot_disk.specs.Puts.{other_slot_of_put, IsWholeForPut, IsReadyForPut, FitsPutSlot, IsSameApartFromPut}
+pub use Rattle.slot_disk.specs.Puts.{PutMayLeave, IsPut, PutHoldsNewest}
 pub use Rattle.slot_disk.specs.Puts.{PutsLoseNothing}

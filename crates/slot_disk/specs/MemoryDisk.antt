@@ -1,8 +1,10 @@
 -- The state of a disk in memory, as tests see it.
-use Rattle.std.specs.Prelude.{ℕ, ◌+◌, Bool, ◌==◌, ◌||◌, ◌&&◌, not, nat_le, nat_lt, if◌then◌else◌, List, ◌∷◌, length, Option, Some, None, false}
+use Rattle.std.specs.Prelude.{ℕ, ◌+◌, Bool, ◌==◌, ◌||◌, ◌&&◌, not, nat_le, nat_lt, if◌then◌else◌, List, ◌∷◌, length}
+use Rattle.std.specs.Prelude.{Option, Some, None, false}
 use Rattle.std.specs.List.{list_any}
 use Rattle.outside_io.specs.{next_fault_count}
-use Rattle.slot_disk.specs.Recorded.{DiskStep, Began, recorded_reading, recorded_bytes, IsRecordedImage, WasRecordedImage}
+use Rattle.slot_disk.specs.Recorded.{RecordedStep, Began, recorded_reading, recorded_bytes, IsRecordedImage}
+use Rattle.slot_disk.specs.Recorded.{WasRecordedImage}
 
 -- the most bytes of the disk, the most bytes that its record of writes takes, the first bytes, the record with its
 -- newest step first, the call at which the fuse blows, the numbers of the calls that fail, the counts of calls and faults
@@ -10,7 +12,7 @@ pub record MemoryDiskState : Type 0 where
   pub room : ℕ
   pub log : ℕ
   pub first : List ℕ
-  pub steps : List DiskStep
+  pub steps : List RecordedStep
   pub fuse : Option ℕ
   pub fails : List ℕ
   pub calls : ℕ
@@ -56,7 +58,7 @@ abbrev pub memory_disk_after_fault : MemoryDiskState → MemoryDiskState
 memory_disk_after_fault s = record s { calls = next_fault_count s.calls; faults = next_fault_count s.faults }
 
 -- the disk with one more step in its record
-abbrev pub memory_disk_with_step : MemoryDiskState → DiskStep → MemoryDiskState
+abbrev pub memory_disk_with_step : MemoryDiskState → RecordedStep → MemoryDiskState
 memory_disk_with_step s step = record s { steps = step ∷ s.steps }
 
 -- the disk after a write that failed: at the fuse, where it fits, it was begun, and else nothing was written

@@ -4,7 +4,8 @@ use Rattle.std.proofs.Common.{refl, ◌∙◌, ap, arith, get_or}
 use Rattle.std.proofs.lemmas.List.{length-take-le, length-drop, length-append, length-replicate}
 use Rattle.std.proofs.lemmas.List.{get_or_append_left, get_or-append_right, get_or-take, get_or-drop}
 use Rattle.slot_disk.specs.Images.{IsTornImage, IsWrittenImage}
-use Rattle.slot_disk.specs.Recorded.{recorded_over, recorded_zeros, recorded_range_start, recorded_range, written_over}
+use Rattle.slot_disk.specs.Recorded.{recorded_over, recorded_zeros, recorded_range_start, recorded_range}
+use Rattle.slot_disk.specs.Recorded.{recorded_after_write}
 
 module _ (start : ℕ) (piece bytes : List ℕ) (within : start ≤ length bytes) where
   front_length : length (take start bytes) ≡ start
@@ -60,11 +61,11 @@ length-range place piece bytes =
     omega (arith, length-append (recorded_zeros (place - length bytes)) piece, length-zeros (place - length bytes))
 
 -- a whole write
-pub written_is_torn : (place : ℕ) (piece bytes : List ℕ) → IsTornImage place (length piece) bytes (written_over place piece bytes)
+pub written_is_torn : (place : ℕ) (piece bytes : List ℕ) → IsTornImage place (length piece) bytes (recorded_after_write place piece bytes)
 written_is_torn place piece bytes =
     over_is_torn place (length piece) (recorded_range place piece bytes) bytes (omega (arith, length-range place piece bytes))
 
-pub written_is_written : (place : ℕ) (piece bytes : List ℕ) → IsWrittenImage place piece bytes (written_over place piece bytes)
+pub written_is_written : (place : ℕ) (piece bytes : List ℕ) → IsWrittenImage place piece bytes (recorded_after_write place piece bytes)
 written_is_written place piece bytes =
     let start = recorded_range_start place bytes in
     let range = recorded_range place piece bytes in
@@ -77,7 +78,7 @@ written_is_written place piece bytes =
       fits = λ k lt. omega (arith, length-over start range bytes within, length-range place piece bytes);
       range = λ k lt.
           let e : place + k ≡ start + ((place - length bytes) + k) = omega arith in
-          ap (λ n. get_or (written_over place piece bytes) n 0) e
+          ap (λ n. get_or (recorded_after_write place piece bytes) n 0) e
           ∙ over_inside start range bytes within ((place - length bytes) + k) (omega arith)
           ∙ get_or-append_right gap piece (place - length bytes) ((place - length bytes) + k) 0 gap_length (omega arith)
           ∙ ap (λ n. get_or piece n 0) (let e2 : (place - length bytes) + k - (place - length bytes) ≡ k = omega arith in e2);

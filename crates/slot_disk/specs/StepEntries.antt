@@ -1,31 +1,31 @@
 -- How a disk in memory keeps its record, which no public contract cites.
 use Rattle.std.specs.Prelude.{ℕ, ◌≡◌, ◌≤◌, List, [], ◌∷◌, length, reverse, take, drop}
-use Rattle.slot_disk.specs.Recorded.{DiskStep, Wrote, Began, Synced, recorded_reading, recorded_bytes}
+use Rattle.slot_disk.specs.Recorded.{RecordedStep, Wrote, Began, Synced, recorded_reading, recorded_bytes}
 use Rattle.slot_disk.specs.declared.step_entry.StepKind.{StepKind}
 use Rattle.slot_disk.specs.declared.step_entry.StepKind.TheVariants as kind
 use Rattle.slot_disk.specs.declared.step_entry.StepEntry.{StepEntry}
 
 -- the step of a kind at an offset, with these bytes
-abbrev pub entry_step : StepKind → ℕ → List ℕ → DiskStep
+abbrev pub entry_step : StepKind → ℕ → List ℕ → RecordedStep
 entry_step kind.Wrote place piece = Wrote place piece
 entry_step kind.Began place piece = Began place piece
 entry_step kind.Synced place piece = Synced
 
 -- the steps of entries, newest first, whose bytes stand in one list: those of an entry begin at its start, and end
 -- where those of the next one begin
-abbrev pub entry_steps : List StepEntry → List ℕ → List DiskStep
+abbrev pub entry_steps : List StepEntry → List ℕ → List RecordedStep
 entry_steps [] log = []
 entry_steps (entry ∷ earlier) log = entry_step entry.kind entry.place (drop entry.start log) ∷ entry_steps earlier (take entry.start log)
 
 -- the steps of entries that stand in a list with the newest last
-abbrev pub recorded_steps : List StepEntry → List ℕ → List DiskStep
-recorded_steps entries log = entry_steps (reverse entries) log
+abbrev pub steps_of_entries_newest_last : List StepEntry → List ℕ → List RecordedStep
+steps_of_entries_newest_last entries log = entry_steps (reverse entries) log
 
 -- what a disk keeps beside its record: the bytes that a read gives, and how far its lists have grown in their room
 pub record HasStepEntries (room log : ℕ) (first bytes : List ℕ) (entries : List StepEntry) (written : List ℕ) : Type 0 where
-  pub contents : bytes ≡ recorded_reading first (recorded_steps entries written)
-  pub counted : recorded_bytes (recorded_steps entries written) ≡ length written
+  pub contents : bytes ≡ recorded_reading first (steps_of_entries_newest_last entries written)
+  pub counted : recorded_bytes (steps_of_entries_newest_last entries written) ≡ length written
   pub fits : length bytes ≤ room
-  pub as_many : length (recorded_steps entries written) ≡ length entries
+  pub as_many : length (steps_of_entries_newest_last entries written) ≡ length entries
   pub few : length entries ≤ 1024
   pub logged : length written ≤ log

@@ -1,8 +1,9 @@
 //! The bytes that a crash leaves of a record of writes and syncs.
 
 ghost use Rattle.std.specs.Prelude.{◌≡◌, length, IfOk, OnOk};
-ghost use Rattle.slot_disk.specs.Recorded.{recorded_zeros, recorded_reading, kept_of_recorded, recorded_crash_range, recorded_crash};
-ghost use Rattle.slot_disk.specs.StepEntries.{recorded_steps};
+ghost use Rattle.slot_disk.specs.Recorded.{recorded_zeros, recorded_reading, recorded_bytes_kept, recorded_crash_range};
+ghost use Rattle.slot_disk.specs.Recorded.{recorded_crash};
+ghost use Rattle.slot_disk.specs.StepEntries.{steps_of_entries_newest_last};
 
 use crate::overwriting::put_over;
 use crate::step_entry::{StepEntry, StepKind, take_newest};
@@ -16,7 +17,7 @@ pub(crate) fn crashed(
     entries: &[StepEntry],
     written: &[u8],
 ) -> Result<Vec<u8>, AllocError>
-    ensures { IfOk result (λ image. image.items ≡ recorded_crash choice first.now (recorded_steps entries.now written.now)) }
+    ensures { IfOk result (λ image. image.items ≡ recorded_crash choice first.now (steps_of_entries_newest_last entries.now written.now)) }
 {
     let Some(newest) = take_newest(entries, written) else {
         return first.to_vec(alloc);
@@ -38,7 +39,7 @@ fn reading(
     entries: &[StepEntry],
     written: &[u8],
 ) -> Result<Vec<u8>, AllocError>
-    ensures { IfOk result (λ bytes. bytes.items ≡ recorded_reading first.now (recorded_steps entries.now written.now)) }
+    ensures { IfOk result (λ bytes. bytes.items ≡ recorded_reading first.now (steps_of_entries_newest_last entries.now written.now)) }
 {
     let Some(newest) = take_newest(entries, written) else {
         return first.to_vec(alloc);
@@ -80,7 +81,7 @@ fn zeros(alloc: Global, count: usize) -> Result<Vec<u8>, AllocError>
 
 // What a crash of this choice keeps of a range.
 fn keep(choice: u8, range: &mut Vec<u8>)
-    ensures { range.new.items ≡ kept_of_recorded choice range.old.items }
+    ensures { range.new.items ≡ recorded_bytes_kept choice range.old.items }
 {
     match choice {
         0 => range.clear(),

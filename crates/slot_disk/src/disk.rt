@@ -2,7 +2,8 @@
 
 ghost use Rattle.std.specs.Prelude.{◌≡◌, ◌≤◌, ℕ, Option, Some, List, length, drop, is_some, IfOk, OnOk};
 ghost use Rattle.outside_io.specs.{FailsByFaultCount};
-ghost use Rattle.slot_disk.specs.Images.{IfImageKnown, IfBothImagesKnown, GivesImageRange, IsTornImage, IsWrittenImage, IsTornFromImage, IsOnlyImage};
+ghost use Rattle.slot_disk.specs.Images.{IfImageKnown, IfBothImagesKnown, GivesImageRange, IsTornImage, IsWrittenImage};
+ghost use Rattle.slot_disk.specs.Images.{IsTornFromImage, IsOnlyImage};
 ghost use Rattle.slot_disk.specs.Moments.{MomentsGoOn, IsUnchangedAtMoment};
 
 use outside_io::Failed;

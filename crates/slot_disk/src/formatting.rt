@@ -3,8 +3,8 @@
 ghost use Rattle.std.specs.Prelude.{◌≡◌, ℕ, ◌∷◌, List, Some, length, is_some, OnOk};
 ghost use Rattle.outside_io.specs.{FailsByFaultCount};
 ghost use Rattle.slot_disk.specs.Images.{IfBothImagesKnown, IsTornImage, IsWrittenImage, IsTornFromImage};
-ghost use Rattle.slot_disk.specs.Moments.{Leaves};
-ghost use Rattle.slot_disk.specs.KnownSlots.{SlotsStandAs, closed_slots};
+ghost use Rattle.slot_disk.specs.Moments.{CrashLeavesAtAnyMoment};
+ghost use Rattle.slot_disk.specs.KnownSlots.{DiskMatchesKnownSlots, closed_known_slots};
 
 use crate::Disk;
 use crate::safe_write::write_safely;
@@ -16,8 +16,8 @@ pub fn format<D: Disk>(disk: &mut D, header: &[u8; 62]) -> Result<(), Failed>
     ensures known { is_some (D.reads disk.new) ≡ is_some (D.reads disk.old) }
     ensures torn { IfBothImagesKnown (D.reads disk.old) (D.reads disk.new) (IsTornImage 0 64) }
     ensures written { OnOk result (IfBothImagesKnown (D.reads disk.old) (D.reads disk.new) (IsWrittenImage 0 (0 ∷ 0 ∷ header.now))) }
-    ensures stands { OnOk result (SlotsStandAs (D.reads disk.new) (D.image_now disk.new) (closed_slots header.now)) }
-    ensures any_moment { Leaves D.moment D.image_since disk.old disk.new (IsTornFromImage (D.image_now disk.old) 0 64) }
+    ensures stands { OnOk result (DiskMatchesKnownSlots (D.reads disk.new) (D.image_now disk.new) (closed_known_slots header.now)) }
+    ensures any_moment { CrashLeavesAtAnyMoment D.moment D.image_since disk.old disk.new (IsTornFromImage (D.image_now disk.old) 0 64) }
     ensures cause { FailsByFaultCount (D.faults disk.old) (D.faults disk.new) result }
 {
     let front = closed_front(header);

@@ -3,12 +3,16 @@
 ghost use Rattle.std.specs.Prelude.{◌≡◌, ◌+◌, ◌<◌, ◌≤◌, ℕ, List, [], ◌||◌, ◌&&◌, not, nat_le, nat_lt, length, drop};
 ghost use Rattle.std.specs.Prelude.{is_err, is_some, true, IfOk, OnOk, OnErr, Some};
 ghost use Rattle.outside_io.specs.{FailsByFaultCount};
-ghost use Rattle.slot_disk.specs.Images.{IfImageKnown, IfBothImagesKnown, GivesImageRange, IsTornImage, IsWrittenImage, IsTornFromImage, IsOnlyImage};
+ghost use Rattle.slot_disk.specs.Images.{IfImageKnown, IfBothImagesKnown, GivesImageRange, IsTornImage, IsWrittenImage};
+ghost use Rattle.slot_disk.specs.Images.{IsTornFromImage, IsOnlyImage};
 ghost use Rattle.slot_disk.specs.Moments.{MomentsGoOn, IsUnchangedAtMoment};
 ghost use Rattle.slot_disk.specs.Recorded.{Wrote, Began, Synced, recorded_reading, recorded_crash};
 ghost use Rattle.slot_disk.specs.RecordedLaws.{is_image-reading, now_is_since, only_now};
-ghost use Rattle.slot_disk.specs.MemoryDisk.{most_memory_disk_steps, disk_fuse_blows_at, disk_fuse_has_blown, memory_disk_call_fails, memory_disk_sync_fails, memory_disk_write_fits, memory_disk_write_fails};
-ghost use Rattle.slot_disk.specs.MemoryDisk.{memory_disk_after_call, memory_disk_after_fault, memory_disk_with_step, memory_disk_after_failed_write, memory_disk_reads};
+ghost use Rattle.slot_disk.specs.MemoryDisk.{most_memory_disk_steps, disk_fuse_blows_at, disk_fuse_has_blown};
+ghost use Rattle.slot_disk.specs.MemoryDisk.{memory_disk_call_fails, memory_disk_sync_fails, memory_disk_write_fits};
+ghost use Rattle.slot_disk.specs.MemoryDisk.{memory_disk_write_fails};
+ghost use Rattle.slot_disk.specs.MemoryDisk.{memory_disk_after_call, memory_disk_after_fault, memory_disk_with_step};
+ghost use Rattle.slot_disk.specs.MemoryDisk.{memory_disk_after_failed_write, memory_disk_reads};
 ghost use Rattle.slot_disk.specs.MemoryDisk.{memory_disk_image_now, memory_disk_moment, memory_disk_image_since};
 
 use crate::Disk;
@@ -47,7 +51,7 @@ impl Model for MemoryDisk {
     ghost use Rattle.std.specs.Prelude.{◌≡◌, ◌≤◌, length, vec_len, vec_capacity};
     ghost use Rattle.slot_disk.specs.MemoryDisk.{MemoryDiskState};
     ghost use Rattle.slot_disk.specs.Recorded.{recorded_reading, recorded_bytes};
-    ghost use Rattle.slot_disk.specs.StepEntries.{recorded_steps, HasStepEntries};
+    ghost use Rattle.slot_disk.specs.StepEntries.{steps_of_entries_newest_last, HasStepEntries};
 
     ghost Value = { MemoryDiskState };
 
@@ -55,7 +59,7 @@ impl Model for MemoryDisk {
       room = s.room;
       log = s.log;
       first = s.first.items;
-      steps = recorded_steps s.entries.items s.written.items;
+      steps = steps_of_entries_newest_last s.entries.items s.written.items;
       fuse = s.fuse;
       fails = s.fails.items;
       calls = s.calls;
@@ -285,7 +289,8 @@ impl Disk for MemoryDisk {
     fn read_at(&mut self, place: u64, into: &mut [u8]) -> Result<usize, Failed>
         ensures fits { IfOk result (λ count. count ≤ length into.old) }
         ensures later_places { IfOk result (λ count. drop count into.new ≡ drop count into.old) }
-        ensures given { IfOk result (λ count. IfImageKnown (memory_disk_reads self.old) (λ bytes. GivesImageRange place (length into.old) bytes into.new count)) }
+        ensures given { IfOk result (λ count. IfImageKnown (memory_disk_reads self.old)
+            (λ bytes. GivesImageRange place (length into.old) bytes into.new count)) }
         ensures unchanged { IsUnchangedAtMoment memory_disk_reads memory_disk_image_now self.old self.new }
         ensures images { (image : List ℕ) → memory_disk_image_since self.new (memory_disk_moment self.old) image → memory_disk_image_now self.old image }
         ensures time { MomentsGoOn memory_disk_moment memory_disk_image_since self.old self.new }

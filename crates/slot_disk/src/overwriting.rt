@@ -1,7 +1,7 @@
 //! Writing a piece over bytes, past their end too.
 
 ghost use Rattle.std.specs.Prelude.{◌≡◌, ◌≤◌, ◌+◌, ◌-◌, ◌++◌, length, vec_len, vec_capacity, OnOk, IsOk};
-ghost use Rattle.slot_disk.specs.Recorded.{recorded_over, recorded_zeros, written_over};
+ghost use Rattle.slot_disk.specs.Recorded.{recorded_over, recorded_zeros, recorded_after_write};
 
 use std::alloc::AllocError;
 
@@ -32,7 +32,7 @@ pub(crate) fn fill_gap(bytes: &mut Vec<u8>, length: usize)
 /// Writes the piece at an offset. A gap between the end and the offset is filled with zero bytes.
 pub(crate) fn write_over(bytes: &mut Vec<u8>, place: usize, piece: &[u8])
     requires { place + length piece.now ≤ vec_capacity bytes.old }
-    ensures written { bytes.new.items ≡ written_over place piece.now bytes.old.items }
+    ensures written { bytes.new.items ≡ recorded_after_write place piece.now bytes.old.items }
     ensures room { vec_capacity bytes.old ≤ vec_capacity bytes.new }
 {
     fill_gap(bytes, place);

@@ -3,8 +3,9 @@
 ghost use Rattle.std.specs.Prelude.{◌≡◌, ℕ, ◌<◌, ◌≤◌, ◌^◌, List, Some, length, is_some, OnOk};
 ghost use Rattle.outside_io.specs.{FailsByFaultCount};
 ghost use Rattle.slot_disk.specs.Images.{IfImageKnown, IfBothImagesKnown, IsOnlyImage};
-ghost use Rattle.slot_disk.specs.Moments.{Leaves};
-ghost use Rattle.slot_disk.specs.Puts.{closing_put, PutCanClose, MayBeClosedByPut, IsClosedByPut, PutCanWrite, FitsPutSlot, IsStoredByPut, PutCanOpen, MayBeOpenByPut, IsPut};
+ghost use Rattle.slot_disk.specs.Moments.{CrashLeavesAtAnyMoment};
+ghost use Rattle.slot_disk.specs.Puts.{closing_put, PutCanClose, MayBeClosedByPut, IsClosedByPut, PutCanWrite};
+ghost use Rattle.slot_disk.specs.Puts.{FitsPutSlot, IsStoredByPut, PutCanOpen, MayBeOpenByPut, IsPut};
 
 use crate::Disk;
 use crate::safe_write::write_safely;
@@ -20,7 +21,7 @@ pub(crate) fn close_gate<D: Disk>(disk: &mut D, slot: u8, is_open: bool) -> Resu
         (λ old new. PutCanClose span slot is_open old → IsClosedByPut span slot old new)) }
     ensures safe { OnOk result (IfImageKnown (D.reads disk.new) (λ new. IsOnlyImage new (D.image_now disk.new))) }
     ensures any_moment { (span : ℕ) → IfImageKnown (D.reads disk.old) (λ old. IsOnlyImage old (D.image_now disk.old) → PutCanClose span slot is_open old
-        → Leaves D.moment D.image_since disk.old disk.new (MayBeClosedByPut span slot old)) }
+        → CrashLeavesAtAnyMoment D.moment D.image_since disk.old disk.new (MayBeClosedByPut span slot old)) }
     ensures cause { FailsByFaultCount (D.faults disk.old) (D.faults disk.new) result }
 {
     write_safely(disk, slot as u64, closing(is_open))?;
@@ -49,7 +50,7 @@ pub(crate) fn write_body<D: Disk>(
         (λ old new. PutCanWrite span slot old → IsStoredByPut span slot body.now old new)) }
     ensures safe { OnOk result (IfImageKnown (D.reads disk.new) (λ new. IsOnlyImage new (D.image_now disk.new))) }
     ensures any_moment { IfImageKnown (D.reads disk.old) (λ old. IsOnlyImage old (D.image_now disk.old) → PutCanWrite span slot old
-        → Leaves D.moment D.image_since disk.old disk.new (IsClosedByPut span slot old)) }
+        → CrashLeavesAtAnyMoment D.moment D.image_since disk.old disk.new (IsClosedByPut span slot old)) }
     ensures cause { FailsByFaultCount (D.faults disk.old) (D.faults disk.new) result }
 {
     write_safely(disk, body_place(slot, span), body)?;
@@ -63,8 +64,9 @@ pub(crate) fn open_gate<D: Disk>(disk: &mut D, slot: u8) -> Result<(), Failed>
     ensures opened { OnOk result ((span : ℕ) (body : List ℕ) → IfBothImagesKnown (D.reads disk.old) (D.reads disk.new)
         (λ old new. PutCanOpen span slot body old → IsPut span slot body old new)) }
     ensures safe { OnOk result (IfImageKnown (D.reads disk.new) (λ new. IsOnlyImage new (D.image_now disk.new))) }
-    ensures any_moment { (span : ℕ) (body : List ℕ) → IfImageKnown (D.reads disk.old) (λ old. IsOnlyImage old (D.image_now disk.old) → PutCanOpen span slot body old
-        → Leaves D.moment D.image_since disk.old disk.new (MayBeOpenByPut span slot body old)) }
+    ensures any_moment { (span : ℕ) (body : List ℕ)
+        → IfImageKnown (D.reads disk.old) (λ old. IsOnlyImage old (D.image_now disk.old) → PutCanOpen span slot body old
+        → CrashLeavesAtAnyMoment D.moment D.image_since disk.old disk.new (MayBeOpenByPut span slot body old)) }
     ensures cause { FailsByFaultCount (D.faults disk.old) (D.faults disk.new) result }
 {
     write_safely(disk, slot as u64, &[1])?;

@@ -2,8 +2,9 @@
 
 ghost use Rattle.std.specs.Prelude.{◌≡◌, ℕ, List, Some, length, is_some, OnOk};
 ghost use Rattle.outside_io.specs.{FailsByFaultCount};
-ghost use Rattle.slot_disk.specs.Images.{IfImageKnown, IfBothImagesKnown, IsTornImage, IsWrittenImage, IsTornFromImage, IsOnlyImage};
-ghost use Rattle.slot_disk.specs.Moments.{Leaves};
+ghost use Rattle.slot_disk.specs.Images.{IfImageKnown, IfBothImagesKnown, IsTornImage, IsWrittenImage, IsTornFromImage};
+ghost use Rattle.slot_disk.specs.Images.{IsOnlyImage};
+ghost use Rattle.slot_disk.specs.Moments.{CrashLeavesAtAnyMoment};
 
 use crate::Disk;
 use outside_io::Failed;
@@ -14,7 +15,7 @@ pub(crate) fn write_safely<D: Disk>(disk: &mut D, place: u64, bytes: &[u8]) -> R
     ensures torn { IfBothImagesKnown (D.reads disk.old) (D.reads disk.new) (IsTornImage place (length bytes.now)) }
     ensures written { OnOk result (IfBothImagesKnown (D.reads disk.old) (D.reads disk.new) (IsWrittenImage place bytes.now)) }
     ensures safe { OnOk result (IfImageKnown (D.reads disk.new) (λ new. IsOnlyImage new (D.image_now disk.new))) }
-    ensures any_moment { Leaves D.moment D.image_since disk.old disk.new (IsTornFromImage (D.image_now disk.old) place (length bytes.now)) }
+    ensures any_moment { CrashLeavesAtAnyMoment D.moment D.image_since disk.old disk.new (IsTornFromImage (D.image_now disk.old) place (length bytes.now)) }
     ensures cause { FailsByFaultCount (D.faults disk.old) (D.faults disk.new) result }
 {
     disk.write_at(place, bytes)?;

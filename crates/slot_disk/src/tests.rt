@@ -1,6 +1,6 @@
 ghost use Rattle.std.specs.Prelude.{◌≡◌, ℕ, ◌<◌, List, Some, IfOk, OnOk};
 ghost use Rattle.slot_disk.specs.Images.{IfImageKnown};
-ghost use Rattle.slot_disk.specs.KnownSlots.{SlotsStandAs};
+ghost use Rattle.slot_disk.specs.KnownSlots.{DiskMatchesKnownSlots};
 ghost use Rattle.slot_disk.specs.Puts.{IsReadyForPut};
 
 use super::*;
@@ -24,7 +24,7 @@ fn disk_of(alloc: Global, bytes: Vec<u8>, fuse: Option<u64>) -> Result<MemoryDis
 
 // Makes a store, and puts a body into its slot 0: calls 0 to 9 of the disk.
 fn put_first<D: Disk>(disk: &mut D) -> Result<Slots, Failed>
-    ensures stands { IfOk result (λ slots. SlotsStandAs (D.reads disk.new) (D.image_now disk.new) slots) }
+    ensures stands { IfOk result (λ slots. DiskMatchesKnownSlots (D.reads disk.new) (D.image_now disk.new) slots) }
     ensures ready { OnOk result (IfImageKnown (D.reads disk.new) (IsReadyForPut 16 1)) }
 {
     format(disk, &[0; 62])?;

@@ -6,8 +6,10 @@ use Rattle.std.proofs.lemmas.Bool.{le-ltb, cond-false}
 use Rattle.std.proofs.lemmas.List.Elements.{recursion_from_All}
 use Rattle.std.proofs.lemmas.List.Sums.{sum_by-cons, fold-append}
 use Rattle.space_saving.specs.declared.entry.Entry.{Entry}
-use Rattle.space_saving.specs.Table.{TableAdd, table_entry, table_after_step, table_of, table_total, least_table_count, table_interval_from}
-use Rattle.space_saving.specs.Table.{table_interval_after, table_weight_of_key, total_added_to_table, IsTable, AreWeighedForTable}
+use Rattle.space_saving.specs.Table.{TableAdd, table_entry, table_after_step, table_of, table_total, least_table_count}
+use Rattle.space_saving.specs.Table.{table_interval_from}
+use Rattle.space_saving.specs.Table.{table_interval_after, table_weight_of_key, total_added_to_table, IsTable}
+use Rattle.space_saving.specs.Table.{AreWeighedForTable}
 use Rattle.space_saving.proofs.TableStepLemmas.{table_total-table_step, IsTable-step, IsTable-nil_before_step}
 use Rattle.space_saving.proofs.IntervalLemmas.{IntervalHolds, IntervalHolds-step, IntervalHolds-nil}
 use Rattle.space_saving.proofs.IntervalWidthLemmas.{interval_width_is_narrow, interval_width_of_full_table}

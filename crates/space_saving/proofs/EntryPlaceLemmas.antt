@@ -5,7 +5,8 @@ use Rattle.std.proofs.lemmas.Bool.{eq-eqb, cond-true, cond-false, lt-leb, le-leb
 use Rattle.std.proofs.lemmas.List.{set_split, drop_more, drop_all}
 use Rattle.std.proofs.lemmas.Option.{slice_get-get_or}
 use Rattle.space_saving.specs.declared.entry.Entry.{Entry}
-use Rattle.space_saving.specs.Table.{TableAdd, put_in_table, table_without, table_entry, table_after_step, table_after_step_from, TableRisesFrom}
+use Rattle.space_saving.specs.Table.{TableAdd, put_in_table, table_without, table_entry, table_after_step}
+use Rattle.space_saving.specs.Table.{table_after_step_from, TableRisesFrom}
 use Rattle.space_saving.specs.Places.{IsPlaceOf}
 use Rattle.space_saving.proofs.WithoutLemmas.{TableRisesFrom-less_before_without}
 use Rattle.space_saving.proofs.TableStepLemmas.{table_step_raised}

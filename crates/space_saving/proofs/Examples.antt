@@ -2,9 +2,12 @@
 use Rattle.std.proofs.Common.{◌≡◌, ◌≤◌, ℕ, List, [], ◌∷◌, None, Some, refl, lit<, arith, ◌*◌, ◌^◌}
 use Rattle.std.proofs.lemmas.List.Elements.{All-from_recursion, All-head}
 use Rattle.space_saving.specs.declared.entry.Entry.{Entry}
-use Rattle.space_saving.specs.Table.{TableAdd, TableValue, TableInterval, put_in_table, table_entry, table_without, replace_table_head, enter_in_table}
-use Rattle.space_saving.specs.Table.{table_after_step_from, table_after_step, table_of, table_total, least_table_count, table_interval_from}
-use Rattle.space_saving.specs.Table.{interval_in_table, table_interval_after, table_weight_of_key, total_added_to_table, TableRisesFrom, AreApartInTable}
+use Rattle.space_saving.specs.Table.{TableAdd, TableValue, TableInterval, put_in_table, table_entry, table_without}
+use Rattle.space_saving.specs.Table.{replace_table_head, enter_in_table}
+use Rattle.space_saving.specs.Table.{table_after_step_from, table_after_step, table_of, table_total, least_table_count}
+use Rattle.space_saving.specs.Table.{table_interval_from}
+use Rattle.space_saving.specs.Table.{interval_in_table, table_interval_after, table_weight_of_key, total_added_to_table}
+use Rattle.space_saving.specs.Table.{TableRisesFrom, AreApartInTable}
 use Rattle.space_saving.specs.Table.{HasSmallTableError, IsTable, AreTableEntries, IsKeptTable, AreWeighedForTable}
 use Rattle.space_saving.specs.Table.{least_table_capacity, most_table_capacity, table_limit}
 use Rattle.space_saving.specs.Places.{IsPlaceOf}

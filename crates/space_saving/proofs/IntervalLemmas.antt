@@ -4,10 +4,13 @@ use Rattle.std.proofs.Common.{Option, None, Some, refl, sym, ap, subst, ◌∙�
 use Rattle.std.proofs.lemmas.Bool.{ltb-true, ltb-false, eqb-true, eqb-false, eq-eqb, ne_eqb, cond-true, cond-false}
 use Rattle.std.proofs.lemmas.Bool.{cond_both, cases_eq}
 use Rattle.space_saving.specs.declared.entry.Entry.{Entry}
-use Rattle.space_saving.specs.Table.{TableAdd, put_in_table, table_without, table_entry, table_after_step, least_table_count, table_interval_from, interval_in_table}
+use Rattle.space_saving.specs.Table.{TableAdd, put_in_table, table_without, table_entry, table_after_step}
+use Rattle.space_saving.specs.Table.{least_table_count, table_interval_from, interval_in_table}
 use Rattle.space_saving.specs.Table.{TableRisesFrom, IsTable}
-use Rattle.space_saving.proofs.PutEntryLemmas.{length-put_entry, table_entry-put_same, table_entry-put_other, TableRisesFrom-put_entry}
-use Rattle.space_saving.proofs.WithoutLemmas.{length-without, key-entry_before_without, count-entry_before_without, TableRisesFrom-without}
+use Rattle.space_saving.proofs.PutEntryLemmas.{length-put_entry, table_entry-put_same, table_entry-put_other}
+use Rattle.space_saving.proofs.PutEntryLemmas.{TableRisesFrom-put_entry}
+use Rattle.space_saving.proofs.WithoutLemmas.{length-without, key-entry_before_without, count-entry_before_without}
+use Rattle.space_saving.proofs.WithoutLemmas.{TableRisesFrom-without}
 use Rattle.space_saving.proofs.WithoutLemmas.{table_entry-without_other, table_entry-without_same}
 use Rattle.space_saving.proofs.TableStepLemmas.{table_step_raised, table_step_fresh, table_step_heir, table_step_cases}
 

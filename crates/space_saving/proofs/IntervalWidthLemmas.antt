@@ -4,7 +4,8 @@ use Rattle.std.proofs.Common.{get_or, None, Some, refl, sym, ap, subst, arith}
 use Rattle.std.proofs.lemmas.Bool.{ltb-false, cond_both}
 use Rattle.std.proofs.lemmas.List.Elements.{recursion_from_All}
 use Rattle.space_saving.specs.declared.entry.Entry.{Entry}
-use Rattle.space_saving.specs.Table.{table_entry, table_total, least_table_count, TableInterval, table_interval_from, interval_in_table}
+use Rattle.space_saving.specs.Table.{table_entry, table_total, least_table_count, TableInterval, table_interval_from}
+use Rattle.space_saving.specs.Table.{interval_in_table}
 use Rattle.space_saving.specs.Table.{HasSmallTableError, IsTable}
 use Rattle.space_saving.proofs.PutEntryLemmas.{table_total-first_put_entry}
 use Rattle.space_saving.proofs.WithoutLemmas.{all-entry_before_without, count-entry_before_without}

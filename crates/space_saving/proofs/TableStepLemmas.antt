@@ -5,12 +5,16 @@ use Rattle.std.specs.List.{AllByRecursion}
 use Rattle.std.proofs.lemmas.Bool.{ltb-true, ltb-false, cond_both}
 use Rattle.std.proofs.lemmas.List.Elements.{All-from_recursion, recursion_from_All}
 use Rattle.space_saving.specs.declared.entry.Entry.{Entry}
-use Rattle.space_saving.specs.Table.{TableAdd, put_in_table, table_without, table_entry, replace_table_head, table_after_step, table_after_step_from, table_total}
+use Rattle.space_saving.specs.Table.{TableAdd, put_in_table, table_without, table_entry, replace_table_head}
+use Rattle.space_saving.specs.Table.{table_after_step, table_after_step_from, table_total}
 use Rattle.space_saving.specs.Table.{TableRisesFrom, AreApartInTable, HasSmallTableError, IsTable, IsKeptTable}
-use Rattle.space_saving.proofs.PutEntryLemmas.{table_total-first_put_entry, length-put_entry, table_total-put_entry, TableRisesFrom-put_entry}
+use Rattle.space_saving.proofs.PutEntryLemmas.{table_total-first_put_entry, length-put_entry, table_total-put_entry}
+use Rattle.space_saving.proofs.PutEntryLemmas.{TableRisesFrom-put_entry}
 use Rattle.space_saving.proofs.PutEntryLemmas.{AreApartInTable-put_entry, put_entry_missing_from_first, all-put_entry}
-use Rattle.space_saving.proofs.WithoutLemmas.{length-without, table_total-without, all-entry_before_without, key-entry_before_without}
-use Rattle.space_saving.proofs.WithoutLemmas.{TableRisesFrom-less_before_without, TableRisesFrom-without, table_entry-without_same}
+use Rattle.space_saving.proofs.WithoutLemmas.{length-without, table_total-without, all-entry_before_without}
+use Rattle.space_saving.proofs.WithoutLemmas.{key-entry_before_without}
+use Rattle.space_saving.proofs.WithoutLemmas.{TableRisesFrom-less_before_without, TableRisesFrom-without}
+use Rattle.space_saving.proofs.WithoutLemmas.{table_entry-without_same}
 use Rattle.space_saving.proofs.WithoutLemmas.{AreApartInTable-without, all-without}
 
 -- the entry with this weight more

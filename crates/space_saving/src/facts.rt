@@ -2,7 +2,8 @@
 
 ghost use Rattle.std.specs.Prelude.{◌≡◌, ◌<◌, ◌≤◌, ◌↔◌, IsTrue, All};
 ghost use Rattle.std.specs.Option.{SomeIff};
-ghost use Rattle.space_saving.specs.Table.{table_total, HasSmallTableError, IsTable, TableRisesFrom, most_table_capacity, table_limit};
+ghost use Rattle.space_saving.specs.Table.{table_total, HasSmallTableError, IsTable, TableRisesFrom};
+ghost use Rattle.space_saving.specs.Table.{most_table_capacity, table_limit};
 
 use crate::Entry;
 use crate::keys::are_apart;

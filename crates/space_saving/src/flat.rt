@@ -1,7 +1,10 @@
 //! A table as plain entries.
 
-ghost use Rattle.std.specs.Prelude.{◌≡◌, ◌+◌, ◌-◌, ◌*◌, ◌<◌, ◌≤◌, ◌↔◌, [], length, take, slice_get, vec_capacity, IfOk, IfSome, IsSome, None};
-ghost use Rattle.space_saving.specs.Table.{table_after_step, table_entry, table_total, least_table_count, interval_in_table, AreTableEntries, least_table_capacity, most_table_capacity, table_limit};
+ghost use Rattle.std.specs.Prelude.{◌≡◌, ◌+◌, ◌-◌, ◌*◌, ◌<◌, ◌≤◌, ◌↔◌, [], length, take, slice_get, vec_capacity, IfOk};
+ghost use Rattle.std.specs.Prelude.{IfSome, IsSome, None};
+ghost use Rattle.space_saving.specs.Table.{table_after_step, table_entry, table_total, least_table_count};
+ghost use Rattle.space_saving.specs.Table.{interval_in_table, AreTableEntries, least_table_capacity};
+ghost use Rattle.space_saving.specs.Table.{most_table_capacity, table_limit};
 
 use crate::facts::{is_table, total_of};
 use crate::places::place_of;

@@ -2,8 +2,10 @@
 
 ghost use Rattle.std.specs.Prelude.{◌≡◌, ℕ, ◌+◌, ◌-◌, ◌*◌, ◌≤◌, ◌++◌, ◌∷◌, [], List, length, fold};
 ghost use Rattle.space_saving.specs.declared.entry.Entry.{Entry};
-ghost use Rattle.space_saving.specs.Table.{TableAdd, table_after_step, table_of, table_entry, table_total, least_table_count, table_interval_from};
-ghost use Rattle.space_saving.specs.Table.{interval_in_table, table_interval_after, table_weight_of_key, total_added_to_table, AreWeighedForTable, IsTable};
+ghost use Rattle.space_saving.specs.Table.{TableAdd, table_after_step, table_of, table_entry, table_total};
+ghost use Rattle.space_saving.specs.Table.{least_table_count, table_interval_from};
+ghost use Rattle.space_saving.specs.Table.{interval_in_table, table_interval_after, table_weight_of_key};
+ghost use Rattle.space_saving.specs.Table.{total_added_to_table, AreWeighedForTable, IsTable};
 
 /// The interval of each key holds the weight that was added for it, and its width is at most the total weight
 /// divided by the capacity (Metwally, Agrawal, El Abbadi 2005).

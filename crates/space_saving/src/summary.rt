@@ -1,7 +1,8 @@
 //! A Space-Saving table, in whatever form it keeps its entries.
 
 ghost use Rattle.std.specs.Prelude.{◌≡◌, ◌+◌, ◌-◌, ◌*◌, ◌<◌, ◌≤◌, ◌↔◌, [], length, slice_get, IfOk, IsTrue, Some};
-ghost use Rattle.space_saving.specs.Table.{TableValue, table_after_step, table_total, interval_in_table, AreTableEntries, least_table_capacity, most_table_capacity, table_limit};
+ghost use Rattle.space_saving.specs.Table.{TableValue, table_after_step, table_total, interval_in_table};
+ghost use Rattle.space_saving.specs.Table.{AreTableEntries, least_table_capacity, most_table_capacity, table_limit};
 
 use crate::{Entry, Flat};
 use std::alloc::{AllocError, Global};

@@ -1,10 +1,12 @@
 -- Worked examples: what seed 7 makes.
 use Rattle.std.proofs.Common.{◌≡◌, ◌*◌, [], ◌∷◌, ◌++◌, length, refl, arith}
 use Rattle.traffic_maker.specs.Draw.{next_draw_state, draw_state_after, draw_from_state, draw}
-use Rattle.traffic_maker.specs.Address.{made_address}
-use Rattle.traffic_maker.specs.MadeFrame.{made_frame_wire_length, made_frame_length, made_frame_header, made_frame_ethernet_header, made_frame_ip_header, made_frame_bytes}
+use Rattle.traffic_maker.specs.MadeAddress.{made_address}
+use Rattle.traffic_maker.specs.MadeFrame.{made_frame_wire_length, made_frame_length, made_frame_header}
+use Rattle.traffic_maker.specs.MadeFrame.{made_frame_ethernet_header, made_frame_ip_header, made_frame_bytes}
 use Rattle.traffic_maker.specs.MadeFrame.{made_frame_captured_length, made_frame}
-use Rattle.traffic_maker.specs.MadeCapture.{made_capture_header, made_capture_frames, made_capture, most_made_capture_frames}
+use Rattle.traffic_maker.specs.MadeCapture.{made_capture_header, made_capture_frames, made_capture}
+use Rattle.traffic_maker.specs.MadeCapture.{most_made_capture_frames}
 use Rattle.traffic_maker.specs.PieceSize.{piece_size_in_frames, piece_size_in_bytes}
 use Rattle.traffic_maker.proofs.MadeFrameLemmas.{one_made_frame_more}
 

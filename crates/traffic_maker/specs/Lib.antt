@@ -1,5 +1,5 @@
 pub mod Draw
-pub mod Address
+pub mod MadeAddress
 pub mod MadeFrame
 pub mod MadeCapture
 -- within the crate
@@ -9,5 +9,5 @@ pub use Rattle.traffic_maker.specs.MadeCapture.{made_capture, made_capture_frame
 unfoldable pub use Rattle.traffic_maker.specs.MadeCapture.{made_capture_header}
 unfoldable pub use Rattle.traffic_maker.specs.MadeFrame.{made_frame_bytes, made_frame}
 pub use Rattle.traffic_maker.specs.MadeFrame.{made_frame_ethernet_header, made_frame_ip_header, made_frame_wire_length}
-pub use Rattle.traffic_maker.specs.Address.{made_address}
+pub use Rattle.traffic_maker.specs.MadeAddress.{made_address}
 pub use Rattle.traffic_maker.specs.Draw.{draw}

@@ -1,7 +1,7 @@
 -- A frame of made traffic: its header in the file, and its bytes on the wire.
 use Rattle.std.specs.Prelude.{ℕ, ◌+◌, ◌-◌, ◌*◌, ◌%◌, List, [], ◌∷◌, ◌++◌}
 use Rattle.byteorder.specs.Endian.{big_bytes, little_bytes}
-use Rattle.traffic_maker.specs.Address.{made_address}
+use Rattle.traffic_maker.specs.MadeAddress.{made_address}
 use Rattle.traffic_maker.specs.Draw.{draw}
 
 -- how many bytes of each frame are captured: an Ethernet header of 14 and an IPv4 header of 20

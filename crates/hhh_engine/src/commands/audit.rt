@@ -5,11 +5,13 @@ ghost use Rattle.std.specs.Io.KnownBytes.{IsAtEnd};
 ghost use Rattle.deal_rules.specs.{dealer_of};
 ghost use Rattle.prefix_lattice.specs.{prefix_text};
 ghost use Rattle.command_words.specs.{AreLimitedSettings};
-ghost use Rattle.hhh_engine.specs.Audit.{IsAuditText, IsAuditedAsFirstUnsound, IsAuditedAsSound, IsSoundAudit, sound_audit_text as text_of_sound, unsound_audit_text as text_of_unsound, audit_verdict_text};
+ghost use Rattle.hhh_engine.specs.Audit.{IsAuditText, IsAuditedAsFirstUnsound, IsAuditedAsSound, IsSoundAudit};
+ghost use Rattle.hhh_engine.specs.Audit.{sound_audit_text as text_of_sound, unsound_audit_text as text_of_unsound};
+ghost use Rattle.hhh_engine.specs.Audit.{audit_verdict_text};
 ghost use Rattle.hhh_engine.specs.Auditing.{AreAuditingInputs, HasNoAudit, IsAuditingAnswer};
 ghost use Rattle.hhh_engine.specs.Answer.{IsUnfinishedAnswer};
-ghost use Rattle.hhh_engine.specs.Ending.{AuditEndsUnsound, Ends, EndsInOrder, ending_source_faults};
-ghost use Rattle.hhh_engine.specs.Inputs.{IsInputCapture, OfAuditInputs, inputs};
+ghost use Rattle.hhh_engine.specs.Ending.{EndsByAuditFinding, Ends, EndsInOrder, ending_source_faults};
+ghost use Rattle.hhh_engine.specs.Inputs.{IsInputCapture, HoldsOfAuditInputs, inputs};
 
 use crate::commands::dealing::deal_records;
 use crate::commands::reading_text::read_text;
@@ -60,17 +62,19 @@ pub(crate) fn audit<S: Source, T: Source, K: Sink>(
 ) -> Status
     requires { AreLimitedSettings settings.now }
     ensures ends { (store : Option (List ℕ)) → Ends
-        (λ answer. OfAuditInputs (inputs (S.left capture.old) (S.left capture.new) (T.left text.old) (T.left text.new) store)
+        (λ answer. HoldsOfAuditInputs (inputs (S.left capture.old) (S.left capture.new) (T.left text.old) (T.left text.new) store)
         (λ file session. IsSoundAudit settings.now (λ kind. ⟦<Dealer as Deals>⟧.may_answer (dealer_of kind dealers.now)) file session answer))
-        (λ front. OfAuditInputs (inputs (S.left capture.old) (S.left capture.new) (T.left text.old) (T.left text.new) store)
-        (λ file session. IsUnfinishedAnswer (IsAuditText settings.now (λ kind. ⟦<Dealer as Deals>⟧.may_answer (dealer_of kind dealers.now)) file session) front))
+        (λ front. HoldsOfAuditInputs (inputs (S.left capture.old) (S.left capture.new) (T.left text.old) (T.left text.new) store)
+        (λ file session. IsUnfinishedAnswer
+        (IsAuditText settings.now (λ kind. ⟦<Dealer as Deals>⟧.may_answer (dealer_of kind dealers.now)) file session) front))
         (IsAtEnd (S.left capture.new) × IsAtEnd (T.left text.new)) (IfSome (S.left capture.old) IsInputCapture) ⊥ ⊤ ⊤ (λ fault. ⊥)
-        (AuditEndsUnsound settings.now (λ kind. ⟦<Dealer as Deals>⟧.may_answer (dealer_of kind dealers.now))
+        (EndsByAuditFinding settings.now (λ kind. ⟦<Dealer as Deals>⟧.may_answer (dealer_of kind dealers.now))
         (inputs (S.left capture.old) (S.left capture.new) (T.left text.old) (T.left text.new) store) (K.taken sink.old) (K.taken sink.new))
         (S.left capture.old) (ending_source_faults (S.faults capture.old) (T.faults text.old)) (ending_source_faults (S.faults capture.new) (T.faults text.new))
         sink.old sink.new (K.taken sink.old) (K.taken sink.new) (K.faults sink.old) (K.faults sink.new) result }
     ensures order { (store : Option (List ℕ)) → EndsInOrder ⊤ ⊤ (inputs (S.left capture.old) (S.left capture.new) (T.left text.old) (T.left text.new) store)
-        (ending_source_faults (S.faults capture.old) (T.faults text.old)) (ending_source_faults (S.faults capture.new) (T.faults text.new)) text.old text.new result }
+        (ending_source_faults (S.faults capture.old) (T.faults text.old))
+        (ending_source_faults (S.faults capture.new) (T.faults text.new)) text.old text.new result }
 {
     let audited = match read_audited(alloc, settings, capture, text, dealers) {
         Ok(audited) => audited,
@@ -95,13 +99,16 @@ fn read_audited<S: Source, T: Source>(
     dealers: &Dealers,
 ) -> Result<Audited, Status>
     requires { AreLimitedSettings settings.now }
-    ensures audited { (store : Option (List ℕ)) → IfOk result (AreAuditingInputs settings.now (λ kind. ⟦<Dealer as Deals>⟧.may_answer (dealer_of kind dealers.now))
+    ensures audited { (store : Option (List ℕ))
+        → IfOk result (AreAuditingInputs settings.now (λ kind. ⟦<Dealer as Deals>⟧.may_answer (dealer_of kind dealers.now))
         (inputs (S.left capture.old) (S.left capture.new) (T.left text.old) (T.left text.new) store)) }
     ensures capture_at_end { OnOk result (IsAtEnd (S.left capture.new)) }
     ensures text_at_end { OnOk result (IsAtEnd (T.left text.new)) }
-    ensures refused { (store : Option (List ℕ)) → IfErr result (HasNoAudit (inputs (S.left capture.old) (S.left capture.new) (T.left text.old) (T.left text.new) store)
+    ensures refused { (store : Option (List ℕ))
+        → IfErr result (HasNoAudit (inputs (S.left capture.old) (S.left capture.new) (T.left text.old) (T.left text.new) store)
         (ending_source_faults (S.faults capture.old) (T.faults text.old)) (ending_source_faults (S.faults capture.new) (T.faults text.new))) }
-    ensures order { (store : Option (List ℕ)) → IfErr result (EndsInOrder ⊤ ⊤ (inputs (S.left capture.old) (S.left capture.new) (T.left text.old) (T.left text.new) store)
+    ensures order { (store : Option (List ℕ))
+        → IfErr result (EndsInOrder ⊤ ⊤ (inputs (S.left capture.old) (S.left capture.new) (T.left text.old) (T.left text.new) store)
         (ending_source_faults (S.faults capture.old) (T.faults text.old)) (ending_source_faults (S.faults capture.new) (T.faults text.new)) text.old text.new) }
     ensures told { (IsErrOf result Status.ReadFault → ⊥)
         → ending_source_faults (S.faults capture.new) (T.faults text.new) ≡ ending_source_faults (S.faults capture.old) (T.faults text.old) }

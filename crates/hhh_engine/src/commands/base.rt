@@ -1,11 +1,11 @@
 //! What a run goes on from: the newest cut of its store, or nothing.
 
 ghost use Rattle.std.specs.Prelude.{◌≡◌, true, false, length, replicate, IfErr, IfOk, IfSome, OnOk};
-ghost use Rattle.slot_disk.specs.{Leaves};
-ghost use Rattle.checkpoint.specs.{AreHeaderSettings, StandsForSaver};
+ghost use Rattle.slot_disk.specs.{CrashLeavesAtAnyMoment};
+ghost use Rattle.checkpoint.specs.{AreHeaderSettings, DiskMatchesSaver};
 ghost use Rattle.command_words.specs.{AreLimitedSettings};
 ghost use Rattle.hhh_engine.specs.DealtFeed.{HasNoDealtFeedBase, IsDealtFeedBase};
-ghost use Rattle.hhh_engine.specs.Saves.{store_settings as settings_of_store};
+ghost use Rattle.hhh_engine.specs.Saves.{store_settings_for_saves as settings_of_store};
 ghost use Rattle.hhh_engine.specs.declared.status.Status.TheVariants.{OutOfMemory};
 
 use crate::{Settings, Status};
@@ -37,11 +37,11 @@ pub(crate) fn open_base<D: Disk>(
     requires limited { AreLimitedSettings settings.now }
     requires shards { length dealt.now ≡ settings.now.shards }
     ensures base { IfOk result (IsDealtFeedBase settings.now dealt.now (D.reads disk.old)) }
-    ensures stands { IfOk result (λ base. IfSome base.saver (StandsForSaver (D.reads disk.new) (D.image_now disk.new))) }
+    ensures stands { IfOk result (λ base. IfSome base.saver (DiskMatchesSaver (D.reads disk.new) (D.image_now disk.new))) }
     ensures refused { IfErr result (HasNoDealtFeedBase settings.now dealt.now (D.reads disk.old) (D.faults disk.old) (D.faults disk.new)) }
     ensures no_fault { OnOk result (D.faults disk.new ≡ D.faults disk.old) }
     ensures reads { D.reads disk.new ≡ D.reads disk.old }
-    ensures any_moment { Leaves D.moment D.image_since disk.old disk.new (D.image_now disk.old) }
+    ensures any_moment { CrashLeavesAtAnyMoment D.moment D.image_since disk.old disk.new (D.image_now disk.old) }
     ensures unused { settings.now.store ≡ false → disk.new ≡ disk.old }
 {
     if settings.store {
@@ -62,11 +62,11 @@ fn open_store<D: Disk>(
     requires used { settings.now.store ≡ true }
     requires shards { length dealt.now ≡ settings.now.shards }
     ensures base { IfOk result (IsDealtFeedBase settings.now dealt.now (D.reads disk.old)) }
-    ensures stands { IfOk result (λ base. IfSome base.saver (StandsForSaver (D.reads disk.new) (D.image_now disk.new))) }
+    ensures stands { IfOk result (λ base. IfSome base.saver (DiskMatchesSaver (D.reads disk.new) (D.image_now disk.new))) }
     ensures refused { IfErr result (HasNoDealtFeedBase settings.now dealt.now (D.reads disk.old) (D.faults disk.old) (D.faults disk.new)) }
     ensures no_fault { OnOk result (D.faults disk.new ≡ D.faults disk.old) }
     ensures reads { D.reads disk.new ≡ D.reads disk.old }
-    ensures any_moment { Leaves D.moment D.image_since disk.old disk.new (D.image_now disk.old) }
+    ensures any_moment { CrashLeavesAtAnyMoment D.moment D.image_since disk.old disk.new (D.image_now disk.old) }
 {
     match reopen(alloc, disk, &store_settings(settings), dealt) {
         Ok(opened) => Ok(base_from(opened)),

@@ -2,7 +2,7 @@
 
 ghost use Rattle.std.specs.Prelude.{◌≤◌, length, IfOk};
 ghost use Rattle.deal_rules.specs.{IsDealing, dealer_of};
-ghost use Rattle.prefix_lattice.specs.{most_records};
+ghost use Rattle.prefix_lattice.specs.{record_limit};
 ghost use Rattle.command_words.specs.{AreLimitedSettings};
 
 use crate::Settings;
@@ -18,7 +18,7 @@ pub(crate) fn deal_records(
     dealers: &Dealers,
 ) -> Result<Dealt, AllocError>
     requires limited { AreLimitedSettings settings.now }
-    requires small { length list.now ≤ most_records }
+    requires small { length list.now ≤ record_limit }
     ensures { IfOk result (IsDealing settings.now.deal (⟦<Dealer as Deals>⟧.may_answer (dealer_of settings.now.deal dealers.now))
         settings.now.shards list.now) }
 {

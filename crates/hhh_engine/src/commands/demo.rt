@@ -2,9 +2,9 @@
 
 ghost use Rattle.std.specs.Prelude.{⊤, ◌≡◌, ◌≤◌, ◌↔◌, ℕ, List, length, Option, None, IfErr, IfOk};
 ghost use Rattle.shard_state.specs.{core_capacity};
-ghost use Rattle.prefix_lattice.specs.{most_records};
+ghost use Rattle.prefix_lattice.specs.{record_limit};
 ghost use Rattle.pcap_frames.specs.{FrameValue};
-ghost use Rattle.frame_records.specs.{AreRecordsOf, HasCaptureFrames, HasRecords};
+ghost use Rattle.frame_records.specs.{AreRecordsOf, CaptureFileHasFrames, HasRecords};
 ghost use Rattle.deal_rules.specs.{dealer_of};
 ghost use Rattle.pcap_frames.specs.declared.fault.CaptureFault.{CaptureFault};
 ghost use Rattle.traffic_maker.specs.{made_capture, most_made_capture_frames};
@@ -115,8 +115,9 @@ fn verdict_on(
 // The records of the capture that a seed and a number of frames determine.
 fn made_records(alloc: Global, seed: u64, frames: u32, weigh: Weigh) -> Result<Records, AllocError>
     requires { (1 ≤ frames) × (frames ≤ most_made_capture_frames) }
-    ensures records { IfOk result (λ records. (made : List FrameValue) × HasCaptureFrames (made_capture seed frames) made × AreRecordsOf weigh made records) }
-    ensures few { IfOk result (λ records. length records.list ≤ most_records) }
+    ensures records { IfOk result (λ records. (made : List FrameValue) × CaptureFileHasFrames (made_capture seed frames) made
+        × AreRecordsOf weigh made records) }
+    ensures few { IfOk result (λ records. length records.list ≤ record_limit) }
 {
     made_captures_are_captures();
     files_are_read_or_refused();
@@ -135,7 +136,7 @@ fn made_records(alloc: Global, seed: u64, frames: u32, weigh: Weigh) -> Result<R
 // The records of a capture, which is read to its end.
 fn read_capture<S: Source>(alloc: Global, capture: &mut S, weigh: Weigh) -> Result<Records, Status>
     ensures records { IfOk result (HasRecords weigh (S.left capture.old)) }
-    ensures few { IfOk result (λ records. length records.list ≤ most_records) }
+    ensures few { IfOk result (λ records. length records.list ≤ record_limit) }
     ensures refused { IfErr result (HasNoText (S.left capture.old) (S.faults capture.old) (S.faults capture.new)) }
 {
     Ok(read_records(alloc, capture, weigh)?)

@@ -4,8 +4,9 @@ ghost use Rattle.std.specs.Prelude.{◌≡◌, length, IfErr, IfOk, IfSome, None
 ghost use Rattle.shard_state.specs.{HasCoreShape, core_capacity};
 ghost use Rattle.pass_tokens.specs.{IsPassOfBoard, first_view, view};
 ghost use Rattle.command_words.specs.{AreLimitedSettings, AreWideSettings};
-ghost use Rattle.hhh_engine.specs.DealtFeed.{IsDealtFeedFault, IsDealtFeedResult, IsDealtFeedGathered, DealtFeedBreaksOffInRounds};
-ghost use Rattle.hhh_engine.specs.Saves.{CanSave, SavesInPart, SavesInTurn};
+ghost use Rattle.hhh_engine.specs.DealtFeed.{IsDealtFeedFault, IsDealtFeedResult, IsDealtFeedGathered};
+ghost use Rattle.hhh_engine.specs.DealtFeed.{DealtFeedBreaksOffInRounds};
+ghost use Rattle.hhh_engine.specs.Saves.{CanMakeSaves, SavesInPart, SavesInTurn};
 
 use crate::commands::LiveRounds;
 use crate::{Settings, Status};
@@ -50,7 +51,7 @@ pub(crate) fn feed<'a, R: Threads + Wait + Sync, K: Sink, D: Disk, G: Gate + Syn
     requires shape { HasCoreShape (length board.now.opening) (core_capacity board.now.opening) cut }
     requires alike { core_capacity board.now.opening ≡ settings.now.capacity }
     requires used { is_some saver.old ≡ settings.now.store }
-    requires can_save { IfSome saver.old (CanSave (D.reads disk.old) (D.image_now disk.old) board.now.opening (view pass) settings.now.rounds) }
+    requires can_save { IfSome saver.old (CanMakeSaves (D.reads disk.old) (D.image_now disk.old) board.now.opening (view pass) settings.now.rounds) }
     ensures fed { IfOk result (IsDealtFeedResult board.now settings.now
         (SavesInTurn D.reads D.image_now D.moment D.image_since saver.old saver.new disk.old disk.new) (K.taken sink.old) (K.taken sink.new)) }
     ensures faults { OnOk result ((K.faults sink.new ≡ K.faults sink.old) × (D.faults disk.new ≡ D.faults disk.old)) }
@@ -97,7 +98,7 @@ fn run_feed<R: Threads + Wait + Sync, K: Sink, D: Disk, G: Gate + Sync>(
     requires count { rounds.old.rounds ≡ settings.now.rounds }
     requires begun { rounds.old.stop ≡ None }
     requires used { is_some rounds.old.saver.now ≡ settings.now.store }
-    requires can_save { IfSome rounds.old.saver.now (CanSave (D.reads rounds.old.disk.now) (D.image_now rounds.old.disk.now)
+    requires can_save { IfSome rounds.old.saver.now (CanMakeSaves (D.reads rounds.old.disk.now) (D.image_now rounds.old.disk.now)
         board.now.opening (view pass) settings.now.rounds) }
     ensures same_sink { rounds.new.sink.ghost_name ≡ rounds.old.sink.ghost_name }
     ensures same_disk { rounds.new.disk.ghost_name ≡ rounds.old.disk.ghost_name }

@@ -5,7 +5,7 @@ ghost use Rattle.shard_state.specs.{HasCoreShape, core_capacity};
 ghost use Rattle.hhh_output.specs.{IsWideShare, threshold_million};
 ghost use Rattle.pass_tokens.specs.{IsPassOfBoard, view};
 ghost use Rattle.hhh_engine.specs.Rounds.{BreaksRound, EndRounds, WritesRounds};
-ghost use Rattle.hhh_engine.specs.Saves.{CanSave, SavesFitBoard, SavesInPart, SavesInTurn};
+ghost use Rattle.hhh_engine.specs.Saves.{CanMakeSaves, SavesFitBoard, SavesInPart, SavesInTurn};
 
 use crate::Status;
 use crate::commands::saving::{save_cut, saved_line};
@@ -50,12 +50,12 @@ impl<K: Sink, D: Disk, G: Gate> Rounds for LiveRounds<'_, K, D, G> {
     ghost use Rattle.shard_state.specs.{HasCoreShape, core_capacity};
     ghost use Rattle.hhh_output.specs.{IsWideShare, threshold_million};
     ghost use Rattle.hhh_engine.specs.Rounds.{EndRounds};
-    ghost use Rattle.hhh_engine.specs.Saves.{CanSave, CanSave-later, SavesInPart, SavesInTurn};
+    ghost use Rattle.hhh_engine.specs.Saves.{CanMakeSaves, CanMakeSaves-later, SavesInPart, SavesInTurn};
 
     ghost ready = { λ rounds board view. HasCoreShape (length board.opening) (core_capacity board.opening) rounds.cut.now
         × (1 ≤ rounds.phi) × (rounds.phi ≤ threshold_million) × IsWideShare rounds.phi (core_capacity board.opening)
         × (rounds.stop ≡ None)
-        × IfSome rounds.saver.now (CanSave (D.reads rounds.disk.now) (D.image_now rounds.disk.now) board.opening view rounds.rounds) };
+        × IfSome rounds.saver.now (CanMakeSaves (D.reads rounds.disk.now) (D.image_now rounds.disk.now) board.opening view rounds.rounds) };
 
     ghost stays = { λ rounds board before now later ready. (
       ready.0,
@@ -63,7 +63,7 @@ impl<K: Sink, D: Disk, G: Gate> Rounds for LiveRounds<'_, K, D, G> {
       ready.2,
       ready.3,
       ready.4,
-      CanSave-later (D.reads rounds.disk.now) (D.image_now rounds.disk.now) board.opening before now rounds.rounds
+      CanMakeSaves-later (D.reads rounds.disk.now) (D.image_now rounds.disk.now) board.opening before now rounds.rounds
           rounds.saver.now later ready.5,
     ) };
 
@@ -126,7 +126,7 @@ fn make_round<R: Wait, K: Sink, D: Disk, G: Gate>(
     requires some { 1 ≤ phi }
     requires most { phi ≤ threshold_million }
     requires wide { IsWideShare phi (core_capacity board.now.opening) }
-    requires can_save { IfSome saver.old (CanSave (D.reads disk.old) (D.image_now disk.old) board.now.opening (view pass.old) 1) }
+    requires can_save { IfSome saver.old (CanMakeSaves (D.reads disk.old) (D.image_now disk.old) board.now.opening (view pass.old) 1) }
     ensures whole { OnOk result (WritesRounds board.now.opening phi 1 (view pass.old) (view pass.new) (is_some saver.old)
         (SavesInTurn D.reads D.image_now D.moment D.image_since saver.old saver.new disk.old disk.new) (K.taken sink.old) (K.taken sink.new)) }
     ensures fits { OnOk result (IfSome saver.new (SavesFitBoard board.now.opening (view pass.new))) }

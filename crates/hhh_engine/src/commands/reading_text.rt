@@ -2,7 +2,7 @@
 
 ghost use Rattle.std.specs.Prelude.{◌≡◌, ◌≤◌, ◌<◌, ◌+◌, ◌++◌, ℕ, List, length, vec_len, IfOk, IfErr, IsErrOf};
 ghost use Rattle.std.specs.Io.KnownBytes.{Consumes, IsAtEnd};
-ghost use Rattle.report_text.specs.{longest_session_text};
+ghost use Rattle.report_text.specs.{longest_session_text_length};
 ghost use Rattle.hhh_engine.specs.Auditing.{AuditingHasNoBytes};
 
 use crate::Status;
@@ -15,8 +15,8 @@ const MOST_BYTES: usize = 268_435_457;
 /// Reads a text to its end, or one byte past the longest text of a session.
 pub(crate) fn read_text<T: Source>(alloc: Global, source: &mut T) -> Result<Vec<u8>, Status>
     ensures consumed { IfOk result (λ text. Consumes (T.left source.old) (T.left source.new) text.items) }
-    ensures limit { IfOk result (λ text. length text.items ≤ longest_session_text + 1) }
-    ensures at_end { IfOk result (λ text. length text.items ≤ longest_session_text → IsAtEnd (T.left source.new)) }
+    ensures limit { IfOk result (λ text. length text.items ≤ longest_session_text_length + 1) }
+    ensures at_end { IfOk result (λ text. length text.items ≤ longest_session_text_length → IsAtEnd (T.left source.new)) }
     ensures refused { IfErr result (AuditingHasNoBytes (T.faults source.old) (T.faults source.new)) }
     ensures told { (IsErrOf result Status.ReadFault → ⊥) → T.faults source.new ≡ T.faults source.old }
 {

@@ -9,7 +9,7 @@ ghost use Rattle.hhh_engine.specs.Ending.{Ends, RefusesStoreAtEnding, ending_sou
 ghost use Rattle.hhh_engine.specs.DealtFeed.{DealtFeedEnds, IsDealtFeedCapture};
 ghost use Rattle.hhh_engine.specs.Inputs.{IsInputCapture};
 ghost use Rattle.hhh_engine.specs.NoText.{HasNoText};
-ghost use Rattle.hhh_engine.specs.Saves.{IsAsBeforeSaves, saves_kept_in};
+ghost use Rattle.hhh_engine.specs.Saves.{IsAsBeforeSaves, SavesAreKeptOnDisk};
 ghost use Rattle.hhh_engine.specs.Session.{IsSession, IsSessionInPart};
 ghost use Rattle.hhh_engine.specs.declared.status.Status.TheVariants.{DiskFault};
 
@@ -52,10 +52,12 @@ pub(crate) fn report<R: Threads + Wait + Sync, S: Source, K: Sink, D: Disk, G: G
     requires wide { AreWideSettings settings.now }
     ensures ends { (other : ℕ) → Ends (λ text. IfSome (S.left capture.old) (λ file. IsSession settings.now
         (λ kind. ⟦<Dealer as Deals>⟧.may_answer (dealer_of kind dealers.now))
-        (saves_kept_in D.reads D.image_now D.moment D.image_since disk.old disk.new) (D.reads disk.old) file text))
+        (SavesAreKeptOnDisk D.reads D.image_now D.moment D.image_since disk.old disk.new) (D.reads disk.old) file text))
         (λ front. IfSome (S.left capture.old) (λ file. IsSessionInPart settings.now
-        (λ kind. ⟦<Dealer as Deals>⟧.may_answer (dealer_of kind dealers.now)) (saves_kept_in D.reads D.image_now D.moment D.image_since disk.old disk.new) (D.reads disk.old) file front))
-        (IsAtEnd (S.left capture.new)) (IfSome (S.left capture.old) IsInputCapture) (FaultCountRose (D.faults disk.old) (D.faults disk.new)) (disk.new ≡ disk.old)
+        (λ kind. ⟦<Dealer as Deals>⟧.may_answer (dealer_of kind dealers.now))
+        (SavesAreKeptOnDisk D.reads D.image_now D.moment D.image_since disk.old disk.new) (D.reads disk.old) file front))
+        (IsAtEnd (S.left capture.new)) (IfSome (S.left capture.old) IsInputCapture)
+        (FaultCountRose (D.faults disk.old) (D.faults disk.new)) (disk.new ≡ disk.old)
         (IsAsBeforeSaves D.reads D.image_now D.moment D.image_since disk.old disk.new)
         (RefusesStoreAtEnding settings.now (λ kind. ⟦<Dealer as Deals>⟧.may_answer (dealer_of kind dealers.now)) (S.left capture.old) (D.reads disk.old)
         (IsAsBeforeSaves D.reads D.image_now D.moment D.image_since disk.old disk.new))
@@ -86,7 +88,7 @@ fn report_dealt<R: Threads + Wait + Sync, K: Sink, D: Disk, G: Gate + Sync>(
     requires shards { length fed.dealt ≡ settings.now.shards }
     requires tail { 0 < length fed.tail.items }
     ensures ends { DealtFeedEnds settings.now fed.dealt fed.tail.items
-        (saves_kept_in D.reads D.image_now D.moment D.image_since disk.old disk.new) (D.reads disk.old)
+        (SavesAreKeptOnDisk D.reads D.image_now D.moment D.image_since disk.old disk.new) (D.reads disk.old)
         (IsAsBeforeSaves D.reads D.image_now D.moment D.image_since disk.old disk.new)
         sink.old sink.new (K.taken sink.old) (K.taken sink.new) (record { sink = K.faults sink.old; disk = D.faults disk.old })
         (record { sink = K.faults sink.new; disk = D.faults disk.new }) result }

@@ -5,7 +5,7 @@ ghost use Rattle.outside_io.specs.{FaultCountRose};
 ghost use Rattle.report_text.specs.{ReportTextShowsPositions};
 ghost use Rattle.hhh_engine.specs.DealtFeed.{DealtFeedCanSaveCut, IsDealtFeedSaveFault};
 ghost use Rattle.hhh_engine.specs.Saves.{SavesInPart, SavesInTurn};
-ghost use Rattle.hhh_engine.specs.Session.{session_save_text};
+ghost use Rattle.hhh_engine.specs.Session.{session_save_line};
 ghost use Rattle.hhh_engine.specs.declared.status.Status.TheVariants.{DiskFault, OutOfMemory};
 
 use crate::Status;
@@ -57,7 +57,7 @@ pub(crate) fn saved_line(
     positions: &Positions,
 ) -> Result<Vec<u8>, AllocError>
     requires { ReportTextShowsPositions positions.now }
-    ensures { IfOk result (λ line. line.items ≡ session_save_text store positions.now) }
+    ensures { IfOk result (λ line. line.items ≡ session_save_line store positions.now) }
 {
     let mut line = Vec::new(alloc);
     if store {

@@ -1,22 +1,28 @@
 //! The session of `report`: the running feed and its reports, and a last report over all records.
 
-ghost use Rattle.std.specs.Prelude.{◌≡◌, ◌≤◌, ◌<◌, ◌+◌, ◌⊎◌, ◌++◌, [], ◌∷◌, length, All, None, IfErr, IfOk, IfSome, OnErr, OnOk, false, is_some};
+ghost use Rattle.std.specs.Prelude.{◌≡◌, ◌≤◌, ◌<◌, ◌+◌, ◌⊎◌, ◌++◌, [], ◌∷◌, length, All, None, IfErr, IfOk, IfSome};
+ghost use Rattle.std.specs.Prelude.{OnErr, OnOk, false, is_some};
 ghost use Rattle.std.specs.List.{AllZip};
 ghost use Rattle.std.specs.Io.KnownBytes.{Appends};
 ghost use Rattle.deal_rules.specs.{AreDealingLists};
 ghost use Rattle.space_saving.specs.{least_table_capacity, most_table_capacity};
 ghost use Rattle.shard_state.specs.{AreCoreShards, HasCoreShape, core_capacity};
 ghost use Rattle.pass_tokens.specs.{IsPassOfBoard, first_view, view};
-ghost use Rattle.gate_workers.specs.{HasFeedSeenEnds};
-ghost use Rattle.checkpoint.specs.{StandsForSaver};
+ghost use Rattle.gate_workers.specs.{FeedHasSeenEnds};
+ghost use Rattle.checkpoint.specs.{DiskMatchesSaver};
 ghost use Rattle.recovery.specs.{OpeningContinuesList};
 ghost use Rattle.report_text.specs.{ReportTextShowsPositions, report_mark_text};
 ghost use Rattle.report_text.specs.declared.mark.Mark.TheVariants.{Opened as OpenedMark};
 ghost use Rattle.command_words.specs.{AreLimitedSettings, AreWideSettings};
-ghost use Rattle.hhh_engine.specs.Answer.{Writes};
-ghost use Rattle.hhh_engine.specs.DealtFeed.{DealtFeedCanSaveCut, DealtFeedGoesOn, IsDealtFeedBase, IsDealtFeedFault, IsDealtFeedResult, IsDealtFeedOpening, IsDealtFeedRest, DealtFeedStartsBeforeEnds, dealt_feed_other_reports};
-ghost use Rattle.hhh_engine.specs.Saves.{CanSave, Saves, SavesInPart, SavesInTurn};
-ghost use Rattle.hhh_engine.specs.Session.{AreSessionReportsOfCaller, BeginsSession, SessionBreaksOffAround, SessionBaseRepresents, SpellsSession, session_callers_text, session_opening, session_parts_text, resumed_session_shards, new_session_shards, session_start};
+ghost use Rattle.hhh_engine.specs.Answer.{WritesAnswer};
+ghost use Rattle.hhh_engine.specs.DealtFeed.{DealtFeedCanSaveCut, DealtFeedGoesOn, IsDealtFeedBase, IsDealtFeedFault};
+ghost use Rattle.hhh_engine.specs.DealtFeed.{IsDealtFeedResult, IsDealtFeedOpening, IsDealtFeedRest};
+ghost use Rattle.hhh_engine.specs.DealtFeed.{DealtFeedStartsBeforeEnds, dealt_feed_other_reports};
+ghost use Rattle.hhh_engine.specs.Saves.{CanMakeSaves, Saves, SavesInPart, SavesInTurn};
+ghost use Rattle.hhh_engine.specs.Session.{AreSessionReportsOfCaller, BeginsSession, SessionBreaksOffAround};
+ghost use Rattle.hhh_engine.specs.Session.{SessionBaseRepresents, IsSessionOverShards, session_caller_parts};
+ghost use Rattle.hhh_engine.specs.Session.{session_opening, session_parts, resumed_session_shards, new_session_shards};
+ghost use Rattle.hhh_engine.specs.Session.{session_start};
 
 use crate::commands::base::Base;
 use crate::commands::feed::{Fed, feed};
@@ -76,13 +82,13 @@ pub(crate) fn write_session<R: Threads + Wait + Sync, K: Sink, D: Disk, G: Gate 
     requires wide { AreWideSettings settings.now }
     requires shards { length dealt ≡ settings.now.shards }
     requires base { IsDealtFeedBase settings.now dealt (D.reads disk.old) base }
-    requires stands { IfSome base.saver (StandsForSaver (D.reads disk.old) (D.image_now disk.old)) }
+    requires stands { IfSome base.saver (DiskMatchesSaver (D.reads disk.old) (D.image_now disk.old)) }
     requires tail { 0 < length tail.now }
-    ensures whole { OnOk result (Writes (SpellsSession (session_opening settings.now.capacity dealt base.cut) settings.now
+    ensures whole { OnOk result (WritesAnswer (IsSessionOverShards (session_opening settings.now.capacity dealt base.cut) settings.now
         (λ cuts. Saves D.reads D.image_now D.moment D.image_since base.saver cuts disk.old disk.new) tail.now) (K.taken sink.old) (K.taken sink.new)) }
     ensures faults { OnOk result ((K.faults sink.new ≡ K.faults sink.old) × (D.faults disk.new ≡ D.faults disk.old)) }
     ensures part { OnErr result (((sink.new ≡ sink.old) × (disk.new ≡ disk.old))
-        ⊎ Writes (BeginsSession (session_opening settings.now.capacity dealt base.cut) settings.now
+        ⊎ WritesAnswer (BeginsSession (session_opening settings.now.capacity dealt base.cut) settings.now
         (SavesInPart D.reads D.image_now D.moment D.image_since base.saver disk.old disk.new) tail.now) (K.taken sink.old) (K.taken sink.new)) }
     ensures fault { IfErr result (IsDealtFeedFault (record { sink = K.faults sink.old; disk = D.faults disk.old })
         (record { sink = K.faults sink.new; disk = D.faults disk.new })) }
@@ -217,12 +223,12 @@ fn write_feed<R: Threads + Wait + Sync, K: Sink, D: Disk, G: Gate + Sync>(
     requires line { line.now ≡ report_mark_text OpenedMark (session_start opened.board.opening) }
     requires tail { 0 < length tail.now }
     requires used { is_some saver ≡ settings.now.store }
-    requires can_save { IfSome saver (CanSave (D.reads disk.old) (D.image_now disk.old) opened.board.opening
+    requires can_save { IfSome saver (CanMakeSaves (D.reads disk.old) (D.image_now disk.old) opened.board.opening
         (first_view opened.board.opening) (settings.now.rounds + 1)) }
-    ensures whole { OnOk result (Writes (SpellsSession opened.board.opening settings.now
+    ensures whole { OnOk result (WritesAnswer (IsSessionOverShards opened.board.opening settings.now
         (λ cuts. Saves D.reads D.image_now D.moment D.image_since saver cuts disk.old disk.new) tail.now) (K.taken sink.old) (K.taken sink.new)) }
     ensures faults { OnOk result ((K.faults sink.new ≡ K.faults sink.old) × (D.faults disk.new ≡ D.faults disk.old)) }
-    ensures part { OnErr result (Writes (BeginsSession opened.board.opening settings.now
+    ensures part { OnErr result (WritesAnswer (BeginsSession opened.board.opening settings.now
         (SavesInPart D.reads D.image_now D.moment D.image_since saver disk.old disk.new) tail.now) (K.taken sink.old) (K.taken sink.new)) }
     ensures fault { IfErr result (IsDealtFeedFault (record { sink = K.faults sink.old; disk = D.faults disk.old })
         (record { sink = K.faults sink.new; disk = D.faults disk.new })) }
@@ -259,7 +265,7 @@ fn write_rest<K: Sink, D: Disk>(
     ensures whole { OnOk result (Appends (K.taken sink.old) (K.taken sink.new) (rest.now.front.items ++ rest.now.back.items)) }
     ensures saved { OnOk result (SavesInTurn D.reads D.image_now D.moment D.image_since saver.old saver.new disk.old disk.new (rest.now.cut ∷ [])) }
     ensures faults { OnOk result ((K.faults sink.new ≡ K.faults sink.old) × (D.faults disk.new ≡ D.faults disk.old)) }
-    ensures part { OnErr result (Writes (SessionBreaksOffAround rest.now.front.items rest.now.back.items (rest.now.cut ∷ [])
+    ensures part { OnErr result (WritesAnswer (SessionBreaksOffAround rest.now.front.items rest.now.back.items (rest.now.cut ∷ [])
         (SavesInPart D.reads D.image_now D.moment D.image_since saver.old disk.old disk.new)) (K.taken sink.old) (K.taken sink.new)) }
     ensures fault { IfErr result (IsDealtFeedFault (record { sink = K.faults sink.old; disk = D.faults disk.old })
         (record { sink = K.faults sink.new; disk = D.faults disk.new })) }
@@ -290,7 +296,7 @@ fn rest_of_session<R: Wait>(
     requires limited { AreLimitedSettings settings.now }
     requires wide { AreWideSettings settings.now }
     requires pass { IsPassOfBoard board.now fed.gathered.pass }
-    requires ends { HasFeedSeenEnds board.now.opening (view fed.gathered.pass) }
+    requires ends { FeedHasSeenEnds board.now.opening (view fed.gathered.pass) }
     requires shape { HasCoreShape (length board.now.opening) (core_capacity board.now.opening) fed.cut }
     requires callers { All (AreSessionReportsOfCaller board.now.opening settings.now settings.now.rounds) (dealt_feed_other_reports fed.gathered.called.items) }
     requires alike { core_capacity board.now.opening ≡ settings.now.capacity }
@@ -326,7 +332,7 @@ fn reports_text(
     called: &[Called],
 ) -> Result<Vec<u8>, AllocError>
     requires { All (AreSessionReportsOfCaller board.now.opening settings.now settings.now.rounds) (dealt_feed_other_reports called.now) }
-    ensures { IfOk result (λ text. text.items ≡ session_callers_text (dealt_feed_other_reports called.now)) }
+    ensures { IfOk result (λ text. text.items ≡ session_caller_parts (dealt_feed_other_reports called.now)) }
 {
     let _shards = board.shards();
     let mut text = Vec::new(alloc);
@@ -344,7 +350,7 @@ fn put_reports(
     text: &mut Vec<u8>,
 ) -> Result<(), AllocError>
     requires { AreSessionReportsOfCaller board.now.opening settings.now settings.now.rounds reports.now }
-    ensures { OnOk result (text.new.items ≡ text.old.items ++ session_parts_text false reports.now) }
+    ensures { OnOk result (text.new.items ≡ text.old.items ++ session_parts false reports.now) }
 {
     let _shards = board.shards();
     let all = reports.as_slice();

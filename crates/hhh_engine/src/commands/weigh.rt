@@ -2,8 +2,8 @@
 
 ghost use Rattle.std.specs.Prelude.{⊤, ℕ, ◌≡◌, ◌≤◌, List, length, All, IfOk, IfErr, IfSome, OnOk, IsErrOf};
 ghost use Rattle.std.specs.Io.KnownBytes.{IsAtEnd};
-ghost use Rattle.prefix_lattice.specs.{RecordValue, most_records};
-ghost use Rattle.shard_state.specs.{snapshot_records_table, HoldsWeightOver};
+ghost use Rattle.prefix_lattice.specs.{RecordValue, record_limit};
+ghost use Rattle.shard_state.specs.{snapshot_records_table, NarrowIntervalHoldsWeightOver};
 ghost use Rattle.hhh_engine.specs.Answer.{IsWeighAnswerInPart};
 ghost use Rattle.hhh_engine.specs.Ending.{Ends, ending_source_faults};
 ghost use Rattle.hhh_engine.specs.Inputs.{IsInputCapture};
@@ -32,7 +32,8 @@ pub(crate) fn weigh<S: Source, K: Sink>(
 ) -> Status
     ensures { (other : ℕ) → Ends (λ text. IfSome (S.left capture.old) (λ file. IsWeightText prefix.now settings.now.weigh file text))
         (λ front. IfSome (S.left capture.old) (λ file. IsWeighAnswerInPart prefix.now settings.now.weigh file front))
-        (IsAtEnd (S.left capture.new)) (IfSome (S.left capture.old) IsInputCapture) ⊥ ⊤ ⊤ (λ fault. ⊥) (λ status. ⊥) (S.left capture.old) (ending_source_faults (S.faults capture.old) other) (ending_source_faults (S.faults capture.new) other)
+        (IsAtEnd (S.left capture.new)) (IfSome (S.left capture.old) IsInputCapture) ⊥ ⊤ ⊤ (λ fault. ⊥) (λ status. ⊥) (S.left capture.old)
+        (ending_source_faults (S.faults capture.old) other) (ending_source_faults (S.faults capture.new) other)
         sink.old sink.new (K.taken sink.old) (K.taken sink.new) (K.faults sink.old) (K.faults sink.new) result }
 {
     let text = match read_weight(alloc, prefix, settings, capture) {
@@ -63,10 +64,10 @@ fn read_weight<S: Source>(
 
 // The text with the weight of a prefix over at most 16,777,216 records. Its interval holds the exact weight.
 fn weigh_text(alloc: Global, prefix: &Prefix, records: &[Record]) -> Result<Vec<u8>, AllocError>
-    requires few { length records.now ≤ most_records }
+    requires few { length records.now ≤ record_limit }
     requires weighed { All (λ rec. 1 ≤ rec.weight) records.now }
     ensures text { IfOk result (λ text. text.items ≡ weight_text_for prefix.now records.now) }
-    ensures holds { IfOk result (λ _. HoldsWeightOver weight_text_capacity prefix.now records.now) }
+    ensures holds { IfOk result (λ _. NarrowIntervalHoldsWeightOver weight_text_capacity prefix.now records.now) }
 {
     tables_hold_weights();
     let key = prefix.key();
@@ -77,8 +78,9 @@ fn weigh_text(alloc: Global, prefix: &Prefix, records: &[Record]) -> Result<Vec<
 
 // The table at a node after all records.
 fn fold_records(alloc: Global, node: Node, records: &[Record]) -> Result<PlainTable, AllocError>
-    requires { length records.now ≤ most_records }
-    ensures { IfOk result (λ table. table ≡ record { capacity = weight_text_capacity; entries = snapshot_records_table weight_text_capacity node records.now }) }
+    requires { length records.now ≤ record_limit }
+    ensures { IfOk result (λ table.
+        table ≡ record { capacity = weight_text_capacity; entries = snapshot_records_table weight_text_capacity node records.now }) }
 {
     let mut table = PlainTable::with_capacity(alloc, WEIGH_CAPACITY)?;
     for rec in records {

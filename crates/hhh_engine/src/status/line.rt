@@ -1,7 +1,8 @@
 //! The line that reports how a command ended.
 
 ghost use Rattle.std.specs.Prelude.{◌≡◌, ◌++◌, codes, decimal, IfOk, OnOk};
-ghost use Rattle.hhh_engine.specs.Status.{status_line, status_text, words_status_text, fault_status_text, session_status_text};
+ghost use Rattle.hhh_engine.specs.Status.{status_line, status_text, words_status_text, fault_status_text};
+ghost use Rattle.hhh_engine.specs.Status.{session_status_text};
 
 use crate::decimal_text::push_number;
 use crate::{Status, WordsKind};
@@ -56,7 +57,8 @@ fn push_words(line: &mut Vec<u8>, kind: &WordsKind) -> Result<(), AllocError>
 }
 
 fn push_fault(line: &mut Vec<u8>, fault: &CaptureFault) -> Result<(), AllocError>
-    ensures { OnOk result (line.new.items ≡ line.old.items ++ codes "bad capture: " ++ fault_status_text fault.now.kind ++ codes " at " ++ decimal fault.now.place) }
+    ensures { OnOk result (line.new.items ≡ line.old.items ++ codes "bad capture: " ++ fault_status_text fault.now.kind ++ codes " at "
+        ++ decimal fault.now.place) }
 {
     line.extend_from_slice(b"bad capture: ")?;
     line.extend_from_slice(kind_text(fault.kind))?;

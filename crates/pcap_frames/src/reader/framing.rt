@@ -3,9 +3,9 @@
 ghost use Rattle.std.specs.Prelude.{◌≡◌, ℕ, ◌+◌, ◌<◌, ◌≤◌, length, min, take, drop, slice_index, IfSome};
 ghost use Rattle.pcap_frames.specs.FileOrder.{number_in_file_order};
 ghost use Rattle.pcap_frames.specs.Frame.{frame_content};
-ghost use Rattle.pcap_frames.specs.Frames.{frame_at, frame_bytes_needed, frame_fault, IsFrame};
+ghost use Rattle.pcap_frames.specs.Frame.{frame_at, frame_bytes_needed, frame_fault, IsFrame};
 ghost use Rattle.pcap_frames.specs.ReaderSteps.{StepSplitsFrame};
-ghost use Rattle.pcap_frames.specs.FileFormat.{frame_header_length, head_length, most_captured_length};
+ghost use Rattle.pcap_frames.specs.Lengths.{frame_header_length, frame_head_length, most_captured_length};
 
 use crate::file_order::FileOrder;
 use crate::header::fault_at;
@@ -20,7 +20,7 @@ pub(crate) const MOST_CAPTURED: u32 = 262_144;
 pub(crate) fn frame_at(order: FileOrder, bytes: &[u8]) -> Frame<'_>
     requires header { frame_header_length ≤ length bytes.now }
     requires limit { number_in_file_order order 4 8 bytes.now ≤ most_captured_length }
-    requires head { frame_header_length + min head_length (number_in_file_order order 4 8 bytes.now) ≤ length bytes.now }
+    requires head { frame_header_length + min frame_head_length (number_in_file_order order 4 8 bytes.now) ≤ length bytes.now }
     ensures content { frame_content result ≡ frame_at order bytes.now }
     ensures is_frame { IsFrame (frame_content result) }
 {
@@ -37,9 +37,9 @@ pub(crate) fn frame_at(order: FileOrder, bytes: &[u8]) -> Frame<'_>
 #[tactic(auto, using(crate::proofs::FrameHeadLemmas::frame_head_of_front))]
 fn head_of(bytes: &[u8], captured: u32) -> &[u8]
     requires header { frame_header_length ≤ length bytes.now }
-    requires head { frame_header_length + min head_length captured ≤ length bytes.now }
-    ensures value { result.now ≡ take head_length (take captured (drop frame_header_length bytes.now)) }
-    ensures length { length result.now ≡ min head_length captured }
+    requires head { frame_header_length + min frame_head_length captured ≤ length bytes.now }
+    ensures value { result.now ≡ take frame_head_length (take captured (drop frame_header_length bytes.now)) }
+    ensures length { length result.now ≡ min frame_head_length captured }
     ensures bytes { (place : ℕ) → slice_index result.now place < 256 }
 {
     let (_, behind) = bytes.split_at(16);
@@ -64,7 +64,7 @@ pub(crate) fn whole_at(order: FileOrder, bytes: &[u8]) -> Option<(Frame<'_>, &[u
 }
 
 /// The least number of bytes that the frame takes, as far as its header is known.
-#[tactic(auto, unfolding(crate::specs::Frames::frame_bytes_needed))]
+#[tactic(auto, unfolding(crate::specs::Frame::frame_bytes_needed))]
 pub(crate) fn needed(order: FileOrder, bytes: &[u8]) -> u64
     ensures { result ≡ frame_bytes_needed order bytes.now }
 {
@@ -75,7 +75,7 @@ pub(crate) fn needed(order: FileOrder, bytes: &[u8]) -> u64
 }
 
 /// The first fault that the bytes after `count` frames show, however the file continues.
-#[tactic(auto, unfolding(crate::specs::Frames::frame_fault))]
+#[tactic(auto, unfolding(crate::specs::Frame::frame_fault))]
 pub(crate) fn frame_fault(
     order: FileOrder,
     count: u32,

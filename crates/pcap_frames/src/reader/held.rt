@@ -2,7 +2,7 @@
 
 ghost use Rattle.std.specs.Prelude.{◌≡◌, ◌+◌, ◌≤◌, length, min};
 ghost use Rattle.pcap_frames.specs.FileOrder.{number_in_file_order};
-ghost use Rattle.pcap_frames.specs.FileFormat.{frame_header_length, head_length, most_captured_length};
+ghost use Rattle.pcap_frames.specs.Lengths.{frame_header_length, frame_head_length, most_captured_length};
 
 use crate::Frame;
 use crate::file_order::FileOrder;
@@ -16,12 +16,12 @@ pub(crate) struct HeldFrame {
     pub(crate) kept: FrontBytes,
     pub ghost header: { frame_header_length ≤ length kept.first },
     pub ghost limit: { number_in_file_order order 4 8 kept.first ≤ most_captured_length },
-    pub ghost head: { frame_header_length + min head_length (number_in_file_order order 4 8 kept.first) ≤ length kept.first },
+    pub ghost head: { frame_header_length + min frame_head_length (number_in_file_order order 4 8 kept.first) ≤ length kept.first },
 }
 
 impl HeldFrame {
     ghost use Rattle.pcap_frames.specs.Frame.{frame_content};
-    ghost use Rattle.pcap_frames.specs.Frames.{frame_at, IsFrame};
+    ghost use Rattle.pcap_frames.specs.Frame.{frame_at, IsFrame};
 
     /// The frame.
     pub(crate) fn frame(&self) -> Frame<'_>

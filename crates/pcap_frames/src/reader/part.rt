@@ -2,12 +2,15 @@
 
 ghost use Rattle.std.specs.Prelude.{◌≡◌, ℕ, ◌+◌, ◌*◌, ◌<◌, ◌≤◌, List, [], ◌∷◌, ◌++◌, length, take, IfSome, IfNone};
 ghost use Rattle.pcap_frames.specs.Frame.{frame_content};
-ghost use Rattle.pcap_frames.specs.Frames.{IsFrame, frame_bytes_needed};
+ghost use Rattle.pcap_frames.specs.Frame.{IsFrame, frame_bytes_needed};
 ghost use Rattle.pcap_frames.specs.ReaderState.{ReaderAdvances};
 ghost use Rattle.pcap_frames.specs.ReaderSteps.{ReaderStepTakes, frames_held_in_step};
 ghost use Rattle.pcap_frames.specs.ReaderState as state;
-ghost use Rattle.pcap_frames.specs.Part.{state_of_part, IsPartInStage, IsPartWithin, place_of_part};
-ghost use Rattle.pcap_frames.specs.FileFormat.{file_header_length, frame_header_length, kept_length, most_captured_length, most_frames_in_file};
+ghost use Rattle.pcap_frames.specs.ReaderPart.{reader_state_of_part, IsReaderPartInStage, IsReaderPartWithin};
+ghost use Rattle.pcap_frames.specs.ReaderPart.{reader_place_of_part};
+ghost use Rattle.pcap_frames.specs.Lengths.{file_header_length, frame_header_length, kept_frame_length};
+ghost use Rattle.pcap_frames.specs.Lengths.{most_captured_length};
+ghost use Rattle.pcap_frames.specs.Frame.{frame_count_limit};
 
 use crate::file_order::FileOrder;
 use crate::header::{header_fault, magic_order};
@@ -63,9 +66,10 @@ impl FramePart {
     /// Takes the next bytes that this stage waits for.
     pub(crate) fn take<'a>(&mut self, stage: Stage, piece: &'a [u8]) -> Taken<'a>
         requires has_bytes { 0 < length piece.now }
-        requires sound { IsPartInStage stage self.old }
-        ensures sound { IsPartInStage result.stage self.new }
-        ensures takes { ReaderStepTakes (state_of_part stage self.old) (state_of_part result.stage self.new) piece.now result.rest.now (frames_held_in_step result.held) }
+        requires sound { IsReaderPartInStage stage self.old }
+        ensures sound { IsReaderPartInStage result.stage self.new }
+        ensures takes { ReaderStepTakes (reader_state_of_part stage self.old) (reader_state_of_part result.stage self.new) piece.now
+            result.rest.now (frames_held_in_step result.held) }
     {
         match stage {
             Stage::Header => self.take_header(piece),
@@ -78,8 +82,8 @@ impl FramePart {
     fn take_header<'a>(&mut self, piece: &'a [u8]) -> Taken<'a>
         requires has_bytes { 0 < length piece.now }
         requires sound { self.old.kept.came < file_header_length }
-        ensures sound { IsPartInStage result.stage self.new }
-        ensures takes { ReaderStepTakes (state.InHeader self.old.kept.first) (state_of_part result.stage self.new) piece.now result.rest.now [] }
+        ensures sound { IsReaderPartInStage result.stage self.new }
+        ensures takes { ReaderStepTakes (state.InHeader self.old.kept.first) (reader_state_of_part result.stage self.new) piece.now result.rest.now [] }
         ensures no_frame { frames_held_in_step result.held ≡ [] }
     {
         let count = (24 - self.kept.came() as usize).min(piece.len());
@@ -96,10 +100,10 @@ impl FramePart {
     /// The stage after the bytes of the file header that arrived.
     fn leave_header(&mut self) -> Stage
         requires { self.old.kept.came ≤ file_header_length }
-        ensures sound { IsPartInStage result self.new }
-        ensures advances { (kept front : List ℕ) → self.old.kept.first ≡ take kept_length (kept ++ front)
+        ensures sound { IsReaderPartInStage result self.new }
+        ensures advances { (kept front : List ℕ) → self.old.kept.first ≡ take kept_frame_length (kept ++ front)
             → length kept + length front ≡ self.old.kept.came
-            → ReaderAdvances (state.InHeader kept) (state_of_part result self.new) front [] }
+            → ReaderAdvances (state.InHeader kept) (reader_state_of_part result self.new) front [] }
     {
         let header = self.kept.first();
         if let Some(fault) = header_fault(header) {
@@ -120,9 +124,10 @@ impl FramePart {
 
     /// Takes the frame at the front of the piece, if the whole frame is there.
     pub(crate) fn whole_frame<'a>(&mut self, piece: &'a [u8]) -> Option<(Frame<'a>, &'a [u8])>
-        requires { IsPartWithin self.old }
-        ensures sound { IsPartWithin self.new }
-        ensures takes { IfSome result (λ found. ReaderStepTakes (state.InFrames (place_of_part self.old)) (state.InFrames (place_of_part self.new))
+        requires { IsReaderPartWithin self.old }
+        ensures sound { IsReaderPartWithin self.new }
+        ensures takes { IfSome result (λ found. ReaderStepTakes (state.InFrames (reader_place_of_part self.old))
+            (state.InFrames (reader_place_of_part self.new))
             piece.now found.1.now (frame_content found.0 ∷ [])) }
         ensures is_frame { IfSome result (λ found. IsFrame (frame_content found.0)) }
         ensures none { IfNone result (self.new ≡ self.old) }
@@ -139,9 +144,10 @@ impl FramePart {
     /// Takes the next bytes of a frame, and gives the whole frame with the last of them.
     fn take_frame<'a>(&mut self, piece: &'a [u8]) -> Taken<'a>
         requires has_bytes { 0 < length piece.now }
-        requires sound { IsPartWithin self.old }
-        ensures sound { IsPartInStage result.stage self.new }
-        ensures takes { ReaderStepTakes (state.InFrames (place_of_part self.old)) (state_of_part result.stage self.new) piece.now result.rest.now (frames_held_in_step result.held) }
+        requires sound { IsReaderPartWithin self.old }
+        ensures sound { IsReaderPartInStage result.stage self.new }
+        ensures takes { ReaderStepTakes (state.InFrames (reader_place_of_part self.old)) (reader_state_of_part result.stage self.new)
+            piece.now result.rest.now (frames_held_in_step result.held) }
     {
         let left = needed(self.order, self.kept.first()) - self.kept.came() as u64;
         let count = (left as usize).min(piece.len());
@@ -153,13 +159,14 @@ impl FramePart {
 
     /// The stage after the bytes of a frame that arrived, and the frame once it is whole.
     fn leave_frame(&mut self) -> (Stage, Option<HeldFrame>)
-        requires count { self.old.count ≤ most_frames_in_file }
+        requires count { self.old.count ≤ frame_count_limit }
         requires place { self.old.place ≤ file_header_length + (frame_header_length + most_captured_length) * self.old.count }
         requires came { self.old.kept.came ≤ frame_bytes_needed self.old.order self.old.kept.first }
-        ensures sound { IsPartInStage result.0 self.new }
-        ensures advances { (kept front : List ℕ) (came : ℕ) → self.old.kept.first ≡ take kept_length (kept ++ front)
+        ensures sound { IsReaderPartInStage result.0 self.new }
+        ensures advances { (kept front : List ℕ) (came : ℕ) → self.old.kept.first ≡ take kept_frame_length (kept ++ front)
             → self.old.kept.came ≡ came + length front
-            → ReaderAdvances (state.InFrames (record (place_of_part self.old) { kept = kept; came = came })) (state_of_part result.0 self.new) front (frames_held_in_step result.1) }
+            → ReaderAdvances (state.InFrames (record (reader_place_of_part self.old) { kept = kept; came = came }))
+            (reader_state_of_part result.0 self.new) front (frames_held_in_step result.1) }
     {
         let bytes = self.kept.first();
         if let Some(fault) = frame_fault(self.order, self.count, self.place, bytes) {

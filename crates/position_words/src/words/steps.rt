@@ -1,10 +1,11 @@
 //! The single steps on words and slots, each one call of the table.
 
 ghost use Rattle.std.specs.Prelude.{◌≡◌, ◌<◌, ◌≤◌, ◌^◌, ◌/◌, [], ◌∷◌, length, None, Some};
-ghost use Rattle.prefix_lattice.specs.{most_records};
+ghost use Rattle.prefix_lattice.specs.{record_limit};
 ghost use Rattle.position_words.specs.View.{view_after_giving, view_after_look};
-ghost use Rattle.position_words.specs.Words.{IsSeatOf, view};
-ghost use Rattle.position_words.specs.Step.{StepHasTaken, StepIsReady, IsSameSeatInStep, StepMarks, StepMeets};
+ghost use Rattle.position_words.specs.Seat.{IsSeatOf, view};
+ghost use Rattle.position_words.specs.WordSteps.{WordStepHasTaken, WordStepIsReady, IsSameSeatInWordStep};
+ghost use Rattle.position_words.specs.WordSteps.{WordStepMarks, WordStepMeets};
 
 use super::{Seat, Words};
 use crate::rule::{Giving, Looking, TakingToFold, TakingToRead};
@@ -16,8 +17,8 @@ impl Words {
     pub(super) fn load(&self, shard: u32, seat: &mut Seat) -> u64
         requires within { shard < length self.now.opening }
         requires seat { IsSeatOf self.now seat.old }
-        ensures same { IsSameSeatInStep seat.old seat.new }
-        ensures meets { StepMeets shard (result / 2) (view seat.old) }
+        ensures same { IsSameSeatInWordStep seat.old seat.new }
+        ensures meets { WordStepMeets shard (result / 2) (view seat.old) }
         ensures me { seat.new.me ≡ (view_after_look shard (result / 2) (view seat.old), seat.old.me.1) }
     {
         self.table.shared.load::<Looking>(seat, shard as usize)
@@ -28,8 +29,8 @@ impl Words {
         requires within { shard < length self.now.opening }
         requires seat { IsSeatOf self.now seat.old }
         requires free { (view seat.old).held ≡ None }
-        ensures same { IsSameSeatInStep seat.old seat.new }
-        ensures take { StepMarks aim shard seat.old.me result seat.new.me }
+        ensures same { IsSameSeatInWordStep seat.old seat.new }
+        ensures take { WordStepMarks aim shard seat.old.me result seat.new.me }
     {
         let word = shard as usize;
         let shared = &self.table.shared;
@@ -42,8 +43,8 @@ impl Words {
     // The state in the slot that the seat has taken, which is empty afterwards.
     pub(super) fn take_out(&self, shard: u32, seat: &mut Seat) -> ShardState
         requires id { seat.old.table_id ≡ self.now.id }
-        requires taken { StepHasTaken shard seat.old.me.1 }
-        ensures same { IsSameSeatInStep seat.old seat.new }
+        requires taken { WordStepHasTaken shard seat.old.me.1 }
+        ensures same { IsSameSeatInWordStep seat.old seat.new }
         ensures out { seat.old.me.1 ≡ (shard, Some result) ∷ [] }
         ensures me { seat.new.me ≡ (view seat.old, (shard, None) ∷ []) }
     {
@@ -57,7 +58,7 @@ impl Words {
     pub(super) fn put_in(&self, shard: u32, state: ShardState, seat: &mut Seat)
         requires id { seat.old.table_id ≡ self.now.id }
         requires empty { seat.old.me.1 ≡ (shard, None) ∷ [] }
-        ensures same { IsSameSeatInStep seat.old seat.new }
+        ensures same { IsSameSeatInWordStep seat.old seat.new }
         ensures me { seat.new.me ≡ (view seat.old, (shard, Some state) ∷ []) }
     {
         let _empty = self
@@ -69,9 +70,9 @@ impl Words {
     // A store of a shard's word, which gives the slot back.
     pub(super) fn store(&self, shard: u32, position: u64, seat: &mut Seat)
         requires id { seat.old.table_id ≡ self.now.id }
-        requires small { position ≤ most_records }
-        requires ready { StepIsReady self.now.opening shard position seat.old.me }
-        ensures same { IsSameSeatInStep seat.old seat.new }
+        requires small { position ≤ record_limit }
+        requires ready { WordStepIsReady self.now.opening shard position seat.old.me }
+        ensures same { IsSameSeatInWordStep seat.old seat.new }
         ensures me { seat.new.me ≡ (view_after_giving position (view seat.old), []) }
     {
         self.table

@@ -1,6 +1,7 @@
 use Rattle.std.proofs.Common.{arith}
 use Rattle.std.proofs.lemmas.Result.{err_from_is_err_and}
-use Rattle.checkpoint.proofs.BodyPartLemmas.{body_parts_are_long, body_has_head_parts, body_has_front_part, body_has_sequence_part}
+use Rattle.checkpoint.proofs.BodyPartLemmas.{body_parts_are_long, body_has_head_parts, body_has_front_part}
+use Rattle.checkpoint.proofs.BodyPartLemmas.{body_has_sequence_part}
 use Rattle.checkpoint.proofs.DecodeFaultLemmas.{decode_fault_is_same}
 use Rattle.checkpoint.proofs.decoding.decode.Goals as goal
 

@@ -1,13 +1,14 @@
 use Rattle.std.proofs.Common.{◌≤◌, map, arith}
 use Rattle.std.proofs.lemmas.Result.{err_from_is_err_and}
-use Rattle.prefix_lattice.specs.{most_records}
+use Rattle.prefix_lattice.specs.{record_limit}
 use Rattle.shard_state.specs.{snapshot_total}
 use Rattle.checkpoint.specs.Body.{body_table_bytes}
 use Rattle.checkpoint.specs.Spellings.{TableFitsSpelling}
 use Rattle.checkpoint.proofs.DecodeFaultLemmas.{decode_fault_is_same}
 use Rattle.checkpoint.proofs.PrefixFreeLemmas.{tables_are_prefix_free}
 use Rattle.checkpoint.proofs.ReadListLemmas.{read_list_is_same}
-use Rattle.checkpoint.proofs.SnapshotLemmas.{entries_in_snapshot, snapshot_tables_are_alike, snapshot_is_long, snapshot_has_front, snapshot_was_decoded}
+use Rattle.checkpoint.proofs.SnapshotLemmas.{entries_in_snapshot, snapshot_tables_are_alike, snapshot_is_long}
+use Rattle.checkpoint.proofs.SnapshotLemmas.{snapshot_has_front, snapshot_was_decoded}
 use Rattle.checkpoint.proofs.decoding.read_snapshot.Goals as goal
 
 pub returns-then-bytes-lt8-clause-damaged : goal.returns-then-bytes-lt8-clause-damaged
@@ -30,7 +31,7 @@ returns-in_default-clause-damaged c = λ is snapshot rest begins.
     c.first_number-position.result.1.now c.in_ok-tables.rest.now rest 25 (map entries_in_snapshot c.in_ok-tables.tables.items) snapshot.tables
     c.in_ok-tables.ensures.read parts.tables_begin in
     let are = snapshot_tables_are_alike c.args.capacity snapshot c.in_ok-tables.tables.items begins.fits c.in_ok-tables.ensures.capacity same.0 in
-    let placed : c.first_number-position.result.0 ≤ most_records = omega (arith, parts.position_is, begins.fits.is_snapshot.placed) in
+    let placed : c.first_number-position.result.0 ≤ record_limit = omega (arith, parts.position_is, begins.fits.is_snapshot.placed) in
     cc (c.in_default.ensures.accepted.1 (record {
       placed = placed;
       are_tables = record {

@@ -4,7 +4,7 @@ use Rattle.std.proofs.lemmas.List.{length-set, take_more_set}
 use Rattle.std.proofs.lemmas.Result.{err_from_is_err_and}
 use Rattle.shard_state.specs.{CutValue, SnapshotValue}
 use Rattle.checkpoint.specs.Body.{body_snapshot_bytes}
-use Rattle.checkpoint.specs.Spellings.{AreManyForSpelling, BeginsWithSpelling, SnapshotFitsSpelling}
+use Rattle.checkpoint.specs.Spellings.{ListFitsSpelling, BeginsWithSpelling, SnapshotFitsSpelling}
 use Rattle.checkpoint.proofs.DecodeFaultLemmas.{decode_fault_is_same}
 use Rattle.checkpoint.proofs.PrefixFreeLemmas.{snapshots_are_prefix_free}
 use Rattle.checkpoint.proofs.ReadListLemmas.{read_list_grows, read_list_has_too_few}
@@ -32,7 +32,7 @@ loop-shard-preserved c =
     shard (take shard shards) c.in_ok-snapshot.snapshot c.loop-shard.invariant.2 c.in_ok-snapshot.ensures.read in (
       ap length are ∙ length-set shards shard c.in_ok-snapshot.snapshot ∙ c.loop-shard.invariant.0,
       ap (λ (cut : CutValue). cut.capacity) c.put_shard.ensures ∙ c.loop-shard.invariant.1,
-      subst (λ (l : List SnapshotValue). BeginsWithSpelling (flat_map body_snapshot_bytes) (AreManyForSpelling (SnapshotFitsSpelling capacity) (shard + 1))
+      subst (λ (l : List SnapshotValue). BeginsWithSpelling (flat_map body_snapshot_bytes) (ListFitsSpelling (SnapshotFitsSpelling capacity) (shard + 1))
           c.args.bytes.now l
           c.in_ok-snapshot.after.now) (sym front) more,
     )

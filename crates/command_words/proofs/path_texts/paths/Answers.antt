@@ -1,6 +1,7 @@
 -- Words have one meaning, so what is read soundly is read exactly.
-use Rattle.command_words.specs.Words.{texts}
-use Rattle.command_words.proofs.OneMeaningLemmas.{PrefixHasOneMeaning, asked_command_meaning_is_accepted, faulty_meaning_is_always_told}
+use Rattle.command_words.specs.Arguments.{argument_texts}
+use Rattle.command_words.proofs.OneMeaningLemmas.{PrefixHasOneMeaning, asked_command_meaning_is_accepted}
+use Rattle.command_words.proofs.OneMeaningLemmas.{faulty_meaning_is_always_told}
 use Rattle.command_words.proofs.path_texts.paths.Goals as goal
 
 pub returns-clause-complete : goal.returns-clause-complete
@@ -11,7 +12,7 @@ returns-clause-complete c =
       no_fault = law.no_fault;
       one_fault = law.one_fault;
     } in
-    asked_command_meaning_is_accepted reading (texts c.args.words.now) c.paths_in.result c.paths_in.ensures.bad
+    asked_command_meaning_is_accepted reading (argument_texts c.args.words.now) c.paths_in.result c.paths_in.ensures.bad
 
 pub returns-clause-exact : goal.returns-clause-exact
 returns-clause-exact c =
@@ -21,4 +22,4 @@ returns-clause-exact c =
       no_fault = law.no_fault;
       one_fault = law.one_fault;
     } in
-    faulty_meaning_is_always_told reading (texts c.args.words.now) c.paths_in.result c.paths_in.ensures.asked c.paths_in.ensures.bad
+    faulty_meaning_is_always_told reading (argument_texts c.args.words.now) c.paths_in.result c.paths_in.ensures.asked c.paths_in.ensures.bad

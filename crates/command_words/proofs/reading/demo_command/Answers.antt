@@ -2,7 +2,8 @@
 use Rattle.std.proofs.Common.{subst, sym}
 use Rattle.std.proofs.lemmas.Result.{err_from_is_err_and, IfErr-weaker, IfOk-weaker}
 use Rattle.command_words.specs.Matches.{values_in_matches, store_in_matches}
-use Rattle.command_words.specs.Words.{AskFor, HasWordsFault}
+use Rattle.command_words.specs.AskedCommand.{AskForCommand}
+use Rattle.command_words.specs.WordsFault.{HasWordsFault}
 use Rattle.command_words.specs.declared.command_word.CommandWord.TheVariants.{Demo}
 use Rattle.command_words.proofs.MatchLemmas.{matches_tell_demo, matches_tell_fault, matches_tell_narrow_settings}
 use Rattle.command_words.proofs.OneValueFaultLemmas.{given_values_have_no_fault}
@@ -16,9 +17,9 @@ returns-in_err-given-clause-err c = λ words tells.
 
 pub returns-clause-ok : goal.returns-clause-ok
 returns-clause-ok c = λ words tells.
-    IfOk-weaker c.demo_of.result _ (AskFor words)
+    IfOk-weaker c.demo_of.result _ (AskForCommand words)
     (λ asked is.
-    subst (λ command. AskFor words command) (sym is.0)
+    subst (λ command. AskForCommand words command) (sym is.0)
     (matches_tell_demo words c.args.matches.now tells c.in_ok-given.given c.in_ok-given.ensures.ok is.1))
     c.demo_of.ensures.ok
 

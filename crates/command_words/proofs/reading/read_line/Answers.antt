@@ -1,8 +1,10 @@
 -- What `clap` found behind the first word tells the words.
 use Rattle.std.proofs.Common.{sym, ◌∙◌}
 use Rattle.std.proofs.lemmas.Bool.{false≢true}
-use Rattle.command_words.specs.Words.{texts}
-use Rattle.command_words.proofs.FirstWordLemmas.{unknown_first_word_is_fault, refused_behind_first_word, matches_behind_first_word, first_word_fault_is_told, same_form_by_first_word}
+use Rattle.command_words.specs.Arguments.{argument_texts}
+use Rattle.command_words.proofs.FirstWordLemmas.{unknown_first_word_is_fault, refused_behind_first_word}
+use Rattle.command_words.proofs.FirstWordLemmas.{matches_behind_first_word, first_word_fault_is_told}
+use Rattle.command_words.proofs.FirstWordLemmas.{same_form_by_first_word}
 use Rattle.command_words.proofs.reading.read_line.Goals as goal
 
 pub returns-in_default-of-clause-bad : goal.returns-in_default-of-clause-bad
@@ -22,7 +24,7 @@ returns-then-not-are_well_formed-clause-bad c = λ kind same.
 
 pub command_of-requires : goal.command_of-requires
 command_of-requires c = (
-  texts c.args.words.now,
+  argument_texts c.args.words.now,
   matches_behind_first_word c.args.words.now c.in-Some.first.now c.in-Some.behind.now c.in-Some-of.word
       c.in_ok-matches.matches c.in-Some.ensures.cases.0 c.in-Some-of.ensures.some
       ((same_form_by_first_word _ _ _ _ c.form.ensures c.are_well_formed.ensures).0 c.if-not-are_well_formed.false) c.in_ok-matches.ensures,
@@ -30,7 +32,7 @@ command_of-requires c = (
 
 pub returns-clause-ok : goal.returns-clause-ok
 returns-clause-ok c =
-    c.in_ok-command_of.ensures.ok (texts c.args.words.now)
+    c.in_ok-command_of.ensures.ok (argument_texts c.args.words.now)
     (matches_behind_first_word c.args.words.now c.in-Some.first.now c.in-Some.behind.now c.in-Some-of.word
     c.in_ok-matches.matches c.in-Some.ensures.cases.0 c.in-Some-of.ensures.some
     ((same_form_by_first_word _ _ _ _ c.form.ensures c.are_well_formed.ensures).0 c.if-not-are_well_formed.false) c.in_ok-matches.ensures)

@@ -2,9 +2,11 @@ use Rattle.std.proofs.Common.{refl, sym, ap, ◌∙◌, arith}
 use Rattle.std.proofs.lemmas.Bool.{false≢true}
 use Rattle.std.proofs.lemmas.Bool.Decides.{Decides-eqb, Decides-ltb}
 use Rattle.command_words.specs.Scanning.{scanned_form, scanned_text_at}
-use Rattle.command_words.specs.Words.{texts}
-use Rattle.command_words.proofs.ArgumentTailLemmas.{argument_leaves_tail_range, argument_tail_has_no_texts, argument_tail_has_no_words}
-use Rattle.command_words.proofs.FormLemmas.{empty_words_fit_form, form_fit_without_argument, positional_fits_form, form_fit_behind_positional, option_fits_form}
+use Rattle.command_words.specs.Arguments.{argument_texts}
+use Rattle.command_words.proofs.ArgumentTailLemmas.{argument_leaves_tail_range, argument_tail_has_no_texts}
+use Rattle.command_words.proofs.ArgumentTailLemmas.{argument_tail_has_no_words}
+use Rattle.command_words.proofs.FormLemmas.{empty_words_fit_form, form_fit_without_argument, positional_fits_form}
+use Rattle.command_words.proofs.FormLemmas.{form_fit_behind_positional, option_fits_form}
 use Rattle.command_words.proofs.FormLemmas.{form_fit_behind_option}
 use Rattle.command_words.proofs.scanning.+fit.Goals as goal
 
@@ -12,8 +14,8 @@ pub returns-then-is_empty : goal.returns-then-is_empty
 returns-then-is_empty t c =
     let form = scanned_form c.args.form.now in let n = c.args.positionals in let words = c.args.words.now in
     let empty = argument_tail_has_no_texts words ((Decides-eqb _ 0).0 (sym c.if-is_empty.ensures)) in (
-      λ yes. empty_words_fit_form form n (texts words) empty ((Decides-eqb n 0).0 yes),
-      λ fits. (Decides-eqb n 0).1 (form_fit_without_argument form n (texts words) c.in_default.ensures.none fits).1,
+      λ yes. empty_words_fit_form form n (argument_texts words) empty ((Decides-eqb n 0).0 yes),
+      λ fits. (Decides-eqb n 0).1 (form_fit_without_argument form n (argument_texts words) c.in_default.ensures.none fits).1,
     )
 
 pub returns-else-is_empty : goal.returns-else-is_empty
@@ -24,7 +26,7 @@ returns-else-is_empty t c =
           absurd (false≢true
           (c.if-is_empty.ensures
           ∙ (Decides-eqb _ 0).1
-          (argument_tail_has_no_words words (form_fit_without_argument form n (texts words) c.in_default.ensures.none fits).0))),
+          (argument_tail_has_no_words words (form_fit_without_argument form n (argument_texts words) c.in_default.ensures.none fits).0))),
     )
 
 pub returns-then-positionals-gt0 : goal.returns-then-positionals-gt0

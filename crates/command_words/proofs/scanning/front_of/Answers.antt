@@ -1,9 +1,12 @@
 use Rattle.std.proofs.Common.{refl, sym, ap, ◌∙◌, arith, subst, Some, None}
 use Rattle.std.proofs.lemmas.Str.Pattern.{split_parts}
-use Rattle.command_words.specs.Arguments.{positional, option, argument_equals_sign, IsArgumentValue, long}
-use Rattle.command_words.specs.Words.{texts}
-use Rattle.command_words.proofs.WordFrontLemmas.{word_front_given_if_true, no_word_front_unless_true, no_word_front_if_none, nothing_behind_word_front, name_at_word_front, stripped_word_front_is_long}
-use Rattle.command_words.proofs.WordFrontLemmas.{positional_at_word_front, joined_option_at_word_front, apart_option_at_word_front}
+use Rattle.command_words.specs.Arguments.{positional, option, argument_equals_sign, IsArgumentValue, long_argument}
+use Rattle.command_words.specs.Arguments.{argument_texts}
+use Rattle.command_words.proofs.WordFrontLemmas.{word_front_given_if_true, no_word_front_unless_true}
+use Rattle.command_words.proofs.WordFrontLemmas.{no_word_front_if_none, nothing_behind_word_front, name_at_word_front}
+use Rattle.command_words.proofs.WordFrontLemmas.{stripped_word_front_is_long}
+use Rattle.command_words.proofs.WordFrontLemmas.{positional_at_word_front, joined_option_at_word_front}
+use Rattle.command_words.proofs.WordFrontLemmas.{apart_option_at_word_front}
 use Rattle.command_words.proofs.WordFrontLemmas.{no_positional_at_word_front, no_joined_word_front, no_apart_word_front}
 use Rattle.command_words.proofs.OneReadingLemmas.{one_reading_of_head}
 use Rattle.command_words.proofs.scanning.front_of.Goals as goal
@@ -35,7 +38,7 @@ returns-in-Some-split_once-clause-some c =
     (λ test. (
       option name value,
       joined_option_at_word_front _ _ _ name value c.in_ok-word.ensures.cases.0
-          (stripped_word_front_is_long _ _ _ stripped.1.1 stripped.2 ∙ ap long parts.0) (name_at_word_front name parts.1)
+          (stripped_word_front_is_long _ _ _ stripped.1.1 stripped.2 ∙ ap long_argument parts.0) (name_at_word_front name parts.1)
           (c.is_value-in-Some-split_once.ensures.0 test),
       refl,
     ))
@@ -49,7 +52,7 @@ returns-in-Some-split_once-clause-none c =
     c.in-Some-split_once.ensures.cases (omega arith) in
     no_word_front_unless_true _ _ _ _ c.then_some-in-Some-split_once.ensures
     (λ fails. no_joined_word_front _ _ _ name value c.in_ok-word.ensures.cases.0
-    (stripped_word_front_is_long _ _ _ stripped.1.1 stripped.2 ∙ ap long parts.0) (name_at_word_front name parts.1)
+    (stripped_word_front_is_long _ _ _ stripped.1.1 stripped.2 ∙ ap long_argument parts.0) (name_at_word_front name parts.1)
     (λ is_value. fails (c.is_value-in-Some-split_once.ensures.1 is_value)))
 
 pub returns-in_err-value-clause-none : goal.returns-in_err-value-clause-none
@@ -82,4 +85,4 @@ returns-clause-none c =
     (stripped_word_front_is_long _ _ _ stripped.1.1 stripped.2) (name_at_word_front _ lacks)
     (λ value rest are is_value. fails
     (c.is_value-2.ensures.1
-    (subst IsArgumentValue (sym (one_reading_of_head _ _ _ _ (sym (ap texts c.in_ok-value.ensures.cases.0) ∙ are))) is_value))))
+    (subst IsArgumentValue (sym (one_reading_of_head _ _ _ _ (sym (ap argument_texts c.in_ok-value.ensures.cases.0) ∙ are))) is_value))))

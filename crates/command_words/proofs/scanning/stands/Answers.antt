@@ -1,7 +1,9 @@
 use Rattle.std.proofs.Common.{◌≤◌, ◌-◌, refl, sym, ◌∙◌, length, arith}
 use Rattle.std.proofs.lemmas.Bool.{false≢true}
 use Rattle.std.proofs.lemmas.List.{length-drop, take_rest}
-use Rattle.command_words.proofs.ArgumentTailLemmas.{argument_begins_tail_range, no_argument_begins_tail_range, next_argument_tail_keeps_name, name_stands_before_argument_tail, empty_argument_tail_lacks_name}
+use Rattle.command_words.proofs.ArgumentTailLemmas.{argument_begins_tail_range, no_argument_begins_tail_range}
+use Rattle.command_words.proofs.ArgumentTailLemmas.{next_argument_tail_keeps_name, name_stands_before_argument_tail}
+use Rattle.command_words.proofs.ArgumentTailLemmas.{empty_argument_tail_lacks_name}
 use Rattle.command_words.proofs.scanning.stands.Goals as goal
 
 pub returns-then-names : goal.returns-then-names

@@ -3,7 +3,8 @@ use Rattle.std.proofs.Common.{sym}
 use Rattle.std.proofs.lemmas.Result.{err_from_is_err_and}
 use Rattle.command_words.specs.Matches.{values_in_matches}
 use Rattle.command_words.specs.declared.opt.Opt.TheVariants.{Seed, Frames}
-use Rattle.command_words.proofs.ValueLemmas.{values_before_first_are_good, values_before_next_are_good, numeric_value_is_good, bad_numeric_value_is_first}
+use Rattle.command_words.proofs.ValueLemmas.{values_before_first_are_good, values_before_next_are_good}
+use Rattle.command_words.proofs.ValueLemmas.{numeric_value_is_good, bad_numeric_value_is_first}
 use Rattle.command_words.proofs.values.given_of.Goals as goal
 
 pub returns-in_err-seed-clause-err : goal.returns-in_err-seed-clause-err

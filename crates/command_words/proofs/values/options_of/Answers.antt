@@ -3,7 +3,8 @@ use Rattle.std.proofs.Common.{sym}
 use Rattle.std.proofs.lemmas.Result.{err_from_is_err_and}
 use Rattle.command_words.specs.Matches.{values_in_matches}
 use Rattle.command_words.specs.declared.opt.Opt.TheVariants.{Weigh, Shards, Capacity, Phi, Deal}
-use Rattle.command_words.proofs.ValueLemmas.{values_before_next_are_good, weigh_value_is_good, numeric_value_is_good, deal_value_is_good}
+use Rattle.command_words.proofs.ValueLemmas.{values_before_next_are_good, weigh_value_is_good, numeric_value_is_good}
+use Rattle.command_words.proofs.ValueLemmas.{deal_value_is_good}
 use Rattle.command_words.proofs.ValueLemmas.{bad_numeric_value_is_first, bad_choice_value_is_first}
 use Rattle.command_words.proofs.values.options_of.Goals as goal
 

@@ -5,8 +5,10 @@ use Rattle.prefix_lattice.specs.{node_of_prefix, strictly_under}
 use Rattle.conditioned_bounds.specs.Uppers.{upper_at}
 use Rattle.conditioned_bounds.proofs.UpperLemmas.{same_upper_node, other_upper_node, upper-is}
 use Rattle.conditioned_bounds.proofs.CodeLemmas.{CodeOrderHolds, code_above-by_node}
-use Rattle.conditioned_bounds.proofs.SearchLemmas.{search_explains, search_explained, search-one_more_node, search_ends_with_none, search_finds_one}
-use Rattle.conditioned_bounds.proofs.SearchLemmas.{search_own_node-explains_none, search_no_upper-explains_none, search_other-explains_none}
+use Rattle.conditioned_bounds.proofs.SearchLemmas.{search_explains, search_explained, search-one_more_node}
+use Rattle.conditioned_bounds.proofs.SearchLemmas.{search_ends_with_none, search_finds_one}
+use Rattle.conditioned_bounds.proofs.SearchLemmas.{search_own_node-explains_none, search_no_upper-explains_none}
+use Rattle.conditioned_bounds.proofs.SearchLemmas.{search_other-explains_none}
 use Rattle.conditioned_bounds.proofs.line_index.is_under_another.Goals as goal
 
 pub loop-node-preserved-then-eq : goal.loop-node-preserved-then-eq

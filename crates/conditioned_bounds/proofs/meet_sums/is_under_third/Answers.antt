@@ -4,8 +4,10 @@ use Rattle.prefix_lattice.specs.{node_of_prefix}
 use Rattle.conditioned_bounds.specs.Uppers.{upper_at}
 use Rattle.conditioned_bounds.proofs.UpperLemmas.{same_upper_node, other_upper_node, upper-is}
 use Rattle.conditioned_bounds.proofs.CodeLemmas.{CodeOrderHolds}
-use Rattle.conditioned_bounds.proofs.SearchLemmas.{is_search_third, search-one_more_node, search_ends_with_none, search_finds_one, search_first-is_no_third}
-use Rattle.conditioned_bounds.proofs.SearchLemmas.{search_second-is_no_third, search_no_upper-no_third, search_other-is_no_third}
+use Rattle.conditioned_bounds.proofs.SearchLemmas.{is_search_third, search-one_more_node, search_ends_with_none}
+use Rattle.conditioned_bounds.proofs.SearchLemmas.{search_finds_one, search_first-is_no_third}
+use Rattle.conditioned_bounds.proofs.SearchLemmas.{search_second-is_no_third, search_no_upper-no_third}
+use Rattle.conditioned_bounds.proofs.SearchLemmas.{search_other-is_no_third}
 use Rattle.conditioned_bounds.proofs.SearchLemmas.{is_search_third-by_node}
 use Rattle.conditioned_bounds.proofs.meet_sums.is_under_third.Goals as goal
 

@@ -5,7 +5,8 @@ use Rattle.prefix_lattice.specs.{node_index, node_at, strictly_under}
 use Rattle.prefix_lattice.proofs.NodePlaceLemmas.{node_index-node_at_place}
 use Rattle.conditioned_bounds.specs.Uppers.{upper_at, upper_code}
 use Rattle.conditioned_bounds.proofs.UpperLemmas.{upper-is, upper-only, same_upper_node, other_upper_node}
-use Rattle.conditioned_bounds.proofs.CodeLemmas.{CodeOrderHolds, CodesBefore, codes_skip, codes_add, no_code_above_own_node}
+use Rattle.conditioned_bounds.proofs.CodeLemmas.{CodeOrderHolds, CodesBefore, codes_skip, codes_add}
+use Rattle.conditioned_bounds.proofs.CodeLemmas.{no_code_above_own_node}
 use Rattle.conditioned_bounds.proofs.CodeLemmas.{code_above-by_node, code_above-under}
 use Rattle.conditioned_bounds.proofs.uppers.codes_above.Goals as goal
 use Rattle.conditioned_bounds.proofs.uppers.codes_above.Goals.{in-Some+in_ok-push, in_default}

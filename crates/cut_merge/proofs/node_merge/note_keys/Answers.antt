@@ -1,6 +1,7 @@
-use Rattle.std.proofs.Common.{◌≡◌, ℕ, ◌+◌, ◌-◌, ◌∷◌, [], ◌++◌, map, take, fold, ap, ◌∙◌, sym, subst, if◌then◌else◌, arith}
+use Rattle.std.proofs.Common.{◌≡◌, ℕ, ◌+◌, ◌-◌, ◌∷◌, [], ◌++◌, map, take, fold, ap, ◌∙◌, sym, subst, if◌then◌else◌}
+use Rattle.std.proofs.Common.{arith}
 use Rattle.space_saving.specs.declared.entry.Entry.{Entry}
-use Rattle.cut_merge.specs.Merged.{seen}
+use Rattle.cut_merge.specs.Merged.{merged_keys_seen}
 use Rattle.cut_merge.specs.HighBounds.{HighBoundsNoteKey}
 use Rattle.cut_merge.proofs.NewKeyLemmas.{new_keys_after_entry}
 use Rattle.cut_merge.proofs.HighBoundLemmas.{high_bound_notes_more}
@@ -24,7 +25,7 @@ loop-place-preserved c =
     c.loop-place.invariant.keys c.entry-entry.ensures.entry c.entry-entry.ensures.apart
     (c.requires.known entry.key ∙ sym c.is_known.ensures) in
     let keys : c.if-not-is_known.keys.items
-    ≡ fold seen c.args.keys.now.items
+    ≡ fold merged_keys_seen c.args.keys.now.items
     (map (λ (e : Entry). e.key) (take (c.loop-place.place + 1) c.args.table.now.entries)) =
     elim c.if-not-is_known.branch [
       | then-not-is_known+in_ok-push w ↦

@@ -1,6 +1,6 @@
 use Rattle.std.proofs.Common.{◌≡◌, map, take, fold}
 use Rattle.space_saving.specs.declared.entry.Entry.{Entry}
-use Rattle.cut_merge.specs.Merged.{seen}
+use Rattle.cut_merge.specs.Merged.{merged_keys_seen}
 use Rattle.cut_merge.specs.HighBounds.{HighBoundsNoteEntries}
 use Rattle.cut_merge.proofs.node_merge.note_keys.Given as goal
 
@@ -8,6 +8,6 @@ use Rattle.cut_merge.proofs.node_merge.note_keys.Given as goal
 abbrev pub invariant-loop-place : goal.invariant-loop-place
 invariant-loop-place l = record {
   keys : l.keys.items
-      ≡ fold seen l.initial.keys.items (map (λ (entry : Entry). entry.key) (take l.place l.table.entries));
+      ≡ fold merged_keys_seen l.initial.keys.items (map (λ (entry : Entry). entry.key) (take l.place l.table.entries));
   bounds : HighBoundsNoteEntries l.table l.initial.bounds l.bounds l.place;
 }

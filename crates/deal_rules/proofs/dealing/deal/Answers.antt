@@ -1,5 +1,6 @@
 use Rattle.std.proofs.Common.{rules, arith}
-use Rattle.deal_rules.proofs.ShardListLemmas.{shard_lists_start_empty, shard_lists_take_next_record, shard_lists_hold_all_records, each_shard_has_list}
+use Rattle.deal_rules.proofs.ShardListLemmas.{shard_lists_start_empty, shard_lists_take_next_record}
+use Rattle.deal_rules.proofs.ShardListLemmas.{shard_lists_hold_all_records, each_shard_has_list}
 use Rattle.deal_rules.proofs.DealingLemmas.{dealing_is_small_enough}
 use Rattle.deal_rules.proofs.dealing.deal.Goals as goal
 

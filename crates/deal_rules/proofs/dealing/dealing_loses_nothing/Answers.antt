@@ -1,4 +1,5 @@
-use Rattle.deal_rules.proofs.DealingLemmas.{dealing_permutes_records, dealing_keeps_sums, dealing_loses_no_record, dealing_keeps_each_weight, dealing_keeps_total}
+use Rattle.deal_rules.proofs.DealingLemmas.{dealing_permutes_records, dealing_keeps_sums, dealing_loses_no_record}
+use Rattle.deal_rules.proofs.DealingLemmas.{dealing_keeps_each_weight, dealing_keeps_total}
 use Rattle.deal_rules.proofs.dealing.dealing_loses_nothing.Goals as goal
 
 pub returns-clause-permuted : goal.returns-clause-permuted

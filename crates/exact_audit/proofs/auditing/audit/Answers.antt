@@ -8,7 +8,7 @@ use Rattle.exact_audit.specs.declared.counted.Counted.{Counted}
 use Rattle.exact_audit.specs.declared.verdict.Verdict.TheVariants.{Good, BadThreshold}
 use Rattle.exact_audit.specs.declared.verdict.Verdict.{Verdict}
 use Rattle.exact_audit.specs.NodeSums.{AreCountedInNodeSums, records_in_node_sums}
-use Rattle.exact_audit.specs.Verdict.{IsLineVerdict, IsVerdict, PassesHead}
+use Rattle.exact_audit.specs.Verdict.{IsLineVerdict, IsVerdict, VerdictReachesLines}
 use Rattle.exact_audit.proofs.VerdictLemmas.{verdict_threshold_is_unique, verdict_from_lines, verdict_is_good_iff_sound}
 use Rattle.exact_audit.proofs.auditing.audit.Goals as goal
 
@@ -45,7 +45,7 @@ returns-clause-verdict c =
     let ByTotal : ℕ → List Line → Verdict → Type 0 = λ total lines verdict.
     IsLineVerdict (record { capacity = c.args.capacity; threshold = report.threshold; total = total }) records lines
     verdict in
-    let head : PassesHead lists c.args.phi report = record {
+    let head : VerdictReachesLines lists c.args.phi report = record {
       positions = c.if-not-are_within.ensures.0 refl;
       total = c.if-report-total.false ∙ c.total_before-total.ensures.total;
       threshold =

@@ -1,6 +1,8 @@
 use Rattle.std.proofs.Common.{All, sym, subst}
 use Rattle.hhh_output.specs.{prefixes_of_lines}
-use Rattle.exact_audit.specs.Verdict.{IsFirstFailure, IsJustifiedAmong, IsLeftOut, IsLineVerdict, TestedBy}
+use Rattle.exact_audit.specs.LineTests.{IsLineTestResult, LinePassesJustifiedTest, LineTestMeasures}
+use Rattle.exact_audit.specs.LeftOut.{IsLeftOut}
+use Rattle.exact_audit.specs.Verdict.{IsLineVerdict}
 use Rattle.exact_audit.specs.Findings.{AreFindingSums, IsFirstFinding}
 use Rattle.exact_audit.proofs.VerdictLemmas.{verdict_leaves_out_first, verdict_leaves_out_none}
 use Rattle.exact_audit.proofs.auditing.verdict_of.Goals as goal
@@ -10,10 +12,10 @@ pub returns : goal.returns
 returns c = λ records are total.
     let lines = c.args.lines.now in
     let prefixes = prefixes_of_lines lines in
-    let by : TestedBy = record { capacity = c.args.capacity; threshold = c.args.threshold; total = c.args.total } in
+    let by : LineTestMeasures = record { capacity = c.args.capacity; threshold = c.args.threshold; total = c.args.total } in
     let held = c.in_default.ensures records (subst (AreFindingSums lines records) (sym c.deref.ensures.value) are.sums) in
-    let justified : All (IsJustifiedAmong by records lines) lines =
-    subst (IsFirstFailure (IsJustifiedAmong by records lines) lines) c.in_default-2.is
+    let justified : All (LinePassesJustifiedTest by records lines) lines =
+    subst (IsLineTestResult (LinePassesJustifiedTest by records lines) lines) c.in_default-2.is
     (c.in_ok-line.ensures records (subst (AreFindingSums lines records) (sym c.deref-2.ensures.value) are.sums) total) in
     elim c.match-findings.branch [
       | in-Some-left_out w ↦

@@ -2,7 +2,8 @@ use Rattle.std.proofs.Common.{◌≤◌, ◌<◌, [], length, get_or, refl, sym,
 use borrow.Author.Count.{below_more}
 use Rattle.std.proofs.lemmas.Bool.{false≢true}
 use Rattle.std.proofs.lemmas.Option.{get_or_from_slice_get}
-use Rattle.exact_audit.proofs.CountedRecordLemmas.{counted_record_positions_fit, counted_record_positions_as_many, each_counted_record_position_fits}
+use Rattle.exact_audit.proofs.CountedRecordLemmas.{counted_record_positions_fit, counted_record_positions_as_many}
+use Rattle.exact_audit.proofs.CountedRecordLemmas.{each_counted_record_position_fits}
 use Rattle.exact_audit.proofs.counted.are_within.Goals as goal
 
 pub returns-then-len-shards : goal.returns-then-len-shards

@@ -2,7 +2,8 @@ use Rattle.std.proofs.Common.{◌≡◌, ◌-◌, false, inr, sym, ap, ◌∙◌
 use Rattle.std.specs.List.{list_any}
 use Rattle.prefix_lattice.specs.{prefix_at}
 use Rattle.exact_audit.specs.LineCodes.{line_code_of}
-use Rattle.exact_audit.proofs.DepthLemmas.{depth_past_four_is_unreached, depth_next, depth_found, depth_end, coded_depth_has_line}
+use Rattle.exact_audit.proofs.DepthLemmas.{depth_past_four_is_unreached, depth_next, depth_found, depth_end}
+use Rattle.exact_audit.proofs.DepthLemmas.{coded_depth_has_line}
 use Rattle.exact_audit.proofs.depths.depth.Goals as goal
 
 pub loop-dest_bytes-init : goal.loop-dest_bytes-init

@@ -9,7 +9,8 @@ use Rattle.prefix_lattice.specs.{node_index}
 use Rattle.exact_audit.specs.declared.node_sums.Sums.{Sums}
 use Rattle.exact_audit.specs.NodeSums.{no_sums, sums_for}
 use Rattle.exact_audit.specs.Findings.{IsFirstFindingWith}
-use Rattle.exact_audit.proofs.LeftOutLemmas.{first_left_out_before_keys, first_left_out_after_keys, first_left_out_skips_light, first_left_out_takes_heavy}
+use Rattle.exact_audit.proofs.LeftOutLemmas.{first_left_out_before_keys, first_left_out_after_keys}
+use Rattle.exact_audit.proofs.LeftOutLemmas.{first_left_out_skips_light, first_left_out_takes_heavy}
 use Rattle.exact_audit.proofs.left_out.first_left_out.Goals as goal
 use Rattle.exact_audit.proofs.left_out.first_left_out.Goals.{then-of_key-threshold, else-of_key-threshold}
 

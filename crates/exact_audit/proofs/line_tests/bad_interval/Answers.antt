@@ -4,7 +4,8 @@ use Rattle.std.proofs.lemmas.Bool.{false≢true}
 use Rattle.prefix_lattice.specs.{IntervalHoldsWeight}
 use Rattle.hhh_output.specs.{HoldsWeightInSoundReport}
 use Rattle.exact_audit.specs.declared.node_sums.Sums.{Sums}
-use Rattle.exact_audit.proofs.LineTestLemmas.{line_test_fails_after_passes, line_test_passes_one_more, line_test_sums_at_place}
+use Rattle.exact_audit.proofs.LineTestLemmas.{line_test_fails_after_passes, line_test_passes_one_more}
+use Rattle.exact_audit.proofs.LineTestLemmas.{line_test_sums_at_place}
 use Rattle.exact_audit.proofs.line_tests.bad_interval.Goals as goal
 
 pub loop-place-preserved : goal.loop-place-preserved

@@ -6,7 +6,8 @@ use Rattle.prefix_lattice.specs.{IsPrefixKey, prefix_key, prefix_at}
 use Rattle.exact_audit.specs.declared.counted.Counted.{Counted}
 use Rattle.exact_audit.specs.Depths.{explained_by_depth}
 use Rattle.exact_audit.specs.NodeSums.{has_node_sum_key, sums_for, AreNodeKeySums}
-use Rattle.exact_audit.proofs.NodeSumLemmas.{AreNodeSumLaws, partial_node_sum_fits, AreNodeKeySums-next_in_node, AreNodeSums-by_prefix}
+use Rattle.exact_audit.proofs.NodeSumLemmas.{AreNodeSumLaws, partial_node_sum_fits, AreNodeKeySums-next_in_node}
+use Rattle.exact_audit.proofs.NodeSumLemmas.{AreNodeSums-by_prefix}
 use Rattle.exact_audit.proofs.node_sums.sums_at.Goals as goal
 
 pub add-requires-clause-weight : goal.add-requires-clause-weight

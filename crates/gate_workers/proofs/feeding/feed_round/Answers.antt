@@ -1,7 +1,8 @@
 use Rattle.std.proofs.Common.{◌+◌, ◌%◌, ◌<◌, arith}
 use Rattle.std.proofs.Math.Nat.{mod-lt}
 use Rattle.pass_tokens.specs.{view}
-use Rattle.gate_workers.proofs.FeedingLemmas.{feeding_of_same_view, feeding_goes_on, feeding_stays_at_end, feeding_tests_both_hold, feeding_round_goes_on, feeding_round_sees_ends}
+use Rattle.gate_workers.proofs.FeedingLemmas.{feeding_of_same_view, feeding_goes_on, feeding_stays_at_end}
+use Rattle.gate_workers.proofs.FeedingLemmas.{feeding_tests_both_hold, feeding_round_goes_on, feeding_round_sees_ends}
 use Rattle.gate_workers.proofs.feeding.feed_round.Goals as goal
 
 pub loop-turn-init : goal.loop-turn-init

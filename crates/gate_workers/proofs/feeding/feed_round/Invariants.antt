@@ -1,6 +1,6 @@
 use Rattle.std.proofs.Common.{ℕ, ◌+◌, ◌%◌, ◌<◌, IsTrue}
 use Rattle.pass_tokens.specs.{IsPassOfBoard, view}
-use Rattle.gate_workers.specs.Feed.{Feeds, HasFeedSeenEnd}
+use Rattle.gate_workers.specs.Feed.{Feeds, FeedHasSeenEnd}
 use Rattle.gate_workers.proofs.feeding.feed_round.Given as goal
 
 -- so far the pass only folded, and if all shards so far were at their ends, it has seen these
@@ -8,4 +8,4 @@ abbrev pub invariant-loop-turn : goal.invariant-loop-turn
 invariant-loop-turn g l =
     IsPassOfBoard l.board l.pass × Feeds l.board.opening l.block (view l.initial.pass) (view l.pass)
     × (IsTrue l.ended → (turn : ℕ) → turn < l.turn
-    → HasFeedSeenEnd l.board.opening ((l.first + turn) % l.shards) (view l.pass))
+    → FeedHasSeenEnd l.board.opening ((l.first + turn) % l.shards) (view l.pass))

@@ -1,6 +1,7 @@
 use Rattle.std.proofs.Common.{◌<◌, arith, length}
 use Rattle.pass_tokens.specs.{view}
-use Rattle.gate_workers.proofs.FeedingLemmas.{feeding_of_same_view, feeding_by_fold, feeding_by_loss, feeding_goes_on, feeding_is_at_end}
+use Rattle.gate_workers.proofs.FeedingLemmas.{feeding_of_same_view, feeding_by_fold, feeding_by_loss, feeding_goes_on}
+use Rattle.gate_workers.proofs.FeedingLemmas.{feeding_is_at_end}
 use Rattle.gate_workers.proofs.feeding.feed_shard.Goals as goal
 
 pub loop-init : goal.loop-init

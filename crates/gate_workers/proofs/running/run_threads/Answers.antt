@@ -1,4 +1,5 @@
-use Rattle.std.proofs.Common.{◌≡◌, ◌+◌, ◌≤◌, inr, length, map, fold, All, OnErr, Ok, Err, Result, ap, sym, subst, ◌∙◌, arith}
+use Rattle.std.proofs.Common.{◌≡◌, ◌+◌, ◌≤◌, inr, length, map, fold, All, OnErr, Ok, Err, Result, ap, sym, subst, ◌∙◌}
+use Rattle.std.proofs.Common.{arith}
 use Rattle.std.proofs.Common.{ℕ, List, ◌++◌, take, drop}
 use Rattle.std.specs.List.{AllZip}
 use Rattle.std.proofs.Math.Seq.{take-append_seam}
@@ -6,9 +7,13 @@ use Rattle.std.proofs.lemmas.List.{length-map}
 use Rattle.std.proofs.lemmas.Slice.Zip.{AllZip-long}
 use Rattle.std.proofs.lemmas.List.Elements.{All-map}
 use Rattle.pass_tokens.specs.{view_after_join, newcomer_view, view}
-use Rattle.gate_workers.specs.Feed.{HasFeedSeenEnds}
-use Rattle.gate_workers.specs.Gather.{GathersBack, HasGatheredFeed, IsSplitOffToGather, after_gather_splits}
-use Rattle.gate_workers.proofs.GatheredLemmas.{gathered_splits_are_summed, gathered_workers_have_fed, gathered_workers_are_of_board, gathered_callers_have_ended, gathered_callers_have_called, gathered_callers_are_sound, gathered_callers_are_of_board, gathered_pass_sees_ends}
+use Rattle.gate_workers.specs.Feed.{FeedHasSeenEnds}
+use Rattle.gate_workers.specs.Threads.{CallerThreadBringsBack, WorkerThreadHasFed, IsSplitOffForThread}
+use Rattle.gate_workers.specs.Threads.{after_thread_splits}
+use Rattle.gate_workers.proofs.GatheredLemmas.{gathered_splits_are_summed, gathered_workers_have_fed}
+use Rattle.gate_workers.proofs.GatheredLemmas.{gathered_workers_are_of_board, gathered_callers_have_ended}
+use Rattle.gate_workers.proofs.GatheredLemmas.{gathered_callers_have_called, gathered_callers_are_sound}
+use Rattle.gate_workers.proofs.GatheredLemmas.{gathered_callers_are_of_board, gathered_pass_sees_ends}
 use Rattle.gate_workers.proofs.running.run_threads.Goals as goal
 
 -- a vector whose slice was written whole
@@ -29,8 +34,8 @@ returns-clause-ends g c =
     let passes = c.as_mut_slice.result.now in
     let fed = c.run_all.new.workers in
     let many : length fed ≡ length passes = c.run_all.auto.workers in
-    let split : All (IsSplitOffToGather board before) passes =
-    subst (All (IsSplitOffToGather board before)) (sym c.as_mut_slice.ensures.value) c.in_ok-workers.ensures.workers in
+    let split : All (IsSplitOffForThread board before) passes =
+    subst (All (IsSplitOffForThread board before)) (sym c.as_mut_slice.ensures.value) c.in_ok-workers.ensures.workers in
     let some : 1 ≤ length fed =
     omega (
       arith,
@@ -42,9 +47,9 @@ returns-clause-ends g c =
     ) in
     let each = gathered_workers_have_fed board block before passes fed many split c.run_all.ensures.workers in
     let of_board = gathered_workers_are_of_board board block passes fed many c.run_all.ensures.workers in
-    let all : HasFeedSeenEnds board.opening (fold view_after_join (view c.run_all.new.pass) (map view fed)) =
+    let all : FeedHasSeenEnds board.opening (fold view_after_join (view c.run_all.new.pass) (map view fed)) =
     gathered_pass_sees_ends board block before (view c.run_all.new.pass) fed c.run_all.ensures.pass.seat.trails some of_board each in
-    subst (HasFeedSeenEnds board.opening)
+    subst (FeedHasSeenEnds board.opening)
     (sym (c.join_workers.ensures.joined
     ∙ ap (λ passes. fold view_after_join (view c.run_all.new.pass) (map view passes))
     (written c.in_ok-workers.workers.len fed c.in_ok-workers.workers.items (many ∙ c.as_mut_slice.ensures.len)))) all
@@ -63,7 +68,7 @@ returns-clause-sound g c bases =
     c.in_ok-callers.ensures.newcomers place default below ∙ ap newcomer_view c.in_ok-workers.ensures.split) in
     gathered_callers_are_sound board plan before ended c.in_ok-called.called.items
     (gathered_callers_have_ended board plan before callers ended many new c.run_all.ensures.callers)
-    (subst (λ callers. AllZip GathersBack callers c.in_ok-called.called.items)
+    (subst (λ callers. AllZip CallerThreadBringsBack callers c.in_ok-called.called.items)
     (written c.in_ok-callers.callers.len ended c.in_ok-callers.callers.items (many ∙ c.as_mut_slice-2.ensures.len)) c.in_ok-called.ensures)
     bases
 
@@ -81,7 +86,7 @@ returns-clause-passes g c =
     c.in_ok-callers.ensures.newcomers place default below ∙ ap newcomer_view c.in_ok-workers.ensures.split) in
     gathered_callers_are_of_board board plan before ended c.in_ok-called.called.items
     (gathered_callers_have_ended board plan before callers ended many new c.run_all.ensures.callers)
-    (subst (λ callers. AllZip GathersBack callers c.in_ok-called.called.items)
+    (subst (λ callers. AllZip CallerThreadBringsBack callers c.in_ok-called.called.items)
     (written c.in_ok-callers.callers.len ended c.in_ok-callers.callers.items (many ∙ c.as_mut_slice-2.ensures.len)) c.in_ok-called.ensures)
 
 pub returns-clause-gathers : goal.returns-clause-gathers
@@ -92,8 +97,8 @@ returns-clause-gathers g c =
     let passes = c.as_mut_slice.result.now in
     let fed = c.run_all.new.workers in
     let many : length fed ≡ length passes = c.run_all.auto.workers in
-    let split : All (IsSplitOffToGather board before) passes =
-    subst (All (IsSplitOffToGather board before)) (sym c.as_mut_slice.ensures.value) c.in_ok-workers.ensures.workers in
+    let split : All (IsSplitOffForThread board before) passes =
+    subst (All (IsSplitOffForThread board before)) (sym c.as_mut_slice.ensures.value) c.in_ok-workers.ensures.workers in
     let each = gathered_workers_have_fed board plan.block before passes fed many split c.run_all.ensures.workers in
     let callers = c.as_mut_slice-2.result.now in
     let ended = c.run_all.new.callers in
@@ -102,11 +107,11 @@ returns-clause-gathers g c =
     subst (All (λ caller. view caller.pass ≡ newcomer_view before)) (sym c.as_mut_slice-2.ensures.value)
     (λ place default below.
     c.in_ok-callers.ensures.newcomers place default below ∙ ap newcomer_view c.in_ok-workers.ensures.split) in
-    let back : AllZip GathersBack ended c.in_ok-called.called.items =
-    subst (λ callers. AllZip GathersBack callers c.in_ok-called.called.items)
+    let back : AllZip CallerThreadBringsBack ended c.in_ok-called.called.items =
+    subst (λ callers. AllZip CallerThreadBringsBack callers c.in_ok-called.called.items)
     (written c.in_ok-callers.callers.len ended c.in_ok-callers.callers.items (as_many ∙ c.as_mut_slice-2.ensures.len)) c.in_ok-called.ensures in
-    let splits : view c.split_callers.new.pass ≡ after_gather_splits (plan.workers + plan.callers) before =
-    c.in_ok-callers.ensures.split ∙ ap (after_gather_splits plan.callers) c.in_ok-workers.ensures.split
+    let splits : view c.split_callers.new.pass ≡ after_thread_splits (plan.workers + plan.callers) before =
+    c.in_ok-callers.ensures.split ∙ ap (after_thread_splits plan.callers) c.in_ok-workers.ensures.split
     ∙ gathered_splits_are_summed plan.workers plan.callers before in
     record {
       rounds = record {
@@ -119,13 +124,13 @@ returns-clause-gathers g c =
       as_many_workers =
           length-map fed view ∙ many ∙ c.as_mut_slice.ensures.len ∙ c.in_ok-workers.workers.ok.0
           ∙ c.in_ok-workers.ensures.count;
-      fed = All-map (HasGatheredFeed board.opening plan.block before) view fed each;
+      fed = All-map (WorkerThreadHasFed board.opening plan.block before) view fed each;
       pass =
           c.join_workers.ensures.joined
           ∙ ap (λ passes. fold view_after_join (view c.run_all.new.pass) (map view passes))
           (written c.in_ok-workers.workers.len fed c.in_ok-workers.workers.items (many ∙ c.as_mut_slice.ensures.len));
       as_many_callers =
-          AllZip-long GathersBack ended c.in_ok-called.called.items back ∙ as_many ∙ c.as_mut_slice-2.ensures.len
+          AllZip-long CallerThreadBringsBack ended c.in_ok-called.called.items back ∙ as_many ∙ c.as_mut_slice-2.ensures.len
           ∙ c.in_ok-callers.callers.ok.0 ∙ c.in_ok-callers.ensures.count;
       called =
           gathered_callers_have_called board plan before ended c.in_ok-called.called.items
@@ -136,8 +141,8 @@ pub returns-in_err-called-clause-memory : goal.returns-in_err-called-clause-memo
 returns-in_err-called-clause-memory g c =
     let plan = c.args.plan.now in
     let before = view c.args.pass in
-    let splits : view c.split_callers.new.pass ≡ after_gather_splits (plan.workers + plan.callers) before =
-    c.in_ok-callers.ensures.split ∙ ap (after_gather_splits plan.callers) c.in_ok-workers.ensures.split
+    let splits : view c.split_callers.new.pass ≡ after_thread_splits (plan.workers + plan.callers) before =
+    c.in_ok-callers.ensures.split ∙ ap (after_thread_splits plan.callers) c.in_ok-workers.ensures.split
     ∙ gathered_splits_are_summed plan.workers plan.callers before in
     on_err c.from_residual-in_err-called.result
     (inr (record {

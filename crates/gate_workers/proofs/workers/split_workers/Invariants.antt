@@ -1,6 +1,6 @@
 use Rattle.std.proofs.Common.{◌≡◌, length, All}
 use Rattle.pass_tokens.specs.{IsPassOfBoard, view}
-use Rattle.gate_workers.specs.Gather.{IsSplitOffToGather, after_gather_splits}
+use Rattle.gate_workers.specs.Threads.{IsSplitOffForThread, after_thread_splits}
 use Rattle.gate_workers.proofs.workers.split_workers.Given as goal
 
 -- so far this many passes were split off
@@ -8,5 +8,5 @@ abbrev pub invariant-loop-worker : goal.invariant-loop-worker
 invariant-loop-worker l =
     IsPassOfBoard l.board l.pass
     × (length l.workers.items ≡ l._worker)
-    × All (IsSplitOffToGather l.board (view l.initial.pass)) l.workers.items
-    × (view l.pass ≡ after_gather_splits l._worker (view l.initial.pass))
+    × All (IsSplitOffForThread l.board (view l.initial.pass)) l.workers.items
+    × (view l.pass ≡ after_thread_splits l._worker (view l.initial.pass))

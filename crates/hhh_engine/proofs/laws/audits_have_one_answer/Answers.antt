@@ -1,4 +1,5 @@
-use Rattle.hhh_engine.proofs.AuditAnswerLemmas.{audit_answer_is_never_both, audit_answer_unsound_is_unique, audit_answer_all_sound, audit_answer_first_unsound}
+use Rattle.hhh_engine.proofs.AuditAnswerLemmas.{audit_answer_is_never_both, audit_answer_unsound_is_unique}
+use Rattle.hhh_engine.proofs.AuditAnswerLemmas.{audit_answer_all_sound, audit_answer_first_unsound}
 use Rattle.hhh_engine.proofs.laws.audits_have_one_answer.Goals as goal
 
 pub returns-clause-sound : goal.returns-clause-sound

@@ -2,7 +2,7 @@ use Rattle.std.proofs.Common.{refl}
 use Rattle.command_words.specs.declared.command.Command.TheVariants.{Weigh, Report, Format, Audit, Make, Demo}
 use Rattle.hhh_engine.specs.Ending.{RefusesStoreAtEnding}
 use Rattle.hhh_engine.specs.Inputs.{inputs}
-use Rattle.hhh_engine.specs.Saves.{IsAsBeforeSaves, saves_kept_in}
+use Rattle.hhh_engine.specs.Saves.{IsAsBeforeSaves, SavesAreKeptOnDisk}
 use Rattle.hhh_engine.proofs.AuditEndLemmas.{audit_ends_as}
 use Rattle.hhh_engine.proofs.ReadOrderLemmas.{read_order_of_capture_alone, read_order_of_neither, read_order_of_variant}
 use Rattle.hhh_engine.proofs.SaveLemmas.{disk_without_save_is_unchanged}
@@ -36,7 +36,7 @@ returns-in-Audit-clause-ends g c =
     status_as_named_command _ _ c.args.command.now (Audit c.in-Audit.settings) given _ _ _ _ _ _ _ _ _ _ _ c.audit.result
     c.in-Audit.is
     (audit_ends_as c.in-Audit.settings _
-    (saves_kept_in g.D.Disk.reads g.D.Disk.image_now g.D.Disk.moment g.D.Disk.image_since c.args.disk.now c.args.disk.now) given
+    (SavesAreKeptOnDisk g.D.Disk.reads g.D.Disk.image_now g.D.Disk.moment g.D.Disk.image_since c.args.disk.now c.args.disk.now) given
     _ _ _ _ _ _ _ _ _ _ c.audit.result refl
     (disk_without_save_is_unchanged g.D.Disk.reads g.D.Disk.image_now g.D.Disk.moment g.D.Disk.image_since c.args.disk.now
     c.args.disk.now g.met.D.Disk.only_now refl)

@@ -2,10 +2,13 @@ use Rattle.std.proofs.Common.{inr, refl, sym, subst}
 use Rattle.command_words.specs.declared.command.Command.TheVariants.{Report, Format, Audit}
 use Rattle.hhh_engine.specs.Ending.{FormatEnds}
 use Rattle.hhh_engine.specs.Inputs.{UsesInputCapture}
-use Rattle.hhh_engine.specs.Saves.{store_settings}
-use Rattle.hhh_engine.proofs.AuditFindingLemmas.{asked_audit_finding_is_unsound, audit_finding_by_status, audit_finding_refuses_by_status, asked_audit_finding_is_fault}
-use Rattle.hhh_engine.proofs.ReadOrderLemmas.{read_order_at_failed_disk, read_order_at_read_failure, read_order_at_refused_capture}
-use Rattle.hhh_engine.proofs.StatusLemmas.{status_of_asked_command, status_tells_disk_happening, status_is_want_of_memory, status_names_refusal, status_of_refused_capture}
+use Rattle.hhh_engine.specs.Saves.{store_settings_for_saves}
+use Rattle.hhh_engine.proofs.AuditFindingLemmas.{asked_audit_finding_is_unsound, audit_finding_by_status}
+use Rattle.hhh_engine.proofs.AuditFindingLemmas.{audit_finding_refuses_by_status, asked_audit_finding_is_fault}
+use Rattle.hhh_engine.proofs.ReadOrderLemmas.{read_order_at_failed_disk, read_order_at_read_failure}
+use Rattle.hhh_engine.proofs.ReadOrderLemmas.{read_order_at_refused_capture}
+use Rattle.hhh_engine.proofs.StatusLemmas.{status_of_asked_command, status_tells_disk_happening}
+use Rattle.hhh_engine.proofs.StatusLemmas.{status_is_want_of_memory, status_names_refusal, status_of_refused_capture}
 use Rattle.hhh_engine.proofs.SoundSessionLemmas.{asked_sound_session_is_found}
 use Rattle.hhh_engine.proofs.StatusLemmas.{asked_status_is_store_refusal, status_of_same_command}
 use Rattle.hhh_engine.proofs.top_call.run.Goals as goal
@@ -48,7 +51,7 @@ returns-in-Err-clause-refuses_store g c = λ settings file image frames fault as
 
 pub returns-in-Err-clause-formats : goal.returns-in-Err-clause-formats
 returns-in-Err-clause-formats g c = λ settings asks.
-    subst (FormatEnds (store_settings settings) (g.D.Disk.reads c.args.disk.now) (g.D.Disk.image_now c.args.disk.now)
+    subst (FormatEnds (store_settings_for_saves settings) (g.D.Disk.reads c.args.disk.now) (g.D.Disk.image_now c.args.disk.now)
     c.args.sink.now c.args.sink.now c.args.disk.now c.args.disk.now)
     (sym (status_is_want_of_memory c.read_words.result (Format settings) c.in-Err.refusal c.from.result
     (c.read_words.ensures.complete (Format settings) asks) c.in-Err.is c.from.ensures)) (refl, refl)

@@ -1,5 +1,6 @@
 use Rattle.std.proofs.Common.{◌∙◌}
-use Rattle.hhh_output.proofs.SelectionLemmas.{selection_has_candidates, selection_gives_all_lines, selection_lines_are_kept}
+use Rattle.hhh_output.proofs.SelectionLemmas.{selection_has_candidates, selection_gives_all_lines}
+use Rattle.hhh_output.proofs.SelectionLemmas.{selection_lines_are_kept}
 use Rattle.hhh_output.proofs.reporting.report_of.Goals as goal
 
 pub select_lines-requires : goal.select_lines-requires

@@ -1,6 +1,7 @@
 use Rattle.std.proofs.Common.{◌≡◌, length, refl, sym, ap, ◌∙◌, arith}
 use Rattle.key_index.specs.CellPaths.{cell_path_home, cell_path, cell_path_from, cell_path_leads_to}
-use Rattle.key_index.proofs.PathLemmas.{path_goes_past_window, path_stops_in_window, path_ends_past_all_cells, path_stops_in_last_turn}
+use Rattle.key_index.proofs.PathLemmas.{path_goes_past_window, path_stops_in_window, path_ends_past_all_cells}
+use Rattle.key_index.proofs.PathLemmas.{path_stops_in_last_turn}
 use Rattle.key_index.proofs.searching.place_of.Goals as goal
 
 pub loop-turn-init : goal.loop-turn-init

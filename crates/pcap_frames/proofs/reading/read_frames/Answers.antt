@@ -1,7 +1,8 @@
 use Rattle.std.proofs.Common.{◌≡◌, [], take, sym, ap, subst, arith}
 use Rattle.std.proofs.lemmas.Result.{err_from_is_err_and}
 use Rattle.std.specs.Io.KnownBytes.{Consumes}
-use Rattle.pcap_frames.proofs.SourceReadLemmas.{more_of_source_is_read, source_read_leaves_less, source_read_fails, source_read_holds_weaker, source_read_is_stopped}
+use Rattle.pcap_frames.proofs.SourceReadLemmas.{more_of_source_is_read, source_read_leaves_less, source_read_fails}
+use Rattle.pcap_frames.proofs.SourceReadLemmas.{source_read_holds_weaker, source_read_is_stopped}
 use Rattle.pcap_frames.proofs.SourceReadLemmas.{source_is_read_whole, source_read_fails_at_end}
 use Rattle.pcap_frames.proofs.reading.read_frames.Goals as goal
 

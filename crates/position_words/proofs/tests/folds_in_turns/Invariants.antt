@@ -1,5 +1,5 @@
 use Rattle.std.proofs.Common.{◌≡◌, None}
-use Rattle.position_words.specs.Words.{IsSeatOf, view}
+use Rattle.position_words.specs.Seat.{IsSeatOf, view}
 use Rattle.position_words.proofs.tests.folds_in_turns.Given as goal
 
 -- between two turns the seat is one of the words, and holds nothing

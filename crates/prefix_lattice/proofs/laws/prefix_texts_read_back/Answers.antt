@@ -1,5 +1,6 @@
 use Rattle.prefix_lattice.proofs.TextLengthLemmas.{length-prefix_text}
-use Rattle.prefix_lattice.proofs.WholeTextLemmas.{whole_text-read_back, whole_text-written_as_read, whole_text-tells_prefix}
+use Rattle.prefix_lattice.proofs.WholeTextLemmas.{whole_text-read_back, whole_text-written_as_read}
+use Rattle.prefix_lattice.proofs.WholeTextLemmas.{whole_text-tells_prefix}
 use Rattle.prefix_lattice.proofs.laws.prefix_texts_read_back.Goals as goal
 
 pub returns-clause-read : goal.returns-clause-read

@@ -1,4 +1,5 @@
-use Rattle.prefix_lattice.proofs.UnderMeetLemmas.{under-refl, under-trans, under-antisym, strictly_under-trans, strictly_under-is_deeper}
+use Rattle.prefix_lattice.proofs.UnderMeetLemmas.{under-refl, under-trans, under-antisym, strictly_under-trans}
+use Rattle.prefix_lattice.proofs.UnderMeetLemmas.{strictly_under-is_deeper}
 use Rattle.prefix_lattice.proofs.laws.prefixes_are_ordered.Goals as goal
 
 pub returns-clause-reflexive : goal.returns-clause-reflexive

@@ -1,5 +1,6 @@
 use Rattle.prefix_lattice.proofs.NodePrefixLemmas.{node_prefix-same_key}
-use Rattle.prefix_lattice.proofs.PrefixKeyLemmas.{IsPrefixKey-prefix, HasPrefixKey-record_prefix, IsPrefixKey-record_prefix}
+use Rattle.prefix_lattice.proofs.PrefixKeyLemmas.{IsPrefixKey-prefix, HasPrefixKey-record_prefix}
+use Rattle.prefix_lattice.proofs.PrefixKeyLemmas.{IsPrefixKey-record_prefix}
 use Rattle.prefix_lattice.proofs.prefix.keys_are_of_their_node.Goals as goal
 
 pub returns-clause-of_prefix : goal.returns-clause-of_prefix

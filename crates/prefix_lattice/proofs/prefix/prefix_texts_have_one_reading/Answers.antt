@@ -1,4 +1,5 @@
-use Rattle.prefix_lattice.proofs.PrefixTextLemmas.{prefix_text-tells_prefix, prefix_text-no_fault, prefix_text-single_fault}
+use Rattle.prefix_lattice.proofs.PrefixTextLemmas.{prefix_text-tells_prefix, prefix_text-no_fault}
+use Rattle.prefix_lattice.proofs.PrefixTextLemmas.{prefix_text-single_fault}
 use Rattle.prefix_lattice.proofs.prefix.prefix_texts_have_one_reading.Goals as goal
 
 pub returns-clause-one_prefix : goal.returns-clause-one_prefix

@@ -1,5 +1,5 @@
 use Rattle.std.proofs.Common.{◌≡◌, ℕ, ◌*◌, ◌≤◌, ◌∷◌, ◌++◌, length, decimal, ap, ◌∙◌, arith}
-use Rattle.prefix_lattice.specs.KeptBytes.{address_of}
+use Rattle.prefix_lattice.specs.Address.{address_of}
 use Rattle.prefix_lattice.specs.PrefixText.{address_text, side_text}
 use Rattle.prefix_lattice.proofs.TextLengthLemmas.{length-address_text, text_length-bits}
 use Rattle.prefix_lattice.proofs.WrittenPartLemmas.{written_parts-joined, written_part-same}

@@ -4,7 +4,8 @@ use Rattle.rank_table.specs.Marks.{slot_without_mark}
 use Rattle.rank_table.specs.SlotOrder.{entries_in_slot_order}
 use Rattle.rank_table.proofs.SlotChangeLemmas.{entry_found_in_slot_change, missing_entry_in_slot_change}
 use Rattle.rank_table.proofs.SlotKeyLemmas.{missing_key_has_no_slot, slot_key_place_is_within, slot_key_at_its_place}
-use Rattle.rank_table.proofs.RankTableLemmas.{rank_table_error_below_count, rank_table_high_with_room, rank_table_high_when_full}
+use Rattle.rank_table.proofs.RankTableLemmas.{rank_table_error_below_count, rank_table_high_with_room}
+use Rattle.rank_table.proofs.RankTableLemmas.{rank_table_high_when_full}
 use Rattle.rank_table.proofs.scanning.interval_of.Goals as goal
 
 pub overflow_sub-result : goal.overflow_sub-result

@@ -1,7 +1,7 @@
 use Rattle.std.proofs.Common.{ℕ, ◌<◌, ◌≤◌, nat_lt, get_or}
 use Rattle.std.specs.List.{IsFirstBest}
 use Rattle.rank_table.specs.declared.slot.Slot.{Slot}
-use Rattle.rank_table.specs.SlotOrder.{slot_rank}
+use Rattle.rank_table.specs.Ranks.{slot_rank}
 use Rattle.rank_table.proofs.scanning.least_of.Given as goal
 
 -- the first so far, of the least count

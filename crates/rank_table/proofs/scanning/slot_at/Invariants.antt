@@ -1,6 +1,6 @@
 use Rattle.std.proofs.Common.{◌≢◌, nat_lt, count_by, take}
 use Rattle.std.specs.List.{AllByRecursion}
-use Rattle.rank_table.specs.SlotOrder.{slot_rank}
+use Rattle.rank_table.specs.Ranks.{slot_rank}
 use Rattle.rank_table.proofs.scanning.slot_at.Given as goal
 
 -- other numbers of slots come before those so far

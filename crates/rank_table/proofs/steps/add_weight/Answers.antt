@@ -4,10 +4,13 @@ use Rattle.key_index.specs.{IndexedKeys}
 use Rattle.rank_table.specs.declared.slot.Slot.{Slot}
 use Rattle.rank_table.specs.SlotOrder.{AreOrderedSlots, entries_in_slot_order}
 use Rattle.rank_table.specs.Slots.{Slots}
-use Rattle.rank_table.specs.TableSteps.{raised_by_step, heir_by_step}
+use Rattle.rank_table.specs.TableSteps.{raised_slot_of_table_step, heir_slot_of_table_step}
 use Rattle.rank_table.specs.RankTable.{AreRankTableParts}
-use Rattle.rank_table.proofs.SlotChangeLemmas.{AreOrderedSlots-grown_change, AreOrderedSlots-fresh_change, AreOrderedSlots-heir_change, grown_slot_change_is_step, fresh_slot_change_is_step, heir_slot_change_is_step}
-use Rattle.rank_table.proofs.SlotKeyLemmas.{slot_key, missing_key_has_no_slot, slot_key_place_is_within, slot_key_at_its_place, slot_keys_stay_on_set}
+use Rattle.rank_table.proofs.SlotChangeLemmas.{AreOrderedSlots-grown_change, AreOrderedSlots-fresh_change}
+use Rattle.rank_table.proofs.SlotChangeLemmas.{AreOrderedSlots-heir_change, grown_slot_change_is_step}
+use Rattle.rank_table.proofs.SlotChangeLemmas.{fresh_slot_change_is_step, heir_slot_change_is_step}
+use Rattle.rank_table.proofs.SlotKeyLemmas.{slot_key, missing_key_has_no_slot, slot_key_place_is_within}
+use Rattle.rank_table.proofs.SlotKeyLemmas.{slot_key_at_its_place, slot_keys_stay_on_set}
 use Rattle.rank_table.proofs.steps.add_weight.Goals as goal
 
 abbrev blank : Slot
@@ -25,7 +28,7 @@ returns-in-Some-clause-together c =
       roomy = c.requires.together.roomy;
       as_many = refl;
       keyed = slot_keys_stay_on_set c.in-Some.place c.args.index.now.keys slots
-          (raised_by_step c.args.weight c.args.now (get_or slots c.in-Some.place blank)) blank
+          (raised_slot_of_table_step c.args.weight c.args.now (get_or slots c.in-Some.place blank)) blank
           (slot_key_place_is_within c.args.key c.in-Some.place c.args.index.now.keys slots keyed c.in-Some.ensures) keyed refl;
     })
 
@@ -56,13 +59,13 @@ returns-in-None-2-clause-together c =
     subst (λ (r : Slots). AreRankTableParts r.capacity c.take_over.new.index r) (sym (c.take_over.ensures.taken blank))
     (subst (λ (i : IndexedKeys). AreRankTableParts c.args.ranked.now.capacity i (record c.args.ranked.now {
       slots = set slots place
-          (heir_by_step c.args.key c.args.weight c.args.now (get_or slots place blank));
+          (heir_slot_of_table_step c.args.key c.args.weight c.args.now (get_or slots place blank));
     })) (sym c.take_over.ensures.indexed)
     (record {
       roomy = c.requires.together.roomy;
       as_many = refl;
       keyed = ap (λ keys. set keys place c.args.key) keyed
-          ∙ sym (map-set slot_key slots place (heir_by_step c.args.key c.args.weight c.args.now (get_or slots place blank)));
+          ∙ sym (map-set slot_key slots place (heir_slot_of_table_step c.args.key c.args.weight c.args.now (get_or slots place blank)));
     }))
 
 pub returns-in-None-2-clause-slots : goal.returns-in-None-2-clause-slots

@@ -1,7 +1,8 @@
 use Rattle.std.proofs.Common.{◌≡◌, ◌∙◌, true, false, sym, refl, arith}
 use Rattle.std.proofs.lemmas.Option.{slice_get_within}
 use Rattle.recovery.specs.Opening.{OpeningContinuesList}
-use Rattle.recovery.proofs.ZippedListLemmas.{zipped_lists_at_next_place, zipped_lists_at_place, zipped_lists_from_places}
+use Rattle.recovery.proofs.ZippedListLemmas.{zipped_lists_at_next_place, zipped_lists_at_place}
+use Rattle.recovery.proofs.ZippedListLemmas.{zipped_lists_from_places}
 use Rattle.recovery.proofs.belonging.continues_lists.Goals as goal
 
 pub returns-then-not-continues_list : goal.returns-then-not-continues_list

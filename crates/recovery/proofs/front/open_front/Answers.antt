@@ -1,5 +1,5 @@
 use Rattle.std.proofs.Common.{◌≢◌, ◌∙◌, ap, refl, sym, rules}
-use Rattle.slot_disk.specs.{SlotsState}
+use Rattle.slot_disk.specs.{KnownSlotsState}
 use Rattle.recovery.proofs.front.open_front.Goals as goal
 
 pub returns-then-not-are_same-clause-refused : goal.returns-then-not-are_same-clause-refused
@@ -10,7 +10,7 @@ returns-then-not-are_same-clause-refused g c = λ image is.
       record {
         long = store.long;
         are = spelled.0;
-        spelled = ap (λ (s : SlotsState). s.header) (sym store.slots_are) ∙ sym c.header.ensures ∙ spelled.1;
+        spelled = ap (λ (s : KnownSlotsState). s.header) (sym store.slots_are) ∙ sym c.header.ensures ∙ spelled.1;
       },
       refl,
       differ,

@@ -1,7 +1,8 @@
 use Rattle.std.proofs.Common.{◌∙◌, sym, subst}
 use Rattle.std.proofs.lemmas.Result.{err_from_is_err_and}
 use Rattle.checkpoint.specs.{IsSafeForSaver, SaverState}
-use Rattle.recovery.proofs.FoundStoreLemmas.{found_store_saver_stands, list_fault_of_found_store, found_store_opens_to_base}
+use Rattle.recovery.proofs.FoundStoreLemmas.{found_store_saver_stands, list_fault_of_found_store}
+use Rattle.recovery.proofs.FoundStoreLemmas.{found_store_opens_to_base}
 use Rattle.recovery.proofs.reopening.reopen.Goals as goal
 
 pub returns-in_err-check_newest-clause-refused : goal.returns-in_err-check_newest-clause-refused

@@ -1,4 +1,5 @@
-use Rattle.report_text.proofs.PrintedSessionLemmas.{printed_session_report, session-printed, printed_session_has_its_lines, printed_sessions_told_apart}
+use Rattle.report_text.proofs.PrintedSessionLemmas.{printed_session_report, session-printed}
+use Rattle.report_text.proofs.PrintedSessionLemmas.{printed_session_has_its_lines, printed_sessions_told_apart}
 use Rattle.report_text.proofs.laws.printed_sessions_read_back.Goals as goal
 
 pub returns-clause-report : goal.returns-clause-report

@@ -1,6 +1,6 @@
 use Rattle.std.proofs.Common.{decimal, sym, ap, ◌∙◌, arith}
 use Rattle.std.specs.List.{join_with_byte}
-use Rattle.report_text.specs.SessionStages.{stage_words_in}
+use Rattle.report_text.specs.Stages.{stage_words_in}
 use Rattle.report_text.proofs.TextWordLemmas.{decimal_is_text_word}
 use Rattle.report_text.proofs.WordListLemmas.{word_list_of_word, word_list_joins_to_text}
 use Rattle.report_text.proofs.line_reading.last_number.Goals as goal

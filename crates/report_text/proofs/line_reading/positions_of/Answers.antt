@@ -1,7 +1,8 @@
 use Rattle.std.proofs.Common.{◌≡◌, ◌++◌, [], ◌∷◌, map, decimal, length, sym, ap, ◌∙◌, arith, length-append}
 use Rattle.std.proofs.lemmas.List.{length-map}
-use Rattle.report_text.specs.SessionStages.{stage_words_in}
-use Rattle.report_text.proofs.NamedLineLemmas.{named_line_next_position, named_line_positions_within, named_line_has_words}
+use Rattle.report_text.specs.Stages.{stage_words_in}
+use Rattle.report_text.proofs.NamedLineLemmas.{named_line_next_position, named_line_positions_within}
+use Rattle.report_text.proofs.NamedLineLemmas.{named_line_has_words}
 use Rattle.report_text.proofs.line_reading.positions_of.Goals as goal
 
 pub returns-in_default-position_of-clause-refused : goal.returns-in_default-position_of-clause-refused

@@ -1,5 +1,5 @@
 use Rattle.std.proofs.Common.{◌≡◌, ◌≤◌, ◌<◌, ◌++◌, ℕ, All, map, decimal, length}
-use Rattle.report_text.specs.SessionStages.{stage_words_in}
+use Rattle.report_text.specs.Stages.{stage_words_in}
 use Rattle.report_text.proofs.line_reading.positions_of.Given as goal
 
 -- the first words spell the positions so far

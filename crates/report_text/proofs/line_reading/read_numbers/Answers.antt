@@ -1,7 +1,7 @@
 use Rattle.std.proofs.Common.{eqb, ap, ◌∙◌}
 use Rattle.std.specs.Cmp.Lexicographic.{pointwise}
 use Rattle.report_text.proofs.NamedLineLemmas.{named_line_texts_unlike, named_line_has_words, no_named_line_with_words}
-use Rattle.report_text.specs.SessionStages.{stage_words_in}
+use Rattle.report_text.specs.Stages.{stage_words_in}
 use Rattle.report_text.proofs.line_reading.read_numbers.Goals as goal
 
 pub returns-clause-refused : goal.returns-clause-refused

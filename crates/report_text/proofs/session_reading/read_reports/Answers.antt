@@ -2,10 +2,11 @@ use Rattle.std.proofs.Common.{Some, None, [], ◌∷◌, ◌++◌, sym, subst}
 use Rattle.std.specs.List.{flat_map}
 use Rattle.std.proofs.lemmas.Result.{err_from_is_err_and}
 use Rattle.report_text.specs.SessionText.{session_reported_lines, session_saved_lines}
-use Rattle.report_text.specs.SessionStages.{opened, begun, done, after_stage_line, after_stage, stage_body_lines}
+use Rattle.report_text.specs.Stages.{opened, begun, done, stage_line_after_report, stage_after_report, stage_body_lines}
 use Rattle.report_text.specs.LineReading.{ReadsLines}
 use Rattle.report_text.specs.declared.session_line.SessionLine.TheVariants.{Report}
-use Rattle.report_text.proofs.LineReadingLemmas.{line_reading_stays, line_reading_goes_on, line_reading_reads_more, line_reading_refused}
+use Rattle.report_text.proofs.LineReadingLemmas.{line_reading_stays, line_reading_goes_on, line_reading_reads_more}
+use Rattle.report_text.proofs.LineReadingLemmas.{line_reading_refused}
 use Rattle.report_text.proofs.RefusedLineLemmas.{line_refused_unless_report}
 use Rattle.report_text.proofs.ReadReportLemmas.{read_report_leaves_fewer, one_more_read_report}
 use Rattle.report_text.proofs.session_reading.read_reports.Goals as goal
@@ -48,20 +49,20 @@ returns-in-Some-clause-read c =
     (λ frames. ReadsLines c.args.lines.now c.read_after_report.new.lines
     (flat_map session_reported_lines
     (c.reports.reports ++ record { report = c.in_ok-report.report; saved = c.in_ok-after.after.saved } ∷ [])
-    ++ after_stage_line frames ∷ [])
-    (opened n) (after_stage n frames))
+    ++ stage_line_after_report frames ∷ [])
+    (opened n) (stage_after_report n frames))
     c.in-Some.is more in
     subst
     (λ reports. ReadsLines c.args.lines.now c.read_after_report.new.lines
-    (flat_map session_reported_lines reports ++ after_stage_line (Some c.in-Some.frames) ∷ []) (opened n)
-    (after_stage n (Some c.in-Some.frames)))
+    (flat_map session_reported_lines reports ++ stage_line_after_report (Some c.in-Some.frames) ∷ []) (opened n)
+    (stage_after_report n (Some c.in-Some.frames)))
     (sym c.in_ok-push.ensures.ok) known
 
 pub reports-smaller : goal.reports-smaller
 reports-smaller c =
     read_report_leaves_fewer c.reports.lines c.read_report.new.lines c.read_after_report.new.lines c.in_ok-report.report
-    (session_saved_lines c.in_ok-after.after.saved ++ after_stage_line c.in_ok-after.after.frames ∷ []) (begun c.args.shards)
-    (done c.args.shards) (after_stage c.args.shards c.in_ok-after.after.frames) c.in_ok-report.ensures.read
+    (session_saved_lines c.in_ok-after.after.saved ++ stage_line_after_report c.in_ok-after.after.frames ∷ []) (begun c.args.shards)
+    (done c.args.shards) (stage_after_report c.args.shards c.in_ok-after.after.frames) c.in_ok-report.ensures.read
     c.in_ok-after.ensures.read
 
 pub reports-preserved : goal.reports-preserved
@@ -74,10 +75,10 @@ reports-preserved c =
     (λ frames. ReadsLines c.args.lines.now c.read_after_report.new.lines
     (flat_map session_reported_lines
     (c.reports.reports ++ record { report = c.in_ok-report.report; saved = c.in_ok-after.after.saved } ∷ [])
-    ++ after_stage_line frames ∷ [])
-    (opened n) (after_stage n frames))
+    ++ stage_line_after_report frames ∷ [])
+    (opened n) (stage_after_report n frames))
     c.in_default-frames.is more in
     subst
     (λ reports. ReadsLines c.args.lines.now c.read_after_report.new.lines
-    (flat_map session_reported_lines reports ++ after_stage_line None ∷ []) (opened n) (after_stage n None))
+    (flat_map session_reported_lines reports ++ stage_line_after_report None ∷ []) (opened n) (stage_after_report n None))
     (sym c.in_ok-push.ensures.ok) known

@@ -1,5 +1,5 @@
 use Rattle.std.proofs.Common.{◌∷◌, drop, sym, ap, ap₂, ◌∙◌}
-use Rattle.report_text.specs.SessionStages.{stage_words_in}
+use Rattle.report_text.specs.Stages.{stage_words_in}
 use Rattle.report_text.proofs.ByteCutLemmas.{words_at_byte_cut, words_without_byte_cut}
 use Rattle.report_text.proofs.word_cut.cut_word.Goals as goal
 

@@ -1,4 +1,5 @@
-use Rattle.shard_state.proofs.RepresentationLemmas.{RepresentationLaws, representation_keeps_total, representation_keeps_weight, representation_of_cut_total}
+use Rattle.shard_state.proofs.RepresentationLemmas.{RepresentationLaws, representation_keeps_total}
+use Rattle.shard_state.proofs.RepresentationLemmas.{representation_keeps_weight, representation_of_cut_total}
 use Rattle.shard_state.proofs.laws.snapshots_hold_weights.Goals as goal
 
 pub returns-clause-weight : goal.returns-clause-weight

@@ -1,6 +1,7 @@
 use Rattle.std.proofs.Common.{◌∙◌}
 use Rattle.shard_state.specs.Snapshot.{snapshot_adds}
-use Rattle.shard_state.proofs.PrefixWeightLemmas.{IntervalsHoldPrefixWeight, PrefixWeightIsTold, prefix_weight_is_held, prefix_weight_totals_agree}
+use Rattle.shard_state.proofs.PrefixWeightLemmas.{IntervalsHoldPrefixWeight, PrefixWeightIsTold, prefix_weight_is_held}
+use Rattle.shard_state.proofs.PrefixWeightLemmas.{prefix_weight_totals_agree}
 use Rattle.shard_state.proofs.laws.tables_hold_weights.Goals as goal
 
 pub returns-clause-weight : goal.returns-clause-weight

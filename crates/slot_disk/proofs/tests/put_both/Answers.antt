@@ -1,7 +1,7 @@
 use Rattle.std.proofs.Common.{arith, refl}
-use Rattle.slot_disk.specs.StoreLayout.{store_number_at}
+use Rattle.slot_disk.specs.StoreLayout.{layout_number_at}
 use Rattle.slot_disk.proofs.tests.put_both.Goals as goal
 
 pub put-requires-clause-body : goal.put-requires-clause-body
-unfolding store_number_at
+unfolding layout_number_at
 put-requires-clause-body g c = record { least = omega arith; most = omega arith; says = refl }

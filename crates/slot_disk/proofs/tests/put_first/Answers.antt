@@ -1,12 +1,12 @@
 use Rattle.std.proofs.Common.{◌∙◌, sym, ap, arith, refl}
 use Rattle.std.specs.Prelude.{is_some}
 use Rattle.slot_disk.specs.Puts.{IsReadyForPut}
-use Rattle.slot_disk.specs.StoreLayout.{store_number_at}
+use Rattle.slot_disk.specs.StoreLayout.{layout_number_at}
 use Rattle.slot_disk.proofs.DiskPutLemmas.{disk_put_finds_some, closed_slots_take_disk_put, next_slot_takes_disk_put}
 use Rattle.slot_disk.proofs.tests.put_first.Goals as goal
 
 pub put-requires-clause-body : goal.put-requires-clause-body
-unfolding store_number_at
+unfolding layout_number_at
 put-requires-clause-body g c = record { least = omega arith; most = omega arith; says = refl }
 
 pub returns-clause-ready : goal.returns-clause-ready

@@ -1,5 +1,6 @@
 use Rattle.std.proofs.Common.{◌+◌, arith}
-use Rattle.space_saving.proofs.EntryPlaceLemmas.{put_in_table-entry_place_at_end, put_in_table-entry_place_at_greater, entry_place_settled}
+use Rattle.space_saving.proofs.EntryPlaceLemmas.{put_in_table-entry_place_at_end, put_in_table-entry_place_at_greater}
+use Rattle.space_saving.proofs.EntryPlaceLemmas.{entry_place_settled}
 use Rattle.space_saving.proofs.places.settle.Goals as goal
 use Rattle.space_saving.proofs.places.settle.Goals.{then-loop-place-test+else-entries-place, else-loop-place-test}
 

@@ -1,5 +1,5 @@
 use Rattle.std.proofs.Common.{◌+◌, ◌*◌, ◌∙◌, ap, ap₂, sym}
-use Rattle.traffic_maker.specs.Address.{made_address}
+use Rattle.traffic_maker.specs.MadeAddress.{made_address}
 use Rattle.traffic_maker.specs.Draw.{draw_from_state, next_draw_state}
 use Rattle.traffic_maker.specs.MadeFrame.{made_frame_bytes, made_frame}
 use Rattle.traffic_maker.proofs.MadeFrameLemmas.{next_draw_for_made_frames, two_draws_per_made_frame}

@@ -5,7 +5,8 @@ use Rattle.std.proofs.KnownBytes.{Appends-trans}
 use Rattle.outside_io.specs.{AppendsBeginning}
 use Rattle.traffic_maker.specs.MadeCapture.{made_capture_header, made_capture, made_capture_frames}
 use Rattle.traffic_maker.proofs.MadeFrameLemmas.{capture_of_no_made_frames, capture_of_more_made_frames}
-use Rattle.traffic_maker.proofs.CapturePieceLemmas.{begins_in_later_capture_piece, begins_in_first_capture_piece, holds_on_capture_piece_error}
+use Rattle.traffic_maker.proofs.CapturePieceLemmas.{begins_in_later_capture_piece, begins_in_first_capture_piece}
+use Rattle.traffic_maker.proofs.CapturePieceLemmas.{holds_on_capture_piece_error}
 use Rattle.traffic_maker.proofs.making.make.Goals as goal
 
 pub returns-in_err-write_all-clause-beginning : goal.returns-in_err-write_all-clause-beginning

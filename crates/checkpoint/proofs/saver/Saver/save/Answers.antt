@@ -1,25 +1,30 @@
 use Rattle.std.proofs.Common.{◌≡◌, ℕ, ap, sym, ◌∙◌, subst, rules}
 use Rattle.std.specs.Prelude.{is_some}
-use Rattle.slot_disk.specs.{FitsPutSlot, IsStoreOfSlots, Leaves-none, SlotsState, other_slot_of_put, with_open_slot}
-use Rattle.checkpoint.specs.HeaderSettings.{AreHeaderSettings, span_of_settings}
-use Rattle.checkpoint.specs.Store.{StoreOpensOldOrNew}
+use Rattle.slot_disk.specs.{FitsPutSlot, IsStoreOfKnownSlots, CrashLeavesAtAnyMoment-none, KnownSlotsState}
+use Rattle.slot_disk.specs.{other_slot_of_put, known_slots_after_opening}
+use Rattle.checkpoint.specs.HeaderSettings.{AreHeaderSettings}
+use Rattle.checkpoint.specs.Span.{span_of_settings}
+use Rattle.checkpoint.specs.Store.{StoreOpensAsOldOrNew}
 use Rattle.checkpoint.specs.Saver.{SaverState, IsSafeForSaver, saver_after_save, next_saved}
 use Rattle.checkpoint.proofs.OptionLemmas.{option_is_some}
 use Rattle.checkpoint.proofs.StoreLemmas.{store_has_room_for_body}
-use Rattle.checkpoint.proofs.SaverLemmas.{saver_makes_next_body, saver_is_ready, saver_leaves, saver_leaves_none, saver_stands, saver_stands_after}
+use Rattle.checkpoint.proofs.SaverLemmas.{saver_makes_next_body, saver_is_ready, saver_leaves, saver_leaves_none}
+use Rattle.checkpoint.proofs.SaverLemmas.{saver_stands, saver_stands_after}
 use Rattle.checkpoint.proofs.SaverLemmas.{saver_opens_after}
 use Rattle.checkpoint.proofs.saver.Saver.save.Goals as goal
 
 pub returns-in_default-clause-any_moment : goal.returns-in_default-clause-any_moment
 returns-in_default-clause-any_moment g c = λ old is.
-    Leaves-none g.D.Disk.moment g.D.Disk.image_since c.args.disk.now (StoreOpensOldOrNew c.args.self.settings old (next_saved c.args.self c.args.cut.now))
+    CrashLeavesAtAnyMoment-none g.D.Disk.moment g.D.Disk.image_since c.args.disk.now
+    (StoreOpensAsOldOrNew c.args.self.settings old (next_saved c.args.self c.args.cut.now))
     (λ image was. saver_leaves_none c.args.self (g.D.Disk.image_now c.args.disk.now) old (next_saved c.args.self c.args.cut.now)
     (c.requires.stands old is) image (g.met.D.Disk.only_now c.args.disk.now image was))
 
 pub returns-in_default-positions-clause-any_moment :
     goal.returns-in_default-positions-clause-any_moment
 returns-in_default-positions-clause-any_moment g c = λ old is.
-    Leaves-none g.D.Disk.moment g.D.Disk.image_since c.args.disk.now (StoreOpensOldOrNew c.args.self.settings old (next_saved c.args.self c.args.cut.now))
+    CrashLeavesAtAnyMoment-none g.D.Disk.moment g.D.Disk.image_since c.args.disk.now
+    (StoreOpensAsOldOrNew c.args.self.settings old (next_saved c.args.self c.args.cut.now))
     (λ image was. saver_leaves_none c.args.self (g.D.Disk.image_now c.args.disk.now) old (next_saved c.args.self c.args.cut.now)
     (c.requires.stands old is) image (g.met.D.Disk.only_now c.args.disk.now image was))
 
@@ -36,7 +41,7 @@ put-requires-clause-body g c =
 
 pub put-requires-clause-stands : goal.put-requires-clause-stands
 put-requires-clause-stands g c = λ old is.
-    subst (λ (s : SlotsState). IsStoreOfSlots old (g.D.Disk.image_now c.args.disk.now) s) (sym (ap (λ (s : SaverState). s.slots) c.self.view_is))
+    subst (λ (s : KnownSlotsState). IsStoreOfKnownSlots old (g.D.Disk.image_now c.args.disk.now) s) (sym (ap (λ (s : SaverState). s.slots) c.self.view_is))
     (saver_stands c.args.self (g.D.Disk.image_now c.args.disk.now) old (c.requires.stands old is))
 
 pub put-requires-clause-ready : goal.put-requires-clause-ready
@@ -71,7 +76,7 @@ returns-clause-stands g c = λ new is.
     c.requires.shape c.deref.ensures.value c.in-Ok.ensures.body)
     (g.D.Disk.image_now c.put.new.disk) new c.in_ok-slots.slots (c.in_ok-slots.ensures.done begun.0 new begun.1 is)
     (c.in_ok-slots.ensures.stands new is)
-    (c.in_ok-slots.ensures.opened ∙ ap (λ (s : SaverState). with_open_slot s.slots c.other_slot-slot.result) c.self.view_is))
+    (c.in_ok-slots.ensures.opened ∙ ap (λ (s : SaverState). known_slots_after_opening s.slots c.other_slot-slot.result) c.self.view_is))
 
 pub returns-clause-opens : goal.returns-clause-opens
 returns-clause-opens g c = λ new is image now.

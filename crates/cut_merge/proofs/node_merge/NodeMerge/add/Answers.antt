@@ -1,18 +1,20 @@
-use Rattle.std.proofs.Common.{◌≡◌, ℕ, ◌+◌, ◌≤◌, min, eqb, List, length, slice_index, sym, ap, ◌∙◌, subst, take_all, arith}
+use Rattle.std.proofs.Common.{◌≡◌, ℕ, ◌+◌, ◌≤◌, min, eqb, List, length, slice_index, sym, ap, ◌∙◌, subst, take_all}
+use Rattle.std.proofs.Common.{arith}
 use Rattle.std.specs.List.{list_any}
 use Rattle.space_saving.specs.{table_entry}
 use Rattle.space_saving.specs.declared.entry.Entry.{Entry}
 use Rattle.cut_merge.specs.Run.{RunValue, missing_run_high}
-use Rattle.cut_merge.specs.NodeMerge.{NodeMergeValue, is_monitored}
-use Rattle.cut_merge.specs.HighBounds.{high_bound_home, high_bound_cell, greatest_high_bound, counted_in_high_bound, AreHighBoundsOfRuns}
+use Rattle.cut_merge.specs.NodeMerge.{NodeMergeValue, node_merge_has_key}
+use Rattle.cut_merge.specs.HighBounds.{high_bound_home, high_bound_cell, greatest_high_bound, counted_in_high_bound}
+use Rattle.cut_merge.specs.HighBounds.{AreHighBoundsOfRuns}
 use Rattle.cut_merge.proofs.HighBoundLemmas.{high_bounds_with_more_runs}
 use Rattle.cut_merge.proofs.node_merge.NodeMerge.add.Goals as goal
 
 pub note_keys-requires-clause-known : goal.note_keys-requires-clause-known
 note_keys-requires-clause-known c = λ key.
-    subst (λ (v : NodeMergeValue). list_any (λ other. eqb key other) v.keys ≡ is_monitored key v.runs)
+    subst (λ (v : NodeMergeValue). list_any (λ other. eqb key other) v.keys ≡ node_merge_has_key key v.runs)
     (sym c.self.view_is) (c.requires.known key)
-    ∙ ap (is_monitored key) (sym c.deref.ensures.value)
+    ∙ ap (node_merge_has_key key) (sym c.deref.ensures.value)
 
 pub invariant_of-self-2 : goal.invariant_of-self-2
 invariant_of-self-2 c =

@@ -3,7 +3,9 @@ use Rattle.gate_workers.specs.declared.plan.ThreadPlan.{ThreadPlan}
 use Rattle.pass_tokens.specs.{view}
 use Rattle.hhh_engine.proofs.SaveLemmas.{no_save_into_untouched_disk, part_of_saves}
 use Rattle.hhh_engine.proofs.SeenPositionLemmas.{seen_positions_saver_stands}
-use Rattle.hhh_engine.proofs.SessionThreadLemmas.{session_thread_ended_as_set, session_thread_ended_all_rounds, session_threads_leave_rounds, session_threads_gathered_all, session_thread_on_err, session_threads_ran_or_not}
+use Rattle.hhh_engine.proofs.SessionThreadLemmas.{session_thread_ended_as_set, session_thread_ended_all_rounds}
+use Rattle.hhh_engine.proofs.SessionThreadLemmas.{session_threads_leave_rounds, session_threads_gathered_all}
+use Rattle.hhh_engine.proofs.SessionThreadLemmas.{session_thread_on_err, session_threads_ran_or_not}
 use Rattle.hhh_engine.proofs.commands.feed.run_feed.Goals as goal
 
 pub returns-in-Some-clause-part : goal.returns-in-Some-clause-part

@@ -5,11 +5,14 @@ use Rattle.std.proofs.KnownBytes.{Appends-trans}
 use Rattle.outside_io.specs.{AppendsBeginning}
 use Rattle.report_text.specs.{report_text}
 use Rattle.hhh_engine.specs.Saves.{SavesInPart, SavesInTurn}
-use Rattle.hhh_engine.specs.Session.{session_save_text}
-use Rattle.hhh_engine.proofs.RoundLemmas.{round_broken_by_memory, round_makes_report, round_report_has_positions, round_broken_at_saving}
+use Rattle.hhh_engine.specs.Session.{session_save_line}
+use Rattle.hhh_engine.proofs.RoundLemmas.{round_broken_by_memory, round_makes_report, round_report_has_positions}
+use Rattle.hhh_engine.proofs.RoundLemmas.{round_broken_at_saving}
 use Rattle.hhh_engine.proofs.RoundLemmas.{round_broken_by_sink, writes_one_round}
-use Rattle.hhh_engine.proofs.SaveLemmas.{no_saver_no_save, no_save_into_untouched_disk, part_of_saves, save_of_reported_cut}
-use Rattle.hhh_engine.proofs.SeenPositionLemmas.{seen_positions_can_be_saved, seen_positions_fit_next_saver, seen_positions_saver_stands}
+use Rattle.hhh_engine.proofs.SaveLemmas.{no_saver_no_save, no_save_into_untouched_disk, part_of_saves}
+use Rattle.hhh_engine.proofs.SaveLemmas.{save_of_reported_cut}
+use Rattle.hhh_engine.proofs.SeenPositionLemmas.{seen_positions_can_be_saved, seen_positions_fit_next_saver}
+use Rattle.hhh_engine.proofs.SeenPositionLemmas.{seen_positions_saver_stands}
 use Rattle.hhh_engine.proofs.commands.live_rounds.make_round.Goals as goal
 
 pub print-requires-clause-positions : goal.print-requires-clause-positions
@@ -74,7 +77,7 @@ pub returns-clause-broken : goal.returns-clause-broken
 returns-clause-broken g c =
     let report = c.in_ok-report.report in
     let text = c.deref.ensures.value ∙ c.in_ok-print.ensures.ok ∙ ap (λ bytes. bytes ++ report_text report) c.new-text.ensures.items in
-    let line = c.deref-2.ensures.value ∙ c.in_ok-line.ensures ∙ ap (λ store. session_save_text store report.positions) c.is_some.ensures in
+    let line = c.deref-2.ensures.value ∙ c.in_ok-line.ensures ∙ ap (λ store. session_save_line store report.positions) c.is_some.ensures in
     round_broken_by_sink _ _ _ _ (is_some c.args.saver.now) _ _ _ _ _ _ _ _ c.in-Err-write.status c.in-Err-write.ensures.fault
     c.in_default.ensures.faults c.in_default-save_cut.ensures.no_fault
     (inr (record {
@@ -95,9 +98,9 @@ pub returns-in-Ok-clause-whole : goal.returns-in-Ok-clause-whole
 returns-in-Ok-clause-whole g c =
     let report = c.in_ok-report.report in
     let text = c.deref.ensures.value ∙ c.in_ok-print.ensures.ok ∙ ap (λ bytes. bytes ++ report_text report) c.new-text.ensures.items in
-    let line = c.deref-2.ensures.value ∙ c.in_ok-line.ensures ∙ ap (λ store. session_save_text store report.positions) c.is_some.ensures in
+    let line = c.deref-2.ensures.value ∙ c.in_ok-line.ensures ∙ ap (λ store. session_save_line store report.positions) c.is_some.ensures in
     writes_one_round _ _ _ _ (is_some c.args.saver.now) _ _ _ report c.in_ok-report.ensures.calls c.in_ok-report.ensures.sound
-    (Appends-trans _ _ _ (report_text report) (session_save_text (is_some c.args.saver.now) report.positions)
+    (Appends-trans _ _ _ (report_text report) (session_save_line (is_some c.args.saver.now) report.positions)
     (subst (Appends _ _) text c.in_default.ensures.whole) (subst (Appends _ _) line c.in-Ok.ensures.whole))
     (save_of_reported_cut (is_some c.args.saver.now) _ report _ (SavesInTurn g.D.Disk.reads g.D.Disk.image_now g.D.Disk.moment
     g.D.Disk.image_since c.args.saver.now c.save_cut.new.saver c.args.disk.now c.save_cut.new.disk)

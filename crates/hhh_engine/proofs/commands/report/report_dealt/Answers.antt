@@ -1,10 +1,11 @@
 use Rattle.std.proofs.Common.{◌≡◌, ◌∙◌, ◌⊎◌, [], ap, ap₂, sym, subst}
-use Rattle.hhh_engine.specs.Answer.{Writes}
+use Rattle.hhh_engine.specs.Answer.{WritesAnswer}
 use Rattle.hhh_engine.specs.DealtFeed.{IsDealtFeedBase}
-use Rattle.hhh_engine.specs.Session.{BeginsSession, SpellsSession, session_opening}
+use Rattle.hhh_engine.specs.Session.{BeginsSession, IsSessionOverShards, session_opening}
 use Rattle.hhh_engine.specs.Saves.{IsAsBeforeSaves, Saves, SavesInPart}
 use Rattle.hhh_engine.proofs.BaseLemmas.{base_goes_on}
-use Rattle.hhh_engine.proofs.DealtReportLemmas.{dealt_report_ends_without_base, dealt_report_keeps_saves, dealt_report_ends_broken_off, dealt_report_is_written}
+use Rattle.hhh_engine.proofs.DealtReportLemmas.{dealt_report_ends_without_base, dealt_report_keeps_saves}
+use Rattle.hhh_engine.proofs.DealtReportLemmas.{dealt_report_ends_broken_off, dealt_report_is_written}
 use Rattle.hhh_engine.proofs.FeedFaultLemmas.{feed_fault_after_good_steps}
 use Rattle.hhh_engine.proofs.SaveLemmas.{no_save_into_untouched_disk, part_of_saves}
 use Rattle.hhh_engine.proofs.commands.report.report_dealt.Goals as goal
@@ -37,7 +38,7 @@ returns-in-Ok-write_session-clause-ends g c =
           c.open_base.ensures.reads
           (part_of_saves g.D.Disk.reads g.D.Disk.image_now g.D.Disk.moment g.D.Disk.image_since c.in-Ok.base.saver
           c.open_base.new.disk c.write_session.new.disk cuts saves) used)
-          (subst (λ tail. Writes (SpellsSession (session_opening c.args.settings.now.capacity c.args.fed.dealt c.in-Ok.base.cut)
+          (subst (λ tail. WritesAnswer (IsSessionOverShards (session_opening c.args.settings.now.capacity c.args.fed.dealt c.in-Ok.base.cut)
           c.args.settings.now
           (λ cuts. Saves g.D.Disk.reads g.D.Disk.image_now g.D.Disk.moment g.D.Disk.image_since c.in-Ok.base.saver cuts
           c.open_base.new.disk c.write_session.new.disk) tail) (g.K.Sink.taken c.args.sink.now)
@@ -67,7 +68,7 @@ returns-clause-ends g c =
           c.open_base.new.disk c.write_session.new.disk g.met.D.Disk.only_now c.in-Ok.ensures.stands same,
     ))
     (subst (λ tail. ((c.write_session.new.sink ≡ c.args.sink.now) × (c.write_session.new.disk ≡ c.open_base.new.disk))
-    ⊎ Writes (BeginsSession (session_opening c.args.settings.now.capacity c.args.fed.dealt c.in-Ok.base.cut)
+    ⊎ WritesAnswer (BeginsSession (session_opening c.args.settings.now.capacity c.args.fed.dealt c.in-Ok.base.cut)
     c.args.settings.now
     (SavesInPart g.D.Disk.reads g.D.Disk.image_now g.D.Disk.moment g.D.Disk.image_since c.in-Ok.base.saver
     c.open_base.new.disk c.write_session.new.disk) tail) (g.K.Sink.taken c.args.sink.now)

@@ -1,6 +1,6 @@
 use Rattle.std.proofs.Common.{◌≡◌, sym, ap, subst, Some, [], ◌∷◌}
 use Rattle.std.specs.Prelude.{IfSome}
-use Rattle.checkpoint.specs.{StandsForSaver}
+use Rattle.checkpoint.specs.{DiskMatchesSaver}
 use Rattle.hhh_engine.specs.DealtFeed.{DealtFeedCanSaveCut}
 use Rattle.hhh_engine.specs.Saves.{SavesInTurn}
 use Rattle.hhh_engine.proofs.SaveLemmas.{unfinished_save_of, one_save}
@@ -21,7 +21,7 @@ returns-in-Ok-clause-saved g c =
       saves = one_save c.stores_open_to_one.ensures g.D.Disk.reads g.D.Disk.image_now g.D.Disk.moment
           g.D.Disk.image_since saver c.args.cut.now c.args.disk.now c.save.new.disk can.settings can.stands
           done.known
-          (subst (λ after. StandsForSaver (g.D.Disk.reads c.save.new.disk) (g.D.Disk.image_now c.save.new.disk) after)
+          (subst (λ after. DiskMatchesSaver (g.D.Disk.reads c.save.new.disk) (g.D.Disk.image_now c.save.new.disk) after)
           done.saved done.stands) done.opens done.any_moment;
     })
 

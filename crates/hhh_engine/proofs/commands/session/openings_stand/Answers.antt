@@ -1,6 +1,9 @@
 use Rattle.std.proofs.Common.{sym}
-use Rattle.hhh_engine.proofs.OpeningShardLemmas.{opening_shards_have_capacity, opening_shards_without_base, opening_shards_with_base_cut, opening_shards_are_shards, opening_shards_count}
-use Rattle.hhh_engine.proofs.OpeningShardLemmas.{opening_shards_have_positions, opening_shards_represent, opening_shards_before_ends}
+use Rattle.hhh_engine.proofs.OpeningShardLemmas.{opening_shards_have_capacity, opening_shards_without_base}
+use Rattle.hhh_engine.proofs.OpeningShardLemmas.{opening_shards_with_base_cut, opening_shards_are_shards}
+use Rattle.hhh_engine.proofs.OpeningShardLemmas.{opening_shards_count}
+use Rattle.hhh_engine.proofs.OpeningShardLemmas.{opening_shards_have_positions, opening_shards_represent}
+use Rattle.hhh_engine.proofs.OpeningShardLemmas.{opening_shards_before_ends}
 use Rattle.hhh_engine.proofs.commands.session.openings_stand.Goals as goal
 
 pub returns-in-None : goal.returns-in-None

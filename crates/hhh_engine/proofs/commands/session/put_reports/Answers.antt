@@ -3,7 +3,7 @@ use Rattle.std.specs.List.{All}
 use Rattle.std.proofs.lemmas.List.{take_all}
 use Rattle.hhh_output.specs.declared.reports.Reported.{Reported}
 use Rattle.report_text.specs.{report_text}
-use Rattle.hhh_engine.specs.Session.{IsShownInSession, session_parts_text}
+use Rattle.hhh_engine.specs.Session.{IsShownInSession, session_parts}
 use Rattle.hhh_engine.proofs.RoundLemmas.{round_report_has_positions}
 use Rattle.hhh_engine.proofs.SessionThreadLemmas.{session_thread_adds_report}
 use Rattle.hhh_engine.proofs.commands.session.put_reports.Goals as goal
@@ -31,14 +31,14 @@ loop-reported-preserved c =
     let index = c.loop-reported.reported-index in
     let all = c.as_slice-all.result.now in
     c.in_ok-print.ensures.ok ∙ ap (λ bytes. bytes ++ report_text c.reported-item.result.report) c.loop-reported.invariant
-    ∙ append_assoc c.args.text.now.items (session_parts_text false (take index all)) (report_text c.reported-item.result.report)
+    ∙ append_assoc c.args.text.now.items (session_parts false (take index all)) (report_text c.reported-item.result.report)
     ∙ ap (λ rest. c.args.text.now.items ++ rest)
-    (ap (λ (reported : Reported). session_parts_text false (take index all) ++ report_text reported.report) c.reported-item.is
+    (ap (λ (reported : Reported). session_parts false (take index all) ++ report_text reported.report) c.reported-item.is
     ∙ sym (session_thread_adds_report all index c.reported-item.result c.loop-reported-test.true))
 
 pub returns : goal.returns
 returns c =
     c.loop-reported.invariant
-    ∙ ap (λ reports. c.args.text.now.items ++ session_parts_text false reports)
+    ∙ ap (λ reports. c.args.text.now.items ++ session_parts false reports)
     (take_all c.loop-reported.reported-index c.as_slice-all.result.now
     (omega (arith, c.loop-reported.auto.reported-index-end, c.loop-reported-test.false)) ∙ c.as_slice-all.ensures)

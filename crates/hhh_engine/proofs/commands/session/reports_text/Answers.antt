@@ -2,7 +2,7 @@ use Rattle.std.proofs.Common.{false, ◌∙◌, ◌++◌, take, sym, ap, subst, 
 use Rattle.std.proofs.lemmas.List.{length-map, take_all}
 use Rattle.gate_workers.specs.declared.gathered.Called.{Called}
 use Rattle.hhh_engine.specs.DealtFeed.{dealt_feed_other_reports}
-use Rattle.hhh_engine.specs.Session.{AreSessionReportsOfCaller, session_callers_text, session_parts_text}
+use Rattle.hhh_engine.specs.Session.{AreSessionReportsOfCaller, session_caller_parts, session_parts}
 use Rattle.hhh_engine.proofs.SessionThreadLemmas.{session_thread_caller_at_index, session_thread_adds_caller}
 use Rattle.hhh_engine.proofs.commands.session.reports_text.Goals as goal
 
@@ -24,8 +24,8 @@ loop-caller-preserved c =
     let index = c.loop-caller.caller-index in
     let called = c.args.called.now in
     let d = c.caller-item.result in
-    c.in_ok-put_reports.ensures ∙ ap (λ bytes. bytes ++ session_parts_text false d.reports) c.loop-caller.invariant
-    ∙ ap (λ (caller : Called). session_callers_text (take index (dealt_feed_other_reports called)) ++ session_parts_text false caller.reports)
+    c.in_ok-put_reports.ensures ∙ ap (λ bytes. bytes ++ session_parts false d.reports) c.loop-caller.invariant
+    ∙ ap (λ (caller : Called). session_caller_parts (take index (dealt_feed_other_reports called)) ++ session_parts false caller.reports)
     c.caller-item.is
     ∙ sym (session_thread_adds_caller called index d c.loop-caller-test.true)
 
@@ -33,7 +33,7 @@ pub returns : goal.returns
 returns c =
     let called = c.args.called.now in
     c.loop-caller.invariant
-    ∙ ap (session_callers_text)
+    ∙ ap (session_caller_parts)
     (take_all c.loop-caller.caller-index (dealt_feed_other_reports called)
     (omega (
       arith,

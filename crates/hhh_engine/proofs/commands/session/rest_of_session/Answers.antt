@@ -2,7 +2,7 @@ use Rattle.std.proofs.Common.{◌∙◌, ◌++◌, None, ap}
 use Rattle.report_text.specs.{report_text}
 use Rattle.pass_tokens.specs.{view}
 use Rattle.hhh_engine.specs.DealtFeed.{dealt_feed_other_reports}
-use Rattle.hhh_engine.specs.Session.{session_callers_text}
+use Rattle.hhh_engine.specs.Session.{session_caller_parts}
 use Rattle.hhh_engine.proofs.RoundLemmas.{round_makes_report, round_report_has_positions}
 use Rattle.hhh_engine.proofs.SessionThreadLemmas.{session_thread_reports_at_ends}
 use Rattle.hhh_engine.proofs.commands.session.rest_of_session.Goals as goal
@@ -34,7 +34,7 @@ returns-clause-rest g c =
       front_is =
           c.in_ok-print.ensures.ok
           ∙ ap (λ text. text ++ report_text last)
-          (c.in_ok-front.ensures ∙ ap (λ called. session_callers_text (dealt_feed_other_reports called)) c.deref.ensures.value);
+          (c.in_ok-front.ensures ∙ ap (λ called. session_caller_parts (dealt_feed_other_reports called)) c.deref.ensures.value);
       back_is =
           c.in_ok-extend_from_slice.ensures.items ∙ ap (λ text. text ++ c.args.tail.now) c.in_ok-back.ensures;
     }

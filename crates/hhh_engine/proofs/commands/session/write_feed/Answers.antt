@@ -1,12 +1,14 @@
 use Rattle.std.proofs.Common.{◌++◌, [], ◌∷◌, refl, ap}
 use Rattle.hhh_engine.specs.Saves.{Saves, SavesInPart}
-use Rattle.hhh_engine.specs.Session.{session_parts_text, session_saved_cuts}
+use Rattle.hhh_engine.specs.Session.{session_parts, session_saved_cuts}
 use Rattle.hhh_engine.proofs.FeedFaultLemmas.{feed_fault_after_good_steps, feed_fault_of_sink}
-use Rattle.hhh_engine.proofs.LastSaveLemmas.{last_save_after_fewer_saves, last_save_is_possible, last_save_broken_off, last_save_completes_session}
+use Rattle.hhh_engine.proofs.LastSaveLemmas.{last_save_after_fewer_saves, last_save_is_possible, last_save_broken_off}
+use Rattle.hhh_engine.proofs.LastSaveLemmas.{last_save_completes_session}
 use Rattle.hhh_engine.proofs.SaveLemmas.{no_save_into_untouched_disk, part_of_saves, saves_follow}
 use Rattle.hhh_engine.proofs.SeenPositionLemmas.{seen_positions_allowed_settings, seen_positions_saver_stands}
 use Rattle.hhh_engine.proofs.SessionThreadLemmas.{session_thread_on_err}
-use Rattle.hhh_engine.proofs.SessionTextLemmas.{session_text_of_fed_rounds, session_text_breaks_in_line, session_text_breaks_in_rounds, session_text_breaks_in_rest}
+use Rattle.hhh_engine.proofs.SessionTextLemmas.{session_text_of_fed_rounds, session_text_breaks_in_line}
+use Rattle.hhh_engine.proofs.SessionTextLemmas.{session_text_breaks_in_rounds, session_text_breaks_in_rest}
 use Rattle.hhh_engine.proofs.SessionTextLemmas.{session_text_is_written, session_text_is_spelled}
 use Rattle.hhh_engine.proofs.commands.session.write_feed.Goals as goal
 
@@ -73,7 +75,7 @@ returns-in-Ok-write_rest-clause-whole g c =
     session_text_is_written board.opening settings
     (λ cuts. Saves g.D.Disk.reads g.D.Disk.image_now g.D.Disk.moment g.D.Disk.image_since c.args.saver cuts
     c.args.disk.now c.write_rest.new.disk) c.args.tail.now c.args.line.now
-    (session_parts_text settings.store gathered.rounds) (rest.front.items ++ rest.back.items) _ _ _ _
+    (session_parts settings.store gathered.rounds) (rest.front.items ++ rest.back.items) _ _ _ _
     (session_text_is_spelled board settings _ _ c.args.tail.now c.args.line.now _ _ c.in-Ok.fed rest c.requires.starts
     c.requires.line c.in-Ok.ensures.fed end kept)
     c.in_default.ensures.whole gathered.written c.in-Ok-write_rest.ensures.whole

@@ -2,10 +2,10 @@ use Rattle.std.proofs.Common.{◌∙◌, inr, length, sym, ap, subst}
 use Rattle.shard_state.specs.{core_capacity}
 use Rattle.report_text.specs.{ReportTextShowsPositions, report_mark_text}
 use Rattle.report_text.specs.declared.mark.Mark.TheVariants.{Opened}
-use Rattle.hhh_engine.specs.Answer.{Writes}
+use Rattle.hhh_engine.specs.Answer.{WritesAnswer}
 use Rattle.hhh_engine.specs.DealtFeed.{IsDealtFeedOpening, DealtFeedStartsBeforeEnds}
 use Rattle.hhh_engine.specs.Saves.{Saves, SavesInPart}
-use Rattle.hhh_engine.specs.Session.{BeginsSession, SpellsSession, session_start}
+use Rattle.hhh_engine.specs.Session.{BeginsSession, IsSessionOverShards, session_start}
 use Rattle.hhh_engine.proofs.BaseLemmas.{base_goes_on, base_saver_is_ready}
 use Rattle.hhh_engine.proofs.SessionThreadLemmas.{session_thread_on_err_implies, session_thread_on_ok_implies}
 use Rattle.hhh_engine.proofs.commands.session.write_session.Goals as goal
@@ -50,7 +50,7 @@ write_feed-requires-clause-can_save g c = λ lifetimes outlive.
 pub returns-clause-whole : goal.returns-clause-whole
 returns-clause-whole g c =
     session_thread_on_ok_implies c.write_feed.result _ _
-    (subst (λ shards. Writes (SpellsSession shards c.args.settings.now
+    (subst (λ shards. WritesAnswer (IsSessionOverShards shards c.args.settings.now
     (λ cuts. Saves g.D.Disk.reads g.D.Disk.image_now g.D.Disk.moment g.D.Disk.image_since c.args.base.saver cuts
     c.args.disk.now c.write_feed.new.disk) c.args.tail.now) (g.K.Sink.taken c.args.sink.now)
     (g.K.Sink.taken c.write_feed.new.sink)) c.in_ok-opened.ensures.opening)
@@ -59,7 +59,7 @@ returns-clause-whole g c =
 pub returns-clause-part : goal.returns-clause-part
 returns-clause-part g c =
     session_thread_on_err_implies c.write_feed.result _ _
-    (λ part. inr (subst (λ shards. Writes (BeginsSession shards c.args.settings.now
+    (λ part. inr (subst (λ shards. WritesAnswer (BeginsSession shards c.args.settings.now
     (SavesInPart g.D.Disk.reads g.D.Disk.image_now g.D.Disk.moment g.D.Disk.image_since c.args.base.saver c.args.disk.now
     c.write_feed.new.disk) c.args.tail.now)
     (g.K.Sink.taken c.args.sink.now) (g.K.Sink.taken c.write_feed.new.sink)) c.in_ok-opened.ensures.opening part))

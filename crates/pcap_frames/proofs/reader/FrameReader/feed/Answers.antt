@@ -1,4 +1,5 @@
-use Rattle.pcap_frames.proofs.FedPieceLemmas.{piece_fed_to_stopped_reader, stopped_reader_answers_fed_piece, fed_piece_is_answered_exactly}
+use Rattle.pcap_frames.proofs.FedPieceLemmas.{piece_fed_to_stopped_reader, stopped_reader_answers_fed_piece}
+use Rattle.pcap_frames.proofs.FedPieceLemmas.{fed_piece_is_answered_exactly}
 use Rattle.pcap_frames.proofs.reader.FrameReader.feed.Goals as goal
 
 pub returns-then-has_stopped-clause-fed : goal.returns-then-has_stopped-clause-fed

@@ -1,6 +1,6 @@
 use Rattle.std.proofs.Common.{ap, sym, ◌∙◌, arith}
 use Rattle.position_words.specs.View.{view_after_join}
-use Rattle.position_words.specs.Words.{slot_out}
+use Rattle.position_words.specs.Seat.{slots_out_with_seat}
 use Rattle.position_words.proofs.SeatLemmas.{is_seat}
 use Rattle.position_words.proofs.AllowedStepLemmas.{join_step_is_allowed}
 use Rattle.position_words.proofs.TrailLemmas.{length_of_joined_trails}
@@ -13,7 +13,7 @@ join_seat-requires c =
     let other = c.args.other in (
       c.requires.seat.id ∙ sym (ap (λ w. w.id) c.self.view_is),
       c.requires.other.id ∙ sym (ap (λ w. w.id) c.self.view_is),
-      c.requires.other.slot ∙ ap slot_out c.requires.other_free,
+      c.requires.other.slot ∙ ap slots_out_with_seat c.requires.other_free,
       omega (arith, c.self.invariant.0, c.self.invariant.2.some),
       join_step_is_allowed table.key.value.items seat.id other.id seat.me.0 other.me.0 c.requires.seat.live
           c.requires.other.live c.requires.other_free,

@@ -1,6 +1,6 @@
 use Rattle.std.proofs.Common.{◌≡◌, ◌-◌, ◌*◌, ◌/◌, ◌^◌, ap, ◌∙◌, arith}
 use Rattle.std.proofs.lemmas.Nat.{div-add-mod'}
-use Rattle.prefix_lattice.specs.KeptBytes.{address_of}
+use Rattle.prefix_lattice.specs.Address.{address_of}
 use Rattle.prefix_lattice.proofs.AddressLemmas.{address_of-leading}
 use Rattle.prefix_lattice.proofs.kept_bytes.KeptBytes.exact.Goals as goal
 

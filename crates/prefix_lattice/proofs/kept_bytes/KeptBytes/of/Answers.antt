@@ -1,5 +1,5 @@
 use Rattle.std.proofs.Common.{◌≡◌, ℕ, ◌<◌, ◌≤◌, ◌^◌, take, ap, sym, subst, ◌∙◌, arith}
-use Rattle.prefix_lattice.specs.KeptBytes.{address_bytes, address_of}
+use Rattle.prefix_lattice.specs.Address.{address_bytes, address_of}
 use Rattle.prefix_lattice.proofs.AddressLemmas.{address_front-masked, masked_address_is_small, address_of-masked}
 use Rattle.prefix_lattice.proofs.kept_bytes.KeptBytes.of.Goals as goal
 

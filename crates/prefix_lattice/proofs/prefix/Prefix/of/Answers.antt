@@ -1,8 +1,9 @@
 use Rattle.std.proofs.Common.{◌≡◌, ◌≤◌, true, take, refl, ap, sym, subst, ◌∙◌}
-use Rattle.prefix_lattice.specs.KeptBytes.{address_bytes}
+use Rattle.prefix_lattice.specs.Address.{address_bytes}
 use Rattle.prefix_lattice.specs.Record.{RecordValue}
 use Rattle.prefix_lattice.specs.Prefix.{PrefixValue, covers, prefix_at}
-use Rattle.prefix_lattice.proofs.NodePrefixLemmas.{node_prefix-covers, only_node_prefix_covers, node_prefix-made_of_bytes}
+use Rattle.prefix_lattice.proofs.NodePrefixLemmas.{node_prefix-covers, only_node_prefix_covers}
+use Rattle.prefix_lattice.proofs.NodePrefixLemmas.{node_prefix-made_of_bytes}
 use Rattle.prefix_lattice.proofs.prefix.Prefix.of.Goals as goal
 
 -- what is made of the record's first bytes is its prefix at the node

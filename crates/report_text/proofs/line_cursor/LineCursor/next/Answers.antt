@@ -1,6 +1,6 @@
 use Rattle.std.proofs.Common.{◌≡◌, position, drop, take, refl, sym, ap, ◌∙◌, eqb, subst, IfSome, IfNone}
 use Rattle.report_text.specs.SessionText.{IsSessionLine, session_line_words}
-use Rattle.report_text.specs.SessionStages.{stage_words_in}
+use Rattle.report_text.specs.Stages.{stage_words_in}
 use Rattle.report_text.specs.declared.session_line.SessionLine.{SessionLine}
 use Rattle.report_text.proofs.ByteCutLemmas.{byte_cut_at_first, no_byte_cut}
 use Rattle.report_text.proofs.CursorLemmas.{cursor_finds_no_end, cursor_finds_bad_line, cursor_reads_next_line}

@@ -1,6 +1,9 @@
 use Rattle.std.proofs.Common.{◌≡◌, length, slice_get, All, ap, sym, ◌∙◌, subst}
 use Rattle.shard_state.specs.ShardCore.{CoreValue, HasCoreShape, core_capacity, snapshot_in_core}
-use Rattle.shard_state.proofs.EventRunLemmas.{latest_core_snapshot-after_event_run, event_run_reads_never_fall, event_run_tells_last_read, event_run_cut_stands, event_run_keeps_shapes, event_run_keeps_shards, event_run_keeps_callers, event_run_keeps_capacity, event_run_shard_within}
+use Rattle.shard_state.proofs.EventRunLemmas.{latest_core_snapshot-after_event_run, event_run_reads_never_fall}
+use Rattle.shard_state.proofs.EventRunLemmas.{event_run_tells_last_read, event_run_cut_stands, event_run_keeps_shapes}
+use Rattle.shard_state.proofs.EventRunLemmas.{event_run_keeps_shards, event_run_keeps_callers, event_run_keeps_capacity}
+use Rattle.shard_state.proofs.EventRunLemmas.{event_run_shard_within}
 use Rattle.shard_state.proofs.shard_core.Core.run_events.Goals as goal
 
 pub returns-clause-latest : goal.returns-clause-latest

@@ -1,7 +1,8 @@
 use Rattle.std.proofs.Common.{◌≡◌, length, take, get_or, All, ap, sym, ◌∙◌, subst, arith}
 use Rattle.shard_state.specs.ShardCore.{CoreValue, HasCoreShape, IsCoreEvent, core_capacity}
 use Rattle.shard_state.specs.declared.event.Event.TheVariants.{Fold}
-use Rattle.shard_state.proofs.EventRunLemmas.{event_run_keeps_shapes, event_run_keeps_shards, event_run_keeps_callers, event_run_keeps_capacity}
+use Rattle.shard_state.proofs.EventRunLemmas.{event_run_keeps_shapes, event_run_keeps_shards, event_run_keeps_callers}
+use Rattle.shard_state.proofs.EventRunLemmas.{event_run_keeps_capacity}
 use Rattle.shard_state.proofs.shard_core.Core.run_in_order.Goals as goal
 
 pub step-requires-clause-event : goal.step-requires-clause-event

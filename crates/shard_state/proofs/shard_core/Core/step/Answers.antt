@@ -1,6 +1,7 @@
 use Rattle.std.proofs.Common.{◌≡◌, length, All, ap, sym, ◌∙◌, subst}
 use Rattle.shard_state.specs.ShardCore.{CoreValue, HasCoreShape, CoreShardMovedOn, core_capacity}
-use Rattle.shard_state.proofs.EventLemmas.{shapes_after_event, shards_as_many_after_event, callers_after_event, capacity_after_event, event_moves_shard_on}
+use Rattle.shard_state.proofs.EventLemmas.{shapes_after_event, shards_as_many_after_event, callers_after_event}
+use Rattle.shard_state.proofs.EventLemmas.{capacity_after_event, event_moves_shard_on}
 use Rattle.shard_state.proofs.EventRunLemmas.{event_run_shard_within}
 use Rattle.shard_state.proofs.shard_core.Core.step.Goals as goal
 

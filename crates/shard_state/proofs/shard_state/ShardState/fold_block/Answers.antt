@@ -4,10 +4,11 @@ use Rattle.std.proofs.lemmas.List.{take_at}
 use Rattle.std.proofs.lemmas.List.Elements.{All-same}
 use Rattle.prefix_lattice.specs.{RecordValue, total_weight}
 use Rattle.space_saving.specs.{TableValue, table_total}
-use Rattle.shard_state.specs.Snapshot.{fold_snapshot_from, fold_snapshot_tables, tables_of_snapshot}
+use Rattle.shard_state.specs.Snapshot.{fold_snapshot_from, snapshot_tables_after, tables_of_snapshot}
 use Rattle.shard_state.specs.ShardState.{ShardValue, snapshot_of_shard}
 use Rattle.shard_state.proofs.TableFoldLemmas.{TableFoldKeeps}
-use Rattle.shard_state.proofs.ShardStateLemmas.{ShardStateFoldedOn, shard_state_folds_on, shard_state_has_room, shard_state_folded_tables}
+use Rattle.shard_state.proofs.ShardStateLemmas.{ShardStateFoldedOn, shard_state_folds_on, shard_state_has_room}
+use Rattle.shard_state.proofs.ShardStateLemmas.{shard_state_folded_tables}
 use Rattle.shard_state.proofs.shard_state.ShardState.fold_block.Goals as goal
 
 pub count_in_tables-requires-clause-room : goal.count_in_tables-requires-clause-room
@@ -37,10 +38,10 @@ invariant_of-self c =
       key = c.keys_are_of_their_node.ensures.of_record_key;
     } in
     let on : ShardStateFoldedOn shard to = shard_state_folds_on shard to keep c.self.invariant.0 later within in
-    let counted : c.count_in_tables.new.tables ≡ fold_snapshot_tables 0 inside.tables.items (slice_range inside.list inside.position to) =
+    let counted : c.count_in_tables.new.tables ≡ snapshot_tables_after 0 inside.tables.items (slice_range inside.list inside.position to) =
     c.count_in_tables.ensures
-    ∙ ap (λ ts. fold_snapshot_tables 0 ts (take (to - inside.position) (drop inside.position c.as_slice.result.now))) c.deref_mut.ensures.value
-    ∙ ap (λ list. fold_snapshot_tables 0 inside.tables.items (take (to - inside.position) (drop inside.position list))) c.as_slice.ensures.value in
+    ∙ ap (λ ts. snapshot_tables_after 0 ts (take (to - inside.position) (drop inside.position c.as_slice.result.now))) c.deref_mut.ensures.value
+    ∙ ap (λ list. snapshot_tables_after 0 inside.tables.items (take (to - inside.position) (drop inside.position list))) c.as_slice.ensures.value in
     let many : length c.count_in_tables.new.tables ≡ inside.tables.len = cc in (
       on.is_shard,
       take_at c.count_in_tables.new.tables (drop (length c.count_in_tables.new.tables) inside.tables.items) inside.tables.len many

@@ -1,6 +1,7 @@
 use Rattle.std.proofs.Common.{subst, arith}
 use Rattle.shard_state.specs.Snapshot.{AreTablesOfSnapshot}
-use Rattle.shard_state.proofs.SnapshotPartLemmas.{AreKeptSnapshotParts, MadeOfSnapshotParts, made_of_snapshot_parts, snapshot_parts_from_entries}
+use Rattle.shard_state.proofs.SnapshotPartLemmas.{AreKeptSnapshotParts, MadeOfSnapshotParts, made_of_snapshot_parts}
+use Rattle.shard_state.proofs.SnapshotPartLemmas.{snapshot_parts_from_entries}
 use Rattle.shard_state.proofs.snapshot.Snapshot.from_tables.Goals as goal
 
 made : (c : goal.After-capacity) → MadeOfSnapshotParts c.capacity.result c.args.position c.args.tables.items

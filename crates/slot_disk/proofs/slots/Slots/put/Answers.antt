@@ -1,7 +1,9 @@
 use Rattle.std.proofs.Common.{◌∙◌, ap, sym, subst, Bool}
 use Rattle.std.specs.Prelude.{is_some}
 use Rattle.slot_disk.specs.Puts.{PutCanClose, IsClosedByPut, IsStoredByPut}
-use Rattle.slot_disk.proofs.DiskPutLemmas.{disk_put_finds_some, disk_put_can_close_gate, disk_put_can_write_body, disk_put_can_open_gate, disk_put_from_parts, disk_put_knows_slots, disk_put_leaves_closing, disk_put_leaves_writing, disk_put_leaves_opening}
+use Rattle.slot_disk.proofs.DiskPutLemmas.{disk_put_finds_some, disk_put_can_close_gate, disk_put_can_write_body}
+use Rattle.slot_disk.proofs.DiskPutLemmas.{disk_put_can_open_gate, disk_put_from_parts, disk_put_knows_slots}
+use Rattle.slot_disk.proofs.DiskPutLemmas.{disk_put_leaves_closing, disk_put_leaves_writing, disk_put_leaves_opening}
 use Rattle.slot_disk.proofs.slots.Slots.put.Goals as goal
 
 pub returns-in_err-close_gate-clause-any_moment : goal.returns-in_err-close_gate-clause-any_moment

@@ -2,7 +2,8 @@ use Rattle.std.proofs.Common.{◌<◌, length, refl, sym, subst}
 use Rattle.std.proofs.lemmas.Option.{slice_get_read}
 use Rattle.space_saving.specs.Table.{TableValue}
 use Rattle.space_saving.proofs.IntervalLemmas.{TableRisesFrom-interval_least}
-use Rattle.space_saving.proofs.TableEntryLemmas.{table_entry_stands_apart, table_entry_rises_from_least, table_entry_within_total}
+use Rattle.space_saving.proofs.TableEntryLemmas.{table_entry_stands_apart, table_entry_rises_from_least}
+use Rattle.space_saving.proofs.TableEntryLemmas.{table_entry_within_total}
 use Rattle.space_saving.proofs.flat.Flat.entry.Goals as goal
 
 pub returns-clause-apart : goal.returns-clause-apart

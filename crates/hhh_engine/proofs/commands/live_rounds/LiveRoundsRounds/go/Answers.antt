@@ -5,9 +5,12 @@ use Rattle.shard_state.specs.{HasCoreShape, core_capacity}
 use Rattle.pass_tokens.specs.{view}
 use Rattle.hhh_engine.specs.Rounds.{WritesRounds}
 use Rattle.hhh_engine.specs.Saves.{SavesInPart, SavesInTurn}
-use Rattle.hhh_engine.proofs.RoundLemmas.{all_rounds_were_made, one_round_broke_off, round_saver_stays_or_none, writes_no_round, writes_more_rounds}
+use Rattle.hhh_engine.proofs.RoundLemmas.{all_rounds_were_made, one_round_broke_off, round_saver_stays_or_none}
+use Rattle.hhh_engine.proofs.RoundLemmas.{writes_no_round, writes_more_rounds}
 use Rattle.hhh_engine.proofs.SaveLemmas.{no_save, save_needs_saver, broken_off_save_follows, saves_follow}
-use Rattle.hhh_engine.proofs.SeenPositionLemmas.{seen_positions_allowed_settings, seen_positions_allow_more_saves, seen_position_report_count, seen_positions_fit_saver, seen_positions_saver_is_early, seen_positions_saver_stands}
+use Rattle.hhh_engine.proofs.SeenPositionLemmas.{seen_positions_allowed_settings, seen_positions_allow_more_saves}
+use Rattle.hhh_engine.proofs.SeenPositionLemmas.{seen_position_report_count, seen_positions_fit_saver}
+use Rattle.hhh_engine.proofs.SeenPositionLemmas.{seen_positions_saver_is_early, seen_positions_saver_stands}
 use Rattle.hhh_engine.proofs.commands.live_rounds.LiveRoundsRounds.go.Goals as goal
 
 pub loop-round-init : goal.loop-round-init

@@ -1,7 +1,9 @@
 use Rattle.std.proofs.Common.{◌≡◌, None, sym, ap, ◌∙◌, arith}
-use Rattle.pcap_frames.specs.Frames.{frame_bytes_needed, frame_fault}
-use Rattle.pcap_frames.proofs.ReaderStepLemmas.{reader_step_to_frame_fault, reader_step_in_frame, reader_step_ends_frame, frame_bytes_needed-empty_reader_step}
-use Rattle.pcap_frames.proofs.ReaderStepLemmas.{frame_bytes_needed-reader_step_bound, reader_step_at_right_frame, reader_step_held_frame_fits}
+use Rattle.pcap_frames.specs.Frame.{frame_bytes_needed, frame_fault}
+use Rattle.pcap_frames.proofs.ReaderStepLemmas.{reader_step_to_frame_fault, reader_step_in_frame}
+use Rattle.pcap_frames.proofs.ReaderStepLemmas.{reader_step_ends_frame, frame_bytes_needed-empty_reader_step}
+use Rattle.pcap_frames.proofs.ReaderStepLemmas.{frame_bytes_needed-reader_step_bound, reader_step_at_right_frame}
+use Rattle.pcap_frames.proofs.ReaderStepLemmas.{reader_step_held_frame_fits}
 use Rattle.pcap_frames.proofs.reader.part.FramePart.leave_frame.Goals as goal
 
 pub returns-in-Some-clause-advances : goal.returns-in-Some-clause-advances

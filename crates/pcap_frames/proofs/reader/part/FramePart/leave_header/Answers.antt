@@ -1,7 +1,8 @@
 use Rattle.std.proofs.Common.{◌≡◌, length, sym, ap, ◌∙◌, arith}
 use Rattle.pcap_frames.specs.Header.{header_fault, header_magic_order}
 use Rattle.pcap_frames.proofs.FileHeaderLemmas.{file_header_has_magic}
-use Rattle.pcap_frames.proofs.ReaderStepLemmas.{reader_step_to_header_fault, reader_step_ends_header, frame_bytes_needed-empty_reader_step}
+use Rattle.pcap_frames.proofs.ReaderStepLemmas.{reader_step_to_header_fault, reader_step_ends_header}
+use Rattle.pcap_frames.proofs.ReaderStepLemmas.{frame_bytes_needed-empty_reader_step}
 use Rattle.pcap_frames.proofs.reader.part.FramePart.leave_header.Goals as goal
 
 pub returns-in-Some-clause-advances : goal.returns-in-Some-clause-advances

@@ -1,5 +1,5 @@
 use Rattle.std.proofs.Common.{◌≡◌, ap, ◌∙◌, arith}
-use Rattle.pcap_frames.specs.Frames.{frame_bytes_needed}
+use Rattle.pcap_frames.specs.Frame.{frame_bytes_needed}
 use Rattle.pcap_frames.proofs.ReaderStepLemmas.{frame_bytes_needed-reader_step_grows}
 use Rattle.pcap_frames.proofs.reader.part.FramePart.take_frame.Goals as goal
 

@@ -1,9 +1,8 @@
 -- How far a session text was read, which no public contract cites.
-use Rattle.std.specs.Prelude.{⊤, ℕ, ◌≡◌, ◌+◌, ◌<◌, ◌^◌, ◌==◌, List, [], ◌∷◌, ◌++◌, length, map}
-use Rattle.std.specs.Prelude.{Option, Some, None}
+use Rattle.std.specs.Prelude.{⊤, ℕ, ◌≡◌, ◌+◌, ◌<◌, ◌^◌, ◌==◌, List, [], ◌∷◌, ◌++◌, length, map, Option, Some, None}
 use Rattle.std.specs.List.{slice_split}
 use Rattle.std.specs.declared.cmp.Ordering.TheVariants.{Less}
-use Rattle.prefix_lattice.specs.{PrefixValue, report_order, space}
+use Rattle.prefix_lattice.specs.{PrefixValue, report_order, prefix_text_space}
 use Rattle.hhh_output.specs.declared.report.Report.{Report as ReportValue}
 use Rattle.report_text.specs.declared.session_line.SessionLine.{SessionLine}
 use Rattle.report_text.specs.declared.session_line.SessionLine.TheVariants.{Opened, Report, At, Total, Threshold, Line}
@@ -11,7 +10,7 @@ use Rattle.report_text.specs.declared.session_line.SessionLine.TheVariants.{Done
 
 -- the words of a text that are separated by spaces
 abbrev pub stage_words_in : List ℕ → List (List ℕ)
-stage_words_in text = slice_split (λ byte. byte == space) text
+stage_words_in text = slice_split (λ byte. byte == prefix_text_space) text
 
 -- the last line that was read: nothing yet; the line of a report, of a session over so many shards; its count of lines
 -- so far and the prefix of the last one; or one of the last three lines
@@ -29,9 +28,9 @@ pub data Stage : Type 0 where
   ended : Stage
 
 -- the prefix comes after the last one in the order of a report
-abbrev pub ComesAfterInStage : Option PrefixValue → PrefixValue → Type 0
-ComesAfterInStage None prefix = ⊤
-ComesAfterInStage (Some last) prefix = report_order last prefix ≡ Less
+abbrev pub ComesAfterLastOfStage : Option PrefixValue → PrefixValue → Type 0
+ComesAfterLastOfStage None prefix = ⊤
+ComesAfterLastOfStage (Some last) prefix = report_order last prefix ≡ Less
 
 -- the line may come at this stage, and leads to the other
 abbrev pub FollowsStage : Stage → SessionLine → Stage → Type 0
@@ -41,7 +40,7 @@ FollowsStage (begun shards) (At positions) next = (length positions ≡ shards) 
 FollowsStage (placed shards) (Total total) next = next ≡ weighed shards
 FollowsStage (weighed shards) (Threshold threshold) next = next ≡ listing shards 0 None
 FollowsStage (listing shards count last) (Line line) next =
-    ComesAfterInStage last line.prefix × (count + 1 < 2 ^ 24) × (next ≡ listing shards (count + 1) (Some line.prefix))
+    ComesAfterLastOfStage last line.prefix × (count + 1 < 2 ^ 24) × (next ≡ listing shards (count + 1) (Some line.prefix))
 FollowsStage (listing shards count last) Done next = next ≡ done shards
 FollowsStage (done shards) Report next = next ≡ begun shards
 FollowsStage (done shards) (Saved positions) next = (length positions ≡ shards) × (next ≡ saved shards)
@@ -58,9 +57,9 @@ LeadsFromStage stage [] last = stage ≡ last
 LeadsFromStage stage (line ∷ lines) last = (next : Stage) × FollowsStage stage line next × LeadsFromStage next lines last
 
 -- the session has not ended
-abbrev pub IsOpenStage : Stage → Type 0
-IsOpenStage ended = ⊥
-IsOpenStage _ = ⊤
+abbrev pub IsStageBeforeEnd : Stage → Type 0
+IsStageBeforeEnd ended = ⊥
+IsStageBeforeEnd _ = ⊤
 
 -- the lines of a report after its first
 abbrev pub stage_body_lines : ReportValue → List SessionLine
@@ -68,11 +67,11 @@ stage_body_lines report =
     At report.positions ∷ Total report.total ∷ Threshold report.threshold ∷ (map Line report.lines ++ Done ∷ [])
 
 -- what follows a report and its saved cut: another report, or the number of frames
-abbrev pub after_stage_line : Option ℕ → SessionLine
-after_stage_line None = Report
-after_stage_line (Some frames) = Frames frames
+abbrev pub stage_line_after_report : Option ℕ → SessionLine
+stage_line_after_report None = Report
+stage_line_after_report (Some frames) = Frames frames
 
--- where this leads to
-abbrev pub after_stage : ℕ → Option ℕ → Stage
-after_stage shards None = begun shards
-after_stage shards (Some frames) = counted
+-- the stage that this line leads to
+abbrev pub stage_after_report : ℕ → Option ℕ → Stage
+stage_after_report shards None = begun shards
+stage_after_report shards (Some frames) = counted

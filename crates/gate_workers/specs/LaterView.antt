@@ -1,8 +1,8 @@
--- What the rounds of the calling thread may rely on.
+-- Later views of the same steps, which is what the rounds of the calling thread may rely on.
 use Rattle.std.specs.Prelude.{ℕ, ◌≡◌, ◌≤◌, length, Some, slice_get}
 use Rattle.position_words.specs.declared.view.Trail.{Trail}
 use Rattle.position_words.specs.declared.view.View.{View}
-use Rattle.pass_tokens.specs.{WordsValue}
+use Rattle.pass_tokens.specs.{PositionWordsValue}
 
 -- a later trail of the same steps: its shard may have been seen further on
 pub record IsLaterTrail (before now : Trail) : Type 0 where
@@ -18,5 +18,5 @@ pub record IsLaterView (before now : View) : Type 0 where
       → slice_get now.trails shard ≡ Some later → IsLaterTrail trail later
 
 -- what holds of a board and a view still holds of a later view of the same steps
-abbrev pub StaysReadyInRounds : (WordsValue → View → Type 0) → Type 0
-StaysReadyInRounds ready = (board : WordsValue) (before now : View) → IsLaterView before now → ready board before → ready board now
+abbrev pub StaysReadyInLaterViews : (PositionWordsValue → View → Type 0) → Type 0
+StaysReadyInLaterViews ready = (board : PositionWordsValue) (before now : View) → IsLaterView before now → ready board before → ready board now

@@ -5,7 +5,7 @@ use Rattle.deal_rules.specs.declared.deal_kind.DealKind.{DealKind}
 use Rattle.deal_rules.specs.declared.deal_kind.DealKind.TheVariants.{RoundRobin, BySource, Free}
 
 -- the shard of a record: in turn, by its source address, or by both its addresses
-abbrev pub shard_by_rule : DealKind → ℕ → RecordValue → ℕ → ℕ
-shard_by_rule RoundRobin place rec shards = place % shards
-shard_by_rule BySource place rec shards = rec.src % shards
-shard_by_rule Free place rec shards = bit_xor rec.src rec.dst % shards
+abbrev pub program_rule_shard : DealKind → ℕ → RecordValue → ℕ → ℕ
+program_rule_shard RoundRobin place rec shards = place % shards
+program_rule_shard BySource place rec shards = rec.src % shards
+program_rule_shard Free place rec shards = bit_xor rec.src rec.dst % shards

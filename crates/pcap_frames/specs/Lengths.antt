@@ -1,4 +1,4 @@
--- The sizes of libpcap's file format 2.4, and the limits of a capture.
+-- The lengths of libpcap's file format 2.4, in bytes, and how much of a frame is read and kept.
 use Rattle.std.specs.Prelude.{ℕ, ◌+◌}
 
 -- the bytes of the file header: magic, two versions, time zone, accuracy, snapshot length, link type
@@ -13,15 +13,11 @@ frame_header_length = 16
 abbrev pub most_captured_length : ℕ
 most_captured_length = 262144
 
--- the most frames of a capture, 2^24
-abbrev pub most_frames_in_file : ℕ
-most_frames_in_file = 16777216
-
 -- the bytes of a frame that its record is read from: two hardware addresses of 6 bytes, two VLAN tags of 4,
 -- the type of 2, and an IPv4 header of 20
-abbrev pub head_length : ℕ
-head_length = 42
+abbrev pub frame_head_length : ℕ
+frame_head_length = 42
 
 -- the bytes that are kept of a frame split between pieces: its header and its head
-abbrev pub kept_length : ℕ
-kept_length = frame_header_length + head_length
+abbrev pub kept_frame_length : ℕ
+kept_frame_length = frame_header_length + frame_head_length

@@ -1,0 +1,41 @@
+-- The first fault of a file that is no capture. Faults are tested in this order: NotCapture, Version, Link, else
+-- ShortHeader; then after each frame TooManyFrames, LongFrame, else CutFrame.
+use Rattle.std.specs.Prelude.{⊤, ℕ, ◌≡◌, ◌-◌, ◌⊎◌, Some, List, [], length}
+use Rattle.pcap_frames.specs.declared.file_order.FileOrder.{FileOrder}
+use Rattle.pcap_frames.specs.declared.fault.CaptureFault.{CaptureFault}
+use Rattle.pcap_frames.specs.declared.fault.FaultKind.{FaultKind}
+use Rattle.pcap_frames.specs.declared.fault.FaultKind.TheVariants.{ShortHeader, CutFrame}
+use Rattle.pcap_frames.specs.Frame.{FrameValue, frame_fault}
+use Rattle.pcap_frames.specs.Header.{header_fault}
+use Rattle.pcap_frames.specs.Capture.{SplitsCapture, CaptureEndsInside}
+
+-- the bytes at the front of a file show this fault in the file header
+pub record ShowsCaptureFaultInHeader (bytes : List ℕ) (frames : List FrameValue) (fault : CaptureFault) : Type 0 where
+  pub shown : header_fault bytes ≡ Some fault
+  pub none_before : frames ≡ []
+
+-- the bytes at the front of a file show this fault after these frames
+pub record ShowsCaptureFaultInFrames (bytes : List ℕ) (frames : List FrameValue) (fault : CaptureFault) : Type 0 where
+  pub order : FileOrder
+  pub rest : List ℕ
+  pub splits : SplitsCapture bytes order frames rest
+  pub shown : frame_fault order (length frames) (length bytes - length rest) rest ≡ Some fault
+
+-- the bytes at the front of a file show this fault, however the file continues, after these frames:
+-- NotCapture, Version, Link, TooManyFrames or LongFrame
+abbrev pub ShowsCaptureFault : List ℕ → List FrameValue → CaptureFault → Type 0
+ShowsCaptureFault bytes frames fault = ShowsCaptureFaultInHeader bytes frames fault ⊎ ShowsCaptureFaultInFrames bytes frames fault
+
+-- a kind of fault that only the end of a file makes: ShortHeader or CutFrame
+abbrev pub IsCaptureEndFault : FaultKind → Type 0
+IsCaptureEndFault ShortHeader = ⊤
+IsCaptureEndFault CutFrame = ⊤
+IsCaptureEndFault shown = ⊥
+
+-- this is the file's first fault, and these are the frames before it
+abbrev pub HasCaptureFaultAfter : List ℕ → List FrameValue → CaptureFault → Type 0
+HasCaptureFaultAfter file frames fault = ShowsCaptureFault file frames fault ⊎ CaptureEndsInside file frames fault
+
+-- this is the file's first fault
+abbrev pub HasCaptureFault : List ℕ → CaptureFault → Type 0
+HasCaptureFault file fault = (frames : List FrameValue) × HasCaptureFaultAfter file frames fault

@@ -1,0 +1,13 @@
+-- The staircase law: how many kept pairs of the lines that cover a record meet over it.
+use Rattle.std.specs.Prelude.{◌≡◌, ◌+◌, ◌≤◌, List}
+use Rattle.prefix_lattice.specs.Record.{RecordValue}
+use Rattle.prefix_lattice.specs.Prefix.{PrefixValue, covers}
+use Rattle.prefix_lattice.specs.Meets.{meet}
+use Rattle.prefix_lattice.specs.KeptPairs.{kept_pairs}
+use Rattle.prefix_lattice.specs.ClosestLines.{covering_line_count}
+
+-- the staircase law: if n of these prefixes cover a record and n is at least 1, exactly n - 1 of their kept pairs
+-- have a meet that covers it
+abbrev pub LinesObeyStaircase : List PrefixValue → RecordValue → Type 0
+LinesObeyStaircase members rec =
+    1 ≤ covering_line_count rec members → covering_line_count rec (kept_pairs members) + 1 ≡ covering_line_count rec members
