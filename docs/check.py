@@ -8,11 +8,13 @@ In the promises of GUARANTEES.md and the README's table of crates each clause is
 each wrong body in must-fail/ of its crate, and each wrong body in must-fail/ in the documents. The rows of definitions
 are the comments of specs/: of what a crate's face passes on, and of what the promises cite. What the README says is
 proved of a crate is a sentence of GUARANTEES.md. No line of GUARANTEES.md is longer than 300 characters. A file takes
-definitions of another crate from its face alone, `Rattle.NAME.specs.{..}`, and its lemmas from two files. What a file
-of lemmas holds has in its name a word of the file's noun, and no two crates have such files, or files of definitions, of
-the same noun. Where a document says in which file of specs/ a definition is, it is there. No line of specs/, proofs/ or a
-contract is longer than 160 characters. The manual page hhh.1 shows what each command takes as `command_words` has it, and explains each command and option. A command line
-in OPERATORS.md has options of its command alone. Neither document names a command or an option that isn't there.
+definitions of another crate from its face alone, `Rattle.NAME.specs.{..}`, and its lemmas from two files; so do the
+programs of bench/, which nothing else reads. What a file of lemmas holds has in its name a word of the file's noun, and
+no two crates have such files, or files of definitions, of the same noun. A file of specs/ that a document names is there;
+where it names the definition before it, the file has that one. No line of specs/, proofs/ or a contract is longer than
+160 characters. The manual page hhh.1 shows what each command takes as `command_words` has it, and explains each command
+and option. A command line in OPERATORS.md has options of its command alone. Neither document names a command or an
+option that isn't there.
 """
 
 import re
@@ -206,17 +208,34 @@ def check_lines(crate):
         if path.suffix not in (".rt", ".antt") or "out" in path.parts:
             continue
         for number, line in enumerate(path.read_text().split("\n"), 1):
-            is_fixed = path.suffix == ".rt" and ('"' in line or line.lstrip().startswith("#["))
+            is_fixed = path.suffix == ".rt" and re.match(r'\s*(?:#\[|[^→]*"[^→]*$)', line) and "ensures" not in line
             check(len(line) <= LONGEST_STATEMENT or is_fixed, f"{path.relative_to(top)}:{number} has {len(line)} characters")
 
 
 def check_places(name, text):
-    """A place in a document, as `specs/File` or `crate/specs/File`, is a file; and in a row as | `name` | `crate`,
-    `specs/File` | that file has the definition."""
-    for crate, file in re.findall(r"`(?:(\w+)/)?specs/(\w+)`", text):
-        check(any((top / "crates" / one / "specs" / f"{file}.antt").exists() for one in ([crate] if crate else crates)), f"{name} names specs/{file}, and there is none")
-    for definition, crate, file in re.findall(r"(?m)^\| `(\S+)` \| `(\w+)`, `specs/(\w+)` \|", text):
-        check(all_definitions[crate].get(definition, ("",))[0] == file, f"{name}: {definition} isn't in specs/{file} of {crate}")
+    """A place in a document is a file, as in `specs/File`, `crate/specs/File` or `specs/File` of `crate`; and as in
+    `name` in `crate/specs/File`, or in a row | `name` | `crate`, `specs/File` |, that file has the definition."""
+    text = " ".join(text.split())
+    for before, file, after in re.findall(r"`(?:(\w+)/)?specs/(\w+)`(?:(?: and `specs/\w+`)? of `(\w+)`)?", text):
+        homes = [crate for crate in (before, after) if crate] or crates
+        is_there = any((top / "crates" / crate / "specs" / f"{file}.antt").exists() for crate in homes)
+        check(is_there, f"{name} names specs/{file} of {' or '.join(homes[:2])}, and there is none")
+    places = re.findall(r"`(\w+)` in `(\w+)/specs/(\w+)`", text) + re.findall(r"\| `(\S+)` \| `(\w+)`, `specs/(\w+)` \|", text)
+    for definition, crate, file in places:
+        found = all_definitions.get(crate, {}).get(definition, ("",))[0]
+        check(found == file, f"{name}: {definition} isn't in specs/{file} of {crate}")
+
+
+def check_programs():
+    """The programs of bench/ take only what the faces of crates pass on, their own or that of a crate below."""
+    for path in sorted((top / "bench").glob("*_program/**/*.txt")):
+        for crate, taken in re.findall(r"use Rattle\.(\w+)\.specs\.\{(.*)\}", path.read_text()):
+            if crate not in crates:
+                continue
+            lines = re.findall(r"(?m)^(?:unfoldable )?pub use Rattle\.\S+\.\{(.*)\}", (top / "crates" / crate / "specs" / "Lib.antt").read_text())
+            passed = {name.strip() for line in lines for name in line.split(",")}
+            for name in taken.split(","):
+                check(name.strip() in passed, f"{path.relative_to(top)} takes {name.strip()}, which the face of {crate} doesn't pass on")
 
 
 def forms():
@@ -295,6 +314,7 @@ for _, row in tables((top / "README.md").read_text()):
         check(claim[0].upper() + claim[1:] + "." in " ".join(guarantees.split()), f"GUARANTEES.md doesn't say what the README says of {crate}")
 check_manual(forms())
 check_operators(forms())
+check_programs()
 for name in ("README.md", "CONTRIBUTING.md", "docs/ARCHITECTURE.md", "docs/GUARANTEES.md", "docs/DECISIONS.md", "docs/FORMATS.md"):
     check_places(name, (top / name).read_text())
 files = [path for part in ("proofs/*Lemmas", "specs/*") for path in (top / "crates").glob(f"*/{part}.antt") if path.stem != "Lib"]
