@@ -12,7 +12,7 @@ pub mod GivenValues
 pub mod Matches
 pub mod Parser
 -- the face: what contracts of other crates cite
-pub use Rattle.command_words.specs.Settings.{AreLimitedSettings, AreTrafficSettings, AreWideSettings}
+pub use Rattle.command_words.specs.Settings.{AreLimitedSettings, AreWideSettings}
 pub use Rattle.command_words.specs.AskedCommand.{AskForCommand, IsLimitedCommand}
 pub use Rattle.command_words.specs.WordsFault.{HasWordsFault}
 pub use Rattle.command_words.specs.Arguments.{argument_texts}

@@ -8,5 +8,4 @@ pub use Rattle.cut_merge.specs.Merged.{MergedValue, MergedRepresentsCut, merged_
 pub use Rattle.cut_merge.specs.Merged.{nothing_merged}
 pub use Rattle.cut_merge.specs.NodeMerge.{NodeMergeValue}
 pub use Rattle.cut_merge.specs.CutTables.{TableInterval, IsTableIntervalWithinTotal, keys_monitored_in_cut}
-pub use Rattle.cut_merge.specs.CutTables.{interval_in_cut}
-pub use Rattle.cut_merge.specs.CutTables.{keys_monitored_in_tables}
+pub use Rattle.cut_merge.specs.CutTables.{interval_in_cut, keys_monitored_in_tables}

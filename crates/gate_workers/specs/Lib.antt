@@ -10,6 +10,4 @@ pub use Rattle.position_words.specs.declared.view.View.{View}
 pub use Rattle.gate_workers.specs.Call.{Calls, IsReportAtCall, CallReadsOnce, cut_at_call, states_at_call}
 pub use Rattle.gate_workers.specs.Feed.{FeedHasSeenEnds}
 pub use Rattle.gate_workers.specs.Threads.{AreSoundThreadReports, ThreadsBringBack, CallingThreadMakesRounds}
-pub use Rattle.gate_workers.specs.Threads.{CallerThreadHasCalled}
-pub use Rattle.gate_workers.specs.Plan.{IsPlanFor}
-pub use Rattle.gate_workers.specs.LaterView.{IsLaterView, StaysReadyInLaterViews}
+pub use Rattle.gate_workers.specs.LaterView.{IsLaterView}

@@ -31,7 +31,7 @@ use Rattle.hhh_engine.specs.Saves.{SavesAreReopenedFromDisk, saves_after, store_
 use Rattle.hhh_engine.specs.Session.{SessionGoesOnFrom, SessionReports, session_reports_of_calling_thread, session_ends}
 use Rattle.hhh_engine.specs.Session.{last_session_positions, new_session_shards}
 use Rattle.hhh_engine.specs.Session.{session_opening, session_part, resumed_session_shards, session_saved_cuts}
-use Rattle.hhh_engine.specs.Session.{session_saves, session_text, session_start}
+use Rattle.hhh_engine.specs.Session.{session_saves, session_text_of_reports, session_start}
 use Rattle.hhh_engine.specs.declared.status.Status.TheVariants.{NotFormatted}
 use Rattle.hhh_engine.proofs.Examples.{packet}
 use Rattle.hhh_engine.proofs.ExamplesOfSessions.{last, opening as four_shards, settings}
@@ -342,20 +342,20 @@ pub report_with_a_store : session_part true of_the_packet
 unfolding digits
 report_with_a_store = refl
 
-pub session_with_a_store : session_text true (0 ∷ []) reports (report_tail_text records)
+pub session_with_a_store : session_text_of_reports true (0 ∷ []) reports (report_tail_text records)
     ≡ codes "opened 0\nreport\nat 1\ntotal 100\nthreshold 1\nline 10.1.2.3/32 20.1.2.3/32 100 100\ndone\nsaved 1\n"
     ++ codes "frames 1\nskipped 0 0 0\nend\n"
 unfolding digits
 session_with_a_store = refl
 
 -- a second run over the same capture goes on at its end
-pub resumed_session : session_text true (session_start (resumed ∷ [])) reports (report_tail_text records)
+pub resumed_session : session_text_of_reports true (session_start (resumed ∷ [])) reports (report_tail_text records)
     ≡ codes "opened 1\nreport\nat 1\ntotal 100\nthreshold 1\nline 10.1.2.3/32 20.1.2.3/32 100 100\ndone\nsaved 1\n"
     ++ codes "frames 1\nskipped 0 0 0\nend\n"
 unfolding digits
 resumed_session = refl
 
-pub session_without_a_store : session_text false (0 ∷ []) reports (report_tail_text records)
+pub session_without_a_store : session_text_of_reports false (0 ∷ []) reports (report_tail_text records)
     ≡ codes "opened 0\nreport\nat 1\ntotal 100\nthreshold 1\nline 10.1.2.3/32 20.1.2.3/32 100 100\ndone\n"
     ++ codes "frames 1\nskipped 0 0 0\nend\n"
 unfolding digits

@@ -36,7 +36,7 @@ use Rattle.hhh_engine.specs.Session.{NeverFallInSession, SessionBaseRepresents, 
 use Rattle.hhh_engine.specs.Session.{SessionReports, IsSessionOverShards, session_reports_of_calling_thread}
 use Rattle.hhh_engine.specs.Session.{session_caller_parts, new_session_shards, session_opening, session_part}
 use Rattle.hhh_engine.specs.Session.{session_parts, session_rest}
-use Rattle.hhh_engine.specs.Session.{session_save_line, session_text, session_start}
+use Rattle.hhh_engine.specs.Session.{session_save_line, session_text_of_reports, session_start}
 use Rattle.hhh_engine.proofs.Examples.{header, two_shards}
 
 -- `report`, with all that it doesn't say
@@ -326,18 +326,18 @@ records = record { list = []; frames = 0; not_ipv4 = 0; short = 0; bad_header = 
 abbrev pub text : List ℕ
 text = codes "opened 0 0 0 0\nreport\nat 0 0 0 0\ntotal 0\nthreshold 1\ndone\nframes 0\nskipped 0 0 0\nend\n"
 
-pub text_of_the_session : session_text false (session_start opening) reports (report_tail_text records) ≡ text
+pub text_of_the_session : session_text_of_reports false (session_start opening) reports (report_tail_text records) ≡ text
 unfolding digits
 text_of_the_session = refl
 
-pub text_of_a_running_session : session_text false (session_start opening) running_reports (codes "end\n")
+pub text_of_a_running_session : session_text_of_reports false (session_start opening) running_reports (codes "end\n")
     ≡ codes "opened 0 0 0 0\n" ++ session_part false last ++ session_part false last ++ session_part false last
     ++ codes "end\n"
 unfolding digits
 text_of_a_running_session = refl
 
 -- with a store, the cuts of the calling thread are saved, and not that of the other caller
-pub text_of_a_saving_session : session_text true (session_start opening) running_reports (codes "end\n")
+pub text_of_a_saving_session : session_text_of_reports true (session_start opening) running_reports (codes "end\n")
     ≡ codes "opened 0 0 0 0\n" ++ session_part true last ++ session_part false last ++ session_part true last
     ++ codes "end\n"
 unfolding digits

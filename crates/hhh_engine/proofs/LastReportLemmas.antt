@@ -11,7 +11,7 @@ use Rattle.report_text.specs.{report_mark_text, report_text}
 use Rattle.report_text.specs.declared.mark.Mark.TheVariants.{Opened}
 use Rattle.hhh_engine.specs.Session.{AreSessionReportsOfCaller, AreSessionReports, IsShownInSession, SessionReports}
 use Rattle.hhh_engine.specs.Session.{session_caller_parts}
-use Rattle.hhh_engine.specs.Session.{session_part, session_parts, session_text, session_start}
+use Rattle.hhh_engine.specs.Session.{session_part, session_parts, session_text_of_reports, session_start}
 
 -- what holds of all elements holds of the last one
 pub last_report_is_among_all : {A : Type 0} (P : A → Type 0) (xs : List A) (x : A) → All P (xs ++ x ∷ []) → P x
@@ -71,7 +71,7 @@ last_report_without_callers opening settings count ((first ∷ reports) ∷ call
 -- so the session is its first line, the last report and the last lines
 pub last_report_stands_alone : (opening : List ShardValue) (settings : Settings) (reports : SessionReports) (tail : List ℕ)
     → settings.rounds ≡ 0 → AreSessionReports opening settings reports
-    → session_text settings.store (session_start opening) reports tail
+    → session_text_of_reports settings.store (session_start opening) reports tail
     ≡ report_mark_text Opened (session_start opening) ++ (session_part settings.store reports.last ++ tail)
 last_report_stands_alone opening settings reports tail none are =
     let line = report_mark_text Opened (session_start opening) in

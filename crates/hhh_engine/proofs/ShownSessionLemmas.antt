@@ -17,7 +17,7 @@ use Rattle.report_text.specs.declared.session.Session.{Session}
 use Rattle.command_words.specs.declared.settings.Settings.{Settings}
 use Rattle.hhh_engine.specs.Session.{AreSessionReportsOfCaller, AreSessionReports, SessionReports}
 use Rattle.hhh_engine.specs.Session.{session_reports_of_calling_thread, session_caller_parts}
-use Rattle.hhh_engine.specs.Session.{session_part, session_parts, session_reports_in, session_text}
+use Rattle.hhh_engine.specs.Session.{session_part, session_parts, session_reports_in, session_text_of_reports}
 use Rattle.hhh_engine.proofs.LastReportLemmas.{last_report_is_among_all}
 
 -- a report of a session as its text shows it: with the positions of its cut, if that was saved
@@ -89,7 +89,7 @@ shown_session_groups rounds callers last tail = simp append_assoc
 
 -- the text of a session is that of what it says
 pub shown_session_prints_the_same : (store : Bool) (opened : List ℕ) (reports : SessionReports) (records : Records)
-    → session_text store opened reports (report_tail_text records) ≡ printed_session_text (shown_session store opened reports records)
+    → session_text_of_reports store opened reports (report_tail_text records) ≡ printed_session_text (shown_session store opened reports records)
 shown_session_prints_the_same store opened reports records =
     sym
     (ap (λ text. report_mark_text Opened opened ++ text)

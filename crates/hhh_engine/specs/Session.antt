@@ -152,8 +152,8 @@ abbrev pub session_rest : Bool → List (List Reported) → Reported → List �
 session_rest store callers last tail = session_caller_parts callers ++ (session_part store last ++ tail)
 
 -- the text of a session: the positions at the start, the reports of the calling thread's rounds, and the rest
-abbrev pub session_text : Bool → List ℕ → SessionReports → List ℕ → List ℕ
-session_text store opened reports tail =
+abbrev pub session_text_of_reports : Bool → List ℕ → SessionReports → List ℕ → List ℕ
+session_text_of_reports store opened reports tail =
     report_mark_text Opened opened
     ++ (session_parts store reports.rounds ++ session_rest store reports.callers reports.last tail)
 
@@ -162,7 +162,7 @@ pub record IsSessionOverShards (opening : List ShardValue) (settings : Settings)
     (tail text : List ℕ) : Type 0 where
   pub reports : SessionReports
   pub are_reports : AreSessionReports opening settings reports
-  pub spelled : text ≡ session_text settings.store (session_start opening) reports tail
+  pub spelled : text ≡ session_text_of_reports settings.store (session_start opening) reports tail
   pub kept : Kept (session_saved_cuts settings.store opening (session_reports_of_calling_thread reports))
 
 -- bytes with which a text begins, but not all of it

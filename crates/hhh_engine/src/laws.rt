@@ -35,7 +35,7 @@ ghost use Rattle.hhh_engine.specs.Session.{AreDealtInSession, AreSessionReportsO
 ghost use Rattle.hhh_engine.specs.Session.{IsSessionInPart, IsShownInSession, SessionReports, session_rules_by_formula};
 ghost use Rattle.hhh_engine.specs.Session.{session_reports_of_calling_thread, session_ends, last_session_positions};
 ghost use Rattle.hhh_engine.specs.Session.{new_session_shards, session_part, session_reports_in, session_saved_cuts};
-ghost use Rattle.hhh_engine.specs.Session.{session_saves, session_text, session_start};
+ghost use Rattle.hhh_engine.specs.Session.{session_saves, session_text_of_reports, session_start};
 ghost use Rattle.hhh_engine.specs.Saves.{SavesBelongThroughout, IsAsBeforeSaves, OpensAsBeforeOrToSaves};
 ghost use Rattle.hhh_engine.specs.Saves.{SavesAreKeptOnDisk, last_of_saves, SavesAreReopenedFromDisk};
 ghost use Rattle.hhh_engine.specs.Saves.{store_settings_for_saves};
@@ -117,7 +117,7 @@ pub fn last_reports_are_one()
 pub fn sessions_without_rounds_have_one_report()
     ensures { (opening : List ShardValue) (settings : Settings) (reports : SessionReports) (tail : List ℕ) → settings.rounds ≡ 0
         → AreSessionReports opening settings reports
-        → session_text settings.store (session_start opening) reports tail
+        → session_text_of_reports settings.store (session_start opening) reports tail
         ≡ report_mark_text Opened (session_start opening) ++ (session_part settings.store reports.last ++ tail) }
 {}
 

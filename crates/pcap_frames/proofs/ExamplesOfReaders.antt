@@ -20,7 +20,7 @@ use Rattle.pcap_frames.specs.ReaderPart.{IsReaderPartInStage}
 use Rattle.pcap_frames.specs.ReaderSteps.{frames_held_in_step, StepSplitsFrame, ReaderStepTakes, ReaderStepShowsFront}
 use Rattle.pcap_frames.specs.ReaderSteps.{ReaderStepLacksMemory}
 use Rattle.pcap_frames.specs.Visitor.{VisitorSees, VisitorsRepresentSame}
-use Rattle.pcap_frames.specs.Feeding.{IsFeedingResultInState, IfFeedingHadMemory, Feeds, FeedingShowsBeginning}
+use Rattle.pcap_frames.specs.Feeding.{IsFeedingResultInState, IfFeedingHadMemory, FeedsReader, FeedingShowsBeginning}
 use Rattle.pcap_frames.specs.Feeding.{IsFeedingResultOfBytes, IsFinalFeedingResult}
 use Rattle.pcap_frames.proofs.CaptureFileLemmas.{capture_files_are_decided, capture_file_fronts_are_decided}
 use Rattle.pcap_frames.proofs.Examples.{header, frame_bytes, frame, capture, cut_file, header_and_more}
@@ -192,7 +192,7 @@ header_advances_by_its_last_byte = in_header_advances _ _ _ _ header_alone_is_pa
 pub piece_completes_the_frame : ReaderAdvances (InHeader (take 23 header)) (InFrames behind_frame) piece (frame ∷ [])
 piece_completes_the_frame = in_header_advances _ _ _ _ reader_behind_the_frame
 
-pub piece_is_fed : Feeds album [] (frame ∷ []) (InHeader (take 23 header)) (InFrames behind_frame) piece
+pub piece_is_fed : FeedsReader album [] (frame ∷ []) (InHeader (take 23 header)) (InFrames behind_frame) piece
 piece_is_fed = record {
   given = frame ∷ [];
   advances = piece_completes_the_frame;

@@ -13,7 +13,7 @@ use Rattle.pcap_frames.specs.ReaderState.{ReaderState, InHeader, InFrames, AtFau
 use Rattle.pcap_frames.specs.ReaderState.{ReaderRepresents}
 use Rattle.pcap_frames.specs.ReaderSteps.{ReaderStepTakes, ReaderStepShowsFront, ReaderStepLacksMemory}
 use Rattle.pcap_frames.specs.Visitor.{VisitorSees, VisitorsRepresentSame}
-use Rattle.pcap_frames.specs.Feeding.{Feeds, FeedingShowsBeginning, IfFeedingHadMemory, IsFeedingResultInState}
+use Rattle.pcap_frames.specs.Feeding.{FeedsReader, FeedingShowsBeginning, IfFeedingHadMemory, IsFeedingResultInState}
 use Rattle.pcap_frames.specs.Feeding.{IsFeedingResultOfBytes}
 use Rattle.pcap_frames.proofs.ReaderStepLemmas.{ReaderAdvances-no_step, ReaderAdvances-two_steps, reader_step_at_fault}
 use Rattle.pcap_frames.proofs.ReaderStepLemmas.{reader_step_without_memory}
@@ -43,7 +43,7 @@ module _ {V : Type 0} (represents : V → List FrameValue → Type 0) where
   pub record IsFedPiece (seen saw : V) (old new : ReaderState) (piece rest : List ℕ) : Type 0 where
     pub done : List ℕ
     pub joined : piece ≡ done ++ rest
-    pub feeds : Feeds represents seen saw old new done
+    pub feeds : FeedsReader represents seen saw old new done
 
   pub none_of_piece_is_fed : (visitor : V) (state : ReaderState) (piece : List ℕ) → IsFedPiece visitor visitor state state piece piece
   none_of_piece_is_fed visitor state piece = record {
@@ -76,9 +76,9 @@ module _ {V : Type 0} (represents : V → List FrameValue → Type 0) where
       let takes = shows.takes in omega (arith, takes.some, ap length takes.joined, length-append takes.front left)
 
   pub all_of_piece_is_fed : (seen saw : V) (old new : ReaderState) (piece rest : List ℕ) → IsFedPiece seen saw old new piece rest
-      → rest ≡ [] → Feeds represents seen saw old new piece
+      → rest ≡ [] → FeedsReader represents seen saw old new piece
   all_of_piece_is_fed seen saw old new piece rest fed none =
-      subst (Feeds represents seen saw old new)
+      subst (FeedsReader represents seen saw old new)
       (sym (fed.joined ∙ ap (λ l. fed.done ++ l) none ∙ append-nil fed.done)) fed.feeds
 
   pub fed_piece_lacks_room : (seen mid saw : V) (old now : ReaderState) (piece rest : List ℕ) → IsFedPiece seen mid old now piece rest
@@ -110,18 +110,18 @@ module _ {V : Type 0} (represents : V → List FrameValue → Type 0) where
   -- a reader that has stopped is fed nothing
   pub piece_fed_to_stopped_reader : {T : Type 0} (state : ReaderState) (visitor : V) (piece : List ℕ) (result : Result T FeedFault)
       → ReaderHasStopped state → IsFeedingResultInState state result
-      → IfFeedingHadMemory result (Feeds represents visitor visitor state state piece)
+      → IfFeedingHadMemory result (FeedsReader represents visitor visitor state state piece)
       (FeedingShowsBeginning represents visitor visitor state piece)
   piece_fed_to_stopped_reader (InHeader kept) visitor piece result stopped answer = absurd stopped
   piece_fed_to_stopped_reader (InFrames at) visitor piece result stopped answer = absurd stopped
   piece_fed_to_stopped_reader (AtFault fault) visitor piece result stopped answer =
       subst (λ r.
-      IfFeedingHadMemory r (Feeds represents visitor visitor (AtFault fault) (AtFault fault) piece)
+      IfFeedingHadMemory r (FeedsReader represents visitor visitor (AtFault fault) (AtFault fault) piece)
       (FeedingShowsBeginning represents visitor visitor (AtFault fault) piece)) (sym answer)
       (record { given = []; advances = reader_step_at_fault fault piece; are_frames = tt; sees = VisitorSees-no_fed_piece visitor })
   piece_fed_to_stopped_reader LacksMemory visitor piece result stopped answer =
       subst (λ r.
-      IfFeedingHadMemory r (Feeds represents visitor visitor LacksMemory LacksMemory piece)
+      IfFeedingHadMemory r (FeedsReader represents visitor visitor LacksMemory LacksMemory piece)
       (FeedingShowsBeginning represents visitor visitor LacksMemory piece)) (sym answer)
       (record {
         given = [];
@@ -132,7 +132,7 @@ module _ {V : Type 0} (represents : V → List FrameValue → Type 0) where
 
   -- what is fed is answered exactly
   pub fed_piece_is_answered_exactly : {T : Type 0} (seen saw : V) (old new : ReaderState) (piece : List ℕ) (result : Result T FeedFault)
-      → Feeds represents seen saw old new piece → IsFeedingResultInState new result
+      → FeedsReader represents seen saw old new piece → IsFeedingResultInState new result
       → (before : List ℕ) (frames : List FrameValue) → ReaderRepresents old before frames
       → IsFeedingResultOfBytes (before ++ piece) result
   fed_piece_is_answered_exactly seen saw old new piece result feeds answer before frames stands =

@@ -13,7 +13,7 @@ use Rattle.pcap_frames.specs.CaptureFault.{ShowsCaptureFault, HasCaptureFaultAft
 use Rattle.pcap_frames.specs.ReaderState.{ReaderState, InHeader, InFrames, AtFault, LacksMemory, ReaderHasStopped}
 use Rattle.pcap_frames.specs.ReaderState.{ReaderRepresents, ReaderCompletes}
 use Rattle.pcap_frames.specs.Visitor.{VisitorSees}
-use Rattle.pcap_frames.specs.Feeding.{IsFeedingResultInState, IfFeedingHadMemory, Feeds, FeedingShowsBeginning}
+use Rattle.pcap_frames.specs.Feeding.{IsFeedingResultInState, IfFeedingHadMemory, FeedsReader, FeedingShowsBeginning}
 use Rattle.pcap_frames.specs.Feeding.{IsFinalFeedingResult}
 use Rattle.pcap_frames.specs.SourceReading.{source_reading_refusal, SourceReadingShowsCapture}
 use Rattle.pcap_frames.specs.SourceReading.{SourceReadingShowsBeforeFault, SourceReadingShowsFront}
@@ -134,7 +134,7 @@ module _ {V : Type 0} (represents : V → List FrameValue → Type 0) where
 
   pub more_of_source_is_read : {T : Type 0} (seen mid saw : V) (left now after : Option (List ℕ)) (old new : ReaderState)
       (piece : List ℕ) (x : T)
-      → HasReadSource seen mid left now old → Consumes now after piece → Feeds represents mid saw old new piece
+      → HasReadSource seen mid left now old → Consumes now after piece → FeedsReader represents mid saw old new piece
       → IsFeedingResultInState new (Ok x) → HasReadSource seen saw left after new
   more_of_source_is_read seen mid saw left now after old new piece x read consumed feeds answer =
       let fed = feeds.advances in record {
@@ -149,7 +149,7 @@ module _ {V : Type 0} (represents : V → List FrameValue → Type 0) where
 
   pub source_read_leaves_less : {T : Type 0} (seen mid saw : V) (left now : Option (List ℕ)) (old new : ReaderState)
       (piece : List ℕ) (x : T)
-      → HasReadSource seen mid left now old → 0 < length piece → Feeds represents mid saw old new piece
+      → HasReadSource seen mid left now old → 0 < length piece → FeedsReader represents mid saw old new piece
       → IsFeedingResultInState new (Ok x) → 24 + 262160 * 16777217 - source_read_extent new < 24 + 262160 * 16777217 - source_read_extent old
   source_read_leaves_less seen mid saw left now old new piece x read some feeds answer =
       let fed = feeds.advances in
@@ -198,7 +198,7 @@ module _ {V : Type 0} (represents : V → List FrameValue → Type 0) where
   -- the piece shows a fault
   pub source_read_is_refused : (T : Type 0) (seen mid saw : V) (left now after : Option (List ℕ)) (old new : ReaderState)
       (piece : List ℕ) (fault : CaptureFault)
-      → HasReadSource seen mid left now old → Consumes now after piece → Feeds represents mid saw old new piece
+      → HasReadSource seen mid left now old → Consumes now after piece → FeedsReader represents mid saw old new piece
       → IsFeedingResultInState {T = T} new (Err (feed.Refused fault))
       → SourceReadingShowsBeforeFault represents seen saw left after fault × IfSome left (λ file. IsSourceReadingOf file (Err (Capture fault)))
   source_read_is_refused T seen mid saw left now after old new piece fault read consumed feeds answer =
@@ -229,7 +229,7 @@ module _ {V : Type 0} (represents : V → List FrameValue → Type 0) where
   pub source_read_is_stopped : (T : Type 0) (seen mid saw : V) (left now after : Option (List ℕ)) (old new : ReaderState)
       (piece : List ℕ) (fault : FeedFault)
       → HasReadSource seen mid left now old → Consumes now after piece
-      → IfFeedingHadMemory {T = T} (Err fault) (Feeds represents mid saw old new piece)
+      → IfFeedingHadMemory {T = T} (Err fault) (FeedsReader represents mid saw old new piece)
       (FeedingShowsBeginning represents mid saw old piece) → IsFeedingResultInState {T = T} new (Err fault)
       → IsSeenInSourceReading represents seen saw left after (Err (source_reading_refusal fault))
       × IfSome left (λ file. IsSourceReadingOf file (Err (source_reading_refusal fault)))

@@ -26,7 +26,7 @@ IfFeedingHadMemory (Err (Refused fault)) P Q = P
 IfFeedingHadMemory (Err OutOfMemory) P Q = Q
 
 -- the reader was fed these bytes, and the visitor saw the frames that they complete
-pub record Feeds {V : Type 0} (represents : V → List FrameValue → Type 0) (seen saw : V) (old new : ReaderState)
+pub record FeedsReader {V : Type 0} (represents : V → List FrameValue → Type 0) (seen saw : V) (old new : ReaderState)
     (bytes : List ℕ) : Type 0 where
   pub given : List FrameValue
   pub advances : ReaderAdvances old new bytes given

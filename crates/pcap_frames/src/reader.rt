@@ -10,7 +10,7 @@ ghost use Rattle.std.specs.Prelude.{IsTrue, ◌↔◌};
 ghost use Rattle.pcap_frames.specs.Frame.{FrameValue};
 ghost use Rattle.pcap_frames.specs.ReaderSteps.{frames_held_in_step};
 ghost use Rattle.pcap_frames.specs.ReaderState.{InHeader, ReaderRepresents, ReaderHasStopped};
-ghost use Rattle.pcap_frames.specs.Feeding.{IsFeedingResultInState, IfFeedingHadMemory, Feeds, FeedingShowsBeginning};
+ghost use Rattle.pcap_frames.specs.Feeding.{IsFeedingResultInState, IfFeedingHadMemory, FeedsReader, FeedingShowsBeginning};
 ghost use Rattle.pcap_frames.specs.Feeding.{IsFeedingResultOfBytes, IsFinalFeedingResult};
 
 use crate::header::fault_at;
@@ -101,7 +101,7 @@ impl FrameReader {
 
     /// Shows the visitor the frames that the piece completes.
     fn show_all<V: FrameVisitor>(&mut self, piece: &[u8], visitor: &mut V) -> Result<(), AllocError>
-        ensures ok { OnOk result (Feeds V.represents visitor.old visitor.new self.old self.new piece.now) }
+        ensures ok { OnOk result (FeedsReader V.represents visitor.old visitor.new self.old self.new piece.now) }
         ensures err { OnErr result (FeedingShowsBeginning V.represents visitor.old visitor.new self.old piece.now) }
     {
         let mut rest = piece;
@@ -137,7 +137,7 @@ impl FrameReader {
     pub fn feed<V: FrameVisitor>(&mut self, piece: &[u8], visitor: &mut V) -> Result<(), FeedFault>
         // What the reader represents, and what the visitor saw.
         ensures fed { IfFeedingHadMemory result
-            (Feeds V.represents visitor.old visitor.new self.old self.new piece.now)
+            (FeedsReader V.represents visitor.old visitor.new self.old self.new piece.now)
             (FeedingShowsBeginning V.represents visitor.old visitor.new self.old piece.now) }
 
         // When each result is returned.
