@@ -4,17 +4,18 @@
 usage: check.py            prints a line for each fault, and ends with 1 where there is one
        check.py --write    first writes the rows of definitions of GUARANTEES.md anew
 
-In the promises of GUARANTEES.md and the README's table of crates each clause is on the function that is named before it,
-each wrong body in must-fail/ of its crate, and each wrong body in must-fail/ in the documents. The rows of definitions
-are the comments of specs/: of what a crate's face passes on, and of what the promises cite. What the README says is
-proved of a crate is a sentence of GUARANTEES.md. No line of GUARANTEES.md is longer than 300 characters. A file takes
-definitions of another crate from its face alone, `Rattle.NAME.specs.{..}`, and its lemmas from two files; so do the
-programs of bench/, which nothing else reads. What a file of lemmas holds has in its name a word of the file's noun, and
-no two crates have such files, or files of definitions, of the same noun. A file of specs/ that a document names is there;
-where it names the definition before it, the file has that one. No line of specs/, proofs/ or a contract is longer than
-160 characters. The manual page hhh.1 shows what each command takes as `command_words` has it, and explains each command
-and option. A command line in OPERATORS.md has options of its command alone. Neither document names a command or an
-option that isn't there.
+In the promises of GUARANTEES.md and the README's table of crates each clause is on the function that is named before
+it, each wrong body in must-fail/ of its crate, and each wrong body in must-fail/ in the documents. The rows of
+definitions are the comments of specs/: of what a crate's face passes on, and of what the promises cite. What the README
+says is proved of a crate is a sentence of GUARANTEES.md. No line of GUARANTEES.md is longer than 300 characters. A file
+takes definitions of another crate from its face alone, `Rattle.NAME.specs.{..}`, and its lemmas from two files; so do
+the programs of bench/, which nothing else reads; and a face passes on nothing that nobody takes from it. No two crates
+define one name. The old text of a wrong body stands once in its file. What a file of lemmas holds has in its name a
+word of the file's noun, and no two crates have such files, or files of definitions, of the same noun. A file of specs/
+that a document names is there; where it names the definition before it, the file has that one. No line of specs/,
+proofs/ or a contract is longer than 160 characters. The manual page hhh.1 shows what each command takes as
+`command_words` has it, and explains each command and option. A command line in OPERATORS.md has options of its command
+alone. Neither document names a command or an option that isn't there.
 """
 
 import re
@@ -187,6 +188,41 @@ def check_imports(crate):
                 faults.append(f"{path.relative_to(top)} names the inner file {folder}/{module} of {other}")
 
 
+def taken_from_faces():
+    """What files outside a crate take from its face: those of other crates, and the programs of bench/."""
+    paths = [path for crate in crates for path in (top / "crates" / crate).glob("*/**/*") if path.suffix in (".rt", ".antt") and "out" not in path.parts]
+    taken = {crate: set() for crate in crates}
+    for path in [*paths, *(top / "bench").glob("*_program/**/*.txt")]:
+        own = path.relative_to(top).parts[1]
+        for crate, names_taken in re.findall(r"use Rattle\.(\w+)\.specs\.\{([^}]*)\}", path.read_text()):
+            if crate in crates and crate != own:
+                taken[crate] |= {name.split(" as ")[0].strip() for name in names_taken.split(",")}
+    return taken
+
+
+def check_face(crate, taken):
+    """A face passes on nothing that no other crate takes from it."""
+    path = top / "crates" / crate / "specs" / "Lib.antt"
+    lines = re.findall(r"(?m)^(?:unfoldable )?pub use Rattle\.\S+\.\{(.*)\}", path.read_text() if path.exists() else "")
+    for name in sorted({name.strip() for line in lines for name in line.split(",")} - taken):
+        faults.append(f"the face of {crate} passes on {name}, which no other crate takes")
+
+
+def check_edits(crate):
+    """Each text that a wrong body replaces stands once in its file, once the pairs before it are applied."""
+    for path in sorted((top / "crates" / crate / "must-fail").glob("*.edit")):
+        file, old, text = None, None, ""
+        for line in path.read_text().splitlines():
+            kind, _, rest = line.partition(": ")
+            if kind == "file" and rest != file:
+                file, text = rest, (top / "crates" / crate / rest).read_text()
+            elif kind == "old":
+                old = rest
+                check(text.count(old) == 1, f"{path.relative_to(top)}: its old text stands {text.count(old)} times in {file}: {old}")
+            elif kind == "new":
+                text = text.replace(old, rest)
+
+
 def words(name):
     """The words of a name, each without the endings of a plural."""
     parts = re.findall(r"[A-Z]?[a-z]+", name)
@@ -321,8 +357,16 @@ files = [path for part in ("proofs/*Lemmas", "specs/*") for path in (top / "crat
 files.sort(key=lambda path: path.stem)
 for path, following in zip(files, files[1:]):
     check(path.stem != following.stem, f"{path.relative_to(top)} and {following.relative_to(top)} have the same noun")
+defined = {}
+for crate in crates:
+    for name in all_definitions[crate]:
+        check(name not in defined, f"{crate} and {defined.get(name)} both define {name}")
+        defined[name] = crate
+taken = taken_from_faces()
 for crate in crates:
     check_imports(crate)
+    check_face(crate, taken[crate])
+    check_edits(crate)
     check_lemmas(crate)
     check_lines(crate)
     for name in sorted(wrong_bodies(crate) - named.get(crate, set())):

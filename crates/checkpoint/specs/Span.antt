@@ -3,14 +3,25 @@ use Rattle.std.specs.Prelude.{ℕ, ◌+◌, ◌*◌}
 use Rattle.prefix_lattice.specs.{node_count}
 use Rattle.checkpoint.specs.declared.settings.StoreSettings.{StoreSettings}
 
--- the most bytes of a table: its total in 8, the number of its entries in 4, and 24 for each entry
-abbrev pub table_span : ℕ → ℕ
-table_span capacity = 12 + 24 * capacity
+-- how many bytes an entry has: its key, its count and its error, 8 each
+abbrev pub entry_span : ℕ
+entry_span = 24
 
--- the most bytes of a body of so many shards and this capacity: its length in 8, its sequence in 8, its digest in 32, and
--- for each shard 8 for the position and those of its tables
+-- the most bytes of a table: its total in 8, the number of its entries in 4, and the entries
+abbrev pub table_span : ℕ → ℕ
+table_span capacity = 12 + entry_span * capacity
+
+-- the most bytes of a snapshot: its position in 8, and its tables
+abbrev pub snapshot_span : ℕ → ℕ
+snapshot_span capacity = 8 + node_count * table_span capacity
+
+-- how many bytes precede the snapshots of a body: its length in 8, its sequence in 8, and its digest in 32
+abbrev pub body_front_span : ℕ
+body_front_span = 48
+
+-- the most bytes of a body of this many shards and this capacity
 abbrev pub body_span : ℕ → ℕ → ℕ
-body_span shards capacity = 48 + shards * (8 + node_count * table_span capacity)
+body_span shards capacity = body_front_span + shards * snapshot_span capacity
 
 -- the most bytes of a body under these settings
 abbrev pub span_of_settings : StoreSettings → ℕ

@@ -9,6 +9,7 @@ ghost use Rattle.shard_state.specs.{IsCut, SnapshotValue, least_table_capacity, 
 ghost use Rattle.checkpoint.specs.HeaderSettings.{AreHeaderSettings};
 ghost use Rattle.checkpoint.specs.Saved.{SavedValue, saved_value};
 ghost use Rattle.checkpoint.specs.Body.{IsBody, body_entry_bytes, body_table_bytes, body_snapshot_bytes};
+ghost use Rattle.checkpoint.specs.Span.{entry_span};
 ghost use Rattle.checkpoint.specs.Spellings.{ListFitsSpelling, BeginsWithSpelling, BeginsWithNoSpelling};
 ghost use Rattle.checkpoint.specs.Spellings.{EntryFitsSpelling, SnapshotFitsSpelling, TableFitsSpelling};
 
@@ -197,9 +198,9 @@ fn read_entries(
     Ok((entries, rest))
 }
 
-// The entry in the first 24 bytes, and the bytes after them.
+// The entry in the first bytes, and the bytes after it.
 fn first_entry(bytes: &[u8]) -> (Entry, &[u8])
-    requires { 24 ≤ length bytes.now }
+    requires { entry_span ≤ length bytes.now }
     ensures { BeginsWithSpelling body_entry_bytes EntryFitsSpelling bytes.now result.0 result.1.now }
 {
     let (key, rest) = first_number(bytes);

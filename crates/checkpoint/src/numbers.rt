@@ -1,6 +1,7 @@
 //! Numbers and digests in the bytes of a body.
 
 ghost use Rattle.std.specs.Prelude.{◌≡◌, ◌+◌, ◌≤◌, ◌++◌, length, OnOk};
+ghost use Rattle.checkpoint.specs.Body.{body_digest_length};
 ghost use Rattle.checkpoint.specs.NumberBytes.{number_bytes};
 
 use byteorder::{BigEndian, ByteOrder};
@@ -46,10 +47,10 @@ pub(crate) fn first_count(bytes: &[u8]) -> (u32, &[u8])
     (BigEndian::read_u32(front), rest)
 }
 
-/// The first 32 bytes, and the bytes after them.
+/// The digest in the first bytes, and the bytes after it.
 pub(crate) fn first_digest(bytes: &[u8]) -> ([u8; 32], &[u8])
-    requires { 32 ≤ length bytes.now }
-    ensures rest { length result.1.now + 32 ≡ length bytes.now }
+    requires { body_digest_length ≤ length bytes.now }
+    ensures rest { length result.1.now + body_digest_length ≡ length bytes.now }
     ensures spelled { bytes.now ≡ result.0 ++ result.1.now }
 {
     let (front, rest) = bytes.split_at(32);

@@ -8,10 +8,10 @@ use Rattle.std.proofs.lemmas.Bool.{false≢true, eqb-true, eq-eqb, ne_eqb, and_p
 use Rattle.std.proofs.lemmas.Bool.{cases_lt}
 use Rattle.std.proofs.lemmas.List.Folds.{list_any-append, list_any_none}
 use Rattle.std.proofs.lemmas.List.Elements.{All-push, All-weaker, All-nil}
-use Rattle.prefix_lattice.specs.{node_index, node_at, node_level, PrefixValue, IsPrefix, node_of_prefix}
+use Rattle.prefix_lattice.specs.{node_index, node_at, node_level, PrefixValue, IsPrefix, node_of_prefix, prefix_code}
 use Rattle.prefix_lattice.specs.{under, same_in_lattice, strictly_under}
 use Rattle.prefix_lattice.proofs.NodePlaceLemmas.{node_at_own_place, node_place_is_small}
-use Rattle.conditioned_bounds.specs.Uppers.{upper_at, upper_code, AreUpperCodes}
+use Rattle.conditioned_bounds.specs.Uppers.{upper_at, AreUpperCodes}
 use Rattle.conditioned_bounds.proofs.UpperLemmas.{UpperKeysAreApart, upper_key_is_small, upper_node_is_valid}
 use Rattle.conditioned_bounds.proofs.UpperLemmas.{same_upper_code}
 use Rattle.conditioned_bounds.proofs.UpperLemmas.{upper-only}
@@ -66,7 +66,7 @@ pub record CodesBefore (prefix : PrefixValue) (place : ℕ) (codes : List ℕ) :
   pub small : All (λ code. code < place * 2 ^ 64) codes
   pub distinct : AllPairs (λ code other. code ≢ other) codes
   pub members : (upper : PrefixValue) → IsPrefix upper → node_index (node_of_prefix upper) < place
-      → list_any (λ code. eqb code (upper_code upper)) codes ≡ strictly_under prefix upper
+      → list_any (λ code. eqb code (prefix_code upper)) codes ≡ strictly_under prefix upper
 
 -- none before the first
 pub codes_none : (prefix : PrefixValue) → CodesBefore prefix 0 []
@@ -99,33 +99,33 @@ codes_skip prefix place codes within before none = record {
     by : (upper : PrefixValue) → IsPrefix upper
         → (node_index (node_of_prefix upper) < place) ⊎ (place ≤ node_index (node_of_prefix upper))
         → node_index (node_of_prefix upper) < place + 1
-        → list_any (λ code. eqb code (upper_code upper)) codes ≡ strictly_under prefix upper
+        → list_any (λ code. eqb code (prefix_code upper)) codes ≡ strictly_under prefix upper
     by upper is (inl less) _ = before.members upper is less
     by upper is (inr not_less) less =
         let at : node_index (node_of_prefix upper) ≡ place = omega arith in
-        codes_below_never_reach codes (place * 2 ^ 64) (upper_code upper) before.small (omega (arith, at))
+        codes_below_never_reach codes (place * 2 ^ 64) (prefix_code upper) before.small (omega (arith, at))
         ∙ sym (none upper is (sym (node_at_own_place (node_of_prefix upper) (upper_node_is_valid upper is)) ∙ ap node_at at))
 
 -- a node at which the prefix is strictly under one
 pub codes_add : UpperKeysAreApart → (prefix : PrefixValue) (place : ℕ) (codes : List ℕ) (upper : PrefixValue)
     → CodesBefore prefix place codes → IsPrefix upper → node_index (node_of_prefix upper) ≡ place
     → strictly_under prefix upper ≡ true
-    → CodesBefore prefix (place + 1) (codes ++ upper_code upper ∷ [])
+    → CodesBefore prefix (place + 1) (codes ++ prefix_code upper ∷ [])
 codes_add apart prefix place codes upper before upper_is at is =
     let small = upper_key_is_small upper upper_is in
-    let low : place * 2 ^ 64 ≤ upper_code upper = omega (arith, at) in
-    let high : upper_code upper < (place + 1) * 2 ^ 64 = omega (arith, at, small) in
+    let low : place * 2 ^ 64 ≤ prefix_code upper = omega (arith, at) in
+    let high : prefix_code upper < (place + 1) * 2 ^ 64 = omega (arith, at, small) in
     record {
       small =
-          All-push (λ code. code < (place + 1) * 2 ^ 64) codes (upper_code upper)
+          All-push (λ code. code < (place + 1) * 2 ^ 64) codes (prefix_code upper)
           (All-weaker (λ code. code < place * 2 ^ 64) (λ code. code < (place + 1) * 2 ^ 64)
           (λ code below. omega (arith, below)) codes before.small) high;
       distinct =
-          AllPairs-push_code (λ code other. code ≢ other) codes (upper_code upper) before.distinct
-          (All-weaker (λ code. code < place * 2 ^ 64) (λ code. code ≢ upper_code upper)
+          AllPairs-push_code (λ code other. code ≢ other) codes (prefix_code upper) before.distinct
+          (All-weaker (λ code. code < place * 2 ^ 64) (λ code. code ≢ prefix_code upper)
           (λ code below same. omega (arith, below, low, same)) codes before.small);
       members = λ other other_is less.
-          list_any-append (λ code. eqb code (upper_code other)) codes (upper_code upper ∷ [])
+          list_any-append (λ code. eqb code (prefix_code other)) codes (prefix_code upper ∷ [])
           ∙ by other other_is (cases_lt (node_index (node_of_prefix other)) place) less low;
     }
   where
@@ -149,22 +149,22 @@ codes_add apart prefix place codes upper before upper_is at is =
 
     by : (other : PrefixValue) → IsPrefix other
         → (node_index (node_of_prefix other) < place) ⊎ (place ≤ node_index (node_of_prefix other))
-        → node_index (node_of_prefix other) < place + 1 → place * 2 ^ 64 ≤ upper_code upper
-        → (list_any (λ code. eqb code (upper_code other)) codes || (eqb (upper_code upper) (upper_code other) || false))
+        → node_index (node_of_prefix other) < place + 1 → place * 2 ^ 64 ≤ prefix_code upper
+        → (list_any (λ code. eqb code (prefix_code other)) codes || (eqb (prefix_code upper) (prefix_code other) || false))
         ≡ strictly_under prefix other
     by other other_is (inl less) _ low =
         let small = upper_key_is_small other other_is in
-        or_other (list_any (λ code. eqb code (upper_code other)) codes) (eqb (upper_code upper) (upper_code other))
-        (ne_eqb (upper_code upper) (upper_code other) (λ same. omega (arith, small, less, low, same)))
+        or_other (list_any (λ code. eqb code (prefix_code other)) codes) (eqb (prefix_code upper) (prefix_code other))
+        (ne_eqb (prefix_code upper) (prefix_code other) (λ same. omega (arith, small, less, low, same)))
         ∙ before.members other other_is less
     by other other_is (inr not_less) less low =
         let here : node_index (node_of_prefix other) ≡ place = omega arith in
-        or_false (list_any (λ code. eqb code (upper_code other)) codes) (eqb (upper_code upper) (upper_code other))
-        (codes_below_never_reach codes (place * 2 ^ 64) (upper_code other) before.small (omega (arith, here)))
-        ∙ same_truth (eqb (upper_code upper) (upper_code other)) (strictly_under prefix other)
+        or_false (list_any (λ code. eqb code (prefix_code other)) codes) (eqb (prefix_code upper) (prefix_code other))
+        (codes_below_never_reach codes (place * 2 ^ 64) (prefix_code other) before.small (omega (arith, here)))
+        ∙ same_truth (eqb (prefix_code upper) (prefix_code other)) (strictly_under prefix other)
         (λ same.
         subst (λ p. strictly_under prefix p ≡ true)
-        (same_upper_code apart upper other upper_is other_is (eqb-true (upper_code upper) (upper_code other) same)) is)
+        (same_upper_code apart upper other upper_is other_is (eqb-true (prefix_code upper) (prefix_code other) same)) is)
         (λ is_other.
         let node : node_of_prefix upper ≡ node_of_prefix other =
         sym (node_at_own_place (node_of_prefix upper) (upper_node_is_valid upper upper_is)) ∙ ap node_at (at ∙ sym here)
@@ -173,7 +173,7 @@ codes_add apart prefix place codes upper before upper_is at is =
         some-injective upper other
         (sym (upper-only prefix upper (code_above-under prefix upper is)) ∙ ap (upper_at prefix) node
         ∙ upper-only prefix other (code_above-under prefix other is_other)) in
-        eq-eqb (upper_code upper) (upper_code other) (ap upper_code one))
+        eq-eqb (prefix_code upper) (prefix_code other) (ap prefix_code one))
 
 -- after the last node they are all
 pub codes_all : (prefix : PrefixValue) (codes : List ℕ) → CodesBefore prefix 25 codes → AreUpperCodes prefix codes

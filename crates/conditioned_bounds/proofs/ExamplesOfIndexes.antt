@@ -9,7 +9,8 @@ use Rattle.std.specs.declared.alloc.Global.{Global}
 use Rattle.std.proofs.lemmas.Bool.{false≢true}
 use Rattle.prefix_lattice.proofs.ListLemmas.{Contains-list_head}
 use Rattle.prefix_lattice.specs.{NodeValue, PrefixValue, AreLeadingBytes, IsPrefix, node_of_prefix, strictly_under}
-use Rattle.conditioned_bounds.specs.Uppers.{is_upper_node, shortened_to_upper, upper_at, upper_code, AreUpperCodes}
+use Rattle.prefix_lattice.specs.{prefix_code}
+use Rattle.conditioned_bounds.specs.Uppers.{is_upper_node, shortened_to_upper, upper_at, AreUpperCodes}
 use Rattle.conditioned_bounds.specs.Members.{member_limit, AreMembers}
 use Rattle.conditioned_bounds.specs.LineNumbers.{line_numbers, line_numbers_at, LineNumbersHaveRoom}
 use Rattle.conditioned_bounds.specs.LineNumbers.{HasRoomForLineNumber}
@@ -40,12 +41,12 @@ pub net_is_under_none_of_a_node_that_keeps_more : upper_at net (node 3 0) ≡ No
 net_is_under_none_of_a_node_that_keeps_more = refl
 
 -- node 11 of the 25, and 10.1.0.0 and 20.0.0.0
-pub code_of_the_net : upper_code net ≡ 11 * 2 ^ 64 + 0x0a01000014000000
+pub code_of_the_net : prefix_code net ≡ 11 * 2 ^ 64 + 0x0a01000014000000
 code_of_the_net = refl
 
 -- 10.0.0.0/8 and 10.0.0.0/16 have one address, and differ in their nodes
-pub nets_of_one_address_have_two_codes : upper_code (record { source = 10 ∷ []; dest = [] })
-    ≢ upper_code (record { source = 10 ∷ 0 ∷ []; dest = [] })
+pub nets_of_one_address_have_two_codes : prefix_code (record { source = 10 ∷ []; dest = [] })
+    ≢ prefix_code (record { source = 10 ∷ 0 ∷ []; dest = [] })
 nets_of_one_address_have_two_codes same = omega (arith, same)
 
 no_upper : (source dest : List ℕ) → false ≡ strictly_under indexed_root_line (record { source = source; dest = dest })
@@ -65,7 +66,7 @@ the_root_has_no_codes_above = record {
   members = λ upper is. no_upper upper.source upper.dest;
 }
 
-pub the_root_is_not_above_itself : ¬ AreUpperCodes indexed_root_line (upper_code indexed_root_line ∷ [])
+pub the_root_is_not_above_itself : ¬ AreUpperCodes indexed_root_line (prefix_code indexed_root_line ∷ [])
 the_root_is_not_above_itself above = false≢true (sym (above.members indexed_root_line root_is_prefix))
 
 pub limit_of_an_index : member_limit ≡ 2 ^ 24
@@ -124,7 +125,7 @@ no_lines_are_indexed_by_nothing kept is = record {
   distinct = λ i j d before within. absurd (omega arith);
   numbers = λ code.
       subst (All (λ number. number < 0)) (sym (nothing_at kept code is)) (λ k d within. absurd (omega arith));
-  under = λ prefix is_prefix. ap (map (indexed_line [])) (nothing_at kept (upper_code prefix) is);
+  under = λ prefix is_prefix. ap (map (indexed_line [])) (nothing_at kept (prefix_code prefix) is);
 }
 
 -- the root would miss the net under it
@@ -132,5 +133,5 @@ pub a_line_is_not_indexed_by_nothing : (kept : BTreeMap ℕ (Vec ℕ Global)) �
     → ¬ LinesAreIndexed (net ∷ []) kept
 a_line_is_not_indexed_by_nothing kept is are =
     let missed : 0 ≡ 1 =
-    ap length (sym (ap (map (indexed_line (net ∷ []))) (nothing_at kept (upper_code indexed_root_line) is)) ∙ are.under indexed_root_line root_is_prefix) in
+    ap length (sym (ap (map (indexed_line (net ∷ []))) (nothing_at kept (prefix_code indexed_root_line) is)) ∙ are.under indexed_root_line root_is_prefix) in
     omega (arith, missed)

@@ -11,8 +11,8 @@ use Rattle.std.proofs.lemmas.List.{take_more, get_or-map}
 use Rattle.std.proofs.lemmas.List.Elements.{All-push, All-weaker, All-head, All-tail, All-get_or, filter-append}
 use Rattle.std.proofs.lemmas.List.Elements.{filter_passes}
 use Rattle.std.proofs.lemmas.List.Sums.{length-filter, count_by-le-length}
-use Rattle.prefix_lattice.specs.{PrefixValue, IsPrefix, strictly_under, lines_under, closest}
-use Rattle.conditioned_bounds.specs.Uppers.{upper_code, AreUpperCodes}
+use Rattle.prefix_lattice.specs.{PrefixValue, IsPrefix, strictly_under, lines_under, closest, prefix_code}
+use Rattle.conditioned_bounds.specs.Uppers.{AreUpperCodes}
 use Rattle.conditioned_bounds.specs.LineNumbers.{line_numbers_at}
 use Rattle.conditioned_bounds.specs.LineIndex.{LinesAreIndexed, indexed_line, indexed_root_line}
 use Rattle.conditioned_bounds.specs.Members.{member_limit}
@@ -25,7 +25,7 @@ index-same lines kept others same are = record {
   few = are.few;
   distinct = are.distinct;
   numbers = λ code. subst (All (λ number. number < length lines)) (sym (same code)) (are.numbers code);
-  under = λ prefix is. ap (map (indexed_line lines)) (same (upper_code prefix)) ∙ are.under prefix is;
+  under = λ prefix is. ap (map (indexed_line lines)) (same (prefix_code prefix)) ∙ are.under prefix is;
 }
 
 -- the lines of numbers stay where one is appended
@@ -56,9 +56,9 @@ index-push lines line kept noted codes number are new above is_number less notes
       subst (All (λ n. n < length (lines ++ line ∷ []))) (sym (notes code))
       (few code (list_any (λ other. eqb other code) codes));
   under = λ prefix is.
-      ap (map (indexed_line (lines ++ line ∷ []))) (notes (upper_code prefix))
+      ap (map (indexed_line (lines ++ line ∷ []))) (notes (prefix_code prefix))
       ∙ ap (λ b. map (indexed_line (lines ++ line ∷ []))
-      (if b then line_numbers_at kept (upper_code prefix) ++ number ∷ [] else line_numbers_at kept (upper_code prefix)))
+      (if b then line_numbers_at kept (prefix_code prefix) ++ number ∷ [] else line_numbers_at kept (prefix_code prefix)))
       (above.members prefix is)
       ∙ by prefix is (strictly_under line prefix) refl
       ∙ sym (filter-append (λ l. strictly_under l prefix) lines (line ∷ []));
@@ -79,16 +79,16 @@ index-push lines line kept noted codes number are new above is_number less notes
         (λ n less. omega (arith, less, length_push lines line)) (line_numbers_at kept code) (are.numbers code)
 
     stays : (prefix : PrefixValue) → IsPrefix prefix
-        → map (indexed_line (lines ++ line ∷ [])) (line_numbers_at kept (upper_code prefix)) ≡ lines_under prefix lines
+        → map (indexed_line (lines ++ line ∷ [])) (line_numbers_at kept (prefix_code prefix)) ≡ lines_under prefix lines
     stays prefix is =
-        index_lines-stay lines line (line_numbers_at kept (upper_code prefix)) (are.numbers (upper_code prefix)) ∙ are.under prefix is
+        index_lines-stay lines line (line_numbers_at kept (prefix_code prefix)) (are.numbers (prefix_code prefix)) ∙ are.under prefix is
 
     by : (prefix : PrefixValue) → IsPrefix prefix → (b : Bool) → strictly_under line prefix ≡ b
         → map (indexed_line (lines ++ line ∷ []))
-        (if b then line_numbers_at kept (upper_code prefix) ++ number ∷ [] else line_numbers_at kept (upper_code prefix))
+        (if b then line_numbers_at kept (prefix_code prefix) ++ number ∷ [] else line_numbers_at kept (prefix_code prefix))
         ≡ lines_under prefix lines ++ cond (strictly_under line prefix) (line ∷ []) []
     by prefix is true strictly =
-        map-append (indexed_line (lines ++ line ∷ [])) (line_numbers_at kept (upper_code prefix)) (number ∷ [])
+        map-append (indexed_line (lines ++ line ∷ [])) (line_numbers_at kept (prefix_code prefix)) (number ∷ [])
         ∙ ap (λ ls. ls ++ indexed_line (lines ++ line ∷ []) number ∷ []) (stays prefix is)
         ∙ ap (λ l. lines_under prefix lines ++ l ∷ [])
         (get_or_push lines line indexed_root_line number (sym is_number))

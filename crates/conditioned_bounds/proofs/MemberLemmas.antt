@@ -10,8 +10,7 @@ use Rattle.std.proofs.lemmas.Bool.{false≢true, eqb-true, eq-eqb, or_cases}
 use Rattle.std.proofs.lemmas.List.{length_push}
 use Rattle.std.proofs.lemmas.List.Elements.{All-push, All-weaker, Contains-push, Contains-push_cases}
 use Rattle.std.proofs.lemmas.List.Elements.{Contains-append_left}
-use Rattle.prefix_lattice.specs.{NodeValue, PrefixValue, IsPrefix, node_of_prefix}
-use Rattle.conditioned_bounds.specs.Uppers.{upper_code}
+use Rattle.prefix_lattice.specs.{NodeValue, PrefixValue, IsPrefix, node_of_prefix, prefix_code}
 use Rattle.conditioned_bounds.specs.Members.{AreMembers, member_limit}
 use Rattle.conditioned_bounds.proofs.UpperLemmas.{UpperKeysAreApart, same_upper_code, same_upper_node}
 use Rattle.prefix_lattice.proofs.ListLemmas.{Contains-list_head, Contains-list_tail}
@@ -26,8 +25,8 @@ members_same members others codes other_codes at other_at same same_codes same_a
     let of : AreMembers members other_codes at = record {
       few = are.few;
       prefixes = are.prefixes;
-      coded = λ prefix there. has (upper_code prefix) ∙ are.coded prefix there;
-      found = λ prefix is there. are.found prefix is (sym (has (upper_code prefix)) ∙ there);
+      coded = λ prefix there. has (prefix_code prefix) ∙ are.coded prefix there;
+      found = λ prefix is there. are.found prefix is (sym (has (prefix_code prefix)) ∙ there);
       nodes = are.nodes;
     } in
     subst (λ ms. AreMembers ms other_codes other_at) (sym same)
@@ -37,7 +36,7 @@ members_same members others codes other_codes at other_at same same_codes same_a
 pub members_push : UpperKeysAreApart → (members : List PrefixValue) (prefix : PrefixValue) (codes new_codes : BTreeSet ℕ)
     (at new_at : List NodeValue) → AreMembers members codes at → IsPrefix prefix → length members + 1 < member_limit
     → ((q : ℕ) → contains nat_cmp new_codes q
-    ≡ cond (eq_by_cmp nat_cmp (upper_code prefix) q) true (contains nat_cmp codes q))
+    ≡ cond (eq_by_cmp nat_cmp (prefix_code prefix) q) true (contains nat_cmp codes q))
     → ((node : NodeValue) → Contains at node → Contains new_at node) → Contains new_at (node_of_prefix prefix)
     → AreMembers (members ++ prefix ∷ []) new_codes new_at
 members_push apart members prefix codes new_codes at new_at are is few adds kept there = record {
@@ -45,18 +44,18 @@ members_push apart members prefix codes new_codes at new_at are is few adds kept
   prefixes = All-push IsPrefix members prefix are.prefixes is;
   coded = λ other among.
       ⊎_elim
-      (λ old. adds (upper_code other)
-      ∙ old_or (eq_by_cmp nat_cmp (upper_code prefix) (upper_code other)) (contains nat_cmp codes (upper_code other))
+      (λ old. adds (prefix_code other)
+      ∙ old_or (eq_by_cmp nat_cmp (prefix_code prefix) (prefix_code other)) (contains nat_cmp codes (prefix_code other))
       (are.coded other old))
-      (λ same. adds (upper_code other)
-      ∙ ap (λ b. cond b true (contains nat_cmp codes (upper_code other)))
-      (unsigned_tied (upper_code prefix) (upper_code other)
-      ∙ eq-eqb (upper_code prefix) (upper_code other) (ap upper_code same)))
+      (λ same. adds (prefix_code other)
+      ∙ ap (λ b. cond b true (contains nat_cmp codes (prefix_code other)))
+      (unsigned_tied (prefix_code prefix) (prefix_code other)
+      ∙ eq-eqb (prefix_code prefix) (prefix_code other) (ap prefix_code same)))
       (Contains-push_cases members prefix other among);
   found = λ other other_is has.
-      by other other_is (eqb (upper_code prefix) (upper_code other)) refl
-      (sym (ap (λ b. cond b true (contains nat_cmp codes (upper_code other)))
-      (unsigned_tied (upper_code prefix) (upper_code other))) ∙ sym (adds (upper_code other)) ∙ has);
+      by other other_is (eqb (prefix_code prefix) (prefix_code other)) refl
+      (sym (ap (λ b. cond b true (contains nat_cmp codes (prefix_code other)))
+      (unsigned_tied (prefix_code prefix) (prefix_code other))) ∙ sym (adds (prefix_code other)) ∙ has);
   nodes =
       All-push (λ member. Contains new_at (node_of_prefix member)) members prefix
       (All-weaker (λ member. Contains at (node_of_prefix member)) (λ member. Contains new_at (node_of_prefix member))
@@ -67,11 +66,11 @@ members_push apart members prefix codes new_codes at new_at are is few adds kept
     old_or true old is = refl
     old_or false old is = is
 
-    by : (other : PrefixValue) → IsPrefix other → (b : Bool) → eqb (upper_code prefix) (upper_code other) ≡ b
-        → cond b true (contains nat_cmp codes (upper_code other)) ≡ true → Contains (members ++ prefix ∷ []) other
+    by : (other : PrefixValue) → IsPrefix other → (b : Bool) → eqb (prefix_code prefix) (prefix_code other) ≡ b
+        → cond b true (contains nat_cmp codes (prefix_code other)) ≡ true → Contains (members ++ prefix ∷ []) other
     by other other_is true same _ =
         subst (Contains (members ++ prefix ∷ []))
-        (same_upper_code apart prefix other is other_is (eqb-true (upper_code prefix) (upper_code other) same))
+        (same_upper_code apart prefix other is other_is (eqb-true (prefix_code prefix) (prefix_code other) same))
         (Contains-push members prefix)
     by other other_is false _ has =
         Contains-append_left members (prefix ∷ []) other (are.found other other_is has)

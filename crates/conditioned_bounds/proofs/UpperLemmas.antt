@@ -6,11 +6,11 @@ use Rattle.std.proofs.Common.{subst, arith}
 use Rattle.std.proofs.lemmas.Bool.{false≢true, eqb-true, eq-eqb, and_parts, and_from, false_from_ne_true}
 use Rattle.std.proofs.lemmas.Bool.Decides.{nat_tests}
 use Rattle.std.proofs.lemmas.Option.{none-some}
-use Rattle.prefix_lattice.specs.{NodeValue, IsNode, node_index, node_at, PrefixValue, IsPrefix}
+use Rattle.prefix_lattice.specs.{NodeValue, IsNode, node_index, node_at, PrefixValue, IsPrefix, prefix_code}
 use Rattle.prefix_lattice.specs.{node_of_prefix, prefix_key, prefix_at, address_of, kept_bytes_begin_with}
 use Rattle.prefix_lattice.specs.{AreLeadingBytes, under}
 use Rattle.prefix_lattice.proofs.NodePlaceLemmas.{node_at_own_place}
-use Rattle.conditioned_bounds.specs.Uppers.{is_upper_node, shortened_to_upper, upper_at, upper_code}
+use Rattle.conditioned_bounds.specs.Uppers.{is_upper_node, shortened_to_upper, upper_at}
 
 -- what a list begins with is its front
 upper_front-begun : (bytes front : List ℕ) → kept_bytes_begin_with bytes front ≡ true → take (length front) bytes ≡ front
@@ -239,7 +239,7 @@ upper_node_is_valid prefix is = record { source = is.source.few; dest = is.dest.
 
 -- so no two prefixes have one code
 pub same_upper_code : UpperKeysAreApart → (prefix other : PrefixValue) → IsPrefix prefix → IsPrefix other
-    → upper_code prefix ≡ upper_code other → prefix ≡ other
+    → prefix_code prefix ≡ prefix_code other → prefix ≡ other
 same_upper_code apart prefix other is other_is same =
     let small = upper_key_is_small prefix is in
     let other_small = upper_key_is_small other other_is in

@@ -2,8 +2,7 @@
 use Rattle.std.specs.Prelude.{ℕ, ◌≡◌, ◌≢◌, ◌<◌, List, length, map, All, AllPairs, slice_index_or, [], Vec}
 use Rattle.std.specs.BTreeMap.{BTreeMap}
 use Rattle.std.specs.declared.alloc.Global.{Global}
-use Rattle.prefix_lattice.specs.{PrefixValue, IsPrefix, lines_under}
-use Rattle.conditioned_bounds.specs.Uppers.{upper_code}
+use Rattle.prefix_lattice.specs.{PrefixValue, IsPrefix, lines_under, prefix_code}
 use Rattle.conditioned_bounds.specs.Members.{member_limit}
 use Rattle.conditioned_bounds.specs.LineNumbers.{line_numbers_at}
 
@@ -22,4 +21,4 @@ pub record LinesAreIndexed (lines : List PrefixValue) (kept : BTreeMap ℕ (Vec 
   pub distinct : AllPairs (λ line other. line ≢ other) lines
   pub numbers : (code : ℕ) → All (λ number. number < length lines) (line_numbers_at kept code)
   pub under : (prefix : PrefixValue) → IsPrefix prefix
-      → map (indexed_line lines) (line_numbers_at kept (upper_code prefix)) ≡ lines_under prefix lines
+      → map (indexed_line lines) (line_numbers_at kept (prefix_code prefix)) ≡ lines_under prefix lines

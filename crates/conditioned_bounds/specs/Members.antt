@@ -2,8 +2,7 @@
 use Rattle.std.specs.Prelude.{ℕ, ◌≡◌, ◌<◌, true, List, length, All, Contains}
 use Rattle.std.specs.Ordering.{nat_cmp}
 use Rattle.std.specs.BTreeSet.{BTreeSet, contains}
-use Rattle.prefix_lattice.specs.{NodeValue, PrefixValue, IsPrefix, node_of_prefix}
-use Rattle.conditioned_bounds.specs.Uppers.{upper_code}
+use Rattle.prefix_lattice.specs.{NodeValue, PrefixValue, IsPrefix, node_of_prefix, prefix_code}
 
 -- an index has fewer lines than this, 2^24
 abbrev pub member_limit : ℕ
@@ -13,7 +12,7 @@ member_limit = 16777216
 pub record AreMembers (members : List PrefixValue) (codes : BTreeSet ℕ) (at : List NodeValue) : Type 0 where
   pub few : length members < member_limit
   pub prefixes : All IsPrefix members
-  pub coded : (prefix : PrefixValue) → Contains members prefix → contains nat_cmp codes (upper_code prefix) ≡ true
-  pub found : (prefix : PrefixValue) → IsPrefix prefix → contains nat_cmp codes (upper_code prefix) ≡ true
+  pub coded : (prefix : PrefixValue) → Contains members prefix → contains nat_cmp codes (prefix_code prefix) ≡ true
+  pub found : (prefix : PrefixValue) → IsPrefix prefix → contains nat_cmp codes (prefix_code prefix) ≡ true
       → Contains members prefix
   pub nodes : All (λ prefix. Contains at (node_of_prefix prefix)) members

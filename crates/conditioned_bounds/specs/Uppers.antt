@@ -3,7 +3,7 @@ use Rattle.std.specs.Prelude.{ℕ, ◌≡◌, ◌≢◌, ◌+◌, ◌*◌, ◌^�
 use Rattle.std.specs.Prelude.{Some}
 use Rattle.std.specs.Prelude.{AllPairs, if◌then◌else◌}
 use Rattle.std.specs.List.{list_any}
-use Rattle.prefix_lattice.specs.{NodeValue, node_index, PrefixValue, IsPrefix, node_of_prefix, prefix_key}
+use Rattle.prefix_lattice.specs.{NodeValue, node_index, PrefixValue, IsPrefix, node_of_prefix, prefix_key, prefix_code}
 use Rattle.prefix_lattice.specs.{strictly_under}
 
 -- whether a node keeps no more bytes of either address than a prefix
@@ -22,12 +22,8 @@ shortened_to_upper prefix node = record {
 abbrev pub upper_at : PrefixValue → NodeValue → Option PrefixValue
 upper_at prefix node = if is_upper_node node prefix then Some (shortened_to_upper prefix node) else None
 
--- the code of a prefix: the index of its node, and its key in the 64 bits below; no two prefixes share one
-abbrev pub upper_code : PrefixValue → ℕ
-upper_code prefix = node_index (node_of_prefix prefix) * 2 ^ 64 + prefix_key prefix
-
 -- these are the codes of all prefixes that a prefix is strictly under, each once
 pub record AreUpperCodes (prefix : PrefixValue) (codes : List ℕ) : Type 0 where
   pub distinct : AllPairs (λ code other. code ≢ other) codes
   pub members : (upper : PrefixValue) → IsPrefix upper
-      → list_any (λ code. code == upper_code upper) codes ≡ strictly_under prefix upper
+      → list_any (λ code. code == prefix_code upper) codes ≡ strictly_under prefix upper

@@ -1,8 +1,8 @@
 //! The prefixes that a prefix is under, one at each node that keeps no more than it.
 
 ghost use Rattle.std.specs.Prelude.{◌≡◌, IfOk};
-ghost use Rattle.prefix_lattice.specs.{IsPrefix, IsNode};
-ghost use Rattle.conditioned_bounds.specs.Uppers.{upper_at, upper_code, AreUpperCodes};
+ghost use Rattle.prefix_lattice.specs.{IsPrefix, IsNode, prefix_code};
+ghost use Rattle.conditioned_bounds.specs.Uppers.{upper_at, AreUpperCodes};
 
 use prefix_lattice::{Node, Prefix, Record, keys_are_of_their_node, prefixes_are_ordered};
 use std::alloc::{AllocError, Global};
@@ -28,7 +28,7 @@ pub(crate) fn upper(prefix: &Prefix, node: Node) -> Option<Prefix>
 
 /// The number of a prefix, by its node and then by its key. No two prefixes share one.
 pub(crate) fn code_of(prefix: &Prefix) -> u128
-    ensures value { result ≡ upper_code prefix.now }
+    ensures value { result ≡ prefix_code prefix.now }
     ensures prefix { IsPrefix prefix.now }
 {
     u128::from(prefix.node().index()) << 64 | u128::from(prefix.key())

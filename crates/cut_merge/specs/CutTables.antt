@@ -1,7 +1,7 @@
 -- What the tables of a cut say together: their keys, and the interval of each.
-use Rattle.std.specs.Prelude.{ℕ, ◌≤◌, List, map, ◌==◌, not, [], ◌∷◌, filter, sum_by}
+use Rattle.std.specs.Prelude.{ℕ, List, map, ◌==◌, not, [], ◌∷◌, filter, sum_by}
 use Rattle.std.specs.List.{flat_map}
-use Rattle.prefix_lattice.specs.{NodeValue, PrefixValue, node_of_prefix, prefix_key}
+use Rattle.prefix_lattice.specs.{IsIntervalWithinTotal, NodeValue, PrefixValue, node_of_prefix, prefix_key}
 use Rattle.space_saving.specs.{TableValue, interval_in_table}
 pub use Rattle.space_saving.specs.{TableInterval}
 use Rattle.shard_state.specs.{snapshot_table_at, CutValue}
@@ -38,7 +38,6 @@ keys_monitored_in_cut cut node = keys_monitored_in_tables (cut_tables_at node cu
 abbrev pub interval_in_cut : CutValue → PrefixValue → TableInterval
 interval_in_cut cut prefix = interval_over_tables (cut_tables_at (node_of_prefix prefix) cut) (prefix_key prefix)
 
--- the low of an interval is at most its high, and its high at most a total
-pub record IsTableIntervalWithinTotal (total : ℕ) (interval : TableInterval) : Type 0 where
-  pub ordered : interval.low ≤ interval.high
-  pub within_total : interval.high ≤ total
+-- an interval of tables is within a total
+abbrev pub IsTableIntervalWithinTotal : ℕ → TableInterval → Type 0
+IsTableIntervalWithinTotal total interval = IsIntervalWithinTotal interval.low interval.high total

@@ -12,13 +12,13 @@ use Rattle.std.proofs.lemmas.Bool.Decides.{nat_tests}
 use Rattle.std.proofs.lemmas.List.Elements.{All-head, All-tail}
 use Rattle.std.proofs.lemmas.List.Folds.{list_any_at}
 use Rattle.prefix_lattice.specs.{RecordValue, NodeValue, IsNode, node_index, node_at, PrefixValue, IsPrefix, covers}
-use Rattle.prefix_lattice.specs.{node_of_prefix}
+use Rattle.prefix_lattice.specs.{node_of_prefix, prefix_code}
 use Rattle.prefix_lattice.specs.{prefix_key, prefix_at, kept_bytes_begin_with, strictly_under, lines_under}
 use Rattle.prefix_lattice.specs.{one_line_covers}
 use Rattle.prefix_lattice.proofs.NodePlaceLemmas.{node_at_own_place}
 use Rattle.prefix_lattice.proofs.ListLemmas.{Contains-list_head, Contains-list_tail}
 use Rattle.exact_audit.specs.declared.depths.Depths.{Depths}
-use Rattle.exact_audit.specs.LineCodes.{line_code_of, AreLineCodes}
+use Rattle.exact_audit.specs.LineCodes.{AreLineCodes}
 use Rattle.exact_audit.specs.Depths.{reaches_depth, IsDepth, AreDepths, depth_at, explained_by_depth}
 use Rattle.exact_audit.proofs.ListAnyLemmas.{list_any-same, list_any-filter, list_any-either, list_any-weaker}
 use Rattle.exact_audit.proofs.ListAnyLemmas.{list_any_truths_are_equal}
@@ -201,14 +201,14 @@ depth_past_four_is_unreached (line ∷ lines) rec s d past =
 
 -- where no line reaches further down, and none has the record's prefix of a node, none reaches there
 pub depth_without_line_is_unreached : (lines : List PrefixValue) (rec : RecordValue) (s d : ℕ)
-    → list_any (λ line. nat_eq (line_code_of (prefix_at (record { source_bytes = s; dest_bytes = d }) rec)) (line_code_of line))
+    → list_any (λ line. nat_eq (prefix_code (prefix_at (record { source_bytes = s; dest_bytes = d }) rec)) (prefix_code line))
     lines ≡ false
     → reaches_depth lines rec (s + 1) d ≡ false → reaches_depth lines rec s (d + 1) ≡ false → reaches_depth lines rec s d ≡ false
 depth_without_line_is_unreached [] rec s d none source dest = refl
 depth_without_line_is_unreached (line ∷ lines) rec s d none source dest =
     let own = prefix_at (record { source_bytes = s; dest_bytes = d }) rec in
-    let nones = or_parts (nat_eq (line_code_of own) (line_code_of line))
-    (list_any (λ line. nat_eq (line_code_of own) (line_code_of line)) lines) none in
+    let nones = or_parts (nat_eq (prefix_code own) (prefix_code line))
+    (list_any (λ line. nat_eq (prefix_code own) (prefix_code line)) lines) none in
     let sources = or_parts (covers line rec && (nat_le (s + 1) (length line.source) && nat_le d (length line.dest)))
     (reaches_depth lines rec (s + 1) d) source in
     let dests = or_parts (covers line rec && (nat_le s (length line.source) && nat_le (d + 1) (length line.dest)))
@@ -228,7 +228,7 @@ depth_without_line_is_unreached (line ∷ lines) rec s d none source dest =
     let make : ℕ → ℕ → PrefixValue = λ a b. prefix_at (record { source_bytes = a; dest_bytes = b }) rec in
     let same : own ≡ line = ap (λ a. make a d) source_same ∙ ap (make (length line.source)) dest_same
     ∙ covering_line_at_depth line rec both.0 in
-    false≢true (sym nones.0 ∙ eq-eqb (line_code_of own) (line_code_of line) (ap line_code_of same))))
+    false≢true (sym nones.0 ∙ eq-eqb (prefix_code own) (prefix_code line) (ap prefix_code same))))
     (depth_without_line_is_unreached lines rec s d nones.1 sources.1 dests.1)
   where
     at_most : {b : Bool} (bytes : List ℕ) (n : ℕ) → (nat_le (n + 1) (length bytes) ≡ true → b ≡ true) → b ≡ false
@@ -242,7 +242,7 @@ depth_without_line_is_unreached (line ∷ lines) rec s d none source dest =
 pub depth_code_tells_prefix : ((prefix other : PrefixValue) → IsPrefix prefix → IsPrefix other
     → node_of_prefix prefix ≡ node_of_prefix other → prefix_key prefix ≡ prefix_key other → prefix ≡ other)
     → (prefix other : PrefixValue) → IsPrefix prefix → IsPrefix other → prefix_key prefix < 2 ^ 64 → prefix_key other < 2 ^ 64
-    → line_code_of prefix ≡ line_code_of other → prefix ≡ other
+    → prefix_code prefix ≡ prefix_code other → prefix ≡ other
 depth_code_tells_prefix apart prefix other is other_is small other_small same =
     let index : node_index (node_of_prefix prefix) ≡ node_index (node_of_prefix other) = omega arith in
     let key : prefix_key prefix ≡ prefix_key other = omega arith in
@@ -255,14 +255,14 @@ depth_code_tells_prefix apart prefix other is other_is small other_small same =
 
 -- where lines have codes, whether one has the code of a prefix
 no_depth_line_is_coded : (lines : List PrefixValue) (codes : List ℕ) (prefix : PrefixValue) → AreLineCodes lines codes
-    → list_any (nat_eq (line_code_of prefix)) codes ≡ false
-    → list_any (λ line. nat_eq (line_code_of prefix) (line_code_of line)) lines ≡ false
-no_depth_line_is_coded lines codes prefix coded none = sym (coded.coded (line_code_of prefix)) ∙ none
+    → list_any (nat_eq (prefix_code prefix)) codes ≡ false
+    → list_any (λ line. nat_eq (prefix_code prefix) (prefix_code line)) lines ≡ false
+no_depth_line_is_coded lines codes prefix coded none = sym (coded.coded (prefix_code prefix)) ∙ none
 
 -- one more number of destination bytes, where no line has the record's prefix there
 pub depth_next : (lines : List PrefixValue) (codes : List ℕ) (rec : RecordValue) (s dest below : ℕ)
     → AreLineCodes lines codes → IsDepth lines rec (s + 1) below → below ≤ dest
-    → list_any (nat_eq (line_code_of (prefix_at (record { source_bytes = s; dest_bytes = dest }) rec))) codes ≡ false
+    → list_any (nat_eq (prefix_code (prefix_at (record { source_bytes = s; dest_bytes = dest }) rec))) codes ≡ false
     → ((d : ℕ) → dest + 1 ≤ d → reaches_depth lines rec s d ≡ false) → (d : ℕ) → dest ≤ d → reaches_depth lines rec s d ≡ false
 depth_next lines codes rec s dest below coded depth past none before d at_least =
     ⊎_elim (λ (same : d < dest + 1).
@@ -277,33 +277,33 @@ depth_next lines codes rec s dest below coded depth past none before d at_least 
 pub coded_depth_has_line : ((prefix other : PrefixValue) → IsPrefix prefix → IsPrefix other
     → node_of_prefix prefix ≡ node_of_prefix other → prefix_key prefix ≡ prefix_key other → prefix ≡ other)
     → (lines : List PrefixValue) (codes : List ℕ) (prefix : PrefixValue) → AreLineCodes lines codes → IsPrefix prefix
-    → prefix_key prefix < 2 ^ 64 → list_any (nat_eq (line_code_of prefix)) codes ≡ true → Contains lines prefix
+    → prefix_key prefix < 2 ^ 64 → list_any (nat_eq (prefix_code prefix)) codes ≡ true → Contains lines prefix
 coded_depth_has_line apart lines codes prefix coded is small has =
-    find lines coded.prefixes coded.small (sym (coded.coded (line_code_of prefix)) ∙ has)
+    find lines coded.prefixes coded.small (sym (coded.coded (prefix_code prefix)) ∙ has)
   where
     find : (lines : List PrefixValue) → All IsPrefix lines → All (λ line. prefix_key line < 2 ^ 64) lines
-        → list_any (λ line. nat_eq (line_code_of prefix) (line_code_of line)) lines ≡ true → Contains lines prefix
+        → list_any (λ line. nat_eq (prefix_code prefix) (prefix_code line)) lines ≡ true → Contains lines prefix
     find [] are smalls has = absurd (false≢true has)
     find (line ∷ lines) are smalls has =
-        ⊎_elim (λ (here : nat_eq (line_code_of prefix) (line_code_of line) ≡ true).
+        ⊎_elim (λ (here : nat_eq (prefix_code prefix) (prefix_code line) ≡ true).
         subst (Contains (line ∷ lines))
         (sym (depth_code_tells_prefix apart prefix line is (All-head IsPrefix line lines are) small
-        (All-head (λ line. prefix_key line < 2 ^ 64) line lines smalls) (eqb-true (line_code_of prefix) (line_code_of line) here)))
+        (All-head (λ line. prefix_key line < 2 ^ 64) line lines smalls) (eqb-true (prefix_code prefix) (prefix_code line) here)))
         (Contains-list_head line lines))
-        (λ (there : list_any (λ line. nat_eq (line_code_of prefix) (line_code_of line)) lines ≡ true).
+        (λ (there : list_any (λ line. nat_eq (prefix_code prefix) (prefix_code line)) lines ≡ true).
         Contains-list_tail line lines prefix
         (find lines (All-tail IsPrefix line lines are) (All-tail (λ line. prefix_key line < 2 ^ 64) line lines smalls)
         there))
-        (or_cases (nat_eq (line_code_of prefix) (line_code_of line))
-        (list_any (λ line. nat_eq (line_code_of prefix) (line_code_of line)) lines) has)
+        (or_cases (nat_eq (prefix_code prefix) (prefix_code line))
+        (list_any (λ line. nat_eq (prefix_code prefix) (prefix_code line)) lines) has)
 
 -- and no line has a prefix of no code
 pub uncoded_depth_has_no_line : (lines : List PrefixValue) (codes : List ℕ) (prefix : PrefixValue) → AreLineCodes lines codes
-    → list_any (nat_eq (line_code_of prefix)) codes ≡ false → ¬ Contains lines prefix
+    → list_any (nat_eq (prefix_code prefix)) codes ≡ false → ¬ Contains lines prefix
 uncoded_depth_has_no_line lines codes prefix coded none (place, within, same) =
     false≢true (sym (no_depth_line_is_coded lines codes prefix coded none)
-    ∙ list_any_at (λ line. nat_eq (line_code_of prefix) (line_code_of line)) lines place prefix within
-    (eq-eqb (line_code_of prefix) (line_code_of (get_or lines place prefix)) (sym (ap line_code_of same))))
+    ∙ list_any_at (λ line. nat_eq (prefix_code prefix) (prefix_code line)) lines place prefix within
+    (eq-eqb (prefix_code prefix) (prefix_code (get_or lines place prefix)) (sym (ap prefix_code same))))
 
 -- the depth where a line has the record's prefix, and none reaches further down
 pub depth_found : (lines : List PrefixValue) (rec : RecordValue) (s dest : ℕ) (prefix : PrefixValue)

@@ -14,14 +14,14 @@ use Rattle.std.proofs.lemmas.Bool.{false≢true, eqb-true, eq-eqb, or_cases, or_
 use Rattle.std.proofs.lemmas.Bool.{true_from_ne_false}
 use Rattle.std.proofs.lemmas.List.Folds.{list_any_more}
 use Rattle.prefix_lattice.specs.{RecordValue, NodeValue, IsNode, node_index, node_at, PrefixValue, IsPrefix}
-use Rattle.prefix_lattice.specs.{HasPrefixKey}
+use Rattle.prefix_lattice.specs.{HasPrefixKey, prefix_code}
 use Rattle.prefix_lattice.specs.{node_of_prefix, prefix_key}
 use Rattle.prefix_lattice.specs.{report_order, conditioned_weight}
 use Rattle.prefix_lattice.proofs.NodePlaceLemmas.{node_at_own_place}
 use Rattle.exact_audit.specs.declared.node_sums.Sums.{Sums}
 use Rattle.exact_audit.specs.declared.left_out.LeftOut.{LeftOut}
 use Rattle.exact_audit.specs.LeftOut.{IsLeftOut}
-use Rattle.exact_audit.specs.LineCodes.{line_code_of, AreLineCodes}
+use Rattle.exact_audit.specs.LineCodes.{AreLineCodes}
 use Rattle.exact_audit.specs.NodeSums.{no_sums, sums_for, sums_of, AreNodeSums}
 use Rattle.exact_audit.specs.Findings.{first_finding_by, first_finding_with, IsFirstFinding, IsFirstFindingBefore}
 use Rattle.exact_audit.specs.Findings.{IsFirstFindingWith}
@@ -225,12 +225,12 @@ pub first_left_out_takes_heavy : {S : Type 0} → IsTotalOrder report_order
     → HasPrefixKey node key one → key < 2 ^ 64
     → IsFirstFindingWith (node_index node) (take place (keys sums)) lines records threshold found
     → IsFirstFindingWith (node_index node) (take (place + 1) (keys sums)) lines records threshold
-    (cond (list_any (nat_eq (line_code_of one)) codes) found
+    (cond (list_any (nat_eq (prefix_code one)) codes) found
     (Some (first_finding_with found (record { prefix = one; weight = left }))))
 first_left_out_takes_heavy order apart node lines records codes threshold sums place key left one found node_is are coded within at
     of_key
     heavy one_is small before =
-    cond_both (list_any (nat_eq (line_code_of one)) codes) found
+    cond_both (list_any (nat_eq (prefix_code one)) codes) found
     (Some (first_finding_with found (record { prefix = one; weight = left })))
     (IsFirstFindingWith (node_index node) (take (place + 1) (keys sums)) lines records threshold)
     (λ has. IsFirstFinding-same_left_out (With (take place (keys sums))) (With (take (place + 1) (keys sums))) found to
@@ -277,7 +277,7 @@ first_left_out_takes_heavy order apart node lines records codes threshold sums p
         (nat_eq (prefix_key prefix) (get_or (keys sums) place 0))
         (sym (list_any_more (nat_eq (prefix_key prefix)) (keys sums) place 0 within) ∙ is.1))) met.1
 
-    meets : list_any (nat_eq (line_code_of one)) codes ≡ false → With (take (place + 1) (keys sums)) one left
+    meets : list_any (nat_eq (prefix_code one)) codes ≡ false → With (take (place + 1) (keys sums)) one left
     meets has_not =
         let is : sums_for sums (prefix_key one) ≡ sums_of lines records one = are one one_is.is_prefix one_is.of_node in (
           record {

@@ -7,26 +7,26 @@ use Rattle.std.proofs.lemmas.Bool.{false≢true, eqb-true, eq-eqb}
 use Rattle.std.proofs.lemmas.List.{map_more}
 use Rattle.std.proofs.lemmas.List.Elements.{All-push}
 use Rattle.std.proofs.lemmas.List.Folds.{list_any-append}
-use Rattle.prefix_lattice.specs.{PrefixValue, IsPrefix, prefix_key}
+use Rattle.prefix_lattice.specs.{PrefixValue, IsPrefix, prefix_key, prefix_code}
 use Rattle.hhh_output.specs.declared.line.Line.{Line}
 use Rattle.hhh_output.specs.{prefixes_of_lines}
-use Rattle.exact_audit.specs.LineCodes.{line_code_of, AreLineCodes}
+use Rattle.exact_audit.specs.LineCodes.{AreLineCodes}
 use Rattle.exact_audit.proofs.ListAnyLemmas.{list_any_truths_are_equal}
 
 -- one more prefix
 AreLineCodes-push : (lines : List PrefixValue) (prefix : PrefixValue) (codes new : List ℕ) → IsPrefix prefix
     → prefix_key prefix < 2 ^ 64
-    → ((code : ℕ) → list_any (nat_eq code) new ≡ cond (nat_eq (line_code_of prefix) code) true
+    → ((code : ℕ) → list_any (nat_eq code) new ≡ cond (nat_eq (prefix_code prefix) code) true
     (list_any (nat_eq code) codes))
     → AreLineCodes lines codes → AreLineCodes (lines ++ prefix ∷ []) new
 AreLineCodes-push lines prefix codes new is small adds before = record {
   prefixes = All-push IsPrefix lines prefix before.prefixes is;
   small = All-push (λ line. prefix_key line < 2 ^ 64) lines prefix before.small small;
   coded = λ code. adds code
-      ∙ ap (cond (nat_eq (line_code_of prefix) code) true) (before.coded code)
-      ∙ joined (nat_eq (line_code_of prefix) code) (nat_eq code (line_code_of prefix))
-      (list_any (λ line. nat_eq code (line_code_of line)) lines) (turned (line_code_of prefix) code)
-      ∙ sym (list_any-append (λ line. nat_eq code (line_code_of line)) lines (prefix ∷ []));
+      ∙ ap (cond (nat_eq (prefix_code prefix) code) true) (before.coded code)
+      ∙ joined (nat_eq (prefix_code prefix) code) (nat_eq code (prefix_code prefix))
+      (list_any (λ line. nat_eq code (prefix_code line)) lines) (turned (prefix_code prefix) code)
+      ∙ sym (list_any-append (λ line. nat_eq code (prefix_code line)) lines (prefix ∷ []));
 }
   where
     turned : (a b : ℕ) → nat_eq a b ≡ nat_eq b a
@@ -45,7 +45,7 @@ AreLineCodes-push lines prefix codes new is small adds before = record {
 pub AreLineCodes-more : (lines : List Line) (index : ℕ) (line : Line) (codes new : List ℕ) → index < length lines
     → line ≡ get_or lines index line → IsPrefix line.prefix → prefix_key line.prefix < 2 ^ 64
     → ((code : ℕ)
-    → list_any (nat_eq code) new ≡ cond (nat_eq (line_code_of line.prefix) code) true (list_any (nat_eq code) codes))
+    → list_any (nat_eq code) new ≡ cond (nat_eq (prefix_code line.prefix) code) true (list_any (nat_eq code) codes))
     → AreLineCodes (prefixes_of_lines (take index lines)) codes → AreLineCodes (prefixes_of_lines (take (index + 1) lines)) new
 AreLineCodes-more lines index line codes new within at is small adds before =
     subst (λ prefixes. AreLineCodes prefixes new)

@@ -1,7 +1,7 @@
 //! How far down lines reach that cover a record.
 
 ghost use Rattle.std.specs.Prelude.{◌≡◌, ◌+◌, ◌≤◌, List};
-ghost use Rattle.prefix_lattice.specs.{PrefixValue};
+ghost use Rattle.prefix_lattice.specs.{PrefixValue, address_length};
 ghost use Rattle.exact_audit.specs.LineCodes.{AreLineCodes};
 ghost use Rattle.exact_audit.specs.Depths.{AreDepths, IsDepth, explained_by_depth};
 
@@ -56,9 +56,9 @@ impl Depths {
 
 // The depth for a number of source bytes, given that for one more.
 fn depth(lines: &LineCodes, rec: &Record, source_bytes: u8, below: u8) -> u8
-    requires source { source_bytes ≤ 4 }
-    requires few { below ≤ 5 }
-    ensures few { result ≤ 5 }
+    requires source { source_bytes ≤ address_length }
+    requires few { below ≤ address_length + 1 }
+    ensures few { result ≤ address_length + 1 }
     ensures depth { (prefixes : List PrefixValue) → AreLineCodes prefixes lines.now.codes.keys
         → IsDepth prefixes rec.now (source_bytes + 1) below → IsDepth prefixes rec.now source_bytes result }
 {

@@ -2,8 +2,8 @@
 
 ghost use Rattle.std.specs.Prelude.{◌≡◌, ◌+◌, ◌^◌, ◌≤◌, ◌<◌, List, Some, nat_eq, if◌then◌else◌};
 ghost use Rattle.std.specs.List.{list_any};
-ghost use Rattle.prefix_lattice.specs.{RecordValue, PrefixValue, IsNode, node_index, prefix_key};
-ghost use Rattle.exact_audit.specs.LineCodes.{line_code_of, AreLineCodes};
+ghost use Rattle.prefix_lattice.specs.{RecordValue, PrefixValue, IsNode, node_index, prefix_key, prefix_code};
+ghost use Rattle.exact_audit.specs.LineCodes.{AreLineCodes};
 ghost use Rattle.exact_audit.specs.NodeSums.{AreNodeSums, HasNodeSumKeys};
 ghost use Rattle.exact_audit.specs.Findings.{IsFirstFindingBefore, first_finding_with};
 
@@ -56,7 +56,7 @@ fn first_unless_line(
     weight: u64,
     found: Option<LeftOut>,
 ) -> Option<LeftOut>
-    ensures value { result ≡ (if list_any (nat_eq (line_code_of prefix)) lines.now.codes.keys then found
+    ensures value { result ≡ (if list_any (nat_eq (prefix_code prefix)) lines.now.codes.keys then found
         else Some (first_finding_with found (record { prefix = prefix; weight = weight }))) }
     ensures small { prefix_key prefix < 2 ^ 64 }
 {

@@ -2,9 +2,9 @@
 
 ghost use Rattle.std.specs.Prelude.{◌≡◌, ◌^◌, ◌<◌, nat_eq, IfOk};
 ghost use Rattle.std.specs.List.{list_any};
-ghost use Rattle.prefix_lattice.specs.{IsPrefix, prefix_key};
+ghost use Rattle.prefix_lattice.specs.{IsPrefix, prefix_key, prefix_code};
 ghost use Rattle.hhh_output.specs.{prefixes_of_lines};
-ghost use Rattle.exact_audit.specs.LineCodes.{line_code_of, AreLineCodes};
+ghost use Rattle.exact_audit.specs.LineCodes.{AreLineCodes};
 
 use hhh_output::Line;
 use indexmap::IndexSet;
@@ -31,7 +31,7 @@ impl LineCodes {
 
     /// Whether a line has this prefix.
     pub(crate) fn has(&self, prefix: &Prefix) -> bool
-        ensures value { result ≡ list_any (nat_eq (line_code_of prefix.now)) self.now.codes.keys }
+        ensures value { result ≡ list_any (nat_eq (prefix_code prefix.now)) self.now.codes.keys }
         ensures prefix { IsPrefix prefix.now }
         ensures small { prefix_key prefix.now < 2 ^ 64 }
     {
@@ -41,7 +41,7 @@ impl LineCodes {
 
 // A number for each prefix, by its node and then by its key. No two prefixes share one.
 fn code_of(prefix: &Prefix) -> u128
-    ensures value { result ≡ line_code_of prefix.now }
+    ensures value { result ≡ prefix_code prefix.now }
     ensures prefix { IsPrefix prefix.now }
     ensures small { prefix_key prefix.now < 2 ^ 64 }
 {

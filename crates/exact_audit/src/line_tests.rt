@@ -4,9 +4,9 @@ ghost use Rattle.std.specs.Prelude.{◌≡◌, ◌+◌, ◌*◌, ◌≤◌, ◌<
 ghost use Rattle.prefix_lattice.specs.{RecordValue, IntervalHoldsWeight, total_weight, total_limit};
 ghost use Rattle.shard_state.specs.{most_table_capacity};
 ghost use Rattle.hhh_output.specs.{HoldsWeightInSoundReport, IsHeavyInSoundReport, IsNarrowInSoundReport};
-ghost use Rattle.hhh_output.specs.{prefixes_of_lines};
+ghost use Rattle.hhh_output.specs.{member_limit, prefixes_of_lines};
 ghost use Rattle.exact_audit.specs.LineTests.{IsLineTestResult, LinePassesJustifiedTest};
-ghost use Rattle.exact_audit.specs.Widths.{widths_line_limit, widths_of};
+ghost use Rattle.exact_audit.specs.Widths.{widths_of};
 ghost use Rattle.exact_audit.specs.LineTests.{line_test_measures};
 ghost use Rattle.exact_audit.specs.Findings.{AreFindingSums};
 
@@ -76,7 +76,7 @@ pub(crate) fn not_justified(
     sums: &[Sums],
     by: &Measures,
 ) -> Result<Option<u64>, AllocError>
-    requires few { length lines.now < widths_line_limit }
+    requires few { length lines.now < member_limit }
     requires as_many { length sums.now ≡ length lines.now }
     requires capacity { by.now.capacity ≤ most_table_capacity }
     requires total { by.now.total < total_limit }
@@ -101,7 +101,7 @@ fn is_justified(
     left: u64,
     by: &Measures,
 ) -> Result<bool, AllocError>
-    requires few { length lines.now < widths_line_limit }
+    requires few { length lines.now < member_limit }
     requires capacity { by.now.capacity ≤ most_table_capacity }
     requires total { by.now.total < total_limit }
     ensures { IfOk result (λ justified. IsTrue justified ↔ (by.now.capacity * by.now.threshold ≤ by.now.capacity * left

@@ -1,9 +1,11 @@
 //! The record of a frame.
 
-ghost use Rattle.std.specs.Prelude.{◌≡◌, ◌≤◌, ◌+◌, min, length};
+ghost use Rattle.std.specs.Prelude.{◌≡◌, ◌≤◌, ◌+◌, ◌*◌, min, length};
 ghost use Rattle.byteorder.specs.Endian.{big_from};
+ghost use Rattle.prefix_lattice.specs.{address_length};
 ghost use Rattle.pcap_frames.specs.{frame_content};
 ghost use Rattle.frame_records.specs.FrameRecord.{record_of, frame_has_tag_at, frame_tag_bytes, frame_begins_ipv4};
+ghost use Rattle.frame_records.specs.FrameRecord.{frame_tag_length, frame_type_length, frame_type_place};
 
 use crate::{Skip, Weigh};
 use byteorder::{BigEndian, ByteOrder};
@@ -50,7 +52,7 @@ pub fn record_of(frame: &Frame<'_>, weigh: Weigh) -> Result<Record, Skip>
 // How many bytes of VLAN tags precede the type: two tags at most.
 fn tag_bytes(frame: &Frame<'_>) -> usize
     ensures tags { result ≡ frame_tag_bytes (frame_content frame.now) }
-    ensures few { result ≤ 8 }
+    ensures few { result ≤ 2 * frame_tag_length }
 {
     if !has_tag_at(frame, 12) {
         return 0;
@@ -62,7 +64,7 @@ fn tag_bytes(frame: &Frame<'_>) -> usize
 }
 
 fn has_tag_at(frame: &Frame<'_>, place: usize) -> bool
-    requires { place ≤ 16 }
+    requires { place ≤ frame_type_place + frame_tag_length }
     ensures { result ≡ frame_has_tag_at place (frame_content frame.now) }
 {
     if frame.head.len() < place + 2 {
@@ -74,16 +76,16 @@ fn has_tag_at(frame: &Frame<'_>, place: usize) -> bool
 
 // The Ethernet type at this offset, in network byte order.
 fn type_at(head: &[u8], place: usize) -> u16
-    requires { place + 2 ≤ length head.now }
-    ensures { result ≡ big_from place 2 head.now }
+    requires { place + frame_type_length ≤ length head.now }
+    ensures { result ≡ big_from place frame_type_length head.now }
 {
     BigEndian::read_u16(&head[place..])
 }
 
 // The address at this offset, in network byte order.
 fn address_at(head: &[u8], place: usize) -> u32
-    requires { place + 4 ≤ length head.now }
-    ensures { result ≡ big_from place 4 head.now }
+    requires { place + address_length ≤ length head.now }
+    ensures { result ≡ big_from place address_length head.now }
 {
     BigEndian::read_u32(&head[place..])
 }

@@ -4,6 +4,8 @@ pub mod Report
 pub mod SoundReport
 -- within the crate
 pub mod Selecting
+-- passed on, since the lines of a report are so many at the most
+pub use Rattle.conditioned_bounds.specs.{member_limit}
 -- the face: what contracts of other crates cite
 pub use Rattle.hhh_output.specs.ReportLines.{AreReportLines, prefixes_of_lines}
 pub use Rattle.hhh_output.specs.Report.{IsSameReport, IsLineOfReport, IsReportOf}

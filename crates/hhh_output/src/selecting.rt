@@ -4,7 +4,7 @@
 ghost use Rattle.std.specs.Prelude.{◌≡◌, ◌≢◌, ◌+◌, ◌≤◌, ◌<◌, ◌^◌, ◌↔◌, ◌⊎◌, [], ◌++◌, length, All, AllPairs, Contains};
 ghost use Rattle.std.specs.Prelude.{IfOk, OnOk, Some};
 ghost use Rattle.std.specs.Option.{option_to_list};
-ghost use Rattle.prefix_lattice.specs.{IsNode, node_level, node_of_prefix};
+ghost use Rattle.prefix_lattice.specs.{IsNode, deepest_node_level, node_level, node_of_prefix};
 ghost use Rattle.cut_merge.specs.{merged_candidates_at};
 ghost use Rattle.conditioned_bounds.specs.{member_limit};
 ghost use Rattle.hhh_output.specs.declared.line.Line.{Line as LineValue};
@@ -28,7 +28,7 @@ pub(crate) fn select_lines(
     threshold: u64,
 ) -> Result<Lines, AllocError>
     requires { AreCandidatesToSelect merged.now }
-    ensures { IfOk result (λ lines. AreSelectedDownTo merged.now threshold 9 lines) }
+    ensures { IfOk result (λ lines. AreSelectedDownTo merged.now threshold (deepest_node_level + 1) lines) }
 {
     prefixes_are_ordered();
     report_order_is_total();

@@ -29,7 +29,7 @@ pub record IsReaderPartWithin (part : FramePart) : Type 0 where
   pub count : part.count ≤ frame_count_limit
   pub place : part.place ≤ file_header_length + (frame_header_length + most_captured_length) * part.count
   pub cut : part.kept.came < frame_bytes_needed part.order part.kept.first
-  pub bound : frame_bytes_needed part.order part.kept.first ≤ 262160
+  pub bound : frame_bytes_needed part.order part.kept.first ≤ frame_header_length + most_captured_length
 
 -- what always holds of the part in each stage
 abbrev pub IsReaderPartInStage : Stage → FramePart → Type 0

@@ -3,7 +3,7 @@ use Rattle.std.specs.Prelude.{ℕ, List, ◌+◌, ◌*◌, ◌^◌, ◌&&◌, Bo
 use Rattle.prefix_lattice.specs.KeptBytes.{AreLeadingBytes, kept_bytes_begin_with}
 use Rattle.prefix_lattice.specs.Address.{address_bytes, address_of, address_length}
 use Rattle.prefix_lattice.specs.Record.{RecordValue}
-use Rattle.prefix_lattice.specs.Node.{NodeValue}
+use Rattle.prefix_lattice.specs.Node.{NodeValue, node_index}
 
 -- the leading bytes of the source and of the destination
 pub record PrefixValue : Type 0 where
@@ -33,6 +33,10 @@ prefix_at node rec = record {
 -- the two addresses of a prefix as one number, the source in the high half
 abbrev pub prefix_key : PrefixValue → ℕ
 prefix_key prefix = address_of prefix.source * 2 ^ 32 + address_of prefix.dest
+
+-- the code of a prefix: the index of its node, and its key in the 64 bits below; no two prefixes share one
+abbrev pub prefix_code : PrefixValue → ℕ
+prefix_code prefix = node_index (node_of_prefix prefix) * 2 ^ 64 + prefix_key prefix
 
 -- a key of a node: neither address has a bit set past the bytes that the node keeps
 pub record IsPrefixKey (node : NodeValue) (key : ℕ) : Type 0 where

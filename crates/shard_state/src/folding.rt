@@ -1,8 +1,8 @@
 //! Counting records in tables.
 
-ghost use Rattle.std.specs.Prelude.{◌≡◌, ◌+◌, ◌^◌, ◌<◌, ℕ, length, map, slice_get, Some, All, IfOk};
-ghost use Rattle.prefix_lattice.specs.{total_weight};
-ghost use Rattle.space_saving.specs.{TableValue, table_total};
+ghost use Rattle.std.specs.Prelude.{◌≡◌, ◌+◌, ◌<◌, ℕ, length, map, slice_get, Some, All, IfOk};
+ghost use Rattle.prefix_lattice.specs.{node_count, total_weight};
+ghost use Rattle.space_saving.specs.{TableValue, table_limit, table_total};
 ghost use Rattle.shard_state.specs.Snapshot.{snapshot_table_after, snapshot_tables_after};
 
 use crate::snapshot_parts::NODES;
@@ -14,8 +14,8 @@ use std::alloc::{AllocError, Global};
 /// Counts records in each of 25 tables, one table after the other, so that the entries of a table stay in the
 /// nearest cache.
 pub(crate) fn count_in_tables(tables: &mut [Table], records: &[Record])
-    requires shape { length tables.old ≡ 25 }
-    requires room { All (λ table. table_total table.entries + total_weight records.now < 2 ^ 56) tables.old }
+    requires shape { length tables.old ≡ node_count }
+    requires room { All (λ table. table_total table.entries + total_weight records.now < table_limit) tables.old }
     ensures { tables.new ≡ snapshot_tables_after 0 tables.old records.now }
 {
     for place in 0..NODES {
@@ -26,7 +26,7 @@ pub(crate) fn count_in_tables(tables: &mut [Table], records: &[Record])
 
 // Counts records in the table of a node.
 fn count_in_table(table: &mut Table, node: Node, records: &[Record])
-    requires { table_total table.old.entries + total_weight records.now < 2 ^ 56 }
+    requires { table_total table.old.entries + total_weight records.now < table_limit }
     ensures { table.new ≡ snapshot_table_after node records.now table.old }
 {
     for rec in records {

@@ -1,5 +1,6 @@
 -- How a disk in memory keeps its record, which no public contract cites.
 use Rattle.std.specs.Prelude.{ℕ, ◌≡◌, ◌≤◌, List, [], ◌∷◌, length, reverse, take, drop}
+use Rattle.slot_disk.specs.MemoryDisk.{most_memory_disk_steps}
 use Rattle.slot_disk.specs.Recorded.{RecordedStep, Wrote, Began, Synced, recorded_reading, recorded_bytes}
 use Rattle.slot_disk.specs.declared.step_entry.StepKind.{StepKind}
 use Rattle.slot_disk.specs.declared.step_entry.StepKind.TheVariants as kind
@@ -27,5 +28,5 @@ pub record HasStepEntries (room log : ℕ) (first bytes : List ℕ) (entries : L
   pub counted : recorded_bytes (steps_of_entries_newest_last entries written) ≡ length written
   pub fits : length bytes ≤ room
   pub as_many : length (steps_of_entries_newest_last entries written) ≡ length entries
-  pub few : length entries ≤ 1024
+  pub few : length entries ≤ most_memory_disk_steps
   pub logged : length written ≤ log

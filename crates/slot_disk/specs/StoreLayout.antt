@@ -7,13 +7,17 @@ use Rattle.byteorder.specs.Endian.{big_from}
 abbrev pub layout_front_bytes : ℕ
 layout_front_bytes = 64
 
+-- how many bytes the header has, which follows the two gates of a byte each
+abbrev pub layout_header_bytes : ℕ
+layout_header_bytes = 62
+
 -- the gate of a slot is open: its byte, at the slot's number, is 1
 abbrev pub layout_gate_is_open : ℕ → List ℕ → Bool
 layout_gate_is_open slot image = slice_index image slot == 1
 
--- the header: the 62 bytes after the gates
+-- the header: the bytes after the gates
 abbrev pub layout_header : List ℕ → List ℕ
-layout_header image = take 62 (drop 2 image)
+layout_header image = take layout_header_bytes (drop 2 image)
 
 -- the offset of the body of a slot: that of slot 0 follows the header, that of slot 1 comes a span later
 abbrev pub layout_body_place : ℕ → ℕ → ℕ

@@ -49,7 +49,7 @@ pub struct MemoryDisk {
 
 impl Model for MemoryDisk {
     ghost use Rattle.std.specs.Prelude.{◌≡◌, ◌≤◌, length, vec_len, vec_capacity};
-    ghost use Rattle.slot_disk.specs.MemoryDisk.{MemoryDiskState};
+    ghost use Rattle.slot_disk.specs.MemoryDisk.{MemoryDiskState, most_memory_disk_steps};
     ghost use Rattle.slot_disk.specs.Recorded.{recorded_reading, recorded_bytes};
     ghost use Rattle.slot_disk.specs.StepEntries.{steps_of_entries_newest_last, HasStepEntries};
 
@@ -67,7 +67,7 @@ impl Model for MemoryDisk {
     } };
 
     ghost invariant = { λ s. (HasStepEntries s.room s.log s.first.items s.bytes.items s.entries.items s.written.items)
-        × (s.room ≤ vec_capacity s.bytes) × (1024 ≤ vec_capacity s.entries) × (s.log ≤ vec_capacity s.written) };
+        × (s.room ≤ vec_capacity s.bytes) × (most_memory_disk_steps ≤ vec_capacity s.entries) × (s.log ≤ vec_capacity s.written) };
 }
 
 impl MemoryDisk {

@@ -8,12 +8,16 @@ use Rattle.traffic_maker.specs.MadeFrame.{made_frame}
 abbrev pub most_made_capture_frames : ℕ
 most_made_capture_frames = 1000000
 
+-- the greatest captured length that the file header states
+abbrev pub made_capture_snap_length : ℕ
+made_capture_snap_length = 262144
+
 -- the file header, low byte first: microseconds, version 2.4, no time zone, no accuracy, at most 262,144 captured bytes,
 -- Ethernet (libpcap's file format)
 unfoldable pub made_capture_header : List ℕ
 made_capture_header =
     little_bytes 4 0xa1b2c3d4 ++ little_bytes 2 2 ++ little_bytes 2 4 ++ little_bytes 4 0 ++ little_bytes 4 0
-    ++ little_bytes 4 262144 ++ little_bytes 4 1
+    ++ little_bytes 4 made_capture_snap_length ++ little_bytes 4 1
 
 -- this many frames from an index on, one after the other
 abbrev pub made_capture_frames : ℕ → ℕ → ℕ → List ℕ

@@ -4,13 +4,25 @@ use Rattle.byteorder.specs.Endian.{big_bytes, little_bytes}
 use Rattle.traffic_maker.specs.MadeAddress.{made_address}
 use Rattle.traffic_maker.specs.Draw.{draw}
 
--- how many bytes of each frame are captured: an Ethernet header of 14 and an IPv4 header of 20
-abbrev pub made_frame_captured_length : ℕ
-made_frame_captured_length = 34
+-- how many bytes the Ethernet header of each frame has (IEEE 802.3)
+abbrev pub made_frame_ethernet_length : ℕ
+made_frame_ethernet_length = 14
 
--- how many bytes each frame has in the file: its header there of 16, and the captured bytes
+-- how many bytes the IPv4 header of each frame has: five 32-bit words (RFC 791)
+abbrev pub made_frame_ip_length : ℕ
+made_frame_ip_length = 20
+
+-- how many bytes of each frame are captured: both headers
+abbrev pub made_frame_captured_length : ℕ
+made_frame_captured_length = made_frame_ethernet_length + made_frame_ip_length
+
+-- how many bytes precede the captured ones in the file (libpcap's file format)
+abbrev pub made_frame_header_length : ℕ
+made_frame_header_length = 16
+
+-- how many bytes each frame has in the file: its header there, and the captured bytes
 abbrev pub made_frame_length : ℕ
-made_frame_length = 16 + made_frame_captured_length
+made_frame_length = made_frame_header_length + made_frame_captured_length
 
 -- the length on the wire of the frame at an index: 100, 200, 300 and 400 bytes in turn
 abbrev pub made_frame_wire_length : ℕ → ℕ
@@ -30,7 +42,7 @@ made_frame_ethernet_header = 2 ∷ 0 ∷ 0 ∷ 0 ∷ 0 ∷ 2 ∷ 2 ∷ 0 ∷ 0 �
 -- no checksum, and the two addresses
 abbrev pub made_frame_ip_header : ℕ → List ℕ → List ℕ → List ℕ
 made_frame_ip_header index source dest =
-    (0x45 ∷ 0 ∷ []) ++ big_bytes 2 (made_frame_wire_length index - 14) ++ (0 ∷ 0 ∷ 0 ∷ 0 ∷ 64 ∷ 17 ∷ 0 ∷ 0 ∷ []) ++ source ++ dest
+    (0x45 ∷ 0 ∷ []) ++ big_bytes 2 (made_frame_wire_length index - made_frame_ethernet_length) ++ (0 ∷ 0 ∷ 0 ∷ 0 ∷ 64 ∷ 17 ∷ 0 ∷ 0 ∷ []) ++ source ++ dest
 
 -- the frame at an index between two addresses
 unfoldable pub made_frame_bytes : ℕ → List ℕ → List ℕ → List ℕ

@@ -78,7 +78,8 @@ impl<K: Sink, D: Disk, G: Gate> Rounds for LiveRounds<'_, K, D, G> {
         (K.taken before.sink.now) (K.taken after.sink.now)
         (record { sink = K.faults before.sink.now; disk = D.faults before.disk.now })
         (record { sink = K.faults after.sink.now; disk = D.faults after.disk.now }) after.stop
-        × (before.saver.now ≡ None → (after.saver.now ≡ None) × (after.disk.now ≡ before.disk.now)) };
+        × (before.saver.now ≡ None → (after.saver.now ≡ None) × (after.disk.now ≡ before.disk.now))
+        × (after.phi ≡ before.phi) × (after.rounds ≡ before.rounds) × (after.callers ≡ before.callers) };
 
     fn go<R: Wait>(&mut self, rt: &R, alloc: Global, board: &Board, pass: &mut Pass) {
         calls_follow_calls();

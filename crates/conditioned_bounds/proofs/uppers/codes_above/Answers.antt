@@ -1,9 +1,9 @@
 use Rattle.std.proofs.Common.{◌≡◌, ◌+◌, ◌++◌, ◌∷◌, [], ℕ, Some, None, IfSome, subst, sym, ap, ◌∙◌}
 use Rattle.std.proofs.lemmas.Bool.{false_from_ne_true}
 use Rattle.std.proofs.lemmas.Option.{none-some}
-use Rattle.prefix_lattice.specs.{node_index, node_at, strictly_under}
+use Rattle.prefix_lattice.specs.{node_index, node_at, strictly_under, prefix_code}
 use Rattle.prefix_lattice.proofs.NodePlaceLemmas.{node_index-node_at_place}
-use Rattle.conditioned_bounds.specs.Uppers.{upper_at, upper_code}
+use Rattle.conditioned_bounds.specs.Uppers.{upper_at}
 use Rattle.conditioned_bounds.proofs.UpperLemmas.{upper-is, upper-only, same_upper_node, other_upper_node}
 use Rattle.conditioned_bounds.proofs.CodeLemmas.{CodeOrderHolds, CodesBefore, codes_skip, codes_add}
 use Rattle.conditioned_bounds.proofs.CodeLemmas.{no_code_above_own_node}
@@ -45,7 +45,7 @@ loop-place-preserved c =
       | in-Some+in_ok-push w ↦
           let found : upper_at prefix own ≡ Some w.in-Some.above = sym c.upper.ensures.value ∙ w.in-Some.is in
           let is = upper-is prefix w.in-Some.above own c.upper.ensures.prefix found in
-          let made : c.match-upper.codes.items ≡ codes ++ upper_code w.in-Some.above ∷ [] =
+          let made : c.match-upper.codes.items ≡ codes ++ prefix_code w.in-Some.above ∷ [] =
           ap (λ made. made.items) w.codes-is ∙ w.in_ok-push.ensures.items
           ∙ ap (λ (code : ℕ). codes ++ code ∷ []) w.code_of.ensures.value in
           subst (CodesBefore prefix (place + 1)) (sym made)

@@ -1,7 +1,6 @@
 use Rattle.std.proofs.Common.{◌≡◌, ◌-◌, false, inr, sym, ap, ◌∙◌, subst, nat_eq, arith, IfSome}
 use Rattle.std.specs.List.{list_any}
-use Rattle.prefix_lattice.specs.{prefix_at}
-use Rattle.exact_audit.specs.LineCodes.{line_code_of}
+use Rattle.prefix_lattice.specs.{prefix_at, prefix_code}
 use Rattle.exact_audit.proofs.DepthLemmas.{depth_past_four_is_unreached, depth_next, depth_found, depth_end}
 use Rattle.exact_audit.proofs.DepthLemmas.{coded_depth_has_line}
 use Rattle.exact_audit.proofs.depths.depth.Goals as goal
@@ -24,7 +23,7 @@ loop-dest_bytes-preserved c = (
       let own : c.of.result ≡ prefix_at (record { source_bytes = s; dest_bytes = at }) c.args.rec.now =
       c.of.ensures.value ∙ ap (λ n. prefix_at n c.args.rec.now) node in
       depth_next prefixes c.args.lines.now.codes.keys c.args.rec.now s at c.args.below coded depth (omega arith)
-      (subst (λ p. list_any (nat_eq (line_code_of p)) c.args.lines.now.codes.keys ≡ false) own
+      (subst (λ p. list_any (nat_eq (prefix_code p)) c.args.lines.now.codes.keys ≡ false) own
       (sym c.has.ensures.value ∙ c.if-has.false))
       (λ d more. c.loop-dest_bytes.invariant.1 prefixes coded depth d (omega arith)) dest least,
 )

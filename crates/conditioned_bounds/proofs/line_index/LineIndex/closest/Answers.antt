@@ -3,8 +3,7 @@ use Rattle.std.proofs.Common.{All, sym, ap, ◌∙◌, subst, append-nil}
 use Rattle.std.specs.List.{list_any}
 use Rattle.std.proofs.lemmas.List.{get_or_default}
 use Rattle.std.proofs.lemmas.List.Elements.{All-get_or}
-use Rattle.prefix_lattice.specs.{PrefixValue, strictly_under, lines_under}
-use Rattle.conditioned_bounds.specs.Uppers.{upper_code}
+use Rattle.prefix_lattice.specs.{PrefixValue, strictly_under, lines_under, prefix_code}
 use Rattle.conditioned_bounds.specs.LineNumbers.{line_numbers_at}
 use Rattle.conditioned_bounds.specs.LineIndex.{indexed_line, indexed_root_line}
 use Rattle.conditioned_bounds.proofs.IndexLemmas.{index_line-strictly_under, index_line-filter}
@@ -18,14 +17,14 @@ is_under_another-requires c =
     let prefix = c.args.prefix.now in
     let numbers = c.numbers_at-number-items.result.now in
     let at = c.loop-number.number-index in
-    let kept : numbers ≡ line_numbers_at c.self.inside.under (upper_code prefix) =
+    let kept : numbers ≡ line_numbers_at c.self.inside.under (prefix_code prefix) =
     c.numbers_at-number-items.ensures ∙ ap (line_numbers_at c.self.inside.under) c.code_of.ensures.value in
     let same : map (indexed_line lines) numbers ≡ lines_under prefix lines =
     ap (map (indexed_line lines)) kept ∙ c.self.invariant.under prefix c.code_of.ensures.prefix in
     let number = get_or numbers at 0 in
     let few : number < length lines =
     All-get_or (λ n. n < length lines) numbers at 0 c.loop-number-test.true
-    (subst (All (λ n. n < length lines)) (sym kept) (c.self.invariant.numbers (upper_code prefix))) in
+    (subst (All (λ n. n < length lines)) (sym kept) (c.self.invariant.numbers (prefix_code prefix))) in
     let line : c.index-lines-number.result ≡ indexed_line lines number =
     c.index-lines-number.is
     ∙ ap (λ (ls : List PrefixValue). get_or ls number c.index-lines-number.result) c.as_slice-lines.ensures.value
@@ -40,11 +39,11 @@ loop-number-preserved c =
     let numbers = c.numbers_at-number-items.result.now in
     let at = c.loop-number.number-index in
     let number = get_or numbers at 0 in
-    let kept : numbers ≡ line_numbers_at c.self.inside.under (upper_code prefix) =
+    let kept : numbers ≡ line_numbers_at c.self.inside.under (prefix_code prefix) =
     c.numbers_at-number-items.ensures ∙ ap (line_numbers_at c.self.inside.under) c.code_of.ensures.value in
     let few : number < length lines =
     All-get_or (λ n. n < length lines) numbers at 0 c.loop-number-test.true
-    (subst (All (λ n. n < length lines)) (sym kept) (c.self.invariant.numbers (upper_code prefix))) in
+    (subst (All (λ n. n < length lines)) (sym kept) (c.self.invariant.numbers (prefix_code prefix))) in
     let line : c.index-lines-number.result ≡ indexed_line lines number =
     c.index-lines-number.is
     ∙ ap (λ (ls : List PrefixValue). get_or ls number c.index-lines-number.result) c.as_slice-lines.ensures.value

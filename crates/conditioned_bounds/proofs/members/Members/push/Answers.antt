@@ -4,8 +4,7 @@ use Rattle.std.specs.List.{list_any}
 use Rattle.std.proofs.lemmas.List.Elements.{Contains-push, Contains-append_left}
 use Rattle.std.specs.Ordering.{nat_cmp, eq_by_cmp}
 use Rattle.std.specs.BTreeSet.{contains}
-use Rattle.prefix_lattice.specs.{NodeValue, PrefixValue, node_of_prefix}
-use Rattle.conditioned_bounds.specs.Uppers.{upper_code}
+use Rattle.prefix_lattice.specs.{NodeValue, PrefixValue, node_of_prefix, prefix_code}
 use Rattle.conditioned_bounds.specs.Members.{AreMembers, member_limit}
 use Rattle.conditioned_bounds.proofs.MemberLemmas.{members_same, members_push, member_node_is_there}
 use Rattle.conditioned_bounds.proofs.members.Members.push.Goals as goal
@@ -26,7 +25,7 @@ invariant_of-self-2 c =
     let few : length inside.prefixes.items + 1 < member_limit =
     subst (λ (ms : List PrefixValue). length ms + 1 < member_limit) (sym c.self.view_is) c.requires in
     let adds : (q : ℕ) → contains nat_cmp c.insert.new.self q
-    ≡ cond (eq_by_cmp nat_cmp (upper_code prefix) q) true (contains nat_cmp inside.codes q) =
+    ≡ cond (eq_by_cmp nat_cmp (prefix_code prefix) q) true (contains nat_cmp inside.codes q) =
     subst (λ (code : ℕ). (q : ℕ) → contains nat_cmp c.insert.new.self q
     ≡ cond (eq_by_cmp nat_cmp code q) true (contains nat_cmp inside.codes q))
     c.code_of.ensures.value c.in_ok-insert.ensures.updates.0 in

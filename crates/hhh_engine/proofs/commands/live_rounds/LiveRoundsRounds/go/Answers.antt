@@ -22,6 +22,8 @@ loop-round-init g c = record {
   same_saver = refl;
   same_cut = refl;
   same_share = refl;
+  same_rounds = refl;
+  same_callers = refl;
   unstopped = c.requires.ready.4;
   sink_faults = refl;
   disk_faults = refl;
@@ -84,6 +86,9 @@ returns-in-Err-clause-does g c =
       λ none.
           let done = save_needs_saver _ _ _ _ _ _ _ _ _ far.written.kept none in
           let round = c.in-Err.ensures.unused done.0 in (round.0, round.1 ∙ done.1),
+      far.same_share,
+      far.same_rounds,
+      far.same_callers,
     )
 
 pub loop-round-preserved : goal.loop-round-preserved
@@ -98,6 +103,8 @@ loop-round-preserved g c =
       same_saver = far.same_saver;
       same_cut = far.same_cut;
       same_share = far.same_share;
+      same_rounds = far.same_rounds;
+      same_callers = far.same_callers;
       unstopped = far.unstopped;
       sink_faults = c.in_default.ensures.faults.0 ∙ far.sink_faults;
       disk_faults = c.in_default.ensures.faults.1 ∙ far.disk_faults;
@@ -149,4 +156,7 @@ returns-clause-does g c =
           (omega (arith, c.loop-round.auto.round-end, c.loop-round-test.false))
           (ap₂ (λ s d. record { sink = s; disk = d }) far.sink_faults far.disk_faults) far.written,
       save_needs_saver _ _ _ _ _ _ _ _ _ far.written.kept,
+      far.same_share,
+      far.same_rounds,
+      far.same_callers,
     )

@@ -16,6 +16,8 @@ invariant-loop-round g l = record {
   same_saver : l.self.saver.ghost_name ≡ l.fn.self.saver.ghost_name;
   same_cut : l.self.cut.ghost_name ≡ l.fn.self.cut.ghost_name;
   same_share : l.self.phi ≡ l.fn.self.phi;
+  same_rounds : l.self.rounds ≡ l.fn.self.rounds;
+  same_callers : l.self.callers ≡ l.fn.self.callers;
   unstopped : l.self.stop ≡ None;
   sink_faults : g.K.Sink.faults l.self.sink.now ≡ g.K.Sink.faults l.fn.self.sink.now;
   disk_faults : g.D.Disk.faults l.self.disk.now ≡ g.D.Disk.faults l.fn.self.disk.now;
